@@ -1,0 +1,98 @@
+-- The finite map has the look-ups of the function.
+use Rattle.std.proofs.Common.{◌≡◌, ◌≢◌, ℕ, zero, suc, ◌+◌, ◌-◌, ◌/◌, ◌%◌, ◌^◌, Bool, true, false, cond, eqb, Option, Some, None, List, [], ◌∷◌, refl, sym, ap, ◌∙◌, subst, ◌⊎◌, inr, ⊎_elim, arith}
+use Rattle.std.proofs.lemmas.Bool.Decides.{nat_tests}
+use Rattle.std.specs.Cmp.{nat_cmp_total, unsigned_tied}
+use Rattle.std.specs.FinMap.{len, get, empty, get-empty, get-insert}
+use Rattle.std.specs.Ordering.{nat_cmp}
+use Rattle.mig_base.specs.declared.command.Entry.{Entry}
+use Rattle.mig_base.specs.declared.command.Command.{Command}
+use Rattle.mig_base.specs.declared.command.Command.TheVariants.{Store, Mmap, Munmap}
+use Rattle.mig_base.specs.declared.command.Reply.{Reply}
+use Rattle.mig_base.specs.declared.command.Reply.TheVariants.{Done, At}
+use Rattle.mig_base.specs.Ranges.{in_range, rounded}
+use Rattle.mig_base.specs.Flat.{Cell, Memory, write, written, reply_of, changed, memory_from, memory_of, mapped_count}
+use Rattle.mig_base.specs.FlatMap.{Map, look, put_byte, write_map, changed_map, map_from, map_of}
+use Rattle.mig_base.proofs.PageLemmas.{get-set_range, get-remove_range, count_below-contains_key}
+use Rattle.mig_base.proofs.BoundLemmas.{memory_of_bounded}
+use Rattle.mig_base.specs.declared.TheConstants.{HIGH}
+
+same_or_other : (a b : ℕ) → (a ≡ b) ⊎ (a ≢ b)
+same_or_other a b = grind (arith, nat_tests)
+
+eqb-other : (a b : ℕ) → a ≢ b → eqb a b ≡ false
+eqb-other a b h = grind (arith, nat_tests)
+
+eqb-at : (a b : ℕ) → a ≡ b → eqb a b ≡ true
+eqb-at a b h = grind (arith, nat_tests)
+
+chosen : {A : Type 0} (b : Bool) (x y : A) → b ≡ true → cond b x y ≡ x
+chosen b x y h = ap (λ c. cond c x y) h
+
+other : {A : Type 0} (b : Bool) (x y : A) → b ≡ false → cond b x y ≡ y
+other b x y h = ap (λ c. cond c x y) h
+
+nothing : (first n : ℕ) → in_range first 0 n ≡ false
+nothing first n = grind (arith, nat_tests)
+
+past : (first count : ℕ) → in_range first count (first + count) ≡ false
+past first count = grind (arith, nat_tests)
+
+before : (first count q : ℕ) → q ≢ first + count → in_range first (suc count) q ≡ in_range first count q
+before first count q h = grind (arith, nat_tests)
+
+inside : (first count : ℕ) → in_range first (suc count) (first + count) ≡ true
+inside first count = grind (arith, nat_tests)
+
+joined : (addr width value q : ℕ) (m : Memory) → cond (eqb q (addr + width)) (written (m (addr + width)) (value / 256 ^ width % 256)) (write m addr width value q) ≡ write m addr (suc width) value q
+joined addr width value q m = ⊎_elim
+    (λ (e : q ≡ addr + width).
+    let at : addr + width - addr ≡ width = omega arith in
+    subst (λ p. cond (eqb p (addr + width)) (written (m (addr + width)) (value / 256 ^ width % 256)) (write m addr width value p) ≡ write m addr (suc width) value p) (sym e)
+    (chosen (eqb (addr + width) (addr + width)) _ (write m addr width value (addr + width)) (eqb-at (addr + width) (addr + width) refl)
+    ∙ ap (λ w. written (m (addr + width)) (value / 256 ^ w % 256)) (sym at)
+    ∙ sym (chosen (in_range addr (suc width) (addr + width)) _ (m (addr + width)) (inside addr width))))
+    (λ (n : q ≢ addr + width).
+    other (eqb q (addr + width)) _ (write m addr width value q) (eqb-other q (addr + width) n)
+    ∙ ap (λ b. cond b (written (m q) (value / 256 ^ (q - addr) % 256)) (m q)) (sym (before addr width q n)))
+    (same_or_other q (addr + width))
+
+get-put_byte : (m : Map) (addr byte q : ℕ) (o : Option Cell) → o ≡ get m addr → get (put_byte m addr byte o) q ≡ cond (eqb q addr) (written (get m addr) byte) (get m q)
+get-put_byte m addr byte q None h = ⊎_elim
+    (λ (e : q ≡ addr). ap (get m) e ∙ sym h ∙ ap (λ c. written c byte) h ∙ sym (chosen (eqb q addr) (written (get m addr) byte) (get m q) (eqb-at q addr e)))
+    (λ (n : q ≢ addr). sym (other (eqb q addr) (written (get m addr) byte) (get m q) (eqb-other q addr n)))
+    (same_or_other q addr)
+get-put_byte m addr byte q (Some cell) h =
+    get-insert nat_cmp_total m addr (record cell { byte = byte }) q
+    ∙ ap (λ b. cond b (Some (record cell { byte = byte })) (get m q)) (unsigned_tied q addr)
+    ∙ ap (λ c. cond (eqb q addr) c (get m q)) (ap (λ c. written c byte) h)
+
+get-write_map : (m : Map) (addr width value q : ℕ) → get (write_map m addr width value) q ≡ write (look m) addr width value q
+unfolding write_map
+get-write_map m addr zero value q = sym (other (in_range addr 0 q) _ (get m q) (nothing addr q))
+get-write_map m addr (suc width) value q =
+    let less = write_map m addr width value in
+    get-put_byte less (addr + width) (value / 256 ^ width % 256) q (get less (addr + width)) refl
+    ∙ ap (λ c. cond (eqb q (addr + width)) (written c (value / 256 ^ width % 256)) (get less q)) (get-write_map m addr width value (addr + width) ∙ other (in_range addr width (addr + width)) _ (get m (addr + width)) (past addr width))
+    ∙ ap (λ c. cond (eqb q (addr + width)) (written (get m (addr + width)) (value / 256 ^ width % 256)) c) (get-write_map m addr width value q)
+    ∙ joined addr width value q (get m)
+
+look-changed_map : (m : Map) (command : Command) (reply : Reply) → look (changed_map m command reply) ≡ changed (look m) command reply
+look-changed_map m (Store addr width value) Done = λ i q. get-write_map m addr width value q i
+look-changed_map m (Mmap bytes prot place) (At start) = λ i q. get-set_range m start (rounded bytes) (record { byte = 0; prot = prot }) q i
+look-changed_map m (Munmap addr bytes) Done = λ i q. get-remove_range m addr (rounded bytes) q i
+look-changed_map m _ _ = refl
+
+look-map_from : (m : Map) (entries : List Entry) → look (map_from m entries) ≡ memory_from (look m) entries
+look-map_from m [] = refl
+look-map_from m (entry ∷ entries) =
+    look-map_from (changed_map m entry.command (reply_of (look m) entry.command)) entries
+    ∙ ap (λ f. memory_from f entries) (look-changed_map m entry.command (reply_of (look m) entry.command))
+
+pub get-map_of : (entries : List Entry) (addr : ℕ) → get (map_of entries) addr ≡ memory_of entries addr
+get-map_of entries addr =
+    ap (λ f. f addr) (look-map_from empty entries ∙ ap (λ f. memory_from f entries) (λ i q. get-empty nat_cmp q i))
+
+pub len-map_of : (entries : List Entry) → len (map_of entries) ≡ mapped_count (memory_of entries)
+len-map_of entries =
+    sym (count_below-contains_key HIGH (map_of entries) (λ addr l. get-map_of entries addr ∙ memory_of_bounded entries addr (inr l)))
+    ∙ ap (λ f. mapped_count f) (λ i addr. get-map_of entries addr i)

@@ -1,0 +1,12 @@
+pub mod RangeLemmas
+pub mod PageLemmas
+pub mod FlatLemmas
+pub mod BoundLemmas
+pub mod FlatMapLemmas
+pub mod SetLemmas
+pub mod BitLemmas
+pub mod ChunkLemmas
+pub mod ChunkSets
+pub mod PageSetLemmas
+pub mod PageSetViews
+pub mod RunLemmas

@@ -1,0 +1,41 @@
+-- The same flat memory as a finite map.
+use Rattle.std.specs.Prelude.{ℕ, zero, suc, ◌+◌, ◌/◌, ◌%◌, ◌^◌, Option, Some, None, List, [], ◌∷◌}
+use Rattle.std.specs.Ordering.{nat_cmp}
+use Rattle.std.specs.FinMap.{FinMap, get, insert, empty}
+use Rattle.mig_base.specs.declared.command.Entry.{Entry}
+use Rattle.mig_base.specs.declared.command.Command.{Command}
+use Rattle.mig_base.specs.declared.command.Command.TheVariants.{Store, Mmap, Munmap}
+use Rattle.mig_base.specs.declared.command.Reply.{Reply}
+use Rattle.mig_base.specs.declared.command.Reply.TheVariants.{Done, At}
+use Rattle.mig_base.specs.Ranges.{rounded}
+use Rattle.mig_base.specs.Pages.{set_range, remove_range}
+use Rattle.mig_base.specs.Flat.{Cell, Memory, reply_of}
+
+abbrev pub Map : Type 0
+Map = FinMap nat_cmp Cell
+
+-- as a function
+abbrev pub look : Map → Memory
+look m = λ addr. get m addr
+
+abbrev pub put_byte : Map → ℕ → ℕ → Option Cell → Map
+put_byte m addr byte None = m
+put_byte m addr byte (Some cell) = insert m addr (record cell { byte = byte })
+
+unfoldable pub write_map : Map → ℕ → ℕ → ℕ → Map
+write_map m addr zero value = m
+write_map m addr (suc width) value =
+    let less = write_map m addr width value in put_byte less (addr + width) (value / 256 ^ width % 256) (get less (addr + width))
+
+abbrev pub changed_map : Map → Command → Reply → Map
+changed_map m (Store addr width value) Done = write_map m addr width value
+changed_map m (Mmap bytes prot place) (At start) = set_range m start (rounded bytes) (record { byte = 0; prot = prot })
+changed_map m (Munmap addr bytes) Done = remove_range m addr (rounded bytes)
+changed_map m _ _ = m
+
+abbrev pub map_from : Map → List Entry → Map
+map_from m [] = m
+map_from m (entry ∷ entries) = map_from (changed_map m entry.command (reply_of (look m) entry.command)) entries
+
+abbrev pub map_of : List Entry → Map
+map_of entries = map_from empty entries

@@ -1,0 +1,74 @@
+//! The commands of processors, and the replies to them.
+
+use crate::{Addr, Prot};
+
+/// An error number of Linux.
+#[derive(Clone, Copy, Debug, PartialEq, Eq)]
+pub enum Errno {
+    Eperm = 1,
+    Enoent = 2,
+    Eagain = 11,
+    Enomem = 12,
+    Efault = 14,
+    Eexist = 17,
+    Einval = 22,
+}
+
+/// Where a new mapping goes.
+#[derive(Clone, Copy, Debug, PartialEq, Eq)]
+pub enum Place {
+    /// At the least place that is free.
+    Anywhere,
+}
+
+/// What a processor asks of its address space. Lengths and sizes are bytes, and are rounded up to whole pages.
+#[derive(Clone, Copy, Debug, PartialEq, Eq)]
+pub enum Command {
+    /// Reads the little-endian number of `width` bytes.
+    Load {
+        addr: Addr,
+        width: u8,
+    },
+    /// Replaces `width` bytes by those of a number, the lowest first.
+    Store {
+        addr: Addr,
+        width: u8,
+        value: u64,
+    },
+    /// Maps pages of zeros, as mmap(2) does for anonymous private memory.
+    Mmap {
+        addr_len: u64,
+        prot: Prot,
+        place: Place,
+    },
+    /// Takes the pages of a range away, as munmap(2).
+    Munmap {
+        addr: Addr,
+        len: u64,
+    },
+}
+
+/// What a command answers.
+#[derive(Clone, Copy, Debug, PartialEq, Eq)]
+pub enum Reply {
+    /// The number that a load read.
+    Value(u64),
+    /// A store or a map call was made.
+    Done,
+    /// A mapping stands there.
+    At(Addr),
+    /// An access to a page that is not mapped, or whose protection forbids it: SIGSEGV.
+    Segv { mapped: bool },
+    /// An access whose form is wrong: another width than 1, 2, 4 or 8, no multiple of it, or a value that does not fit.
+    BadAccess,
+    /// A map call failed.
+    Refused(Errno),
+}
+
+/// A command that took effect, its processor and its reply.
+#[derive(Clone, Copy, Debug, PartialEq, Eq)]
+pub struct Entry {
+    pub cpu: u8,
+    pub command: Command,
+    pub reply: Reply,
+}

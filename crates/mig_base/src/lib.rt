@@ -1,0 +1,89 @@
+//! The words of a migration that every crate shares.
+//!
+//! Addresses, pages and protections; the commands of processors and the replies to them; the steps of a world and their
+//! outcomes; [`PageSet`], a set of pages. What the commands do to one flat memory is a definition, `specs/Flat.antt`, after
+//! mmap(2) and munmap(2): this crate executes no command.
+#![tactic(auto)]
+
+pub mod chunk;
+pub mod command;
+pub mod laws;
+pub mod page_set;
+pub mod step;
+
+mod chunks;
+mod slots;
+mod words;
+
+pub use crate::command::{Command, Entry, Errno, Place, Reply};
+pub use crate::page_set::PageSet;
+pub use crate::step::{Effect, Refusal, Step, WorldPhase};
+
+use std::alloc::AllocError;
+use thiserror::Error;
+
+/// An address of the guest, in bytes.
+pub type Addr = u64;
+
+/// A page by its number: its first address divided by [`PAGE_SIZE`]. Pages lie below [`HIGH_PAGE`].
+pub type PageNo = u32;
+
+/// The bytes of a page.
+pub const PAGE_SIZE: u64 = 4096;
+
+/// The lowest address that may be mapped.
+pub const LOW: u64 = 0x10000;
+
+/// The end of what may be mapped.
+pub const HIGH: u64 = 0x1_0000_0000;
+
+/// The page at [`LOW`].
+pub const LOW_PAGE: u32 = 0x10;
+
+/// The page at [`HIGH`].
+pub const HIGH_PAGE: u32 = 0x10_0000;
+
+/// How many pages may be mapped.
+pub const MAX_PAGES: u32 = 16_384;
+
+/// How many processors a guest may have.
+pub const MAX_CPUS: u8 = 16;
+
+/// What a mapping permits, as `prot` of mmap(2).
+#[derive(Clone, Copy, Debug, PartialEq, Eq)]
+pub enum Prot {
+    /// PROT_NONE.
+    NoAccess,
+    /// PROT_READ: loads.
+    Read,
+    /// PROT_READ with PROT_WRITE: loads and stores.
+    ReadWrite,
+}
+
+/// A run of pages with one protection.
+#[derive(Clone, Copy, Debug, PartialEq, Eq)]
+pub struct Area {
+    pub first: PageNo,
+    /// Pages, at least 1.
+    pub count: u32,
+    pub prot: Prot,
+}
+
+/// A run of pages.
+#[derive(Clone, Copy, Debug, PartialEq, Eq)]
+pub struct Run {
+    pub first: PageNo,
+    /// Pages, at least 1.
+    pub count: u32,
+}
+
+/// A growth was refused.
+#[derive(Clone, Copy, Debug, PartialEq, Eq, Error)]
+#[error("no memory")]
+pub struct NoMemory;
+
+impl From<AllocError> for NoMemory {
+    fn from(_error: AllocError) -> Self {
+        NoMemory
+    }
+}
