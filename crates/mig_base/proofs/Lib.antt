@@ -1,5 +1,6 @@
 pub mod RangeLemmas
 pub mod PageLemmas
+pub mod ByteLemmas
 pub mod FlatLemmas
 pub mod BoundLemmas
 pub mod FlatMapLemmas

@@ -1,6 +1,7 @@
--- One flat memory, and what the commands of the processors do to it and answer.
+-- One flat memory: what the commands of the processors answer, and what they do to it. The map calls are those of mmap(2)
+-- and munmap(2) for anonymous private mappings; where several errors apply, the order is this project's.
 use Rattle.std.specs.Prelude.{◌≡◌, ℕ, zero, suc, ◌+◌, ◌-◌, ◌*◌, ◌/◌, ◌%◌, ◌^◌, ◌==◌, ◌&&◌, ◌||◌, Bool, true, false, not, nat_lt, if◌then◌else◌, Option, Some, None, is_some, List, [], ◌∷◌}
-use Rattle.mig_base.specs.declared.TheConstants.{LOW, HIGH, MAX_PAGES}
+use Rattle.mig_base.specs.declared.TheConstants.{PAGE_SIZE, LOW, HIGH, MAX_PAGES}
 use Rattle.mig_base.specs.declared.Prot.{Prot}
 use Rattle.mig_base.specs.declared.Prot.TheVariants.{NoAccess, Read, ReadWrite}
 use Rattle.mig_base.specs.declared.command.Errno.{Errno}
@@ -13,7 +14,7 @@ use Rattle.mig_base.specs.declared.command.Reply.TheVariants.{Value, Done, At, S
 use Rattle.mig_base.specs.declared.command.Entry.{Entry}
 use Rattle.mig_base.specs.Ranges.{in_range, count_below, rounded, free_place}
 
--- a byte with its protection
+-- a byte with its protection: `prot` of mmap(2), DESCRIPTION
 pub record Cell : Type 0 where
   pub byte : ℕ
   pub prot : Prot
@@ -26,6 +27,7 @@ Memory = ℕ → Option Cell
 abbrev pub no_memory : Memory
 no_memory = λ _. None
 
+-- whether an address is mapped
 abbrev pub is_mapped : Memory → ℕ → Bool
 is_mapped memory addr = is_some (memory addr)
 
@@ -43,17 +45,21 @@ clear memory start len = λ addr. if in_range start len addr then None else memo
 
 -- Accesses
 
+-- the widths of a load or store, in bytes
 abbrev pub is_width : ℕ → Bool
 is_width width = width == 1 || width == 2 || width == 4 || width == 8
 
+-- whether an access of that width may stand at the address: it then lies in one page
 abbrev pub is_aligned : ℕ → ℕ → Bool
 is_aligned addr width = is_width width && addr % width == 0
 
+-- PROT_READ permits loads: mmap(2), DESCRIPTION
 abbrev pub allows_load : Prot → Bool
 allows_load NoAccess = false
 allows_load Read = true
 allows_load ReadWrite = true
 
+-- PROT_WRITE permits stores: mmap(2), DESCRIPTION
 abbrev pub allows_store : Prot → Bool
 allows_store NoAccess = false
 allows_store Read = false
@@ -69,6 +75,7 @@ abbrev pub number_at : Memory → ℕ → ℕ → ℕ
 number_at memory addr zero = 0
 number_at memory addr (suc width) = byte_of (memory addr) + 256 * number_at memory (addr + 1) width
 
+-- a cell with another byte
 abbrev pub written : Option Cell → ℕ → Option Cell
 written None byte = None
 written (Some cell) byte = Some (record cell { byte = byte })
@@ -78,7 +85,8 @@ abbrev pub write : Memory → ℕ → ℕ → ℕ → Memory
 write memory addr width value =
     λ at. if in_range addr width at then written (memory at) (value / 256 ^ (at - addr) % 256) else memory at
 
--- the answer of an access whose form is right, from the cell at its first address
+-- the answer of an access whose form is right, from the cell at its first address: an access to a page that is not mapped,
+-- or that its protection forbids, is a segmentation fault (mmap(2), NOTES; SEGV_MAPERR and SEGV_ACCERR of sigaction(2))
 abbrev pub access_reply : Option Cell → (Prot → Bool) → Reply → Reply
 access_reply None allows answer = Segv false
 access_reply (Some cell) allows answer = if allows cell.prot then answer else Segv true
@@ -95,14 +103,16 @@ abbrev pub at_place : Option ℕ → Reply
 at_place None = Refused Enomem
 at_place (Some start) = At start
 
+-- mmap(2), ERRORS: EINVAL for a length of 0, ENOMEM where the range has no room or the limit of pages would be passed
 abbrev pub mmap_reply : Memory → ℕ → Reply
 mmap_reply memory len =
-    first_refusal ((len == 0, Einval) ∷ (nat_lt (HIGH - LOW) (rounded len), Enomem) ∷ (nat_lt (4096 * MAX_PAGES) (mapped_count memory + rounded len), Enomem) ∷ [])
+    first_refusal ((len == 0, Einval) ∷ (nat_lt (HIGH - LOW) (rounded len), Enomem) ∷ (nat_lt (PAGE_SIZE * MAX_PAGES) (mapped_count memory + rounded len), Enomem) ∷ [])
     (at_place (free_place (is_mapped memory) (rounded len)))
 
+-- munmap(2), DESCRIPTION and ERRORS: the address is a multiple of the page size, and no page of the range need be mapped
 abbrev pub munmap_reply : ℕ → ℕ → Reply
 munmap_reply addr len =
-    first_refusal ((not (addr % 4096 == 0), Einval) ∷ (len == 0, Einval) ∷ (nat_lt HIGH (addr + rounded len), Einval) ∷ []) Done
+    first_refusal ((not (addr % PAGE_SIZE == 0), Einval) ∷ (len == 0, Einval) ∷ (nat_lt HIGH (addr + rounded len), Einval) ∷ []) Done
 
 -- what a flat memory answers to a command
 abbrev pub reply_of : Memory → Command → Reply
@@ -113,7 +123,7 @@ reply_of memory (Store addr width value) =
 reply_of memory (Mmap len prot Anywhere) = mmap_reply memory len
 reply_of memory (Munmap addr len) = munmap_reply addr len
 
--- the memory after a command that is answered so
+-- the memory after a command that is answered so: new pages are zeros (MAP_ANONYMOUS of mmap(2)), unmapped ones are gone
 abbrev pub changed : Memory → Command → Reply → Memory
 changed memory (Store addr width value) Done = write memory addr width value
 changed memory (Mmap len prot place) (At start) = fill memory start (rounded len) (record { byte = 0; prot = prot })
@@ -126,11 +136,12 @@ after memory command = changed memory command (reply_of memory command)
 
 -- Runs
 
--- each reply is what the memory answers when the commands are made in turn
+-- whether each reply is what the memory answers when the commands are made in turn
 abbrev pub IsRunFrom : Memory → List Entry → Type 0
 IsRunFrom memory [] = Unit {0}
 IsRunFrom memory (entry ∷ entries) = (entry.reply ≡ reply_of memory entry.command) × IsRunFrom (after memory entry.command) entries
 
+-- the memory after the commands
 abbrev pub memory_from : Memory → List Entry → Memory
 memory_from memory [] = memory
 memory_from memory (entry ∷ entries) = memory_from (after memory entry.command) entries

@@ -2,6 +2,7 @@ pub mod Ranges
 pub mod Flat
 pub mod FlatMap
 pub mod Pages
+pub mod Bytes
 pub mod Codes
 pub mod Sets
 pub mod Bits

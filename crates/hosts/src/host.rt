@@ -1,0 +1,200 @@
+//! One host: which pages are mapped, and what the present ones hold.
+
+ghost use Rattle.std.specs.Prelude.{◌≡◌, ℕ, IfOk, IfSome, OnOk, OnErr, ◌<◌, ◌/◌, ◌+◌, ◌≤◌, IsTrue, true};
+ghost use Rattle.std.specs.FinMap as map;
+ghost use Rattle.mig_base.specs.Bytes.{contents};
+ghost use Rattle.mig_base.specs.Flat.{reply_of, number_at, is_aligned as is_access};
+ghost use Rattle.mig_model.specs.Host.{bare_host, memory, host_changed, host_after};
+
+use crate::access::{allows_load, allows_store, fits, is_aligned, number};
+use area_map::AreaMap;
+use mig_base::{
+    Addr, Command, Errno, HIGH, HIGH_PAGE, LOW_PAGE, MAX_PAGES, NoMemory, PAGE_SIZE, PageNo, Place,
+    Prot, Reply,
+};
+use page_table::{PageTable, PutFault};
+use std::alloc::Global;
+use std::marker::Model;
+
+/// The mapped pages of a host with their protections, and its present pages with their bytes.
+///
+/// A page that is mapped and not present reads as zeros, and becomes present at the first store to it.
+#[derive(Drop)]
+pub struct Host {
+    areas: AreaMap,
+    pages: PageTable,
+}
+
+impl Model for Host {
+    ghost use Rattle.mig_model.specs.Host.{Host as HostPages, coded_host, IsSound};
+
+    ghost Value = { HostPages };
+
+    ghost coded = { coded_host };
+
+    ghost view = { λ h. record { areas = h.areas; bytes = h.pages.bytes } };
+
+    ghost invariant = { λ h. IsSound (record { areas = h.areas; bytes = h.pages.bytes }) };
+}
+
+impl Host {
+    /// A host on which nothing is mapped.
+    pub fn new(alloc: Global) -> Self
+        ensures { result ≡ bare_host }
+    {
+        Host {
+            areas: AreaMap::new(alloc),
+            pages: PageTable::new(alloc),
+        }
+    }
+
+    /// Makes a command, and answers as one flat memory does. Want of memory changes nothing.
+    pub fn perform(&mut self, command: Command) -> Result<Reply, NoMemory>
+        ensures reply { IfOk result (λ reply. reply ≡ reply_of (memory self.old) command) }
+        ensures host { OnOk result (self.new ≡ host_after self.old command) }
+        ensures err { OnErr result (self.new ≡ self.old) }
+    {
+        match command {
+            Command::Load { addr, width } => Ok(self.load(addr, width)),
+            Command::Store { addr, width, value } => self.store(addr, width, value),
+            Command::Mmap {
+                addr_len,
+                prot,
+                place: Place::Anywhere,
+            } => self.mmap(addr_len, prot),
+            Command::Munmap { addr, len } => self.munmap(addr, len),
+        }
+    }
+
+    fn load(&self, addr: Addr, width: u8) -> Reply
+        ensures { result ≡ reply_of (memory self.now) (Command.Load addr width) }
+    {
+        if !is_aligned(addr, width) {
+            return Reply::BadAccess;
+        }
+        match self.prot_at(addr) {
+            None => Reply::Segv { mapped: false },
+            Some(prot) if allows_load(prot) => Reply::Value(self.number_at(addr, width)),
+            Some(_) => Reply::Segv { mapped: true },
+        }
+    }
+
+    fn store(&mut self, addr: Addr, width: u8, value: u64) -> Result<Reply, NoMemory>
+        ensures reply { IfOk result (λ reply. reply ≡ reply_of (memory self.old) (Command.Store addr width value)) }
+        ensures host { OnOk result (self.new ≡ host_after self.old (Command.Store addr width value)) }
+        ensures err { OnErr result (self.new ≡ self.old) }
+    {
+        if !is_aligned(addr, width) || !fits(value, width) {
+            return Ok(Reply::BadAccess);
+        }
+        match self.prot_at(addr) {
+            None => Ok(Reply::Segv { mapped: false }),
+            Some(prot) if allows_store(prot) => {
+                self.write(addr, width, value)?;
+                Ok(Reply::Done)
+            }
+            Some(_) => Ok(Reply::Segv { mapped: true }),
+        }
+    }
+
+    fn mmap(&mut self, len: u64, prot: Prot) -> Result<Reply, NoMemory>
+        ensures reply { IfOk result (λ reply. reply ≡ reply_of (memory self.old) (Command.Mmap len prot Place.Anywhere)) }
+        ensures host { OnOk result (self.new ≡ host_after self.old (Command.Mmap len prot Place.Anywhere)) }
+        ensures err { OnErr result (self.new ≡ self.old) }
+    {
+        if len == 0 {
+            return Ok(Reply::Refused(Errno::Einval));
+        }
+        let count = len.div_ceil(PAGE_SIZE);
+        if count > u64::from(HIGH_PAGE - LOW_PAGE) {
+            return Ok(Reply::Refused(Errno::Enomem));
+        }
+        if u64::from(self.areas.mapped_pages()) + count > u64::from(MAX_PAGES) {
+            return Ok(Reply::Refused(Errno::Enomem));
+        }
+        match self.areas.gap(count * PAGE_SIZE) {
+            None => Ok(Reply::Refused(Errno::Enomem)),
+            Some(start) => {
+                self.areas
+                    .map((start / PAGE_SIZE) as PageNo, count as u32, prot)?;
+                Ok(Reply::At(start))
+            }
+        }
+    }
+
+    fn munmap(&mut self, addr: Addr, len: u64) -> Result<Reply, NoMemory>
+        ensures reply { IfOk result (λ reply. reply ≡ reply_of (memory self.old) (Command.Munmap addr len)) }
+        ensures host { OnOk result (self.new ≡ host_after self.old (Command.Munmap addr len)) }
+        ensures err { OnErr result (self.new ≡ self.old) }
+    {
+        let count = len.div_ceil(PAGE_SIZE);
+        if addr % PAGE_SIZE != 0
+            || len == 0
+            || addr > HIGH
+            || count > u64::from(HIGH_PAGE) - addr / PAGE_SIZE
+        {
+            return Ok(Reply::Refused(Errno::Einval));
+        }
+        let first = (addr / PAGE_SIZE) as PageNo;
+        self.areas.unmap(first, count as u32)?;
+        self.pages.drop_range(first, count as u32);
+        Ok(Reply::Done)
+    }
+
+    /// The protection at an address, if it is mapped.
+    fn prot_at(&self, addr: Addr) -> Option<Prot>
+        ensures prot { result ≡ map.get self.now.areas (addr / 4096) }
+        ensures high { IfSome result (λ _. addr < HIGH) }
+    {
+        if addr < HIGH {
+            self.areas.prot_at((addr / PAGE_SIZE) as PageNo)
+        } else {
+            None
+        }
+    }
+
+    /// The number of `width` bytes at an address.
+    fn number_at(&self, addr: Addr, width: u8) -> u64
+        requires high { addr < HIGH }
+        requires aligned { is_access addr width ≡ true }
+        requires mapped { IsTrue (map.contains_key self.now.areas (addr / 4096)) }
+        ensures { result ≡ number_at (memory self.now) addr width }
+    {
+        let offset = (addr % PAGE_SIZE) as usize;
+        match self.pages.get((addr / PAGE_SIZE) as PageNo) {
+            Some(bytes) => number(&bytes[offset..offset + usize::from(width)]),
+            None => 0,
+        }
+    }
+
+    /// Makes a mapped page present: zeros, unless it is so already.
+    fn make_present(&mut self, page: PageNo) -> Result<(), NoMemory>
+        requires below { page < HIGH_PAGE }
+        requires mapped { IsTrue (map.contains_key self.old.areas page) }
+        ensures present { OnOk result (IsTrue (map.contains_key self.new.bytes page)) }
+        ensures ok { OnOk result (self.new ≡ record self.old { bytes = map.insert self.old.bytes page (contents self.old.bytes page) }) }
+        ensures err { OnErr result (self.new ≡ self.old) }
+    {
+        match self.pages.put_zero(page) {
+            Ok(()) => Ok(()),
+            Err(PutFault::Present) => Ok(()),
+            Err(PutFault::NoMemory) => Err(NoMemory),
+        }
+    }
+
+    /// Replaces the `width` bytes at an address by those of a number, and makes their page present.
+    fn write(&mut self, addr: Addr, width: u8, value: u64) -> Result<(), NoMemory>
+        requires high { addr < HIGH }
+        requires aligned { is_access addr width ≡ true }
+        requires mapped { IsTrue (map.contains_key self.old.areas (addr / 4096)) }
+        ensures ok { OnOk result (self.new ≡ host_changed self.old (Command.Store addr width value) Reply.Done) }
+        ensures err { OnErr result (self.new ≡ self.old) }
+    {
+        let page = (addr / PAGE_SIZE) as PageNo;
+        self.make_present(page)?;
+        let offset = (addr % PAGE_SIZE) as usize;
+        let bytes = value.to_le_bytes();
+        self.pages.write(page, offset, &bytes[..usize::from(width)]);
+        Ok(())
+    }
+}

@@ -1,0 +1,260 @@
+-- The memory of a host, and how the changes of its maps change it.
+use Rattle.std.proofs.Common.{◌≡◌, ◌≢◌, ℕ, ◌+◌, ◌-◌, ◌*◌, ◌/◌, ◌%◌, ◌^◌, ◌<◌, ◌≤◌, Bool, true, false, cond, eqb, Option, Some, None, List, [], refl, sym, ap, ◌∙◌, ◌⊎◌, ⊎_elim, arith, length, get_or, is_some, unwrap_or}
+use Rattle.std.specs.Option.{option_map}
+use Rattle.std.specs.Ordering.{nat_cmp}
+use Rattle.std.specs.Cmp.{nat_cmp_total, unsigned_tied}
+use Rattle.std.specs.FinMap.{FinMap, get, insert, empty, len, contains_key, get-insert, get-empty}
+use Rattle.std.proofs.lemmas.Bool.Decides.{nat_tests}
+use Rattle.std.proofs.lemmas.Bool.{false≢true}
+use Rattle.mig_base.specs.declared.TheConstants.{HIGH, HIGH_PAGE}
+use Rattle.mig_base.specs.declared.Prot.{Prot}
+use Rattle.mig_base.specs.Ranges.{in_range, count_below}
+use Rattle.mig_base.specs.Pages.{set_range, remove_range}
+use Rattle.mig_base.specs.Bytes.{page_at, overwrite}
+use Rattle.mig_base.specs.Flat.{Memory, Cell, no_memory, is_mapped, mapped_count, fill, clear, write, written}
+use Rattle.mig_base.proofs.RangeLemmas.{count_below-blocks, in_range_tells, in_range-true, in_range-false_below, in_range-false_above}
+use Rattle.mig_base.proofs.PageLemmas.{get-set_range, get-remove_range, count_below-contains_key}
+use Rattle.mig_base.proofs.ByteLemmas.{get_or-overwrite_below, get_or-overwrite_in, get_or-overwrite_above}
+use Rattle.mig_model.specs.Host.{Host, bare_host, byte_in, memory, IsSound}
+
+none_some : {A : Type 0} (x : A) → None ≡ Some x → ⊥
+none_some x h = cc
+
+same_some : {A : Type 0} (x y : A) → Some x ≡ Some y → x ≡ y
+same_some x y h = cc
+
+-- two memories that hold the same at each address are one
+pub same_memory : (a b : Memory) → ((addr : ℕ) → a addr ≡ b addr) → a ≡ b
+same_memory a b h = λ i addr. h addr i
+
+abbrev pub cell_at : FinMap nat_cmp (List ℕ) → ℕ → Option Prot → Option Cell
+cell_at bytes addr o = option_map (λ prot. record { byte = byte_in bytes addr; prot = prot }) o
+
+pub memory-at : (host : Host) (addr : ℕ) → memory host addr ≡ cell_at host.bytes addr (get host.areas (addr / 4096))
+unfolding memory
+memory-at host addr = refl
+
+pub memory-none : (host : Host) (addr : ℕ) → get host.areas (addr / 4096) ≡ None → memory host addr ≡ None
+memory-none host addr h = memory-at host addr ∙ ap (cell_at host.bytes addr) h
+
+pub memory-some : (host : Host) (addr : ℕ) (prot : Prot) → get host.areas (addr / 4096) ≡ Some prot → memory host addr ≡ Some (record { byte = byte_in host.bytes addr; prot = prot })
+memory-some host addr prot h = memory-at host addr ∙ ap (cell_at host.bytes addr) h
+
+-- nothing is mapped
+pub memory-empty : memory (record { areas = empty; bytes = empty }) ≡ no_memory
+memory-empty = same_memory (memory (record { areas = empty; bytes = empty })) no_memory (λ addr. memory-none (record { areas = empty; bytes = empty }) addr (get-empty nat_cmp (addr / 4096)))
+
+pub IsSound-empty : IsSound (record { areas = empty; bytes = empty })
+IsSound-empty =
+    record {
+      bound = λ page l. get-empty nat_cmp page;
+      mapped = λ page h. get-empty nat_cmp page;
+      whole = λ page bytes h. absurd (none_some bytes (sym (get-empty nat_cmp page) ∙ h));
+    }
+
+is_some-cell : (bytes : FinMap nat_cmp (List ℕ)) (addr : ℕ) (o : Option Prot) → is_some (cell_at bytes addr o) ≡ is_some o
+is_some-cell bytes addr None = refl
+is_some-cell bytes addr (Some prot) = refl
+
+pub is_mapped-memory : (host : Host) → is_mapped (memory host) ≡ (λ addr. contains_key host.areas (addr / 4096))
+is_mapped-memory host = λ i addr. (ap is_some (memory-at host addr) ∙ is_some-cell host.bytes addr (get host.areas (addr / 4096))) i
+
+-- each mapped page is 4096 mapped addresses
+pub mapped_count-memory : (host : Host) → IsSound host → mapped_count (memory host) ≡ 4096 * len host.areas
+mapped_count-memory host sound =
+    ap (λ test. count_below test HIGH) (is_mapped-memory host)
+    ∙ count_below-blocks 4096 (λ addr. contains_key host.areas (addr / 4096)) (λ page. contains_key host.areas page) HIGH_PAGE (λ k i l. ap (λ page. contains_key host.areas page) (omega arith))
+    ∙ ap (λ n. 4096 * n) (count_below-contains_key HIGH_PAGE host.areas sound.bound)
+
+-- the same look-ups of areas, and the same bytes
+same_cells : (a b : Host) → ((page : ℕ) → get a.areas page ≡ get b.areas page) → ((addr : ℕ) → byte_in a.bytes addr ≡ byte_in b.bytes addr) → memory a ≡ memory b
+same_cells a b areas bytes = same_memory (memory a) (memory b) (λ addr.
+    memory-at a addr
+    ∙ ap (cell_at a.bytes addr) (areas (addr / 4096))
+    ∙ ap (λ byte. option_map (λ prot. record { byte = byte; prot = prot }) (get b.areas (addr / 4096))) (bytes addr)
+    ∙ sym (memory-at b addr))
+
+-- A page put in
+
+get-put : (bytes : FinMap nat_cmp (List ℕ)) (page q : ℕ) (held : List ℕ) → get (insert bytes page held) q ≡ cond (eqb q page) (Some held) (get bytes q)
+get-put bytes page q held = get-insert nat_cmp_total bytes page held q ∙ ap (λ b. cond b (Some held) (get bytes q)) (unsigned_tied q page)
+
+eqb_tells_same : (q page : ℕ) → eqb q page ≡ true → q ≡ page
+eqb_tells_same q page h = grind (arith, nat_tests)
+
+-- a mapped page is put or written
+mapped_put : (b : Bool) (q page : ℕ) (held : List ℕ) (areas : Option Prot) (o : Option (List ℕ)) → b ≡ eqb q page → (b ≡ true → areas ≡ None → ⊥) → (areas ≡ None → o ≡ None) → areas ≡ None → cond b (Some held) o ≡ None
+mapped_put true q page held areas o e some rest none = absurd (some refl none)
+mapped_put false q page held areas o e some rest none = rest none
+
+whole_put : (b : Bool) (held bytes : List ℕ) (o : Option (List ℕ)) → length held ≡ 4096 → (o ≡ Some bytes → length bytes ≡ 4096) → cond b (Some held) o ≡ Some bytes → length bytes ≡ 4096
+whole_put true held bytes o n rest h = ap length (sym (same_some held bytes h)) ∙ n
+whole_put false held bytes o n rest h = rest h
+
+has_not_none : (areas : FinMap nat_cmp Prot) (page : ℕ) → contains_key areas page ≡ true → get areas page ≡ None → ⊥
+has_not_none areas page has none = false≢true (sym (ap is_some none) ∙ has)
+
+pub IsSound-put : (host : Host) (page : ℕ) (held : List ℕ) → IsSound host → contains_key host.areas page ≡ true → length held ≡ 4096 → IsSound (record host { bytes = insert host.bytes page held })
+IsSound-put host page held sound has n =
+    record {
+      bound = sound.bound;
+      mapped = λ q none. get-put host.bytes page q held ∙ mapped_put (eqb q page) q page held (get host.areas q) (get host.bytes q) refl (λ e gone. has_not_none host.areas page has (ap (get host.areas) (sym (eqb_tells_same q page e)) ∙ gone)) (sound.mapped q) none;
+      whole = λ q bytes h. whole_put (eqb q page) held bytes (get host.bytes q) n (sound.whole q bytes) (sym (get-put host.bytes page q held) ∙ h);
+    }
+
+-- A write
+
+eqb-other : (a b : ℕ) → a ≢ b → eqb a b ≡ false
+eqb-other a b h = grind (arith, nat_tests)
+
+eqb-same : (a b : ℕ) → a ≡ b → eqb a b ≡ true
+eqb-same a b h = grind (arith, nat_tests)
+
+same_or_other : (a b : ℕ) → (a ≡ b) ⊎ (a ≢ b)
+same_or_other a b = grind (arith, nat_tests)
+
+outside_page : (bytes : FinMap nat_cmp (List ℕ)) (page addr : ℕ) (held : List ℕ) → addr / 4096 ≢ page → byte_in (insert bytes page held) addr ≡ byte_in bytes addr
+outside_page bytes page addr held other =
+    ap (λ o. get_or (unwrap_or o []) (addr % 4096) 0) (get-put bytes page (addr / 4096) held ∙ ap (λ b. cond b (Some held) (get bytes (addr / 4096))) (eqb-other (addr / 4096) page other))
+
+inside_page : (bytes : FinMap nat_cmp (List ℕ)) (page addr : ℕ) (held : List ℕ) → addr / 4096 ≡ page → byte_in (insert bytes page held) addr ≡ get_or held (addr % 4096) 0
+inside_page bytes page addr held here =
+    ap (λ o. get_or (unwrap_or o []) (addr % 4096) 0) (get-put bytes page (addr / 4096) held ∙ ap (λ b. cond b (Some held) (get bytes (addr / 4096))) (eqb-same (addr / 4096) page here))
+
+-- the digits of a number
+pub record AreDigits (digits : List ℕ) (width value : ℕ) : Type 0 where
+  pub count : length digits ≡ width
+  pub each : (i : ℕ) → i < width → get_or digits i 0 ≡ value / 256 ^ i % 256
+
+-- a page reads as the other, whether that is present or not
+abbrev pub ReadsAs : List ℕ → List ℕ → Type 0
+ReadsAs held other = (i : ℕ) → get_or held i 0 ≡ get_or other i 0
+
+byte_in-write : (bytes : FinMap nat_cmp (List ℕ)) (addr width value : ℕ) (held digits : List ℕ) → ReadsAs held (page_at bytes (addr / 4096)) → length held ≡ 4096 → AreDigits digits width value → addr % 4096 + width ≤ 4096 → (q : ℕ) → byte_in (insert bytes (addr / 4096) (overwrite held (addr % 4096) digits)) q ≡ cond (in_range addr width q) (value / 256 ^ (q - addr) % 256) (byte_in bytes q)
+byte_in-write bytes addr width value held digits same n are inside q =
+    let count = are.count in
+    let fits : addr % 4096 + length digits ≤ length held = omega arith in
+    let written_page = overwrite held (addr % 4096) digits in
+    let old_byte : q / 4096 ≡ addr / 4096 → get_or held (q % 4096) 0 ≡ byte_in bytes q = λ here. same (q % 4096) ∙ ap (λ p. get_or (page_at bytes p) (q % 4096) 0) (sym here) in
+    ⊎_elim
+    (λ (t : (in_range addr width q ≡ true) × (addr ≤ q) × (q < addr + width)).
+    let low = t.1 in
+    let high = t.2 in
+    let at : q % 4096 - addr % 4096 ≡ q - addr = omega arith in
+    inside_page bytes (addr / 4096) q written_page (omega arith)
+    ∙ get_or-overwrite_in held digits (addr % 4096) (q % 4096) fits (omega arith) (omega arith)
+    ∙ ap (λ i. get_or digits i 0) at
+    ∙ are.each (q - addr) (omega arith)
+    ∙ sym (ap (λ b. cond b (value / 256 ^ (q - addr) % 256) (byte_in bytes q)) t.0))
+    (λ (t : (in_range addr width q ≡ false) × ((q < addr) ⊎ (addr + width ≤ q))).
+    ⊎_elim
+    (λ (here : q / 4096 ≡ addr / 4096).
+    inside_page bytes (addr / 4096) q written_page here
+    ∙ ⊎_elim
+    (λ (below : q < addr). get_or-overwrite_below held digits (addr % 4096) (q % 4096) fits (omega arith))
+    (λ (above : addr + width ≤ q). get_or-overwrite_above held digits (addr % 4096) (q % 4096) fits (omega arith))
+    t.1
+    ∙ old_byte here)
+    (λ (other : q / 4096 ≢ addr / 4096). outside_page bytes (addr / 4096) q written_page other)
+    (same_or_other (q / 4096) (addr / 4096))
+    ∙ sym (ap (λ b. cond b (value / 256 ^ (q - addr) % 256) (byte_in bytes q)) t.0))
+    (in_range_tells addr width q)
+
+written-cell : (bytes : FinMap nat_cmp (List ℕ)) (addr byte : ℕ) (o : Option Prot) → written (cell_at bytes addr o) byte ≡ option_map (λ prot. record { byte = byte; prot = prot }) o
+written-cell bytes addr byte None = refl
+written-cell bytes addr byte (Some prot) = refl
+
+chosen : (b : Bool) (bytes : FinMap nat_cmp (List ℕ)) (addr byte : ℕ) (o : Option Prot) → option_map (λ prot. record { byte = cond b byte (byte_in bytes addr); prot = prot }) o ≡ cond b (written (cell_at bytes addr o) byte) (cell_at bytes addr o)
+chosen true bytes addr byte o = sym (written-cell bytes addr byte o)
+chosen false bytes addr byte o = refl
+
+pub memory-write : (host : Host) (addr width value : ℕ) (held digits : List ℕ) → ReadsAs held (page_at host.bytes (addr / 4096)) → length held ≡ 4096 → AreDigits digits width value → addr % 4096 + width ≤ 4096 → memory (record host { bytes = insert host.bytes (addr / 4096) (overwrite held (addr % 4096) digits) }) ≡ write (memory host) addr width value
+memory-write host addr width value held digits same n are inside =
+    let new : Host = record host { bytes = insert host.bytes (addr / 4096) (overwrite held (addr % 4096) digits) } in
+    same_memory (memory new) (write (memory host) addr width value) (λ q.
+    memory-at new q
+    ∙ ap (λ byte. option_map (λ prot. record { byte = byte; prot = prot }) (get host.areas (q / 4096))) (byte_in-write host.bytes addr width value held digits same n are inside q)
+    ∙ chosen (in_range addr width q) host.bytes q (value / 256 ^ (q - addr) % 256) (get host.areas (q / 4096))
+    ∙ sym (ap (λ c. cond (in_range addr width q) (written c (value / 256 ^ (q - addr) % 256)) c) (memory-at host q)))
+
+-- Ranges of pages
+
+in_range-pages : (first count q : ℕ) → in_range first count (q / 4096) ≡ in_range (first * 4096) (4096 * count) q
+in_range-pages first count q =
+    ⊎_elim
+    (λ (t : (in_range first count (q / 4096) ≡ true) × (first ≤ q / 4096) × (q / 4096 < first + count)).
+    let low = t.1 in
+    let high = t.2 in
+    t.0 ∙ sym (in_range-true (first * 4096) (4096 * count) q (omega arith) (omega arith)))
+    (λ (t : (in_range first count (q / 4096) ≡ false) × ((q / 4096 < first) ⊎ (first + count ≤ q / 4096))).
+    t.0 ∙ sym (⊎_elim
+    (λ (below : q / 4096 < first). in_range-false_below (first * 4096) (4096 * count) q (omega arith))
+    (λ (above : first + count ≤ q / 4096). in_range-false_above (first * 4096) (4096 * count) q (omega arith))
+    t.1))
+    (in_range_tells first count (q / 4096))
+
+in_range_first : (first count q : ℕ) → in_range first count q ≡ true → (first ≤ q) × (q < first + count)
+in_range_first first count q h = grind (arith, nat_tests)
+
+filled : (b : Bool) (bytes : FinMap nat_cmp (List ℕ)) (addr : ℕ) (prot : Prot) (o : Option Prot) → (b ≡ true → byte_in bytes addr ≡ 0) → cell_at bytes addr (cond b (Some prot) o) ≡ cond b (Some (record { byte = 0; prot = prot })) (cell_at bytes addr o)
+filled true bytes addr prot o h = ap (λ byte. Some (record { byte = byte; prot = prot })) (h refl)
+filled false bytes addr prot o h = refl
+
+pub memory-map : (host : Host) (first count : ℕ) (prot : Prot) → IsSound host → ((page : ℕ) → first ≤ page → page < first + count → get host.areas page ≡ None) → memory (record host { areas = set_range host.areas first count prot }) ≡ fill (memory host) (first * 4096) (4096 * count) (record { byte = 0; prot = prot })
+memory-map host first count prot sound free =
+    let new : Host = record host { areas = set_range host.areas first count prot } in
+    same_memory (memory new) (fill (memory host) (first * 4096) (4096 * count) (record { byte = 0; prot = prot })) (λ q.
+    memory-at new q
+    ∙ ap (cell_at host.bytes q) (get-set_range host.areas first count prot (q / 4096))
+    ∙ filled (in_range first count (q / 4096)) host.bytes q prot (get host.areas (q / 4096))
+    (λ e. let page = in_range_first first count (q / 4096) e in
+    ap (λ o. get_or (unwrap_or o []) (q % 4096) 0) (sound.mapped (q / 4096) (free (q / 4096) page.0 page.1)))
+    ∙ ap (λ b. cond b (Some (record { byte = 0; prot = prot })) (cell_at host.bytes q (get host.areas (q / 4096)))) (in_range-pages first count q)
+    ∙ ap (λ c. cond (in_range (first * 4096) (4096 * count) q) (Some (record { byte = 0; prot = prot })) c) (sym (memory-at host q)))
+
+cond_some_none : (b : Bool) (prot : Prot) (o : Option Prot) → cond b (Some prot) o ≡ None → o ≡ None
+cond_some_none true prot o h = absurd (none_some prot (sym h))
+cond_some_none false prot o h = h
+
+pub IsSound-map : (host : Host) (first count : ℕ) (prot : Prot) → IsSound host → first + count ≤ HIGH_PAGE → IsSound (record host { areas = set_range host.areas first count prot })
+IsSound-map host first count prot sound high =
+    record {
+      bound = λ page l. get-set_range host.areas first count prot page ∙ ap (λ b. cond b (Some prot) (get host.areas page)) (in_range-false_above first count page (omega arith)) ∙ sound.bound page l;
+      mapped = λ page none. sound.mapped page (cond_some_none (in_range first count page) prot (get host.areas page) (sym (get-set_range host.areas first count prot page) ∙ none));
+      whole = sound.whole;
+    }
+
+cleared : (b : Bool) (old new : FinMap nat_cmp (List ℕ)) (addr : ℕ) (o : Option Prot) → (b ≡ false → byte_in new addr ≡ byte_in old addr) → cell_at new addr (cond b None o) ≡ cond b None (cell_at old addr o)
+cleared true old new addr o h = refl
+cleared false old new addr o h = ap (λ byte. option_map (λ prot. record { byte = byte; prot = prot }) o) (h refl)
+
+pub memory-unmap : (host : Host) (first count : ℕ) → memory (record { areas = remove_range host.areas first count; bytes = remove_range host.bytes first count }) ≡ clear (memory host) (first * 4096) (4096 * count)
+memory-unmap host first count =
+    let new : Host = record { areas = remove_range host.areas first count; bytes = remove_range host.bytes first count } in
+    same_memory (memory new) (clear (memory host) (first * 4096) (4096 * count)) (λ q.
+    memory-at new q
+    ∙ ap (cell_at new.bytes q) (get-remove_range host.areas first count (q / 4096))
+    ∙ cleared (in_range first count (q / 4096)) host.bytes new.bytes q (get host.areas (q / 4096))
+    (λ e. ap (λ o. get_or (unwrap_or o []) (q % 4096) 0) (get-remove_range host.bytes first count (q / 4096) ∙ ap (λ b. cond b None (get host.bytes (q / 4096))) e))
+    ∙ ap (λ b. cond b None (cell_at host.bytes q (get host.areas (q / 4096)))) (in_range-pages first count q)
+    ∙ ap (λ c. cond (in_range (first * 4096) (4096 * count) q) None c) (sym (memory-at host q)))
+
+none_kept : (b : Bool) (a o : Option Prot) (p : Option (List ℕ)) → cond b None o ≡ None → (o ≡ None → p ≡ None) → cond b None p ≡ None
+none_kept true a o p h rest = refl
+none_kept false a o p h rest = rest h
+
+some_kept : (b : Bool) (bytes : List ℕ) (p : Option (List ℕ)) → cond b None p ≡ Some bytes → p ≡ Some bytes
+some_kept true bytes p h = absurd (none_some bytes h)
+some_kept false bytes p h = h
+
+cond_none : (b : Bool) (o : Option Prot) → o ≡ None → cond b None o ≡ None
+cond_none true o h = refl
+cond_none false o h = h
+
+pub IsSound-unmap : (host : Host) (first count : ℕ) → IsSound host → IsSound (record { areas = remove_range host.areas first count; bytes = remove_range host.bytes first count })
+IsSound-unmap host first count sound =
+    record {
+      bound = λ page l. get-remove_range host.areas first count page ∙ cond_none (in_range first count page) (get host.areas page) (sound.bound page l);
+      mapped = λ page none. get-remove_range host.bytes first count page ∙ none_kept (in_range first count page) None (get host.areas page) (get host.bytes page) (sym (get-remove_range host.areas first count page) ∙ none) (sound.mapped page);
+      whole = λ page bytes h. sound.whole page bytes (some_kept (in_range first count page) bytes (get host.bytes page) (sym (get-remove_range host.bytes first count page) ∙ h));
+    }

@@ -1,0 +1,4 @@
+pub mod NumberLemmas
+pub mod HostLemmas
+pub mod CommandLemmas
+pub mod WorldLemmas

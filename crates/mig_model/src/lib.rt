@@ -1,0 +1,7 @@
+//! The machine of a migration: what each step of a world answers and leaves, and its theorem for every list of steps.
+//!
+//! There is no code here to run. `specs/Host.antt` says which flat memory the pages of a host mean, `specs/World.antt` what a
+//! step does, and [`laws`] has what is proved of it. The crate `hosts` makes the same steps on real tables.
+#![tactic(auto)]
+
+pub mod laws;

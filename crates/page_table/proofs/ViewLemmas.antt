@@ -1,0 +1,245 @@
+-- What a table shows of its places.
+use Rattle.std.proofs.Common.{◌≡◌, ℕ, zero, suc, ◌+◌, ◌-◌, ◌/◌, ◌≤◌, ◌&&◌, ◌||◌, Bool, true, false, cond, not, eqb, ltb, refl, sym, ap, ◌∙◌, ⊎_elim, arith, List, length, [], Option, Some, None, is_some, unwrap_or}
+use Rattle.std.specs.Option.{option_map}
+use Rattle.std.specs.Ordering.{nat_cmp}
+use Rattle.std.specs.Cmp.{nat_cmp_total, unsigned_tied}
+use Rattle.std.specs.FinMap as map
+use Rattle.std.specs.FinSet as set
+use Rattle.std.proofs.lemmas.Bool.Decides.{nat_tests}
+use Rattle.std.proofs.lemmas.Bool.{false≢true}
+use Rattle.mig_base.specs.declared.TheConstants.{HIGH_PAGE}
+use Rattle.mig_base.specs.Ranges.{in_range}
+use Rattle.mig_base.specs.Pages.{remove_range}
+use Rattle.mig_base.specs.Sets.{without, set_below}
+use Rattle.mig_base.proofs.PageLemmas.{same_pages, get-remove_range}
+use Rattle.mig_base.proofs.SetLemmas.{same_members, member_inserted, member_removed, member_without, member_below}
+use mathlib.Core.Logic.{dite}
+use native.Mathlib.Decide.{ℕ_discrete}
+use Rattle.std.proofs.Common.{get_or, ◌%◌, ◌*◌}
+use Rattle.mig_base.proofs.BitLemmas.{bool_cases}
+use Rattle.page_table.proofs.LeafLemmas.{eqb-true, eqb-false}
+use Rattle.page_table.specs.Leaves.{Cell, Place, cell_at, cell_in, is_place, has_place, no_cell, written_cell, moved_cell}
+use Rattle.mig_base.specs.Bytes.{overwrite, page_at}
+use Rattle.page_table.specs.Views.{Pages, map_below, pages_of, IsTable}
+use Rattle.page_table.proofs.TableLemmas.{past_places}
+
+got_here : {X : Type 0} (o : Option X) (m : map.FinMap nat_cmp X) (k q : ℕ) → map.get (elim o [ None ↦ m | Some x ↦ map.insert m k x ]) q ≡ elim o [ None ↦ map.get m q | Some x ↦ cond (eqb q k) (Some x) (map.get m q) ]
+got_here None m k q = refl
+got_here (Some x) m k q = map.get-insert nat_cmp_total m k x q ∙ ap (λ b. cond b (Some x) (map.get m q)) (unsigned_tied q k)
+
+step : {X : Type 0} (o p : Option X) (bound q : ℕ) → (q ≡ bound → p ≡ o) → elim o [ None ↦ cond (ltb q bound) p None | Some x ↦ cond (eqb q bound) (Some x) (cond (ltb q bound) p None) ] ≡ cond (ltb q (suc bound)) p None
+step None p bound q h = grind (arith, nat_tests)
+step (Some x) p bound q h = grind (arith, nat_tests)
+
+nothing : {X : Type 0} (q : ℕ) (o : Option X) → cond (ltb q 0) o None ≡ None
+nothing q o = grind (arith, nat_tests)
+
+pub get-map_below : {X : Type 0} (f : ℕ → Option X) (bound q : ℕ) → map.get (map_below f bound) q ≡ cond (ltb q bound) (f q) None
+unfolding map_below
+get-map_below f zero q = map.get-empty nat_cmp q ∙ sym (nothing q (f q))
+get-map_below f (suc bound) q =
+    got_here (f bound) (map_below f bound) bound q
+    ∙ ap (λ r. elim (f bound) [ None ↦ r | Some x ↦ cond (eqb q bound) (Some x) r ]) (get-map_below f bound q)
+    ∙ step (f bound) (f q) bound q (λ e. ap f e)
+
+all_bytes : (q : ℕ) (o : Option (List ℕ)) → (HIGH_PAGE ≤ q → o ≡ None) → cond (ltb q HIGH_PAGE) o None ≡ o
+all_bytes q o h = grind (arith, nat_tests)
+
+all_flags : (q : ℕ) (b : Bool) → (HIGH_PAGE ≤ q → b ≡ false) → (ltb q HIGH_PAGE && b) ≡ b
+all_flags q b h = grind (arith, nat_tests)
+
+-- a page's bytes and flag, from what is shown
+pub bytes_shown : (places : List Place) (q : ℕ) → length places ≤ 1024 → map.get (pages_of places).bytes q ≡ (cell_at places q).0
+unfolding pages_of
+bytes_shown places q few = get-map_below (λ p. (cell_at places p).0) HIGH_PAGE q ∙ all_bytes q (cell_at places q).0 (λ h. ap (λ x. x.0) (past_places places q (omega arith)))
+
+pub flag_shown : (places : List Place) (q : ℕ) → length places ≤ 1024 → set.contains (pages_of places).protected q ≡ (cell_at places q).1
+unfolding pages_of
+flag_shown places q few = member_below (λ p. (cell_at places p).1) HIGH_PAGE q ∙ all_flags q (cell_at places q).1 (λ h. ap (λ x. x.1) (past_places places q (omega arith)))
+
+pub bytes_seen : (places : List Place) (value : Pages) (q : ℕ) → length places ≤ 1024 → pages_of places ≡ value → (cell_at places q).0 ≡ map.get value.bytes q
+bytes_seen places value q few view = sym (bytes_shown places q few) ∙ ap (λ v. map.get v.bytes q) view
+
+pub flag_seen : (places : List Place) (value : Pages) (q : ℕ) → length places ≤ 1024 → pages_of places ≡ value → (cell_at places q).1 ≡ set.contains value.protected q
+flag_seen places value q few view = sym (flag_shown places q few) ∙ ap (λ v. set.contains v.protected q) view
+
+-- equal cells show equal pages
+pub same_cells_shown : (old new : List Place) (value : Pages) → length old ≤ 1024 → length new ≤ 1024 → pages_of old ≡ value → ((q : ℕ) → cell_at new q ≡ cell_at old q) → pages_of new ≡ value
+unfolding pages_of
+same_cells_shown old new value few still view h =
+    (λ k. record { bytes = map_below (λ q. (h q k).0) HIGH_PAGE; protected = set_below (λ q. (h q k).1) HIGH_PAGE }) ∙ view
+
+pub bytes_by : (places : List Place) (target : map.FinMap nat_cmp (List ℕ)) → length places ≤ 1024 → ((q : ℕ) → (cell_at places q).0 ≡ map.get target q) → (pages_of places).bytes ≡ target
+bytes_by places target few h = same_pages (pages_of places).bytes target (λ q. bytes_shown places q few ∙ h q)
+
+pub flags_by : (places : List Place) (target : set.FinSet nat_cmp) → length places ≤ 1024 → ((q : ℕ) → (cell_at places q).1 ≡ set.contains target q) → (pages_of places).protected ≡ target
+flags_by places target few h = same_members (pages_of places).protected target (λ q. flag_shown places q few ∙ h q)
+
+cond_bytes : (b : Bool) (x y : Cell) → (cond b x y).0 ≡ cond b x.0 y.0
+cond_bytes true x y = refl
+cond_bytes false x y = refl
+
+cond_flag : (b : Bool) (x y : Cell) → (cond b x y).1 ≡ cond b x.1 y.1
+cond_flag true x y = refl
+cond_flag false x y = refl
+
+flag_off : (b c : Bool) → cond b false c ≡ (c && not b)
+flag_off true true = refl
+flag_off true false = refl
+flag_off false true = refl
+flag_off false false = refl
+
+flag_on : (b c : Bool) → cond b true c ≡ (b || c)
+flag_on true c = refl
+flag_on false c = refl
+
+flag_out : (b c : Bool) → cond b false c ≡ (not b && c)
+flag_out true c = refl
+flag_out false c = refl
+
+-- a range made missing
+pub dropped_bytes : (old new : List Place) (value : Pages) (first count : ℕ) → length old ≤ 1024 → length new ≤ 1024 → pages_of old ≡ value → ((q : ℕ) → cell_at new q ≡ cond (in_range first count q) no_cell (cell_at old q)) → (pages_of new).bytes ≡ remove_range value.bytes first count
+dropped_bytes old new value first count few still view h =
+    bytes_by new (remove_range value.bytes first count) still
+    (λ q. ap (λ x. x.0) (h q) ∙ cond_bytes (in_range first count q) no_cell (cell_at old q) ∙ ap (λ o. cond (in_range first count q) None o) (bytes_seen old value q few view) ∙ sym (get-remove_range value.bytes first count q))
+
+pub dropped_flags : (old new : List Place) (value : Pages) (first count : ℕ) → length old ≤ 1024 → length new ≤ 1024 → pages_of old ≡ value → ((q : ℕ) → cell_at new q ≡ cond (in_range first count q) no_cell (cell_at old q)) → (pages_of new).protected ≡ without value.protected first count
+dropped_flags old new value first count few still view h =
+    flags_by new (without value.protected first count) still
+    (λ q. ap (λ x. x.1) (h q) ∙ cond_flag (in_range first count q) no_cell (cell_at old q) ∙ flag_off (in_range first count q) (cell_at old q).1 ∙ ap (λ b. b && not (in_range first count q)) (flag_seen old value q few view) ∙ sym (member_without value.protected first count q))
+
+-- a page put in
+pub put_bytes : (old new : List Place) (value : Pages) (page : ℕ) (bytes : List ℕ) (flag : Bool) → length old ≤ 1024 → length new ≤ 1024 → pages_of old ≡ value → ((q : ℕ) → cell_at new q ≡ cond (eqb q page) (Some bytes, flag) (cell_at old q)) → (pages_of new).bytes ≡ map.insert value.bytes page bytes
+put_bytes old new value page bytes flag few still view h =
+    bytes_by new (map.insert value.bytes page bytes) still
+    (λ q. ap (λ x. x.0) (h q) ∙ cond_bytes (eqb q page) (Some bytes, flag) (cell_at old q) ∙ ap (λ o. cond (eqb q page) (Some bytes) o) (bytes_seen old value q few view)
+    ∙ ap (λ b. cond b (Some bytes) (map.get value.bytes q)) (sym (unsigned_tied q page)) ∙ sym (map.get-insert nat_cmp_total value.bytes page bytes q))
+
+same_flag : (q page : ℕ) (f : ℕ → Bool) (flag : Bool) → f page ≡ flag → cond (eqb q page) flag (f q) ≡ f q
+same_flag q page f flag h = dite (ℕ_discrete q page) (λ e. rw (eqb-true q page e) (sym h ∙ ap f (sym e))) (λ n. rw (eqb-false q page n) refl)
+
+same_bytes : (q page : ℕ) (f : ℕ → Option (List ℕ)) (o : Option (List ℕ)) → f page ≡ o → cond (eqb q page) o (f q) ≡ f q
+same_bytes q page f o h = dite (ℕ_discrete q page) (λ e. rw (eqb-true q page e) (sym h ∙ ap f (sym e))) (λ n. rw (eqb-false q page n) refl)
+
+pub put_flags : (old new : List Place) (value : Pages) (page : ℕ) (o : Option (List ℕ)) → length old ≤ 1024 → length new ≤ 1024 → pages_of old ≡ value → (cell_at old page).1 ≡ false → ((q : ℕ) → cell_at new q ≡ cond (eqb q page) (o, false) (cell_at old q)) → (pages_of new).protected ≡ value.protected
+put_flags old new value page o few still view off h =
+    flags_by new value.protected still
+    (λ q. ap (λ x. x.1) (h q) ∙ cond_flag (eqb q page) (o, false) (cell_at old q) ∙ same_flag q page (λ p. (cell_at old p).1) false off ∙ flag_seen old value q few view)
+
+-- bytes written into a present page
+some_written : (o : Option (List ℕ)) (offset : ℕ) (bytes : List ℕ) → is_some o ≡ true → option_map (λ held. overwrite held offset bytes) o ≡ Some (overwrite (unwrap_or o []) offset bytes)
+some_written None offset bytes h = absurd (false≢true h)
+some_written (Some held) offset bytes h = refl
+
+pub written_bytes : (old new : List Place) (value : Pages) (page offset : ℕ) (bytes : List ℕ) → length old ≤ 1024 → length new ≤ 1024 → pages_of old ≡ value → map.contains_key value.bytes page ≡ true → ((q : ℕ) → cell_at new q ≡ cond (eqb q page) (written_cell (cell_at old page) offset bytes) (cell_at old q)) → (pages_of new).bytes ≡ map.insert value.bytes page (overwrite (page_at value.bytes page) offset bytes)
+written_bytes old new value page offset bytes few still view there h =
+    let here : option_map (λ held. overwrite held offset bytes) (cell_at old page).0 ≡ Some (overwrite (page_at value.bytes page) offset bytes) =
+    ap (option_map (λ held. overwrite held offset bytes)) (bytes_seen old value page few view) ∙ some_written (map.get value.bytes page) offset bytes there in
+    put_bytes old new value page (overwrite (page_at value.bytes page) offset bytes) (cell_at old page).1 few still view
+    (λ q. h q ∙ ap (λ o. cond (eqb q page) (o, (cell_at old page).1) (cell_at old q)) here)
+
+pub written_flags : (old new : List Place) (value : Pages) (page offset : ℕ) (bytes : List ℕ) → length old ≤ 1024 → length new ≤ 1024 → pages_of old ≡ value → ((q : ℕ) → cell_at new q ≡ cond (eqb q page) (written_cell (cell_at old page) offset bytes) (cell_at old q)) → (pages_of new).protected ≡ value.protected
+written_flags old new value page offset bytes few still view h =
+    flags_by new value.protected still
+    (λ q. ap (λ x. x.1) (h q) ∙ cond_flag (eqb q page) (written_cell (cell_at old page) offset bytes) (cell_at old q) ∙ same_flag q page (λ p. (cell_at old p).1) (cell_at old page).1 refl ∙ flag_seen old value q few view)
+
+-- a missing page is not protected
+pub not_protected : (places : List Place) (page : ℕ) → IsTable places → is_some (cell_at places page).0 ≡ false → (cell_at places page).1 ≡ false
+not_protected places page inv none = ⊎_elim (λ (on : (cell_at places page).1 ≡ true). absurd (false≢true (sym none ∙ inv.inside page on))) (λ (off : (cell_at places page).1 ≡ false). off) (bool_cases (cell_at places page).1)
+
+-- protection put on or ended
+pub flagged_bytes : (old new : List Place) (value : Pages) (page : ℕ) (flag : Bool) → length old ≤ 1024 → length new ≤ 1024 → pages_of old ≡ value → ((q : ℕ) → cell_at new q ≡ cond (eqb q page) ((cell_at old page).0, flag) (cell_at old q)) → (pages_of new).bytes ≡ value.bytes
+flagged_bytes old new value page flag few still view h =
+    bytes_by new value.bytes still
+    (λ q. ap (λ x. x.0) (h q) ∙ cond_bytes (eqb q page) ((cell_at old page).0, flag) (cell_at old q) ∙ same_bytes q page (λ p. (cell_at old p).0) (cell_at old page).0 refl ∙ bytes_seen old value q few view)
+
+pub protected_flags : (old new : List Place) (value : Pages) (page : ℕ) → length old ≤ 1024 → length new ≤ 1024 → pages_of old ≡ value → ((q : ℕ) → cell_at new q ≡ cond (eqb q page) ((cell_at old page).0, true) (cell_at old q)) → (pages_of new).protected ≡ set.insert value.protected page
+protected_flags old new value page few still view h =
+    flags_by new (set.insert value.protected page) still
+    (λ q. ap (λ x. x.1) (h q) ∙ cond_flag (eqb q page) ((cell_at old page).0, true) (cell_at old q) ∙ flag_on (eqb q page) (cell_at old q).1 ∙ ap (λ b. eqb q page || b) (flag_seen old value q few view) ∙ sym (member_inserted value.protected page q))
+
+pub unprotected_flags : (old new : List Place) (value : Pages) (page : ℕ) → length old ≤ 1024 → length new ≤ 1024 → pages_of old ≡ value → ((q : ℕ) → cell_at new q ≡ cond (eqb q page) ((cell_at old page).0, false) (cell_at old q)) → (pages_of new).protected ≡ set.remove value.protected page
+unprotected_flags old new value page few still view h =
+    flags_by new (set.remove value.protected page) still
+    (λ q. ap (λ x. x.1) (h q) ∙ cond_flag (eqb q page) ((cell_at old page).0, false) (cell_at old q) ∙ flag_out (eqb q page) (cell_at old q).1 ∙ ap (λ b. not (eqb q page) && b) (flag_seen old value q few view) ∙ sym (member_removed value.protected page q))
+
+still_inside : (b flag : Bool) (o : Option (List ℕ)) (x : Cell) → is_some o ≡ true → (x.1 ≡ true → is_some x.0 ≡ true) → (cond b (o, flag) x).1 ≡ true → is_some (cond b (o, flag) x).0 ≡ true
+still_inside true flag o x some inside h = some
+still_inside false flag o x some inside h = inside h
+
+pub flagged_table : (old new : List Place) (page : ℕ) (flag : Bool) → IsTable old → length new ≡ length old → is_some (cell_at old page).0 ≡ true → ((q : ℕ) → cell_at new q ≡ cond (eqb q page) ((cell_at old page).0, flag) (cell_at old q)) → IsTable new
+flagged_table old new page flag inv size some h = record {
+  few = let few = inv.few in omega arith;
+  inside = λ q on. ap (λ x. is_some x.0) (h q) ∙ still_inside (eqb q page) flag (cell_at old page).0 (cell_at old q) some (inv.inside q) (sym (ap (λ x. x.1) (h q)) ∙ on);
+}
+
+place_of : (p : Place) (i : ℕ) → is_some (cell_in p i).0 ≡ true → is_place p ≡ true
+place_of None i h = h
+place_of (Some leaf) i h = refl
+
+pub place_of_cell : (places : List Place) (q : ℕ) → is_some (cell_at places q).0 ≡ true → has_place places q ≡ true
+unfolding cell_at has_place
+place_of_cell places q h = place_of (get_or places (q / 1024) None) (q % 1024) h
+
+-- whether a page is present, as callers see it
+pub present_seen : (places : List Place) (value : Pages) (q : ℕ) → length places ≤ 1024 → pages_of places ≡ value → is_some (cell_at places q).0 ≡ map.contains_key value.bytes q
+present_seen places value q few view = ap is_some (bytes_seen places value q few view)
+
+-- a range moved
+nest_bytes : (a b : Bool) (x y : Cell) → (cond a x (cond b no_cell y)).0 ≡ cond a x.0 (cond b None y.0)
+nest_bytes true b x y = refl
+nest_bytes false true x y = refl
+nest_bytes false false x y = refl
+
+nest_flag : (a b : Bool) (x y : Cell) → (cond a x (cond b no_cell y)).1 ≡ cond a x.1 (cond b false y.1)
+nest_flag true b x y = refl
+nest_flag false true x y = refl
+nest_flag false false x y = refl
+
+pub moved_bytes : (old new : List Place) (value : Pages) (from to count : ℕ) → length old ≤ 1024 → length new ≤ 1024 → pages_of old ≡ value → ((q : ℕ) → cell_at new q ≡ moved_cell (cell_at old) from to count q) → (q : ℕ) → map.get (pages_of new).bytes q ≡ cond (in_range to count q) (map.get value.bytes (from + (q - to))) (cond (in_range from count q) None (map.get value.bytes q))
+moved_bytes old new value from to count few still view h q =
+    bytes_shown new q still ∙ ap (λ x. x.0) (h q) ∙ nest_bytes (in_range to count q) (in_range from count q) (cell_at old (from + (q - to))) (cell_at old q)
+    ∙ (λ k. cond (in_range to count q) (bytes_seen old value (from + (q - to)) few view k) (cond (in_range from count q) None (bytes_seen old value q few view k)))
+
+pub moved_flags : (old new : List Place) (value : Pages) (from to count : ℕ) → length old ≤ 1024 → length new ≤ 1024 → pages_of old ≡ value → ((q : ℕ) → cell_at new q ≡ moved_cell (cell_at old) from to count q) → (q : ℕ) → set.contains (pages_of new).protected q ≡ cond (in_range to count q) (set.contains value.protected (from + (q - to))) (cond (in_range from count q) false (set.contains value.protected q))
+moved_flags old new value from to count few still view h q =
+    flag_shown new q still ∙ ap (λ x. x.1) (h q) ∙ nest_flag (in_range to count q) (in_range from count q) (cell_at old (from + (q - to))) (cell_at old q)
+    ∙ (λ k. cond (in_range to count q) (flag_seen old value (from + (q - to)) few view k) (cond (in_range from count q) false (flag_seen old value q few view k)))
+
+-- a table with no place
+pub none_shown : (places : List Place) → ((q : ℕ) → cell_at places q ≡ no_cell) → length places ≤ 1024 → ((pages_of places).bytes ≡ map.empty) × ((pages_of places).protected ≡ set.empty)
+none_shown places h few = (
+  bytes_by places map.empty few (λ q. ap (λ x. x.0) (h q) ∙ sym (map.get-empty nat_cmp q)),
+  flags_by places set.empty few (λ q. ap (λ x. x.1) (h q) ∙ sym (set.contains-empty nat_cmp q)),
+)
+
+pub none_table : (places : List Place) → ((q : ℕ) → cell_at places q ≡ no_cell) → length places ≤ 1024 → IsTable places
+none_table places h few = record { few = few; inside = λ q on. absurd (false≢true (sym (ap (λ x. x.1) (h q)) ∙ on)) }
+
+-- the present pages, gathered page by page
+abbrev pub IsGathered : List Place → set.FinSet nat_cmp → ℕ → Type 0
+IsGathered places pages bound = (q : ℕ) → set.contains pages q ≡ (ltb q bound && is_some (cell_at places q).0)
+
+none_gathered : (q : ℕ) (b : Bool) → false ≡ (ltb q 0 && b)
+none_gathered q b = grind (arith, nat_tests)
+
+pub gathered_none : (places : List Place) → IsGathered places set.empty 0
+gathered_none places q = set.contains-empty nat_cmp q ∙ none_gathered q (is_some (cell_at places q).0)
+
+one_gathered : (q bound : ℕ) (b : Bool) → (q ≡ bound → b ≡ true) → (eqb q bound || (ltb q bound && b)) ≡ (ltb q (bound + 1) && b)
+one_gathered q bound b h = grind (arith, nat_tests)
+
+pub gathered_more : (places : List Place) (pages : set.FinSet nat_cmp) (bound : ℕ) → IsGathered places pages bound → is_some (cell_at places bound).0 ≡ true → IsGathered places (set.insert pages bound) (bound + 1)
+gathered_more places pages bound is h q = member_inserted pages bound q ∙ ap (λ b. eqb q bound || b) (is q) ∙ one_gathered q bound (is_some (cell_at places q).0) (λ e. ap (λ k. is_some (cell_at places k).0) e ∙ h)
+
+none_there : (q bound : ℕ) (b : Bool) → (q ≡ bound → b ≡ false) → (ltb q bound && b) ≡ (ltb q (bound + 1) && b)
+none_there q bound b h = grind (arith, nat_tests)
+
+pub gathered_past : (places : List Place) (pages : set.FinSet nat_cmp) (bound : ℕ) → IsGathered places pages bound → is_some (cell_at places bound).0 ≡ false → IsGathered places pages (bound + 1)
+gathered_past places pages bound is h q = is q ∙ none_there q bound (is_some (cell_at places q).0) (λ e. ap (λ k. is_some (cell_at places k).0) e ∙ h)
+
+all_there : (q bound : ℕ) (b : Bool) → (bound ≤ q → b ≡ false) → (ltb q bound && b) ≡ b
+all_there q bound b h = grind (arith, nat_tests)
+
+pub gathered_all : (places : List Place) (pages : set.FinSet nat_cmp) (bound : ℕ) → 1024 * length places ≤ bound → IsGathered places pages bound → (q : ℕ) → set.contains pages q ≡ is_some (cell_at places q).0
+gathered_all places pages bound past is q = is q ∙ all_there q bound (is_some (cell_at places q).0) (λ h. ap (λ x. is_some x.0) (past_places places q (omega arith)))

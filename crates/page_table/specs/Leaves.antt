@@ -1,0 +1,57 @@
+-- Leaves of 1024 pages each, and what they say of a page.
+use Rattle.std.specs.Prelude.{ℕ, ◌+◌, ◌-◌, ◌/◌, ◌%◌, if◌then◌else◌, Bool, true, false, List, Option, Some, None, slice_index_or}
+use Rattle.std.specs.Option.{option_map}
+use Rattle.std.specs.FinSet.{contains}
+use Rattle.std.specs.declared.boxed.Box.{Box}
+use Rattle.std.specs.declared.alloc.Global.{Global}
+use Rattle.mig_base.specs.Ranges.{in_range}
+use Rattle.page_table.specs.declared.leaf.Leaf.{Leaf}
+use Rattle.mig_base.specs.Bytes.{overwrite}
+use Rattle.page_table.specs.Bytes.{bytes_of}
+
+-- a page's bytes, none where it is missing, and whether it is protected
+abbrev pub Cell : Type 0
+Cell = Option (List ℕ) × Bool
+
+-- a place for a leaf
+abbrev pub Place : Type 0
+Place = Option (Box Leaf Global)
+
+-- what a leaf says of its page of that number
+abbrev pub leaf_cell : Leaf → ℕ → Cell
+leaf_cell leaf i = (bytes_of (slice_index_or leaf.pages.items i None), contains leaf.protected i)
+
+-- what a place says of its page of that number
+abbrev pub cell_in : Place → ℕ → Cell
+cell_in None i = (None, false)
+cell_in (Some leaf) i = leaf_cell leaf.value i
+
+-- whether a place has a leaf
+abbrev pub is_place : Place → Bool
+is_place None = false
+is_place (Some leaf) = true
+
+-- what a list of places says of a page
+unfoldable pub cell_at : List Place → ℕ → Cell
+cell_at places q = cell_in (slice_index_or places (q / 1024) None) (q % 1024)
+
+-- a missing page
+abbrev pub no_cell : Cell
+no_cell = (None, false)
+
+-- the same page, protected or not
+abbrev pub with_protection : Cell → Bool → Cell
+with_protection cell protected = (cell.0, protected)
+
+-- a cell after bytes were written from a place on, where the page is present
+abbrev pub written_cell : Cell → ℕ → List ℕ → Cell
+written_cell cell offset bytes = (option_map (λ held. overwrite held offset bytes) cell.0, cell.1)
+
+-- whether there is a leaf for a page
+unfoldable pub has_place : List Place → ℕ → Bool
+has_place places q = is_place (slice_index_or places (q / 1024) None)
+
+-- the cells after a range was moved
+abbrev pub moved_cell : (ℕ → Cell) → ℕ → ℕ → ℕ → ℕ → Cell
+moved_cell cells from to count q =
+    if in_range to count q then cells (from + (q - to)) else if in_range from count q then no_cell else cells q

@@ -1,0 +1,205 @@
+//! The type that callers see: present pages, with their bytes and their protection.
+
+ghost use Rattle.std.specs.Prelude.{◌≡◌, ℕ, ◌+◌, ◌-◌, ◌<◌, ◌≤◌, ◌⊎◌, ◌↔◌, true, false, if◌then◌else◌, None, Err, OnOk, OnErr, IfOk, IfErr, IsTrue, length};
+ghost use Rattle.std.specs.Option.{option_copied};
+ghost use Rattle.std.specs.FinMap as map;
+ghost use Rattle.std.specs.FinSet as set;
+ghost use Rattle.std.specs.Ordering.{nat_cmp};
+ghost use Rattle.mig_base.specs.Ranges.{in_range};
+ghost use Rattle.mig_base.specs.Pages.{remove_range};
+ghost use Rattle.mig_base.specs.Sets.{without};
+ghost use Rattle.mig_base.specs.declared.TheConstants.{HIGH_PAGE};
+ghost use Rattle.mig_base.specs.Bytes.{zero_page, page_at, overwrite};
+
+use crate::leaf::Place;
+use crate::table::{
+    bytes_at, clear_range, is_present_at, is_protected_at, make_place, make_places, move_cells,
+    present_of, protect_at, put_at, write_at,
+};
+use mig_base::page_set::PageSet;
+use mig_base::{NoMemory, PageNo};
+use std::alloc::Global;
+use std::marker::Model;
+use thiserror::Error;
+
+/// Why a page could not be put. The table is as it was before the call.
+#[derive(Clone, Copy, Debug, PartialEq, Eq, Error)]
+pub enum PutFault {
+    /// The page is present already, and it keeps its bytes and its protection.
+    #[error("the page is present")]
+    Present,
+    /// The page is missing and stays so, since a growth was refused. The same call may succeed later.
+    #[error("no memory")]
+    NoMemory,
+}
+
+/// The present pages of a host below `HIGH_PAGE`, their bytes, and which of them are write-protected.
+///
+/// `get`, `is_protected`, `write`, `protect` and `unprotect` take the same few steps whatever is present, and need no memory.
+#[derive(Drop)]
+pub struct PageTable {
+    alloc: Global,
+    places: Vec<Place>,
+}
+
+impl Model for PageTable {
+    ghost use Rattle.page_table.specs.Views.{Pages, coded_pages, pages_of, IsTable};
+
+    ghost Value = { Pages };
+
+    ghost coded = { coded_pages };
+
+    ghost view = { λ a. pages_of a.places.items };
+
+    ghost invariant = { λ a. IsTable a.places.items };
+}
+
+impl PageTable {
+    /// A table with no present page. It takes no memory.
+    pub fn new(alloc: Global) -> Self
+        ensures { (result.bytes ≡ map.empty) × (result.protected ≡ set.empty) }
+    {
+        PageTable {
+            alloc,
+            places: Vec::new(alloc),
+        }
+    }
+
+    /// The 4096 bytes of a page, or `None` if it is missing. Any page number may be asked for.
+    pub fn get(&self, page: PageNo) -> Option<&[u8; 4096]>
+        ensures { option_copied result ≡ map.get self.now.bytes page }
+    {
+        bytes_at(&self.places, page)
+    }
+
+    /// Whether a page is present and protected. Any page number may be asked for.
+    pub fn is_protected(&self, page: PageNo) -> bool
+        ensures answer { result ≡ set.contains self.now.protected page }
+        ensures present { result ≡ true → IsTrue (map.contains_key self.now.bytes page) }
+
+        // A law of every table: protected pages are present.
+        ensures law { (q : ℕ) → IsTrue (set.contains self.now.protected q) → IsTrue (map.contains_key self.now.bytes q) }
+    {
+        is_protected_at(&self.places, page)
+    }
+
+    /// The present pages, as a set of its own. It goes over each leaf that was ever made, page by page.
+    ///
+    /// `NoMemory` comes only where the set could not grow.
+    pub fn present(&self) -> Result<PageSet, NoMemory>
+        ensures { IfOk result (λ pages. (q : ℕ) → set.contains pages q ≡ map.contains_key self.now.bytes q) }
+    {
+        present_of(self.alloc, &self.places)
+    }
+
+    /// Makes a missing page present, not protected, with the bytes of the box, which are not copied.
+    ///
+    /// On an error the table is as it was, and the box comes back with the reason: `Present` exactly where the page is
+    /// present, and otherwise `NoMemory` for the room of its leaf.
+    pub fn put(
+        &mut self,
+        page: PageNo,
+        bytes: Box<[u8; 4096]>,
+    ) -> Result<(), (PutFault, Box<[u8; 4096]>)>
+        requires { page < HIGH_PAGE }
+        ensures ok { OnOk result (self.new.bytes ≡ map.insert self.old.bytes page bytes.value) }
+        ensures protected { self.new.protected ≡ self.old.protected }
+        ensures fault { IfErr result (λ e. (e.1 ≡ bytes) × (self.new.bytes ≡ self.old.bytes) × ((e.0 ≡ PutFault.Present) ↔ IsTrue (map.contains_key self.old.bytes page))) }
+        ensures missing { OnOk result (map.contains_key self.old.bytes page ≡ false) }
+    {
+        if is_present_at(&self.places, page) {
+            return Err((PutFault::Present, bytes));
+        }
+        let Ok(()) = make_place(self.alloc, &mut self.places, page) else {
+            return Err((PutFault::NoMemory, bytes));
+        };
+        put_at(&mut self.places, page, Some(bytes), false);
+        Ok(())
+    }
+
+    /// Makes a missing page present, not protected, with 4096 zeros.
+    ///
+    /// On an error the table is as it was: `Present` exactly where the page is present, and otherwise `NoMemory` for the page
+    /// or the room of its leaf.
+    pub fn put_zero(&mut self, page: PageNo) -> Result<(), PutFault>
+        requires { page < HIGH_PAGE }
+        ensures ok { OnOk result (self.new.bytes ≡ map.insert self.old.bytes page zero_page) }
+        ensures protected { self.new.protected ≡ self.old.protected }
+        ensures fault { IfErr result (λ e. (self.new.bytes ≡ self.old.bytes) × ((e ≡ PutFault.Present) ↔ IsTrue (map.contains_key self.old.bytes page))) }
+        ensures missing { OnOk result (map.contains_key self.old.bytes page ≡ false) }
+    {
+        if is_present_at(&self.places, page) {
+            return Err(PutFault::Present);
+        }
+        let Ok(zeros) = Box::new(self.alloc, [0; 4096]) else {
+            return Err(PutFault::NoMemory);
+        };
+        let Ok(()) = make_place(self.alloc, &mut self.places, page) else {
+            return Err(PutFault::NoMemory);
+        };
+        put_at(&mut self.places, page, Some(zeros), false);
+        Ok(())
+    }
+
+    /// Writes bytes into a present page, protected or not, from the offset on, which counts in bytes.
+    ///
+    /// It takes no memory and touches only the bytes written.
+    pub fn write(&mut self, page: PageNo, offset: usize, bytes: &[u8])
+        requires present { IsTrue (map.contains_key self.old.bytes page) }
+        requires inside { offset + length bytes.now ≤ 4096 }
+        ensures bytes { self.new.bytes ≡ map.insert self.old.bytes page (overwrite (page_at self.old.bytes page) offset bytes.now) }
+        ensures protected { self.new.protected ≡ self.old.protected }
+    {
+        write_at(&mut self.places, page, offset, bytes);
+    }
+
+    /// Makes the `count` pages from `first` on missing: gives up the bytes of those that are present, and their protection.
+    ///
+    /// The room of their leaves stays, so that pages put there later need none.
+    pub fn drop_range(&mut self, first: PageNo, count: u32)
+        requires { first + count ≤ HIGH_PAGE }
+        ensures bytes { self.new.bytes ≡ remove_range self.old.bytes first count }
+        ensures protected { self.new.protected ≡ without self.old.protected first count }
+    {
+        clear_range(&mut self.places, first, count);
+    }
+
+    /// Protects a present page. One that is protected already stays so.
+    pub fn protect(&mut self, page: PageNo)
+        requires { IsTrue (map.contains_key self.old.bytes page) }
+        ensures bytes { self.new.bytes ≡ self.old.bytes }
+        ensures protected { self.new.protected ≡ set.insert self.old.protected page }
+    {
+        protect_at(&mut self.places, page, true);
+    }
+
+    /// Ends the protection of a present page. One that is not protected stays so.
+    pub fn unprotect(&mut self, page: PageNo)
+        requires { IsTrue (map.contains_key self.old.bytes page) }
+        ensures bytes { self.new.bytes ≡ self.old.bytes }
+        ensures protected { self.new.protected ≡ set.remove self.old.protected page }
+    {
+        protect_at(&mut self.places, page, false);
+    }
+
+    /// Moves the `count` pages from `from` on, with their protection, in place of those from `to` on. No byte is copied.
+    ///
+    /// What was present in the target range is given up, where the source page is missing too, and the source range is
+    /// missing afterwards. On `NoMemory`, for the room of the target's leaves, the table is as it was.
+    pub fn move_range(&mut self, from: PageNo, to: PageNo, count: u32) -> Result<(), NoMemory>
+        requires inside { (from + count ≤ HIGH_PAGE) × (to + count ≤ HIGH_PAGE) }
+        requires apart { (from + count ≤ to) ⊎ (to + count ≤ from) }
+        ensures bytes { OnOk result ((q : ℕ) → map.get self.new.bytes q ≡ (if in_range to count q then map.get self.old.bytes (from + (q - to)) else if in_range from count q then None else map.get self.old.bytes q)) }
+        ensures protected { OnOk result ((q : ℕ) → set.contains self.new.protected q ≡ (if in_range to count q then set.contains self.old.protected (from + (q - to)) else if in_range from count q then false else set.contains self.old.protected q)) }
+        ensures err { OnErr result (self.new ≡ self.old) }
+    {
+        let Ok(()) = make_places(self.alloc, &mut self.places, to, count) else {
+            return Err(NoMemory);
+        };
+        move_cells(&mut self.places, from, to, count);
+        Ok(())
+    }
+}
+
+#[cfg(test)]
+mod tests;

@@ -1,0 +1,198 @@
+//! The places of all pages, a leaf made in each when it is first needed.
+
+ghost use Rattle.std.specs.Prelude.{◌≡◌, ℕ, ◌+◌, ◌-◌, ◌/◌, ◌%◌, ◌<◌, ◌≤◌, ◌⊎◌, Bool, true, false, nat_eq, if◌then◌else◌, None, OnOk, IfOk, is_some, length, slice_index_or};
+ghost use Rattle.std.specs.FinSet.{contains};
+ghost use Rattle.std.specs.Option.{option_copied};
+ghost use Rattle.mig_base.specs.Ranges.{in_range};
+ghost use Rattle.mig_base.specs.declared.TheConstants.{HIGH_PAGE};
+ghost use Rattle.page_table.specs.Bytes.{bytes_of};
+ghost use Rattle.page_table.specs.Leaves.{Cell, cell_at, has_place, no_cell, with_protection, written_cell, moved_cell};
+
+use crate::leaf::{Page, Place};
+use crate::place::{
+    place_clear, place_get, place_is_protected, place_make, place_protect, place_put, place_take,
+    place_write,
+};
+use mig_base::chunk::CHUNK;
+use mig_base::page_set::PageSet;
+use mig_base::{NoMemory, PageNo};
+use std::alloc::Global;
+
+/// The bytes of a page, if it is present.
+pub fn bytes_at(places: &Vec<Place>, page: PageNo) -> Option<&[u8; 4096]>
+    ensures { option_copied result ≡ (cell_at places.now.items page).0 }
+{
+    let at = (page / CHUNK) as usize;
+    if at < places.len() {
+        place_get(&places[at], page % CHUNK)
+    } else {
+        None
+    }
+}
+
+/// Whether a page is present.
+pub fn is_present_at(places: &Vec<Place>, page: PageNo) -> bool
+    ensures { result ≡ is_some (cell_at places.now.items page).0 }
+{
+    match bytes_at(places, page) {
+        Some(_) => true,
+        None => false,
+    }
+}
+
+/// Whether a page is protected.
+pub fn is_protected_at(places: &Vec<Place>, page: PageNo) -> bool
+    ensures { result ≡ (cell_at places.now.items page).1 }
+{
+    let at = (page / CHUNK) as usize;
+    if at < places.len() {
+        place_is_protected(&places[at], page % CHUNK)
+    } else {
+        false
+    }
+}
+
+/// Makes the leaf of a page, where there is none.
+pub fn make_place(alloc: Global, places: &mut Vec<Place>, page: PageNo) -> Result<(), NoMemory>
+    requires { (page < HIGH_PAGE) × (length places.old.items ≤ 1024) }
+    ensures same { (q : ℕ) → cell_at places.new.items q ≡ cell_at places.old.items q }
+    ensures few { length places.new.items ≤ 1024 }
+    ensures there { OnOk result (has_place places.new.items page ≡ true) }
+    ensures stay { (q : ℕ) → has_place places.old.items q ≡ true → has_place places.new.items q ≡ true }
+{
+    let at = (page / CHUNK) as usize;
+    while places.len() <= at {
+        let Ok(()) = places.push(None) else {
+            return Err(NoMemory);
+        };
+    }
+    place_make(alloc, &mut places[at])
+}
+
+/// Takes a page out, and tells whether it was protected.
+pub fn take_at(places: &mut Vec<Place>, page: PageNo) -> (Page, bool)
+    ensures taken { (bytes_of result.0, result.1) ≡ cell_at places.old.items page }
+    ensures left { (q : ℕ) → cell_at places.new.items q ≡ (if nat_eq q page then no_cell else cell_at places.old.items q) }
+    ensures stay { (q : ℕ) → has_place places.new.items q ≡ has_place places.old.items q }
+    ensures size { length places.new.items ≡ length places.old.items }
+{
+    let at = (page / CHUNK) as usize;
+    if at < places.len() {
+        place_take(&mut places[at], page % CHUNK)
+    } else {
+        (None, false)
+    }
+}
+
+/// Puts a page in, protected or not.
+pub fn put_at(places: &mut Vec<Place>, page: PageNo, bytes: Page, protected: bool)
+    requires { has_place places.old.items page ≡ true }
+    ensures put { (q : ℕ) → cell_at places.new.items q ≡ (if nat_eq q page then (bytes_of bytes, protected) else cell_at places.old.items q) }
+    ensures stay { (q : ℕ) → has_place places.new.items q ≡ has_place places.old.items q }
+    ensures size { length places.new.items ≡ length places.old.items }
+{
+    place_put(
+        &mut places[(page / CHUNK) as usize],
+        page % CHUNK,
+        bytes,
+        protected,
+    );
+}
+
+/// Writes bytes into a page, where it is present.
+pub fn write_at(places: &mut Vec<Place>, page: PageNo, offset: usize, bytes: &[u8])
+    requires { offset + length bytes.now ≤ 4096 }
+    ensures written { (q : ℕ) → cell_at places.new.items q ≡ (if nat_eq q page then written_cell (cell_at places.old.items page) offset bytes.now else cell_at places.old.items q) }
+    ensures size { length places.new.items ≡ length places.old.items }
+{
+    let at = (page / CHUNK) as usize;
+    if at < places.len() {
+        place_write(&mut places[at], page % CHUNK, offset, bytes);
+    }
+}
+
+/// Protects a page, or ends its protection.
+pub fn protect_at(places: &mut Vec<Place>, page: PageNo, protected: bool)
+    requires { has_place places.old.items page ≡ true }
+    ensures put { (q : ℕ) → cell_at places.new.items q ≡ (if nat_eq q page then with_protection (cell_at places.old.items page) protected else cell_at places.old.items q) }
+    ensures size { length places.new.items ≡ length places.old.items }
+{
+    place_protect(
+        &mut places[(page / CHUNK) as usize],
+        page % CHUNK,
+        protected,
+    );
+}
+
+/// Makes the pages of a range missing.
+pub fn clear_range(places: &mut Vec<Place>, first: PageNo, count: u32)
+    requires { first + count ≤ HIGH_PAGE }
+    ensures cleared { (q : ℕ) → cell_at places.new.items q ≡ (if in_range first count q then no_cell else cell_at places.old.items q) }
+    ensures stay { (q : ℕ) → has_place places.new.items q ≡ has_place places.old.items q }
+    ensures size { length places.new.items ≡ length places.old.items }
+{
+    let end = first + count;
+    for at in first / CHUNK..(end + (CHUNK - 1)) / CHUNK {
+        let start = at * CHUNK;
+        let low = if start < first { first - start } else { 0 };
+        let high = if end - start < CHUNK {
+            end - start
+        } else {
+            CHUNK
+        };
+        if (at as usize) < places.len() {
+            place_clear(&mut places[at as usize], low, high - low);
+        }
+    }
+}
+
+/// Makes the leaves of a range.
+pub fn make_places(
+    alloc: Global,
+    places: &mut Vec<Place>,
+    first: PageNo,
+    count: u32,
+) -> Result<(), NoMemory>
+    requires { (first + count ≤ HIGH_PAGE) × (length places.old.items ≤ 1024) }
+    ensures same { (q : ℕ) → cell_at places.new.items q ≡ cell_at places.old.items q }
+    ensures few { length places.new.items ≤ 1024 }
+    ensures there { OnOk result ((q : ℕ) → first ≤ q → q < first + count → has_place places.new.items q ≡ true) }
+{
+    let end = first + count;
+    for at in first / CHUNK..(end + (CHUNK - 1)) / CHUNK {
+        let Ok(()) = make_place(alloc, places, at * CHUNK) else {
+            return Err(NoMemory);
+        };
+    }
+    Ok(())
+}
+
+/// Moves the pages of a range, with their protection, to another that it does not meet and that has its leaves.
+pub fn move_cells(places: &mut Vec<Place>, from: PageNo, to: PageNo, count: u32)
+    requires inside { (from + count ≤ HIGH_PAGE) × (to + count ≤ HIGH_PAGE) }
+    requires apart { (from + count ≤ to) ⊎ (to + count ≤ from) }
+    requires there { (q : ℕ) → to ≤ q → q < to + count → has_place places.old.items q ≡ true }
+    ensures moved { (q : ℕ) → cell_at places.new.items q ≡ moved_cell (cell_at places.old.items) from to count q }
+    ensures size { length places.new.items ≡ length places.old.items }
+{
+    for i in 0..count {
+        let (bytes, protected) = take_at(places, from + i);
+        put_at(places, to + i, bytes, protected);
+    }
+}
+
+/// The present pages, as a set.
+pub fn present_of(alloc: Global, places: &Vec<Place>) -> Result<PageSet, NoMemory>
+    requires { length places.now.items ≤ 1024 }
+    ensures { IfOk result (λ pages. (q : ℕ) → contains pages q ≡ is_some (cell_at places.now.items q).0) }
+{
+    let mut pages = PageSet::new(alloc);
+    for page in 0..places.len() as u32 * CHUNK {
+        if is_present_at(places, page) {
+            let Ok(()) = pages.insert(page) else {
+                return Err(NoMemory);
+            };
+        }
+    }
+    Ok(pages)
+}
