@@ -155,7 +155,6 @@ pub munmap_done : (addr bytes : ℕ) → addr % 4096 ≡ 0 → 0 < bytes → add
 munmap_done addr bytes whole some high =
     sym (first_of_three (eqb (addr % 4096) 0) (eqb bytes 0) (ltb HIGH (addr + rounded bytes)) (eqb-true (addr % 4096) 0 whole) (eqb-false bytes 0 some) (ltb-false HIGH (addr + rounded bytes) high))
 
-
 -- A page made present, and written
 
 eqb-same : (a : ℕ) → eqb a a ≡ true

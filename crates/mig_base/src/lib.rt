@@ -6,19 +6,17 @@
 #![tactic(auto)]
 
 pub mod chunk;
+mod chunks;
 pub mod command;
 pub mod laws;
 pub mod page_set;
-pub mod step;
-
-mod chunks;
 mod slots;
+pub mod step;
 mod words;
 
 pub use crate::command::{Command, Entry, Errno, Place, Reply};
 pub use crate::page_set::PageSet;
 pub use crate::step::{Effect, Refusal, Step, WorldPhase};
-
 use std::alloc::AllocError;
 use thiserror::Error;
 

@@ -87,4 +87,3 @@ aligned_inside addr width h =
 
 pub aligned_width : (addr width : ℕ) → true ≡ is_aligned addr width → is_width width ≡ true
 aligned_width addr width h = and_left (is_width width) (eqb (addr % width) 0) (sym h)
-

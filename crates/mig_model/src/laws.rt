@@ -12,12 +12,10 @@ ghost use Rattle.mig_model.specs.World.{first_world, after_steps};
 pub fn every_list_of_steps()
     ensures transcript { (cpus : ℕ) (steps : List Step) → IsFlatRun (after_steps (first_world cpus) steps).transcript }
     ensures memory { (cpus : ℕ) (steps : List Step) → memory (after_steps (first_world cpus) steps).host ≡ memory_of (after_steps (first_world cpus) steps).transcript }
-{
-}
+{}
 
 /// What a command does to the pages of a host is what it does to the flat memory that they mean.
 pub fn every_command()
     ensures memory { (host : Host) (command : Command) → IsSound host → memory (host_after host command) ≡ after (memory host) command }
     ensures sound { (host : Host) (command : Command) → IsSound host → IsSound (host_after host command) }
-{
-}
+{}

@@ -1,0 +1,108 @@
+#!/usr/bin/env python3
+"""Times postmig on scripts of its own making, and prints a table: seconds, lines a second, peak resident memory.
+
+Run it from anywhere, once ./postmig has built the program: python3 bench/bench.py [NAME ..]
+"""
+
+import os
+import pathlib
+import subprocess
+import sys
+import tempfile
+import time
+
+TOP = pathlib.Path(__file__).resolve().parent.parent
+PROGRAM = TOP / "crates" / "postmig" / "out" / "postmig"
+PAGE = 4096
+LOW = 0x10000
+
+
+def accesses(count, pages=1024):
+    """Loads and stores in turn over present pages."""
+    yield f"cpu 0 mmap {pages * PAGE} rw"
+    for page in range(pages):
+        yield f"cpu 0 store {LOW + page * PAGE:#x} 8 {page + 1}"
+    seed = 1
+    for index in range(count):
+        seed = (seed * 1103515245 + 12345) % 2**31
+        addr = LOW + (seed // 8 % pages) * PAGE + (seed % 512) * 8
+        if index % 2:
+            yield f"cpu 1 load {addr:#x} 8"
+        else:
+            yield f"cpu 0 store {addr:#x} 8 {index}"
+
+
+def areas(count):
+    """So many areas of one page each: protections in turn, so that no two make one."""
+    for index in range(count):
+        yield f"cpu 0 mmap {PAGE} {'rw' if index % 2 else 'r'}"
+
+
+def loads(count, pages):
+    seed = 1
+    for _ in range(count):
+        seed = (seed * 1103515245 + 12345) % 2**31
+        yield f"cpu 0 load {LOW + (seed // 8 % pages) * PAGE:#x} 8"
+
+
+def over_one_area(count, pages):
+    yield f"cpu 0 mmap {pages * PAGE} rw"
+    yield from loads(count, pages)
+
+
+def over_many_areas(count, pages):
+    yield from areas(pages)
+    yield from loads(count, pages)
+
+
+def mapped_and_unmapped(count):
+    yield from areas(count)
+    for index in range(count):
+        page = index * 5 % count
+        yield f"cpu 0 munmap {LOW + page * PAGE:#x} {PAGE}"
+
+
+CASES = {
+    "accesses-10k": lambda: accesses(10_000),
+    "accesses-100k": lambda: accesses(100_000),
+    "accesses-1m": lambda: accesses(1_000_000),
+    "areas-only-8192": lambda: areas(8192),
+    "one-area-100k": lambda: over_one_area(100_000, 8192),
+    "many-areas-100k": lambda: over_many_areas(100_000, 8192),
+    "map-unmap-8192": lambda: mapped_and_unmapped(8192),
+}
+
+
+def measure(name, lines):
+    with tempfile.TemporaryDirectory() as folder:
+        script = pathlib.Path(folder) / "script"
+        count = 0
+        with open(script, "w") as file:
+            for line in lines:
+                file.write(line + "\n")
+                count += 1
+        best, memory = None, 0
+        for _ in range(3):
+            with open(script) as source, open(os.devnull, "w") as sink:
+                begun = time.perf_counter()
+                child = subprocess.Popen([PROGRAM, "run"], stdin=source, stdout=sink)
+                _, status, usage = os.wait4(child.pid, 0)
+                seconds = time.perf_counter() - begun
+            if status:
+                sys.exit(f"{name}: status {status}")
+            best = seconds if best is None else min(best, seconds)
+            memory = max(memory, usage.ru_maxrss)
+    print(f"| {name} | {count:,} | {best:.3f} | {count / best:,.0f} | {memory / 1024:.1f} |")
+
+
+def main():
+    if not PROGRAM.exists():
+        sys.exit("build the program first: ./postmig run --help")
+    print("| case | lines | seconds (best of 3) | lines a second | peak resident MiB |")
+    print("|---|---|---|---|---|")
+    for name in sys.argv[1:] or CASES:
+        measure(name, CASES[name]())
+
+
+if __name__ == "__main__":
+    main()

@@ -1,0 +1,7 @@
+pub mod AreaLemmas
+pub mod SearchLemmas
+pub mod SideLemmas
+pub mod EditLemmas
+pub mod CountLemmas
+pub mod GapLemmas
+pub mod ViewLemmas

@@ -1,0 +1,57 @@
+-- Lists of areas, and the pages that they map.
+use Rattle.std.specs.Prelude.{◌≡◌, ◌≢◌, ℕ, ◌+◌, ◌<◌, ◌≤◌, if◌then◌else◌, Option, Some, None, List, [], ◌∷◌}
+use Rattle.std.specs.List.{All, sum_by}
+use Rattle.std.specs.Ordering.{nat_cmp}
+use Rattle.std.specs.FinMap.{FinMap, empty}
+use Rattle.mig_base.specs.declared.TheConstants.{HIGH_PAGE}
+use Rattle.mig_base.specs.declared.Prot.{Prot}
+use Rattle.mig_base.specs.declared.Area.{Area}
+use Rattle.mig_base.specs.Ranges.{in_range}
+use Rattle.mig_base.specs.Pages.{set_range}
+
+-- the protection of each page of the areas
+unfoldable pub pages_in : List Area → FinMap nat_cmp Prot
+pages_in [] = empty
+pages_in (area ∷ areas) = set_range (pages_in areas) area.first area.count area.prot
+
+-- the protection of a page, if an area has it
+unfoldable pub prot_in : List Area → ℕ → Option Prot
+prot_in [] page = None
+prot_in (area ∷ areas) page = if in_range area.first area.count page then Some area.prot else prot_in areas page
+
+-- how many pages the areas have
+abbrev pub page_sum : List Area → ℕ
+page_sum areas = sum_by (λ area. area.count) areas
+
+-- an area has a page, and ends inside the address space
+pub record IsArea (a : Area) : Type 0 where
+  pub some : 0 < a.count
+  pub bound : a.first + a.count ≤ HIGH_PAGE
+
+-- the first lies before the second, and they are not one run
+pub record IsBefore (a b : Area) : Type 0 where
+  pub apart : a.first + a.count ≤ b.first
+  pub differ : a.first + a.count ≡ b.first → a.prot ≢ b.prot
+
+-- the areas are the maximal runs of their pages, in order: each lies before all that follow
+abbrev pub AreRuns : List Area → Type 0
+AreRuns [] = Unit {0}
+AreRuns (a ∷ rest) = IsArea a × All (IsBefore a) rest × AreRuns rest
+
+-- the areas are runs, with that many pages
+pub record AreCounted (areas : List Area) (mapped : ℕ) : Type 0 where
+  pub runs : AreRuns areas
+  pub count : mapped ≡ page_sum areas
+
+-- where an area stands to a page
+abbrev pub BeginsBy : ℕ → Area → Type 0
+BeginsBy page area = area.first ≤ page
+
+abbrev pub BeginsAfter : ℕ → Area → Type 0
+BeginsAfter page area = page < area.first
+
+abbrev pub EndsBefore : ℕ → Area → Type 0
+EndsBefore page area = area.first + area.count < page
+
+abbrev pub EndsFrom : ℕ → Area → Type 0
+EndsFrom page area = page ≤ area.first + area.count

@@ -1,0 +1,127 @@
+//! Which pages of a host are mapped, and with which protection.
+//!
+//! [`AreaMap`] owns a finite map from pages to protections, kept as its maximal runs of one protection in order of their pages.
+//! A page is looked up by a binary search, how many are mapped is kept, and a change edits the runs around its range in place.
+//!
+//! It knows of no page's bytes, of no rule of mmap(2) and of no limit but the end of the address space: which range is
+//! mapped, and whether it may be, is for its callers to decide.
+#![tactic(auto)]
+
+mod edit;
+mod gap;
+mod search;
+#[cfg(test)]
+mod tests;
+
+ghost use Rattle.std.specs.Prelude.{◌≡◌, ℕ, ◌+◌, ◌/◌, ◌≤◌, OnOk, OnErr, if◌then◌else◌};
+ghost use Rattle.std.specs.FinMap as map;
+ghost use Rattle.mig_base.specs.Ranges.{in_range, free_place};
+ghost use Rattle.mig_base.specs.Pages.{set_range, remove_range};
+
+use crate::edit::{apply, mapped_after, plan};
+use crate::gap::free_page;
+use crate::search::prot_of;
+use mig_base::{Addr, Area, HIGH_PAGE, LOW, NoMemory, PAGE_SIZE, PageNo, Prot};
+use std::alloc::Global;
+use std::marker::Model;
+
+/// A finite map from pages to protections.
+#[derive(Debug, Drop)]
+pub struct AreaMap {
+    alloc: Global,
+    areas: Vec<Area>,
+    mapped: u32,
+}
+
+impl Model for AreaMap {
+    ghost use Rattle.std.specs.Ordering.{nat_cmp};
+    ghost use Rattle.std.specs.FinMap as map;
+    ghost use Rattle.mig_base.specs.declared.Prot.{Prot};
+    ghost use Rattle.std.specs.Coded.{coded_ℕ};
+    ghost use Rattle.mig_base.specs.Codes.{coded_prot};
+
+    ghost Value = { map.FinMap nat_cmp Prot };
+
+    ghost coded = { map.code coded_ℕ coded_prot };
+
+    ghost use Rattle.area_map.specs.Areas.{pages_in, AreCounted};
+
+    ghost view = { λ a. pages_in a.areas.items };
+
+    ghost invariant = { λ a. AreCounted a.areas.items a.mapped };
+}
+
+impl AreaMap {
+    /// No page is mapped.
+    pub fn new(alloc: Global) -> Self
+        ensures { result ≡ map.empty }
+    {
+        AreaMap {
+            alloc,
+            areas: Vec::new(alloc),
+            mapped: 0,
+        }
+    }
+
+    /// Gives each of the `count` pages from `first` on the protection, whatever it had. Want of memory changes nothing.
+    pub fn map(&mut self, first: PageNo, count: u32, prot: Prot) -> Result<(), NoMemory>
+        requires { first + count ≤ HIGH_PAGE }
+        ensures ok { OnOk result (self.new ≡ set_range self.old first count prot) }
+        ensures err { OnErr result (self.new ≡ self.old) }
+    {
+        self.put(first, count, Some(prot))
+    }
+
+    /// Takes the `count` pages from `first` on out. Want of memory changes nothing.
+    pub fn unmap(&mut self, first: PageNo, count: u32) -> Result<(), NoMemory>
+        requires { first + count ≤ HIGH_PAGE }
+        ensures ok { OnOk result (self.new ≡ remove_range self.old first count) }
+        ensures err { OnErr result (self.new ≡ self.old) }
+    {
+        self.put(first, count, None)
+    }
+
+    /// The protection of a page, if it is mapped.
+    pub fn prot_at(&self, page: PageNo) -> Option<Prot>
+        ensures { result ≡ map.get self.now page }
+    {
+        prot_of(&self.areas, page)
+    }
+
+    /// How many pages are mapped.
+    pub fn mapped_pages(&self) -> u32
+        ensures { result ≡ map.len self.now }
+    {
+        self.mapped
+    }
+
+    /// The least page-aligned address from [`LOW`] on where a range of `len` bytes is free, below the end of the address
+    /// space. A range of no bytes is free at [`LOW`].
+    pub fn gap(&self, len: u64) -> Option<Addr>
+        ensures { result ≡ free_place (λ addr. map.contains_key self.now (addr / 4096)) len }
+    {
+        if len == 0 {
+            return Some(LOW);
+        }
+        match free_page(&self.areas, len.div_ceil(PAGE_SIZE)) {
+            Some(page) => Some(page * PAGE_SIZE),
+            None => None,
+        }
+    }
+
+    /// Gives each page of the range the protection, or takes it out where there is none.
+    fn put(&mut self, first: PageNo, count: u32, prot: Option<Prot>) -> Result<(), NoMemory>
+        requires { first + count ≤ HIGH_PAGE }
+        ensures ok { OnOk result ((page : ℕ) → map.get self.new page ≡ (if in_range first count page then prot else map.get self.old page)) }
+        ensures err { OnErr result (self.new ≡ self.old) }
+    {
+        if count == 0 {
+            return Ok(());
+        }
+        let edit = plan(&self.areas, first, count, prot);
+        let mapped = mapped_after(&self.areas, self.mapped, edit);
+        apply(&mut self.areas, edit)?;
+        self.mapped = mapped;
+        Ok(())
+    }
+}

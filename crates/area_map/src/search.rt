@@ -1,0 +1,44 @@
+//! Where a page stands among sorted areas, by binary search.
+
+ghost use Rattle.std.specs.Prelude.{◌≡◌, ◌+◌, ◌<◌, ◌≤◌, length, take, drop};
+ghost use Rattle.std.specs.List.{All};
+ghost use Rattle.area_map.specs.Areas.{AreRuns, BeginsBy, BeginsAfter, EndsBefore, EndsFrom, prot_in};
+
+use mig_base::{Area, PageNo, Prot};
+
+/// How many areas begin at or below the page: those stand first.
+pub(crate) fn beginning_by(areas: &[Area], page: PageNo) -> usize
+    requires { AreRuns areas.now }
+    ensures within { result ≤ length areas.now }
+    ensures by { All (BeginsBy page) (take result areas.now) }
+    ensures after { All (BeginsAfter page) (drop result areas.now) }
+{
+    areas.partition_point(|area| area.first <= page)
+}
+
+/// How many areas end below the page: those stand first.
+pub(crate) fn ending_before(areas: &[Area], page: PageNo) -> usize
+    requires { AreRuns areas.now }
+    ensures within { result ≤ length areas.now }
+    ensures before { All (EndsBefore page) (take result areas.now) }
+    ensures from { All (EndsFrom page) (drop result areas.now) }
+{
+    areas.partition_point(|area| area.count < page.saturating_sub(area.first))
+}
+
+/// The protection of the area that has the page, if there is one.
+pub(crate) fn prot_of(areas: &[Area], page: PageNo) -> Option<Prot>
+    requires { AreRuns areas.now }
+    ensures { result ≡ prot_in areas.now page }
+{
+    let after = beginning_by(areas, page);
+    if after == 0 {
+        return None;
+    }
+    let area = areas[after - 1];
+    if page - area.first < area.count {
+        Some(area.prot)
+    } else {
+        None
+    }
+}

@@ -1,0 +1,12 @@
+pub mod Bytes
+pub mod Grammar
+pub mod Keywords
+pub mod Lines
+pub mod Meaning
+pub mod Numbers
+pub mod Pieces
+pub mod Runs
+pub mod Spaces
+pub mod Tokens
+pub mod Whole
+pub mod Writes

@@ -1,0 +1,100 @@
+-- A script has one meaning.
+use Rattle.std.proofs.Common.{◌≡◌, ℕ, ◌≤◌, List, [], ◌∷◌, ◌++◌, length, Some, refl, sym, ap, subst, ◌∙◌, arith, inl, inr}
+use Rattle.std.specs.Prelude.{slice_get}
+use Rattle.std.specs.Str.Lines.{strip_carriage_return}
+use Rattle.mig_base.specs.declared.step.Step.{Step}
+use Rattle.mig_base.specs.declared.step.Step.TheVariants.{Issue}
+use Rattle.postmig.specs.declared.line.Line.{Line}
+use Rattle.postmig.specs.declared.line.Line.TheVariants.{Skipped, Make}
+use Rattle.postmig.specs.declared.token.Keyword.{Keyword}
+use Rattle.postmig.specs.declared.token.Token.{Token}
+use Rattle.postmig.specs.declared.token.Token.TheVariants.{Key}
+use Rattle.postmig.specs.Words.{keyword_text, words_of, AreTokens}
+use Rattle.postmig.specs.Spelling.{StepForm, IsNothing, SpellsStep, Spells}
+use Rattle.postmig.specs.Script.{HasNoFeed, ReadsLine, Reads, BeginsWrong}
+use Rattle.postmig.proofs.Tokens.{letter_first}
+use Rattle.postmig.proofs.Grammar.{one_step}
+use Rattle.postmig.proofs.Lines.{feed_inside, one_cut}
+
+-- each step begins with a keyword
+form_first : (s : Step) (ts : List Token) → StepForm s ts → (k : Keyword) × (more : List Token) × (ts ≡ Key k ∷ more)
+form_first (Issue cpu command) ts h = (_, _, h.2)
+
+first_byte : (b : ℕ) (bs : List ℕ) → 97 ≤ b → slice_get (b ∷ bs) 0 ≡ Some 35 → ⊥
+first_byte b bs le e = let h : b ≡ 35 = cc in absurd (omega (arith, le, h))
+
+no_comment : (k : Keyword) (w : List ℕ) → w ≡ keyword_text k → slice_get w 0 ≡ Some 35 → ⊥
+no_comment k w e h =
+    let l = letter_first k in
+    first_byte l.0 l.1 l.3 (subst (λ (t : List ℕ). slice_get t 0 ≡ Some 35) (e ∙ l.2) h)
+
+first_is : (k : Keyword) (more : List Token) (words : List (List ℕ)) → AreTokens (Key k ∷ more) words → IsNothing words → ⊥
+first_is k more [] are nothing = absurd are
+first_is k more (w ∷ words) are nothing = no_comment k w are.0 nothing
+
+nothing_or_step : (words : List (List ℕ)) (s : Step) → IsNothing words → SpellsStep words s → ⊥
+nothing_or_step words s nothing p =
+    let f = form_first s p.0 p.2 in
+    first_is f.0 f.1 words (subst (λ (ts : List Token). AreTokens ts words) f.2 p.1) nothing
+
+pub one_line : (text : List ℕ) (a b : Line) → Spells text a → Spells text b → a ≡ b
+one_line text Skipped Skipped p q = refl
+one_line text Skipped (Make t) p q = absurd (nothing_or_step (words_of text) t p q)
+one_line text (Make s) Skipped p q = absurd (nothing_or_step (words_of text) s q p)
+one_line text (Make s) (Make t) p q = ap (λ (x : Step). Make x) (one_step (words_of text) s t p q)
+
+pub one_first : (bytes : List ℕ) (a b : Line) (r s : List ℕ) → ReadsLine bytes a r → ReadsLine bytes b s → (a ≡ b) × (r ≡ s)
+one_first bytes a b r s p q = elim p [
+  | inl e ↦ elim q [
+    | inl f ↦
+        let cut = one_cut e.raw f.raw r s e.one f.one (sym e.whole ∙ f.whole) in
+        (one_line (strip_carriage_return f.raw) a b (subst (λ (t : List ℕ). Spells (strip_carriage_return t) a) cut.0 e.spells) f.spells, cut.1)
+    | inr f ↦ absurd (feed_inside e.raw r (subst (λ (t : List ℕ). HasNoFeed t) e.whole f.0.one))
+  ]
+  | inr e ↦ elim q [
+    | inl f ↦ absurd (feed_inside f.raw s (subst (λ (t : List ℕ). HasNoFeed t) f.whole e.0.one))
+    | inr f ↦ (one_line bytes a b e.0.spells f.0.spells, e.1 ∙ sym f.1)
+  ]
+]
+
+long : (xs ys : List ℕ) → xs ++ 10 ∷ ys ≡ [] → ⊥
+long [] ys e = cc
+long (x ∷ xs) ys e = cc
+
+-- no line is read where nothing is left
+some_left : (bytes : List ℕ) (a : Line) (r : List ℕ) → ReadsLine bytes a r → bytes ≡ [] → ⊥
+some_left bytes a r p none = elim p [
+  | inl e ↦ long e.raw r (sym e.whole ∙ none)
+  | inr e ↦ let zero_long : length bytes ≡ 0 = ap length none in absurd (omega (arith, e.0.some, zero_long))
+]
+
+pub one_reading : (input : List ℕ) (xs ys : List Line) → Reads input xs [] → Reads input ys [] → xs ≡ ys
+one_reading input [] [] p q = refl
+one_reading input [] (y ∷ ys) p q = absurd (some_left input y q.0 q.1 p)
+one_reading input (x ∷ xs) [] p q = absurd (some_left input x p.0 p.1 q)
+one_reading input (x ∷ xs) (y ∷ ys) p q =
+    let f = one_first input x y p.0 q.0 p.1 q.1 in
+    let rest = one_reading q.0 xs ys (subst (λ (t : List ℕ). Reads t xs []) f.1 p.2) q.2 in
+    ap (λ (z : Line). z ∷ xs) f.0 ∙ ap (λ (zs : List Line). y ∷ zs) rest
+
+wrong_or_line : (bytes : List ℕ) (a : Line) (r : List ℕ) (rest : List ℕ) → BeginsWrong rest → bytes ≡ rest → ReadsLine bytes a r → ⊥
+wrong_or_line bytes a r rest w e p = w.wrong a r (subst (λ (t : List ℕ). ReadsLine t a r) e p)
+
+-- a script has one first line that is wrong
+pub one_fault : (input : List ℕ) (xs ys : List Line) (r s : List ℕ) → Reads input xs r → BeginsWrong r → Reads input ys s → BeginsWrong s → xs ≡ ys
+one_fault input [] [] r s p w q v = refl
+one_fault input [] (y ∷ ys) r s p w q v = absurd (wrong_or_line input y q.0 r w p q.1)
+one_fault input (x ∷ xs) [] r s p w q v = absurd (wrong_or_line input x p.0 s v q p.1)
+one_fault input (x ∷ xs) (y ∷ ys) r s p w q v =
+    let f = one_first input x y p.0 q.0 p.1 q.1 in
+    let rest = one_fault q.0 xs ys r s (subst (λ (t : List ℕ). Reads t xs r) f.1 p.2) w q.2 v in
+    ap (λ (z : Line). z ∷ xs) f.0 ∙ ap (λ (zs : List Line). y ∷ zs) rest
+
+-- a script that is read to its end has none
+pub no_fault : (input : List ℕ) (xs ys : List Line) (s : List ℕ) → Reads input xs [] → Reads input ys s → BeginsWrong s → ⊥
+no_fault input [] [] s p q v = let zero_long : length s ≡ 0 = ap length (sym q ∙ p) in absurd (omega (arith, zero_long, v.some))
+no_fault input [] (y ∷ ys) s p q v = some_left input y q.0 q.1 p
+no_fault input (x ∷ xs) [] s p q v = wrong_or_line input x p.0 s v q p.1
+no_fault input (x ∷ xs) (y ∷ ys) s p q v =
+    let f = one_first input x y p.0 q.0 p.1 q.1 in
+    no_fault q.0 xs ys s (subst (λ (t : List ℕ). Reads t xs []) f.1 p.2) q.2 v

@@ -1,0 +1,42 @@
+use Rattle.std.proofs.Common.{◌≡◌, length, arith, rules}
+use Rattle.std.proofs.lemmas.Result.{err_from_is_err_and}
+use Rattle.std.proofs.KnownBytes.{Keeps-refl}
+use Rattle.postmig.specs.WorldState.{first_state}
+use Rattle.postmig.proofs.Whole.{ran_then, ran_halts, ran_read_fault, no_start, ran_finished, ran_stopped, at_end}
+use Rattle.postmig.proofs.engine.run_lines.Goals as goal
+
+pub returns-in_err-script-clause-fault : goal.returns-in_err-script-clause-fault
+returns-in_err-script-clause-fault g c =
+    let p = err_from_is_err_and c.from_residual.result c.from_residual.ensures.1 in
+    rw (p.1, p.2, c.in_err-script.ensures.err) (no_start (first_state c.args.cpus) _ _)
+
+pub returns-in-Ok-eq0-clause-ok : goal.returns-in-Ok-eq0-clause-ok
+returns-in-Ok-eq0-clause-ok g c =
+    let end = at_end _ _ _ c.read.new.buf c.in-Ok-eq0.field-0-test (search rules) c.in-Ok-eq0.ensures.bytes in
+    ran_finished c.finish.result (first_state c.args.cpus) c.loop.script _ _ _ _ _ _ c.loop.invariant.ran end.0 end.1 c.finish.ensures.ok
+
+pub returns-in-Ok-eq0-clause-fault : goal.returns-in-Ok-eq0-clause-fault
+returns-in-Ok-eq0-clause-fault g c =
+    let end = at_end _ _ _ c.read.new.buf c.in-Ok-eq0.field-0-test (search rules) c.in-Ok-eq0.ensures.bytes in
+    ran_stopped c.finish.result (first_state c.args.cpus) c.loop.script _ _ _ _ _ _ c.loop.invariant.ran end.0 end.1 c.finish.ensures.fault
+
+pub returns-in_err-run_piece-in-Ok-clause-fault : goal.returns-in_err-run_piece-in-Ok-clause-fault
+returns-in_err-run_piece-in-Ok-clause-fault g c =
+    let p = err_from_is_err_and c.from_residual-in_err-run_piece-in-Ok.result c.from_residual-in_err-run_piece-in-Ok.ensures.1 in
+    rw (p.1, p.2) (ran_halts (first_state c.args.cpus) c.loop.script _ _ _ _ _ _ _ _ c.loop.invariant.ran c.in-Ok.ensures.bytes.0 c.in_err-run_piece-in-Ok.ensures.fault)
+
+pub returns-in-Err-clause-fault : goal.returns-in-Err-clause-fault
+returns-in-Err-clause-fault g c = ran_read_fault (first_state c.args.cpus) c.loop.script _ _ _ _ _ c.loop.invariant.ran c.in-Err.ensures.bytes c.loop.invariant.one
+
+pub returns-clause-fault : goal.returns-clause-fault
+returns-clause-fault g c = ran_read_fault (first_state c.args.cpus) c.loop.script _ _ _ _ _ c.loop.invariant.ran (Keeps-refl _) c.loop.invariant.one
+
+pub loop-preserved : goal.loop-preserved
+loop-preserved g c = record {
+  ran = ran_then (first_state c.args.cpus) c.loop.script _ _ _ _ _ _ _ _ c.loop.invariant.ran c.in-Ok.ensures.bytes.0 c.in_ok-run_piece-in-Ok.ensures.ok;
+  clean = c.in_ok-run_piece-in-Ok.ensures.clean;
+  one = c.run_piece.ensures.open;
+  number =
+      let size : length c.read.new.buf ≡ 16384 = search rules in
+      omega (arith, c.loop.invariant.number, c.in_ok-run_piece-in-Ok.ensures.number, c.in-Ok.ensures.bound.0, c.in-Ok.ensures.bound.1, size);
+}

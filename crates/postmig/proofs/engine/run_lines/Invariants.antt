@@ -1,0 +1,13 @@
+use Rattle.std.proofs.Common.{◌≡◌, ◌*◌, ◌≤◌, []}
+use Rattle.postmig.specs.Script.{HasNoFeed}
+use Rattle.postmig.specs.WorldState.{first_state}
+use Rattle.postmig.proofs.Whole.{Ran}
+use Rattle.postmig.proofs.engine.run_lines.Given as goal
+
+abbrev pub invariant-loop : goal.invariant-loop
+invariant-loop g l = record {
+  ran : Ran (first_state l.fn.cpus) (g.R.Read.remaining l.fn.reader) (g.R.Read.remaining l.reader) l.script (g.W.Write.contents l.fn.writer) (g.W.Write.contents l.writer);
+  clean : l.script.output ≡ [];
+  one : HasNoFeed l.script.line;
+  number : l.script.number ≤ 16384 * l.counter;
+}

@@ -1,0 +1,7 @@
+pub mod Engine
+pub mod Parsing
+pub mod Printed
+pub mod Script
+pub mod Spelling
+pub mod Words
+pub mod WorldState

@@ -1,0 +1,54 @@
+-- What is printed for the outcome of a step.
+use Rattle.std.specs.Prelude.{ℕ, List, [], ◌∷◌, ◌++◌, codes, false, true, Ok, Err}
+use Rattle.std.specs.Fmt.{decimal, digits}
+use Rattle.mig_base.specs.declared.command.Errno.{Errno}
+use Rattle.mig_base.specs.declared.command.Errno.TheVariants.{Eperm, Enoent, Eagain, Enomem, Efault, Eexist, Einval}
+use Rattle.mig_base.specs.declared.command.Reply.{Reply}
+use Rattle.mig_base.specs.declared.command.Reply.TheVariants.{Value, Done, At, Segv, BadAccess, Refused}
+use Rattle.mig_base.specs.declared.step.Effect.{Effect}
+use Rattle.mig_base.specs.declared.step.Effect.TheVariants.{Answered}
+use Rattle.mig_base.specs.declared.step.Refusal.{Refusal}
+use Rattle.mig_base.specs.declared.step.Refusal.TheVariants.{NoCpu, NoMemory}
+use Rattle.postmig.specs.WorldState.{Outcome}
+
+-- 0x and lower-case digits without leading zeros
+abbrev pub hexadecimal : ℕ → List ℕ
+hexadecimal n = codes "0x" ++ digits 16 false n
+
+-- the name of an error number, as in errno(3)
+abbrev pub errno_name : Errno → List ℕ
+errno_name Eperm = codes "EPERM"
+errno_name Enoent = codes "ENOENT"
+errno_name Eagain = codes "EAGAIN"
+errno_name Enomem = codes "ENOMEM"
+errno_name Efault = codes "EFAULT"
+errno_name Eexist = codes "EEXIST"
+errno_name Einval = codes "EINVAL"
+
+-- a reply
+abbrev pub reply_text : Reply → List ℕ
+reply_text (Value n) = codes "value " ++ hexadecimal n
+reply_text Done = codes "done"
+reply_text (At addr) = codes "at " ++ hexadecimal addr
+reply_text (Segv false) = codes "segv unmapped"
+reply_text (Segv true) = codes "segv protected"
+reply_text BadAccess = codes "bad access"
+reply_text (Refused errno) = codes "refused " ++ errno_name errno
+
+-- the name of a refusal
+abbrev pub refusal_name : Refusal → List ℕ
+refusal_name NoCpu = codes "NoCpu"
+refusal_name NoMemory = codes "NoMemory"
+
+-- what a step did
+abbrev pub effect_text : Effect → List ℕ
+effect_text (Answered cpu reply) = codes "cpu " ++ decimal cpu ++ codes " " ++ reply_text reply
+
+-- the line without its line feed
+abbrev pub outcome_text : Outcome → List ℕ
+outcome_text (Ok effect) = effect_text effect
+outcome_text (Err refusal) = codes "refused " ++ refusal_name refusal
+
+-- the line that is written for an outcome
+unfoldable pub outcome_line : Outcome → List ℕ
+outcome_line outcome = outcome_text outcome ++ 10 ∷ []

@@ -1,0 +1,113 @@
+//! How the outcome of a step is printed.
+
+ghost use Rattle.std.specs.Prelude.{◌≡◌, ◌++◌, OnOk, Some, string_bytes};
+ghost use Rattle.postmig.specs.Printed.{outcome_line, outcome_text, effect_text, reply_text, errno_name, refusal_name};
+
+use mig_base::{Effect, Errno, Refusal, Reply};
+use std::alloc::AllocError;
+use std::fmt;
+
+/// The name of an error number.
+#[derive(Clone, Copy)]
+struct ErrnoName(Errno);
+
+impl fmt::Display for ErrnoName {
+    ghost output = { λ x. Some (errno_name x.0) };
+
+    fn fmt<W: fmt::Write>(&self, f: &mut fmt::Formatter<W>) -> fmt::Result {
+        match self.0 {
+            Errno::Eperm => write!(f, "EPERM"),
+            Errno::Enoent => write!(f, "ENOENT"),
+            Errno::Eagain => write!(f, "EAGAIN"),
+            Errno::Enomem => write!(f, "ENOMEM"),
+            Errno::Efault => write!(f, "EFAULT"),
+            Errno::Eexist => write!(f, "EEXIST"),
+            Errno::Einval => write!(f, "EINVAL"),
+        }
+    }
+}
+
+/// A reply to a command.
+#[derive(Clone, Copy)]
+struct ReplyText(Reply);
+
+impl fmt::Display for ReplyText {
+    ghost output = { λ x. Some (reply_text x.0) };
+
+    fn fmt<W: fmt::Write>(&self, f: &mut fmt::Formatter<W>) -> fmt::Result {
+        match self.0 {
+            Reply::Value(value) => write!(f, "value 0x{value:x}"),
+            Reply::Done => write!(f, "done"),
+            Reply::At(addr) => write!(f, "at 0x{addr:x}"),
+            Reply::Segv { mapped: false } => write!(f, "segv unmapped"),
+            Reply::Segv { mapped: true } => write!(f, "segv protected"),
+            Reply::BadAccess => write!(f, "bad access"),
+            Reply::Refused(errno) => {
+                let name = ErrnoName(errno);
+                write!(f, "refused {name}")
+            }
+        }
+    }
+}
+
+/// The name of a refusal.
+#[derive(Clone, Copy)]
+struct RefusalName(Refusal);
+
+impl fmt::Display for RefusalName {
+    ghost output = { λ x. Some (refusal_name x.0) };
+
+    fn fmt<W: fmt::Write>(&self, f: &mut fmt::Formatter<W>) -> fmt::Result {
+        match self.0 {
+            Refusal::NoCpu => write!(f, "NoCpu"),
+            Refusal::NoMemory => write!(f, "NoMemory"),
+        }
+    }
+}
+
+/// What a step did.
+#[derive(Clone, Copy)]
+struct EffectText(Effect);
+
+impl fmt::Display for EffectText {
+    ghost output = { λ x. Some (effect_text x.0) };
+
+    fn fmt<W: fmt::Write>(&self, f: &mut fmt::Formatter<W>) -> fmt::Result {
+        match self.0 {
+            Effect::Answered { cpu, reply } => {
+                let reply = ReplyText(reply);
+                write!(f, "cpu {cpu} {reply}")
+            }
+        }
+    }
+}
+
+/// The outcome of a step.
+#[derive(Clone, Copy)]
+struct OutcomeText(Result<Effect, Refusal>);
+
+impl fmt::Display for OutcomeText {
+    ghost output = { λ x. Some (outcome_text x.0) };
+
+    fn fmt<W: fmt::Write>(&self, f: &mut fmt::Formatter<W>) -> fmt::Result {
+        match self.0 {
+            Ok(effect) => {
+                let effect = EffectText(effect);
+                write!(f, "{effect}")
+            }
+            Err(refusal) => {
+                let name = RefusalName(refusal);
+                write!(f, "refused {name}")
+            }
+        }
+    }
+}
+
+/// Prints the line of an outcome, with its line feed, behind a text.
+#[tactic(auto, unfolding(crate::specs::Printed::outcome_line))]
+pub fn print_line(text: &mut String, outcome: Result<Effect, Refusal>) -> Result<(), AllocError>
+    ensures { OnOk result (string_bytes text.new ≡ string_bytes text.old ++ outcome_line outcome) }
+{
+    let outcome = OutcomeText(outcome);
+    write!(text, "{outcome}\n")
+}
