@@ -5,3 +5,5 @@ pub mod EditLemmas
 pub mod CountLemmas
 pub mod GapLemmas
 pub mod ViewLemmas
+pub mod OneProtLemmas
+pub mod MoveLemmas

@@ -22,6 +22,10 @@ pub prot_at_answer : (inside items : List Area) (value : FinMap nat_cmp Prot) (p
 prot_at_answer inside items value page seen view =
     sym (get-pages_in items page) ∙ ap (λ xs. get (pages_in xs) page) seen ∙ ap (λ m. get m page) view
 
+-- the areas and the map say the same of every page
+pub same_prots : (inside items : List Area) (value : FinMap nat_cmp Prot) → items ≡ inside → pages_in inside ≡ value → prot_in items ≡ (λ page. get value page)
+same_prots inside items value seen view = λ i page. prot_at_answer inside items value page seen view i
+
 -- what a change leaves, page by page
 pub put_answer : (inside items new : List Area) (value : FinMap nat_cmp Prot) (edit : Edit) (first count : ℕ) (prot : Option Prot) → IsEdit items edit first count prot → items ≡ inside → pages_in inside ≡ value → new ≡ edited inside edit → (page : ℕ) → get (pages_in new) page ≡ cond (in_range first count page) prot (get value page)
 put_answer inside items new value edit first count prot h seen view made page =

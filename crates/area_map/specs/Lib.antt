@@ -1,3 +1,4 @@
 pub mod Areas
 pub mod Edits
 pub mod Gaps
+pub mod Ranges

@@ -9,18 +9,22 @@
 
 mod edit;
 mod gap;
+mod moves;
 mod search;
 #[cfg(test)]
 mod tests;
 
-ghost use Rattle.std.specs.Prelude.{◌≡◌, ℕ, ◌+◌, ◌/◌, ◌≤◌, OnOk, OnErr, if◌then◌else◌};
+ghost use Rattle.std.specs.Prelude.{◌≡◌, ℕ, ◌+◌, ◌/◌, ◌≤◌, ◌<◌, ◌⊎◌, OnOk, OnErr, IfOk, IfSome, IfNone, if◌then◌else◌};
 ghost use Rattle.std.specs.FinMap as map;
 ghost use Rattle.mig_base.specs.Ranges.{in_range, free_place};
 ghost use Rattle.mig_base.specs.Pages.{set_range, remove_range};
+ghost use Rattle.area_map.specs.Areas.{AreRuns, pages_in};
+ghost use Rattle.area_map.specs.Ranges.{HasOneProt, moved};
 
 use crate::edit::{apply, mapped_after, plan};
 use crate::gap::free_page;
-use crate::search::prot_of;
+use crate::moves::map_moved;
+use crate::search::{one_prot_of, prot_of};
 use mig_base::{Addr, Area, HIGH_PAGE, LOW, NoMemory, PAGE_SIZE, PageNo, Prot};
 use std::alloc::Global;
 use std::marker::Model;
@@ -63,7 +67,8 @@ impl AreaMap {
         }
     }
 
-    /// Gives each of the `count` pages from `first` on the protection, whatever it had. Want of memory changes nothing.
+    /// Gives each of the `count` pages from `first` on the protection, whatever it had. `NoMemory` where the areas become more
+    /// and there is no memory for them: nothing has changed then.
     pub fn map(&mut self, first: PageNo, count: u32, prot: Prot) -> Result<(), NoMemory>
         requires { first + count ≤ HIGH_PAGE }
         ensures ok { OnOk result (self.new ≡ set_range self.old first count prot) }
@@ -72,7 +77,8 @@ impl AreaMap {
         self.put(first, count, Some(prot))
     }
 
-    /// Takes the `count` pages from `first` on out. Want of memory changes nothing.
+    /// Takes the `count` pages from `first` on out. `NoMemory` where that splits an area and there is no memory for one more:
+    /// nothing has changed then.
     pub fn unmap(&mut self, first: PageNo, count: u32) -> Result<(), NoMemory>
         requires { first + count ≤ HIGH_PAGE }
         ensures ok { OnOk result (self.new ≡ remove_range self.old first count) }
@@ -107,6 +113,53 @@ impl AreaMap {
             Some(page) => Some(page * PAGE_SIZE),
             None => None,
         }
+    }
+
+    /// The areas in order of their pages, each as long as it can be: touching ones differ in protection.
+    pub fn areas(&self) -> &[Area]
+        ensures runs { AreRuns result.now }
+        ensures pages { pages_in result.now ≡ self.now }
+    {
+        self.areas.as_slice()
+    }
+
+    /// An equal map, of memory of its own.
+    pub fn copy(&self) -> Result<Self, NoMemory>
+        ensures { IfOk result (λ copy. copy ≡ self.now) }
+    {
+        let areas = Vec::from_slice(self.alloc, &self.areas)?;
+        Ok(AreaMap {
+            alloc: self.alloc,
+            areas,
+            mapped: self.mapped,
+        })
+    }
+
+    /// The protection of all `count` pages from `first` on, if they are mapped and have one protection.
+    pub fn one_prot(&self, first: PageNo, count: u32) -> Option<Prot>
+        requires bound { first + count ≤ HIGH_PAGE }
+        requires some { 0 < count }
+        ensures some { IfSome result (HasOneProt (λ page. map.get self.now page) first count) }
+        ensures none { IfNone result ((prot : Prot) → HasOneProt (λ page. map.get self.now page) first count prot → ⊥) }
+    {
+        one_prot_of(&self.areas, first, count)
+    }
+
+    /// Moves the `count` pages from `from` on, with their protections, to `to`: what was mapped there is replaced, and where
+    /// they were nothing stays mapped. The two ranges lie apart. `NoMemory` leaves the map as it was.
+    pub fn move_range(&mut self, from: PageNo, to: PageNo, count: u32) -> Result<(), NoMemory>
+        requires from_bound { from + count ≤ HIGH_PAGE }
+        requires to_bound { to + count ≤ HIGH_PAGE }
+        requires apart { (from + count ≤ to) ⊎ (to + count ≤ from) }
+        ensures ok { OnOk result ((page : ℕ) → map.get self.new page ≡ moved (λ before. map.get self.old before) from to count page) }
+        ensures err { OnErr result (self.new ≡ self.old) }
+    {
+        let mut moved = self.copy()?;
+        moved.unmap(from, count)?;
+        moved.unmap(to, count)?;
+        map_moved(&mut moved, &self.areas, from, to, count)?;
+        *self = moved;
+        Ok(())
     }
 
     /// Gives each page of the range the protection, or takes it out where there is none.

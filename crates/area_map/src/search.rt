@@ -1,10 +1,11 @@
 //! Where a page stands among sorted areas, by binary search.
 
-ghost use Rattle.std.specs.Prelude.{◌≡◌, ◌+◌, ◌<◌, ◌≤◌, length, take, drop};
+ghost use Rattle.std.specs.Prelude.{◌≡◌, ◌+◌, ◌<◌, ◌≤◌, length, take, drop, IfSome, IfNone};
 ghost use Rattle.std.specs.List.{All};
 ghost use Rattle.area_map.specs.Areas.{AreRuns, BeginsBy, BeginsAfter, EndsBefore, EndsFrom, prot_in};
+ghost use Rattle.area_map.specs.Ranges.{HasOneProt};
 
-use mig_base::{Area, PageNo, Prot};
+use mig_base::{Area, HIGH_PAGE, PageNo, Prot};
 
 /// How many areas begin at or below the page: those stand first.
 pub(crate) fn beginning_by(areas: &[Area], page: PageNo) -> usize
@@ -37,6 +38,26 @@ pub(crate) fn prot_of(areas: &[Area], page: PageNo) -> Option<Prot>
     }
     let area = areas[after - 1];
     if page - area.first < area.count {
+        Some(area.prot)
+    } else {
+        None
+    }
+}
+
+/// The protection of all `count` pages from `first` on, if one area has them.
+pub(crate) fn one_prot_of(areas: &[Area], first: PageNo, count: u32) -> Option<Prot>
+    requires runs { AreRuns areas.now }
+    requires bound { first + count ≤ HIGH_PAGE }
+    requires some { 0 < count }
+    ensures some { IfSome result (HasOneProt (prot_in areas.now) first count) }
+    ensures none { IfNone result ((prot : Prot) → HasOneProt (prot_in areas.now) first count prot → ⊥) }
+{
+    let after = beginning_by(areas, first);
+    if after == 0 {
+        return None;
+    }
+    let area = areas[after - 1];
+    if first - area.first + count <= area.count {
         Some(area.prot)
     } else {
         None

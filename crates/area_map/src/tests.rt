@@ -4,7 +4,7 @@ ghost use Rattle.std.specs.Prelude.{◌+◌, ◌≤◌};
 ghost use Rattle.mig_base.specs.declared.TheConstants.{HIGH_PAGE};
 
 use super::AreaMap;
-use mig_base::{NoMemory, PageNo, Prot};
+use mig_base::{Area, NoMemory, PageNo, Prot};
 use std::process::Abort;
 use std::test::Fail;
 
@@ -47,15 +47,36 @@ fn change(
     Ok(())
 }
 
+/// Moves a range up, and again where memory is refused, which may have changed nothing.
+fn shift(
+    rt: &impl Abort,
+    map: &mut AreaMap,
+    from: PageNo,
+    to: PageNo,
+    count: u32,
+) -> Result<(), Fail>
+    requires bound { to + count ≤ HIGH_PAGE }
+    requires apart { from + count ≤ to }
+{
+    let before = pages(map);
+    let mapped = map.mapped_pages();
+    if map.move_range(from, to, count).is_err() {
+        assert_eq!(rt; pages(map), before, "pages at {from:#x}");
+        assert_eq!(rt; map.mapped_pages(), mapped, "count at {from:#x}");
+        map.move_range(from, to, count)?;
+    }
+    Ok(())
+}
+
 #[test]
 fn gaps_open_where_pages_go(rt: HostRuntime) -> Result<(), Fail> {
     let mut map = AreaMap::new(rt.alloc());
     assert_eq!(rt; map.gap(4096), Some(0x10000));
-    map.map(0x10, 2, Prot::Read)?;
-    map.map(0x12, 1, Prot::Read)?;
+    change(&rt, &mut map, 0x10, 2, Some(Prot::Read))?;
+    change(&rt, &mut map, 0x12, 1, Some(Prot::Read))?;
     assert_eq!(rt; map.mapped_pages(), 3);
     assert_eq!(rt; map.gap(4096), Some(0x13000));
-    map.unmap(0x11, 1)?;
+    change(&rt, &mut map, 0x11, 1, None)?;
     assert_eq!(rt; map.mapped_pages(), 2);
     assert_eq!(rt; map.gap(4096), Some(0x11000));
     assert_eq!(rt; map.gap(4097), Some(0x13000));
@@ -68,14 +89,67 @@ fn gaps_open_where_pages_go(rt: HostRuntime) -> Result<(), Fail> {
 }
 
 #[test]
+fn ranges_move_and_are_copied(rt: HostRuntime) -> Result<(), Fail> {
+    let mut map = AreaMap::new(rt.alloc());
+    change(&rt, &mut map, 0x10, 2, Some(Prot::Read))?;
+    change(&rt, &mut map, 0x12, 1, Some(Prot::Read))?;
+    let whole = Area {
+        first: 0x10,
+        count: 3,
+        prot: Prot::Read,
+    };
+    assert_eq!(rt; map.areas(), [whole].as_slice());
+    assert_eq!(rt; map.one_prot(0x10, 3), Some(Prot::Read));
+    assert_eq!(rt; map.one_prot(0x10, 4), None);
+    change(&rt, &mut map, 0x11, 1, None)?;
+    shift(&rt, &mut map, 0x12, 0x20, 1)?;
+    let prots = pages(&map);
+    for i in 0..32 {
+        let prot = if i == 0 || i == 16 {
+            Some(Prot::Read)
+        } else {
+            None
+        };
+        assert_eq!(rt; prots[i], prot, "at {i}");
+    }
+    assert_eq!(rt; map.mapped_pages(), 2);
+    let copy = match map.copy() {
+        Ok(copy) => copy,
+        Err(_) => map.copy()?,
+    };
+    assert_eq!(rt; copy.areas(), map.areas());
+    assert_eq!(rt; copy.mapped_pages(), 2);
+    Ok(())
+}
+
+#[test]
+fn a_move_replaces_what_it_meets(rt: HostRuntime) -> Result<(), Fail> {
+    let mut map = AreaMap::new(rt.alloc());
+    change(&rt, &mut map, 0x10, 2, Some(Prot::Read))?;
+    change(&rt, &mut map, 0x12, 2, Some(Prot::ReadWrite))?;
+    change(&rt, &mut map, 0x20, 4, Some(Prot::NoAccess))?;
+    change(&rt, &mut map, 0x24, 1, Some(Prot::ReadWrite))?;
+    assert_eq!(rt; map.one_prot(0x11, 2), None);
+    shift(&rt, &mut map, 0x11, 0x21, 4)?;
+    assert_eq!(rt; map.mapped_pages(), 5);
+    assert_eq!(rt; map.one_prot(0x10, 1), Some(Prot::Read));
+    assert_eq!(rt; map.prot_at(0x11), None);
+    assert_eq!(rt; map.prot_at(0x20), Some(Prot::NoAccess));
+    assert_eq!(rt; map.prot_at(0x21), Some(Prot::Read));
+    assert_eq!(rt; map.one_prot(0x22, 2), Some(Prot::ReadWrite));
+    assert_eq!(rt; map.prot_at(0x24), None);
+    Ok(())
+}
+
+#[test]
 fn the_address_space_fills(rt: HostRuntime) -> Result<(), Fail> {
     let mut map = AreaMap::new(rt.alloc());
-    map.map(0, 0x10_0000, Prot::ReadWrite)?;
+    change(&rt, &mut map, 0, 0x10_0000, Some(Prot::ReadWrite))?;
     assert_eq!(rt; map.mapped_pages(), 0x10_0000);
     assert_eq!(rt; map.gap(1), None);
     assert_eq!(rt; map.prot_at(0xf_ffff), Some(Prot::ReadWrite));
     assert_eq!(rt; map.prot_at(0x10_0000), None);
-    map.unmap(0xf_ffff, 1)?;
+    change(&rt, &mut map, 0xf_ffff, 1, None)?;
     assert_eq!(rt; map.gap(1), Some(0xffff_f000));
     Ok(())
 }

@@ -132,6 +132,7 @@ impl World {
 mod tests {
     use super::*;
     use mig_base::{Errno, Place, Prot, Reply};
+    use std::process::Abort;
     use std::test::Fail;
 
     fn issue(cpu: u8, command: Command) -> Step {
@@ -290,6 +291,59 @@ mod tests {
             assert_eq!(rt; *outcome, *wanted);
         }
         assert_eq!(rt; world.transcript().len(), 15);
+        Ok(())
+    }
+
+    /// Makes a step. Where it is refused for want of memory nothing has changed, and the same step again is accepted.
+    fn made(rt: &impl Abort, world: &mut World, step: Step) -> Result<Effect, Refusal> {
+        let before = world.transcript().len();
+        match world.step(step) {
+            Err(Refusal::NoMemory) => {
+                assert_eq!(rt; world.transcript().len(), before);
+                world.step(step)
+            }
+            outcome => outcome,
+        }
+    }
+
+    #[test]
+    fn a_refused_growth_changes_nothing(rt: HostRuntime) -> Result<(), Fail> {
+        let mut world = World::new(rt.alloc(), 2).ok().ok_or("no world")?;
+        let pages = Command::Mmap {
+            addr_len: 8192,
+            prot: Prot::ReadWrite,
+            place: Place::Anywhere,
+        };
+        let store = Command::Store {
+            addr: 0x10ff8,
+            width: 8,
+            value: 0x1122_3344_5566_7788,
+        };
+        let load = Command::Load {
+            addr: 0x10ffc,
+            width: 4,
+        };
+        let other = Command::Load {
+            addr: 0x11000,
+            width: 4,
+        };
+        assert_eq!(rt;
+            made(&rt, &mut world, issue(0, pages)),
+            answered(0, Reply::At(0x10000))
+        );
+        assert_eq!(rt;
+            made(&rt, &mut world, issue(0, store)),
+            answered(0, Reply::Done)
+        );
+        assert_eq!(rt;
+            made(&rt, &mut world, issue(1, load)),
+            answered(1, Reply::Value(0x1122_3344))
+        );
+        assert_eq!(rt;
+            made(&rt, &mut world, issue(0, other)),
+            answered(0, Reply::Value(0))
+        );
+        assert_eq!(rt; world.transcript().len(), 4);
         Ok(())
     }
 

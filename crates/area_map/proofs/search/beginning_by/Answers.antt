@@ -4,14 +4,12 @@ use Rattle.area_map.specs.Areas.{BeginsBy, BeginsAfter}
 use Rattle.area_map.proofs.SearchLemmas.{begin_in_order, above_test, below_point, above_point}
 use Rattle.area_map.proofs.search.beginning_by.Goals as goal
 
-pub returns-clause-by : goal.returns-clause-by
-returns-clause-by c =
+pub returns : goal.returns
+returns c =
     let parted = IsPartitionedBy-leb (λ p. p.first) _ c.args.page (begin_in_order c.args.areas.now c.requires) in
     let point = IsPartitionPoint-from_clause (λ p. leb p.first c.args.page) _ _ c.partition_point.ensures.partitioned parted (λ a r q k. search rules) in
-    below_point (λ x. leb x.first c.args.page) (BeginsBy c.args.page) _ _ c.partition_point.ensures.bound (λ x h. leb-true _ _ h) point.0
-
-pub returns-clause-after : goal.returns-clause-after
-returns-clause-after c =
-    let parted = IsPartitionedBy-leb (λ p. p.first) _ c.args.page (begin_in_order c.args.areas.now c.requires) in
-    let point = IsPartitionPoint-from_clause (λ p. leb p.first c.args.page) _ _ c.partition_point.ensures.partitioned parted (λ a r q k. search rules) in
-    above_point (λ x. leb x.first c.args.page) (BeginsAfter c.args.page) _ _ c.partition_point.ensures.bound (λ x h. above_test x.first c.args.page h) point.1
+    record {
+      within = c.partition_point.ensures.bound;
+      by = below_point (λ x. leb x.first c.args.page) (BeginsBy c.args.page) _ _ c.partition_point.ensures.bound (λ x h. leb-true _ _ h) point.0;
+      after = above_point (λ x. leb x.first c.args.page) (BeginsAfter c.args.page) _ _ c.partition_point.ensures.bound (λ x h. above_test x.first c.args.page h) point.1;
+    }

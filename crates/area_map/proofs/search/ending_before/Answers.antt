@@ -4,14 +4,12 @@ use Rattle.area_map.specs.Areas.{EndsBefore, EndsFrom}
 use Rattle.area_map.proofs.SearchLemmas.{end_in_order, from_test, below_point, above_point}
 use Rattle.area_map.proofs.search.ending_before.Goals as goal
 
-pub returns-clause-before : goal.returns-clause-before
-returns-clause-before c =
+pub returns : goal.returns
+returns c =
     let parted = IsPartitionedBy-ltb (λ p. p.first + p.count) _ c.args.page (end_in_order c.args.areas.now c.requires) in
     let point = IsPartitionPoint-from_clause (λ p. ltb (p.first + p.count) c.args.page) _ _ c.partition_point.ensures.partitioned parted (λ a r q k. search rules) in
-    below_point (λ x. ltb (x.first + x.count) c.args.page) (EndsBefore c.args.page) _ _ c.partition_point.ensures.bound (λ x h. ltb-true _ _ h) point.0
-
-pub returns-clause-from : goal.returns-clause-from
-returns-clause-from c =
-    let parted = IsPartitionedBy-ltb (λ p. p.first + p.count) _ c.args.page (end_in_order c.args.areas.now c.requires) in
-    let point = IsPartitionPoint-from_clause (λ p. ltb (p.first + p.count) c.args.page) _ _ c.partition_point.ensures.partitioned parted (λ a r q k. search rules) in
-    above_point (λ x. ltb (x.first + x.count) c.args.page) (EndsFrom c.args.page) _ _ c.partition_point.ensures.bound (λ x h. from_test (x.first + x.count) c.args.page h) point.1
+    record {
+      within = c.partition_point.ensures.bound;
+      before = below_point (λ x. ltb (x.first + x.count) c.args.page) (EndsBefore c.args.page) _ _ c.partition_point.ensures.bound (λ x h. ltb-true _ _ h) point.0;
+      from = above_point (λ x. ltb (x.first + x.count) c.args.page) (EndsFrom c.args.page) _ _ c.partition_point.ensures.bound (λ x h. from_test (x.first + x.count) c.args.page h) point.1;
+    }
