@@ -11,7 +11,9 @@ use Rattle.postmig.specs.declared.token.Token.{Token}
 use Rattle.postmig.specs.declared.token.Token.TheVariants.{Key}
 use Rattle.postmig.specs.Words.{keyword_text, words_of, AreTokens}
 use Rattle.postmig.specs.Spelling.{StepForm, IsNothing, SpellsStep, Spells}
-use Rattle.postmig.specs.Script.{HasNoFeed, ReadsLine, Reads, BeginsWrong}
+use Rattle.postmig.specs.Script.{HasNoFeed, ReadsLine, Reads, BeginsWrong, Runs}
+use Rattle.postmig.specs.Printed.{outcome_line}
+use Rattle.postmig.specs.WorldState.{WorldState, Outcome, Answered}
 use Rattle.postmig.proofs.Tokens.{letter_first}
 use Rattle.postmig.proofs.Grammar.{one_step}
 use Rattle.postmig.proofs.Lines.{feed_inside, one_cut}
@@ -98,3 +100,22 @@ no_fault input (x ∷ xs) [] s p q v = wrong_or_line input x p.0 s v q p.1
 no_fault input (x ∷ xs) (y ∷ ys) s p q v =
     let f = one_first input x y p.0 q.0 p.1 q.1 in
     no_fault q.0 xs ys s (subst (λ (t : List ℕ). Reads t xs []) f.1 p.2) q.2 v
+
+-- a step has one outcome, want of memory aside
+one_answer : (old : WorldState) (step : Step) (a b : Outcome) (s t : WorldState) → Answered old step a s → Answered old step b t → (a ≡ b) × (s ≡ t)
+one_answer old step a b s t p q = elim p.1 [
+  | inl x ↦ elim q.1 [
+    | inl y ↦ (x.0 ∙ sym y.0, x.1 ∙ sym y.1)
+    | inr y ↦ absurd (q.0 y.0)
+  ]
+  | inr x ↦ absurd (p.0 x.0)
+]
+
+-- lines have one output
+pub one_run : (start : WorldState) (lines : List Line) (s t : WorldState) (a b : List ℕ) → Runs start lines s a → Runs start lines t b → (s ≡ t) × (a ≡ b)
+one_run start [] s t a b p q = (p.0 ∙ sym q.0, p.1 ∙ sym q.1)
+one_run start (Skipped ∷ lines) s t a b p q = one_run start lines s t a b p q
+one_run start (Make step ∷ lines) s t a b p q =
+    let same = one_answer start step p.0 q.0 p.1 q.1 p.3 q.3 in
+    let rest = one_run q.1 lines s t p.2 q.2 (subst (λ (x : WorldState). Runs x lines s p.2) same.1 p.5) q.5 in
+    (rest.0, p.4 ∙ ap (λ (x : Outcome). outcome_line x ++ p.2) same.0 ∙ ap (λ (x : List ℕ). outcome_line q.0 ++ x) rest.1 ∙ sym q.4)

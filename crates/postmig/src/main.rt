@@ -5,7 +5,8 @@
 //! prints outcomes. What a run writes is defined in `specs/Script.antt`, and stands on the contract of [`engine::run_script`].
 #![tactic(auto)]
 
-ghost use Rattle.std.specs.Prelude.{◌≤◌};
+ghost use Rattle.std.specs.Prelude.{◌≡◌, ◌≤◌, OnOk, IfErr};
+ghost use Rattle.postmig.specs.Status.{fault_status};
 
 mod engine;
 mod fault;
@@ -21,6 +22,7 @@ mod token;
 
 use crate::engine::{Mode, run_script};
 use crate::fault::RunFault;
+use clap::error::ErrorKind;
 use clap::{Arg, Command, value_parser};
 use std::alloc::{AllocError, Global};
 use std::process::ExitCode;
@@ -52,7 +54,10 @@ fn command_line<'a>(alloc: Global) -> Result<Command<'a>, AllocError> {
 }
 
 /// The exit status of a run.
-fn status_of(outcome: Result<(), RunFault>) -> u8 {
+fn status_of(outcome: Result<(), RunFault>) -> u8
+    ensures done { OnOk outcome (result ≡ 0) }
+    ensures fault { IfErr outcome (λ fault. result ≡ fault_status fault) }
+{
     match outcome {
         Ok(()) => ALL_DONE,
         Err(RunFault::Line(_)) => BAD_COMMAND_OR_SCRIPT,
@@ -86,6 +91,9 @@ fn dispatch(rt: &HostRuntime) -> io::Result<u8> {
     let matches = match command.try_get_matches_from(words.as_slice()) {
         Ok(matches) => matches,
         Err(error) => {
+            if error.kind() == ErrorKind::OutOfMemory {
+                return Err(io::Error::from(io::ErrorKind::OutOfMemory));
+            }
             error.print(rt)?;
             let is_fault = error.use_stderr();
             return Ok(if is_fault {

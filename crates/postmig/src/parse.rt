@@ -1,4 +1,8 @@
 //! What a line of a script asks for.
+//!
+//! Each word is a [`Keyword`] or a number, so a line is a list of [`Token`]s, and a step is an arm over them. The arms stand
+//! again in `specs/Parsing.antt`, and `specs/Spelling.antt` says from the step what its tokens are; `proofs/Grammar.antt` has
+//! one case for each arm in both directions.
 
 ghost use Rattle.std.specs.Prelude.{◌≡◌, ◌↔◌, IsTrue, IfOk, IfSome, IfNone};
 ghost use Rattle.mig_base.specs.declared.step.Step.{Step as StepOf};

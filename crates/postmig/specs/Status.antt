@@ -1,0 +1,11 @@
+-- The exit statuses of the program.
+use Rattle.std.specs.Prelude.{ℕ}
+use Rattle.postmig.specs.declared.fault.RunFault.{RunFault}
+use Rattle.postmig.specs.declared.fault.RunFault.TheVariants.{Line, ReadFault, WriteFault, NoMemory}
+
+-- the status of a run that ended with a fault
+abbrev pub fault_status : RunFault → ℕ
+fault_status (Line n) = 1
+fault_status ReadFault = 2
+fault_status WriteFault = 2
+fault_status NoMemory = 4
