@@ -62,6 +62,18 @@ def mapped_and_unmapped(count):
         yield f"cpu 0 munmap {LOW + page * PAGE:#x} {PAGE}"
 
 
+def stop_and_copy(pages):
+    """A whole migration of so many present pages."""
+    yield f"cpu 0 mmap {pages * PAGE} rw"
+    for page in range(pages):
+        yield f"cpu 0 store {LOW + page * PAGE:#x} 8 {page + 1}"
+    yield from ("start", "switch")
+    yield from ("deliver" for _ in range(pages + 3))
+    yield from ("end", "deliver", "back")
+    for page in range(pages):
+        yield f"cpu 0 load {LOW + page * PAGE:#x} 8"
+
+
 CASES = {
     "accesses-10k": lambda: accesses(10_000),
     "accesses-100k": lambda: accesses(100_000),
@@ -70,6 +82,10 @@ CASES = {
     "one-area-100k": lambda: over_one_area(100_000, 8192),
     "many-areas-100k": lambda: over_many_areas(100_000, 8192),
     "map-unmap-8192": lambda: mapped_and_unmapped(8192),
+    "stop-and-copy-16": lambda: stop_and_copy(16),
+    "stop-and-copy-256": lambda: stop_and_copy(256),
+    "stop-and-copy-4096": lambda: stop_and_copy(4096),
+    "stop-and-copy-16384": lambda: stop_and_copy(16_384),
 }
 
 

@@ -18,13 +18,13 @@ use Rattle.mig_base.specs.declared.command.Reply.TheVariants.{Value, Done, At, S
 use Rattle.mig_base.specs.Ranges.{free_place, rounded, pages_of}
 use Rattle.mig_base.specs.Pages.{set_range, remove_range}
 use Rattle.mig_base.specs.Bytes.{zero_page, page_at, contents, overwrite, little_endian, low_bytes}
-use Rattle.mig_base.specs.Flat.{Memory, Cell, is_mapped, mapped_count, byte_of, is_aligned, allows_load, allows_store, access_reply, number_at, mmap_reply, munmap_reply, at_place, reply_of}
+use Rattle.mig_base.specs.Flat.{Cell, is_mapped, mapped_count, byte_of, is_aligned, allows_load, allows_store, access_reply, number_at, mmap_reply, munmap_reply, at_place, reply_of}
 use Rattle.mig_base.proofs.PageLemmas.{same_pages}
 use Rattle.mig_base.proofs.ByteLemmas.{length-overwrite}
 use Rattle.mig_model.specs.Host.{Host, byte_in, memory, host_changed, host_after, IsSound}
 use Rattle.mig_model.proofs.NumberLemmas.{aligned_inside, number_at-bytes, number_at-zeros}
 use Rattle.mig_model.proofs.HostLemmas.{memory-none, memory-some, is_mapped-memory, mapped_count-memory, IsSound-put}
-use Rattle.mig_model.proofs.CommandLemmas.{IsPlaced, placed, IsSound-changed, length-contents}
+use Rattle.mig_model.proofs.CommandLemmas.{placed, IsSound-changed, length-contents}
 
 -- Accesses
 

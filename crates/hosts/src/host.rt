@@ -2,15 +2,17 @@
 
 ghost use Rattle.std.specs.Prelude.{◌≡◌, ℕ, IfOk, IfSome, OnOk, OnErr, ◌<◌, ◌/◌, ◌+◌, ◌≤◌, IsTrue, true};
 ghost use Rattle.std.specs.FinMap as map;
+ghost use Rattle.std.specs.FinSet as set;
+ghost use Rattle.std.specs.Option.{option_copied};
 ghost use Rattle.mig_base.specs.Bytes.{contents};
 ghost use Rattle.mig_base.specs.Flat.{reply_of, number_at, is_aligned as is_access};
-ghost use Rattle.mig_model.specs.Host.{bare_host, memory, host_changed, host_after};
+ghost use Rattle.mig_model.specs.Host.{bare_host, memory, host_changed, host_after, IsSound};
 
 use crate::access::{allows_load, allows_store, fits, is_aligned, number};
 use area_map::AreaMap;
 use mig_base::{
-    Addr, Command, Errno, HIGH, HIGH_PAGE, LOW_PAGE, MAX_PAGES, NoMemory, PAGE_SIZE, PageNo, Place,
-    Prot, Reply,
+    Addr, Command, Errno, HIGH, HIGH_PAGE, LOW_PAGE, MAX_PAGES, NoMemory, PAGE_SIZE, PageNo,
+    PageSet, Place, Prot, Reply,
 };
 use page_table::{PageTable, PutFault};
 use std::alloc::Global;
@@ -46,6 +48,35 @@ impl Host {
             areas: AreaMap::new(alloc),
             pages: PageTable::new(alloc),
         }
+    }
+
+    /// A host of these areas and present pages. Each present page is mapped, and none lies past the end.
+    pub fn assemble(areas: AreaMap, pages: PageTable) -> Self
+        requires { IsSound (record { areas = areas; bytes = pages.bytes }) }
+        ensures { result ≡ record { areas = areas; bytes = pages.bytes } }
+    {
+        Host { areas, pages }
+    }
+
+    /// The present pages.
+    pub fn present(&self) -> Result<PageSet, NoMemory>
+        ensures { IfOk result (λ pages. (q : ℕ) → set.contains pages q ≡ map.contains_key self.now.bytes q) }
+    {
+        self.pages.present()
+    }
+
+    /// The bytes of a page, if it is present.
+    pub fn page(&self, page: PageNo) -> Option<&[u8; 4096]>
+        ensures { option_copied result ≡ map.get self.now.bytes page }
+    {
+        self.pages.get(page)
+    }
+
+    /// The mapped pages again, with their protections.
+    pub fn areas(&self) -> Result<AreaMap, NoMemory>
+        ensures { IfOk result (λ areas. areas ≡ self.now.areas) }
+    {
+        self.areas.copy()
     }
 
     /// Makes a command, and answers as one flat memory does. Want of memory changes nothing.

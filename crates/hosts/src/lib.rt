@@ -1,12 +1,16 @@
-//! The world: a host, the processors that run on it, and the transcript of what they were answered.
+//! The world: two nodes with a host each, the wires between them, the processors that run, and the transcript.
 //!
 //! [`World::step`] makes one step, and is the only way to change a world; its contract is the step of the machine of the crate
-//! `mig_model`. The transcript of every [`World`] is the run of one flat memory. [`Host`] executes commands on an
-//! `area_map::AreaMap` and a `page_table::PageTable`, after mmap(2) and munmap(2). Nothing here reads, prints or waits.
+//! `mig_model`. The transcript of every [`World`] is the run of one flat memory, also while the memory moves from the source to
+//! the destination. [`Host`] executes commands on an `area_map::AreaMap` and a `page_table::PageTable`, after mmap(2) and
+//! munmap(2). Nothing here reads, prints or waits.
 #![tactic(auto)]
 
 mod access;
+mod destination;
+mod frame;
 mod host;
+mod source;
 mod world;
 
 pub use host::Host;

@@ -16,7 +16,7 @@ mod words;
 
 pub use crate::command::{Command, Entry, Errno, Place, Reply};
 pub use crate::page_set::PageSet;
-pub use crate::step::{Effect, Refusal, Step, WorldPhase};
+pub use crate::step::{DestinationPhase, Effect, Refusal, SourcePhase, Step, WorldPhase};
 use std::alloc::AllocError;
 use thiserror::Error;
 

@@ -1,8 +1,7 @@
 -- A command changes the pages of a host as it changes the flat memory that they mean.
-use Rattle.std.proofs.Common.{◌≡◌, ℕ, ◌+◌, ◌-◌, ◌*◌, ◌/◌, ◌%◌, ◌^◌, ◌<◌, ◌≤◌, ◌&&◌, Bool, true, false, cond, not, eqb, ltb, Option, Some, None, List, [], refl, sym, ap, ◌∙◌, subst, arith, length, get_or, take, is_some, unwrap_or, zero-add}
+use Rattle.std.proofs.Common.{◌≡◌, ℕ, ◌+◌, ◌-◌, ◌*◌, ◌/◌, ◌%◌, ◌^◌, ◌<◌, ◌≤◌, ◌&&◌, Bool, true, false, cond, not, eqb, ltb, Option, Some, None, List, [], refl, sym, ap, ◌∙◌, subst, arith, length, is_some, unwrap_or, zero-add}
 use Rattle.std.specs.Int.{bytes_low_first}
-use Rattle.std.specs.Ordering.{nat_cmp}
-use Rattle.std.specs.FinMap.{FinMap, get, contains_key}
+use Rattle.std.specs.FinMap.{get, contains_key}
 use Rattle.std.proofs.lemmas.Bool.Decides.{nat_tests}
 use Rattle.std.proofs.lemmas.Bool.{false≢true}
 use Rattle.std.proofs.lemmas.List.{get_or-take, length-take}
@@ -13,15 +12,15 @@ use Rattle.mig_base.specs.declared.command.Place.TheVariants.{Anywhere}
 use Rattle.mig_base.specs.declared.command.Command.{Command}
 use Rattle.mig_base.specs.declared.command.Command.TheVariants.{Store, Mmap, Munmap}
 use Rattle.mig_base.specs.declared.command.Reply.{Reply}
-use Rattle.mig_base.specs.declared.command.Reply.TheVariants.{Done, At, BadAccess, Segv, Refused}
+use Rattle.mig_base.specs.declared.command.Reply.TheVariants.{Done, At, BadAccess, Refused}
 use Rattle.mig_base.specs.Ranges.{free_place, rounded, pages_of}
-use Rattle.mig_base.specs.Bytes.{zero_page, page_at, contents, overwrite, low_bytes}
-use Rattle.mig_base.specs.Flat.{Memory, Cell, is_mapped, mapped_count, fill, clear, write, is_aligned, allows_store, access_reply, mmap_reply, munmap_reply, at_place, reply_of, changed, after}
+use Rattle.mig_base.specs.Bytes.{zero_page, contents, overwrite, low_bytes}
+use Rattle.mig_base.specs.Flat.{Memory, Cell, is_mapped, mapped_count, fill, clear, write, is_aligned, allows_store, access_reply, mmap_reply, munmap_reply, at_place, reply_of, changed}
 use Rattle.mig_base.proofs.RangeLemmas.{IsFreeRun, run_found}
 use Rattle.mig_base.proofs.ByteLemmas.{get_or-zero_page, length-zero_page, length-overwrite}
 use Rattle.mig_model.specs.Host.{Host, memory, host_changed, IsSound}
 use Rattle.mig_model.proofs.NumberLemmas.{aligned_inside, get_or-bytes_low_first}
-use Rattle.mig_model.proofs.HostLemmas.{AreDigits, ReadsAs, is_mapped-memory, memory-none, memory-write, memory-map, memory-unmap, IsSound-put, IsSound-map, IsSound-unmap}
+use Rattle.mig_model.proofs.HostLemmas.{AreDigits, ReadsAs, is_mapped-memory, memory-write, memory-map, memory-unmap, IsSound-put, IsSound-map, IsSound-unmap}
 
 -- A store
 

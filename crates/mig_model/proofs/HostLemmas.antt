@@ -15,7 +15,7 @@ use Rattle.mig_base.specs.Flat.{Memory, Cell, no_memory, is_mapped, mapped_count
 use Rattle.mig_base.proofs.RangeLemmas.{count_below-blocks, in_range_tells, in_range-true, in_range-false_below, in_range-false_above}
 use Rattle.mig_base.proofs.PageLemmas.{get-set_range, get-remove_range, count_below-contains_key}
 use Rattle.mig_base.proofs.ByteLemmas.{get_or-overwrite_below, get_or-overwrite_in, get_or-overwrite_above}
-use Rattle.mig_model.specs.Host.{Host, bare_host, byte_in, memory, IsSound}
+use Rattle.mig_model.specs.Host.{Host, byte_in, memory, IsSound}
 
 none_some : {A : Type 0} (x : A) → None ≡ Some x → ⊥
 none_some x h = cc

@@ -1,4 +1,11 @@
 pub mod NumberLemmas
 pub mod HostLemmas
 pub mod CommandLemmas
+pub mod FrameLemmas
 pub mod WorldLemmas
+pub mod Issuing
+pub mod Switching
+pub mod Delivering
+pub mod Every
+pub mod Taking
+pub mod Completing

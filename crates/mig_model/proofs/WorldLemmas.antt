@@ -1,36 +1,76 @@
--- What every world keeps is kept by every step.
-use Rattle.std.proofs.Common.{◌≡◌, ℕ, Bool, true, false, cond, ltb, List, [], ◌∷◌, ◌++◌, refl, sym, ap, ◌∙◌}
+-- A world at a stage, and what its transcript holds after a command.
+use Rattle.std.proofs.Common.{◌≡◌, ℕ, Bool, true, false, List, [], ◌∷◌, ◌++◌, refl, sym, ap, ◌∙◌, subst, if◌then◌else◌}
 use Rattle.mig_base.specs.declared.command.Command.{Command}
-use Rattle.mig_base.specs.declared.step.Step.{Step}
-use Rattle.mig_base.specs.declared.step.Step.TheVariants.{Issue}
-use Rattle.mig_base.specs.Flat.{no_memory, reply_of, after}
+use Rattle.mig_base.specs.declared.command.Entry.{Entry}
+use Rattle.mig_base.specs.declared.step.SourcePhase.{SourcePhase}
+use Rattle.mig_base.specs.declared.step.DestinationPhase.{DestinationPhase}
+use Rattle.mig_base.specs.Flat.{no_memory, reply_of, after, memory_of, IsFlatRun}
 use Rattle.mig_base.proofs.FlatLemmas.{memory_from-push, IsRunFrom-push}
-use Rattle.mig_model.specs.Host.{memory}
-use Rattle.mig_model.specs.World.{World, first_world, issued, next, after_steps, IsKept}
+use Rattle.mig_model.specs.Host.{Host, memory, host_after, IsSound}
+use Rattle.mig_model.specs.Node.{Source, Destination, has_run}
+use Rattle.mig_model.specs.World.{World, first_world_with, running_host, active_host}
+use Rattle.mig_model.specs.Kept.{IsKept, Wires}
 use Rattle.mig_model.proofs.HostLemmas.{memory-empty, IsSound-empty}
 use Rattle.mig_model.proofs.CommandLemmas.{memory-changed, IsSound-changed}
 
-pub IsKept-first : (cpus : ℕ) → IsKept (first_world cpus)
-IsKept-first cpus = record { sound = IsSound-empty; flat = tt; holds = memory-empty }
+-- the world with these phases, and with End sent or not. Each world is one at its own stage
+abbrev pub at_stage : SourcePhase → DestinationPhase → Bool → World → World
+at_stage from to ends world = record world { source = record world.source { phase = from; end_sent = ends }; destination = record world.destination { phase = to } }
 
-pub IsKept-issued : (world : World) (cpu : ℕ) (command : Command) → IsKept world → IsKept (issued world cpu command)
-IsKept-issued world cpu command kept =
+pub IsKept-first : (cpus epoch rounds : ℕ) → IsKept (first_world_with cpus epoch rounds)
+IsKept-first cpus epoch rounds =
     record {
-      sound = IsSound-changed world.host command (reply_of (memory world.host) command) kept.sound refl;
-      flat = IsRunFrom-push no_memory world.transcript _ kept.flat (ap (λ m. reply_of m command) kept.holds);
-      holds =
-          memory-changed world.host command (reply_of (memory world.host) command) kept.sound refl
-          ∙ ap (λ m. after m command) kept.holds
-          ∙ sym (memory_from-push no_memory world.transcript _);
+      source_sound = IsSound-empty;
+      destination_sound = IsSound-empty;
+      flat = tt;
+      holds = memory-empty;
+      wires = (refl, refl, refl, refl);
+      bare = λ h. refl;
     }
 
-issued_if : (b : Bool) (world : World) (cpu : ℕ) (command : Command) → IsKept world → IsKept (cond b (issued world cpu command) world)
-issued_if true world cpu command kept = IsKept-issued world cpu command kept
-issued_if false world cpu command kept = kept
+-- the hosts and the transcript are the same, and so is which host runs the processors
+abbrev pub SameHosts : World → World → Type 0
+SameHosts old new =
+    (new.source.host ≡ old.source.host) × (new.destination.host ≡ old.destination.host) × (has_run new.destination.phase ≡ has_run old.destination.phase) × (new.transcript ≡ old.transcript)
 
-pub IsKept-next : (world : World) (step : Step) → IsKept world → IsKept (next world step)
-IsKept-next world (Issue cpu command) kept = issued_if (ltb cpu world.cpus) world cpu command kept
+same_active : (runs were : Bool) (from to from_before to_before : Host) → from ≡ from_before → to ≡ to_before → runs ≡ were → (if runs then to else from) ≡ (if were then to_before else from_before)
+same_active runs were from to from_before to_before a b c = cc
 
-pub IsKept-after_steps : (world : World) (steps : List Step) → IsKept world → IsKept (after_steps world steps)
-IsKept-after_steps world [] kept = kept
-IsKept-after_steps world (step ∷ steps) kept = IsKept-after_steps (next world step) steps (IsKept-next world step kept)
+running : (runs : Bool) (from : Source) (to : Destination) → running_host runs from to ≡ (if runs then to.host else from.host)
+running true from to = refl
+running false from to = refl
+
+-- only the wires, the phases and the counts have changed
+pub rewired : {old new : World} → IsKept old → SameHosts old new → Wires new.source.phase new.destination.phase new → IsKept new
+rewired {old} {new} kept same wires =
+    let active : active_host new ≡ active_host old =
+    running (has_run new.destination.phase) new.source new.destination
+    ∙ same_active (has_run new.destination.phase) (has_run old.destination.phase) new.source.host new.destination.host old.source.host old.destination.host same.0 same.1 same.2
+    ∙ sym (running (has_run old.destination.phase) old.source old.destination) in
+    record {
+      source_sound = subst IsSound (sym same.0) kept.source_sound;
+      destination_sound = subst IsSound (sym same.1) kept.destination_sound;
+      flat = subst IsFlatRun (sym same.3) kept.flat;
+      holds = ap memory active ∙ kept.holds ∙ ap memory_of (sym same.3);
+      wires = wires;
+      bare = λ idle. same.1 ∙ kept.bare (sym same.2 ∙ idle);
+    }
+
+-- A command that a host answers, and its entry
+
+abbrev pub entry_of : Host → ℕ → Command → Entry
+entry_of host cpu command = record { cpu = cpu; command = command; reply = reply_of (memory host) command }
+
+pub sound_after : (host : Host) (command : Command) → IsSound host → IsSound (host_after host command)
+sound_after host command sound = IsSound-changed host command (reply_of (memory host) command) sound refl
+
+pub holds_after : (host : Host) (transcript : List Entry) (cpu : ℕ) (command : Command) → IsSound host → memory host ≡ memory_of transcript →
+    memory (host_after host command) ≡ memory_of (transcript ++ entry_of host cpu command ∷ [])
+holds_after host transcript cpu command sound holds =
+    memory-changed host command (reply_of (memory host) command) sound refl
+    ∙ ap (λ m. after m command) holds
+    ∙ sym (memory_from-push no_memory transcript (entry_of host cpu command))
+
+pub flat_after : (host : Host) (transcript : List Entry) (cpu : ℕ) (command : Command) → memory host ≡ memory_of transcript → IsFlatRun transcript →
+    IsFlatRun (transcript ++ entry_of host cpu command ∷ [])
+flat_after host transcript cpu command holds flat = IsRunFrom-push no_memory transcript (entry_of host cpu command) flat (ap (λ m. reply_of m command) holds)

@@ -1,5 +1,5 @@
 -- One host: its mapped and its present pages, the flat memory that they mean, and what a command does to them.
-use Rattle.std.specs.Prelude.{◌≡◌, ℕ, ◌/◌, ◌%◌, ◌≤◌, List, Option, Some, None, slice_index, length, refl}
+use Rattle.std.specs.Prelude.{◌≡◌, ℕ, ◌/◌, ◌%◌, ◌≤◌, List, Some, None, slice_index, length, refl}
 use Rattle.std.specs.Option.{option_map}
 use Rattle.std.specs.Ordering.{nat_cmp}
 use Rattle.std.specs.FinMap as map
@@ -15,13 +15,14 @@ use Rattle.mig_base.specs.Codes.{coded_prot}
 use Rattle.mig_base.specs.Ranges.{pages_of}
 use Rattle.mig_base.specs.Pages.{set_range, remove_range}
 use Rattle.mig_base.specs.Bytes.{page_at, contents, overwrite, low_bytes}
-use Rattle.mig_base.specs.Flat.{Memory, Cell, reply_of}
+use Rattle.mig_base.specs.Flat.{Memory, reply_of}
 
 -- the mapped pages with their protections, and the present pages with their bytes
 pub record Host : Type 0 where
   pub areas : FinMap nat_cmp Prot
   pub bytes : FinMap nat_cmp (List ℕ)
 
+-- the code of a host, from those of its maps
 abbrev pub coded_host : Coded Host
 coded_host =
     code_by (FinMap nat_cmp Prot × FinMap nat_cmp (List ℕ)) (coded× (map.code coded_ℕ coded_prot) (map.code coded_ℕ (coded_list coded_ℕ)))

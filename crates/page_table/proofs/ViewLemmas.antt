@@ -158,20 +158,26 @@ protected_flags old new value page few still view h =
     flags_by new (set.insert value.protected page) still
     (λ q. ap (λ x. x.1) (h q) ∙ cond_flag (eqb q page) ((cell_at old page).0, true) (cell_at old q) ∙ flag_on (eqb q page) (cell_at old q).1 ∙ ap (λ b. eqb q page || b) (flag_seen old value q few view) ∙ sym (member_inserted value.protected page q))
 
-pub unprotected_flags : (old new : List Place) (value : Pages) (page : ℕ) → length old ≤ 1024 → length new ≤ 1024 → pages_of old ≡ value → ((q : ℕ) → cell_at new q ≡ cond (eqb q page) ((cell_at old page).0, false) (cell_at old q)) → (pages_of new).protected ≡ set.remove value.protected page
-unprotected_flags old new value page few still view h =
+pub removed_flags : (old new : List Place) (value : Pages) (page : ℕ) (o : Option (List ℕ)) → length old ≤ 1024 → length new ≤ 1024 → pages_of old ≡ value → ((q : ℕ) → cell_at new q ≡ cond (eqb q page) (o, false) (cell_at old q)) → (pages_of new).protected ≡ set.remove value.protected page
+removed_flags old new value page o few still view h =
     flags_by new (set.remove value.protected page) still
-    (λ q. ap (λ x. x.1) (h q) ∙ cond_flag (eqb q page) ((cell_at old page).0, false) (cell_at old q) ∙ flag_out (eqb q page) (cell_at old q).1 ∙ ap (λ b. not (eqb q page) && b) (flag_seen old value q few view) ∙ sym (member_removed value.protected page q))
+    (λ q. ap (λ x. x.1) (h q) ∙ cond_flag (eqb q page) (o, false) (cell_at old q) ∙ flag_out (eqb q page) (cell_at old q).1 ∙ ap (λ b. not (eqb q page) && b) (flag_seen old value q few view) ∙ sym (member_removed value.protected page q))
+
+pub unprotected_flags : (old new : List Place) (value : Pages) (page : ℕ) → length old ≤ 1024 → length new ≤ 1024 → pages_of old ≡ value → ((q : ℕ) → cell_at new q ≡ cond (eqb q page) ((cell_at old page).0, false) (cell_at old q)) → (pages_of new).protected ≡ set.remove value.protected page
+unprotected_flags old new value page few still view h = removed_flags old new value page (cell_at old page).0 few still view h
 
 still_inside : (b flag : Bool) (o : Option (List ℕ)) (x : Cell) → is_some o ≡ true → (x.1 ≡ true → is_some x.0 ≡ true) → (cond b (o, flag) x).1 ≡ true → is_some (cond b (o, flag) x).0 ≡ true
 still_inside true flag o x some inside h = some
 still_inside false flag o x some inside h = inside h
 
-pub flagged_table : (old new : List Place) (page : ℕ) (flag : Bool) → IsTable old → length new ≡ length old → is_some (cell_at old page).0 ≡ true → ((q : ℕ) → cell_at new q ≡ cond (eqb q page) ((cell_at old page).0, flag) (cell_at old q)) → IsTable new
-flagged_table old new page flag inv size some h = record {
+pub changed_table : (old new : List Place) (page : ℕ) (flag : Bool) (o : Option (List ℕ)) → IsTable old → length new ≡ length old → is_some o ≡ true → ((q : ℕ) → cell_at new q ≡ cond (eqb q page) (o, flag) (cell_at old q)) → IsTable new
+changed_table old new page flag o inv size some h = record {
   few = let few = inv.few in omega arith;
-  inside = λ q on. ap (λ x. is_some x.0) (h q) ∙ still_inside (eqb q page) flag (cell_at old page).0 (cell_at old q) some (inv.inside q) (sym (ap (λ x. x.1) (h q)) ∙ on);
+  inside = λ q on. ap (λ x. is_some x.0) (h q) ∙ still_inside (eqb q page) flag o (cell_at old q) some (inv.inside q) (sym (ap (λ x. x.1) (h q)) ∙ on);
 }
+
+pub flagged_table : (old new : List Place) (page : ℕ) (flag : Bool) → IsTable old → length new ≡ length old → is_some (cell_at old page).0 ≡ true → ((q : ℕ) → cell_at new q ≡ cond (eqb q page) ((cell_at old page).0, flag) (cell_at old q)) → IsTable new
+flagged_table old new page flag inv size some h = changed_table old new page flag (cell_at old page).0 inv size some h
 
 place_of : (p : Place) (i : ℕ) → is_some (cell_in p i).0 ≡ true → is_place p ≡ true
 place_of None i h = h

@@ -141,6 +141,18 @@ impl PageTable {
         Ok(())
     }
 
+    /// Gives a present page the bytes of the box, which are not copied, in place of its own. It is not protected afterwards.
+    ///
+    /// It takes no memory.
+    pub fn replace(&mut self, page: PageNo, bytes: Box<[u8; 4096]>)
+        requires present { IsTrue (map.contains_key self.old.bytes page) }
+        ensures bytes { self.new.bytes ≡ map.insert self.old.bytes page bytes.value }
+        ensures protected { self.new.protected ≡ set.remove self.old.protected page }
+    {
+        let bytes = Some(bytes);
+        put_at(&mut self.places, page, bytes, false);
+    }
+
     /// Writes bytes into a present page, protected or not, from the offset on, which counts in bytes.
     ///
     /// It takes no memory and touches only the bytes written.

@@ -9,7 +9,7 @@ use Rattle.mig_base.specs.declared.Prot.TheVariants.{NoAccess, Read, ReadWrite}
 use Rattle.mig_base.specs.declared.command.Place.{Place}
 use Rattle.mig_base.specs.declared.command.Place.TheVariants.{Anywhere}
 use Rattle.mig_base.specs.declared.step.Step.{Step}
-use Rattle.mig_base.specs.declared.step.Step.TheVariants.{Issue}
+use Rattle.mig_base.specs.declared.step.Step.TheVariants.{Issue, Start, Switch, Deliver, DeliverBack, End}
 use Rattle.postmig.specs.declared.token.Keyword.{Keyword}
 use Rattle.postmig.specs.declared.token.Keyword.TheVariants as key
 use Rattle.postmig.specs.declared.token.Token.{Token}
@@ -102,11 +102,21 @@ step_found (Key key.Cpu ∷ Number cpu ∷ command) s e =
     let is = small_is cpu k.0 k.1 in
     subst (λ (x : Step). StepForm x (Key key.Cpu ∷ Number cpu ∷ command)) (some_is (Issue k.0 c.0) s c.2)
     (omega (arith, is.0, is.1), command, ap (λ (n : ℕ). Key key.Cpu ∷ Number n ∷ command) is.1, command_found command c.0 c.1)
+step_found (Key key.Start ∷ []) s e = subst (λ (x : Step). StepForm x (Key key.Start ∷ [])) (some_is Start s e) refl
+step_found (Key key.Switch ∷ []) s e = subst (λ (x : Step). StepForm x (Key key.Switch ∷ [])) (some_is Switch s e) refl
+step_found (Key key.Deliver ∷ []) s e = subst (λ (x : Step). StepForm x (Key key.Deliver ∷ [])) (some_is Deliver s e) refl
+step_found (Key key.Back ∷ []) s e = subst (λ (x : Step). StepForm x (Key key.Back ∷ [])) (some_is DeliverBack s e) refl
+step_found (Key key.End ∷ []) s e = subst (λ (x : Step). StepForm x (Key key.End ∷ [])) (some_is End s e) refl
 step_found _ s e = absurd cc
 
 pub step_again : (s : Step) (ts : List Token) → StepForm s ts → step_from ts ≡ Some s
 unfolding step_from
 step_again (Issue cpu command) ts h = rw h.2 (rw (small_again cpu h.0, command_again command h.1 h.3) refl)
+step_again Start ts h = rw h refl
+step_again Switch ts h = rw h refl
+step_again Deliver ts h = rw h refl
+step_again DeliverBack ts h = rw h refl
+step_again End ts h = rw h refl
 
 -- ---- words
 

@@ -3,7 +3,7 @@ use Rattle.std.proofs.Common.{◌≡◌, ℕ, ◌≤◌, List, [], ◌∷◌, �
 use Rattle.std.specs.Prelude.{slice_get}
 use Rattle.std.specs.Str.Lines.{strip_carriage_return}
 use Rattle.mig_base.specs.declared.step.Step.{Step}
-use Rattle.mig_base.specs.declared.step.Step.TheVariants.{Issue}
+use Rattle.mig_base.specs.declared.step.Step.TheVariants.{Issue, Start, Switch, Deliver, DeliverBack, End}
 use Rattle.postmig.specs.declared.line.Line.{Line}
 use Rattle.postmig.specs.declared.line.Line.TheVariants.{Skipped, Make}
 use Rattle.postmig.specs.declared.token.Keyword.{Keyword}
@@ -21,6 +21,11 @@ use Rattle.postmig.proofs.Lines.{feed_inside, one_cut}
 -- each step begins with a keyword
 form_first : (s : Step) (ts : List Token) → StepForm s ts → (k : Keyword) × (more : List Token) × (ts ≡ Key k ∷ more)
 form_first (Issue cpu command) ts h = (_, _, h.2)
+form_first Start ts h = (_, _, h)
+form_first Switch ts h = (_, _, h)
+form_first Deliver ts h = (_, _, h)
+form_first DeliverBack ts h = (_, _, h)
+form_first End ts h = (_, _, h)
 
 first_byte : (b : ℕ) (bs : List ℕ) → 97 ≤ b → slice_get (b ∷ bs) 0 ≡ Some 35 → ⊥
 first_byte b bs le e = let h : b ≡ 35 = cc in absurd (omega (arith, le, h))

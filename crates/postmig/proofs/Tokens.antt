@@ -65,6 +65,11 @@ letter_first key.Munmap = (_, _, refl, lit≤ tt)
 letter_first key.NoAccess = (_, _, refl, lit≤ tt)
 letter_first key.Read = (_, _, refl, lit≤ tt)
 letter_first key.ReadWrite = (_, _, refl, lit≤ tt)
+letter_first key.Start = (_, _, refl, lit≤ tt)
+letter_first key.Switch = (_, _, refl, lit≤ tt)
+letter_first key.Deliver = (_, _, refl, lit≤ tt)
+letter_first key.Back = (_, _, refl, lit≤ tt)
+letter_first key.End = (_, _, refl, lit≤ tt)
 
 letter_no_digit : (b : ℕ) → 97 ≤ b → digit_value b < 10 → ⊥
 letter_no_digit b le lt = grind (arith, nat_tests)
@@ -117,6 +122,11 @@ keyword_again key.Munmap = refl
 keyword_again key.NoAccess = refl
 keyword_again key.Read = refl
 keyword_again key.ReadWrite = refl
+keyword_again key.Start = refl
+keyword_again key.Switch = refl
+keyword_again key.Deliver = refl
+keyword_again key.Back = refl
+keyword_again key.End = refl
 
 one_keyword : (j k : Keyword) → keyword_text j ≡ keyword_text k → j ≡ k
 one_keyword j k e = sym (keyword_again j) ∙ ap (λ (w : List ℕ). first_of_text w all_keywords) e ∙ keyword_again k

@@ -7,7 +7,7 @@ use Rattle.mig_base.specs.declared.command.Place.TheVariants.{Anywhere}
 use Rattle.mig_base.specs.declared.Prot.{Prot}
 use Rattle.mig_base.specs.declared.Prot.TheVariants.{NoAccess, Read, ReadWrite}
 use Rattle.mig_base.specs.declared.step.Step.{Step}
-use Rattle.mig_base.specs.declared.step.Step.TheVariants.{Issue}
+use Rattle.mig_base.specs.declared.step.Step.TheVariants.{Issue, Start, Switch, Deliver, DeliverBack, End}
 use Rattle.postmig.specs.declared.token.Keyword.{Keyword}
 use Rattle.postmig.specs.declared.token.Keyword.TheVariants as key
 use Rattle.postmig.specs.declared.token.Token.{Token}
@@ -46,4 +46,9 @@ command_from _ = None
 -- the step that tokens stand for
 unfoldable pub step_from : List Token → Option Step
 step_from (Key key.Cpu ∷ Number cpu ∷ command) = small cpu >>= λ k. command_from command >>= λ c. Some (Issue k c)
+step_from (Key key.Start ∷ []) = Some Start
+step_from (Key key.Switch ∷ []) = Some Switch
+step_from (Key key.Deliver ∷ []) = Some Deliver
+step_from (Key key.Back ∷ []) = Some DeliverBack
+step_from (Key key.End ∷ []) = Some End
 step_from _ = None

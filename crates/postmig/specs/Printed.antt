@@ -6,9 +6,9 @@ use Rattle.mig_base.specs.declared.command.Errno.TheVariants.{Eperm, Enoent, Eag
 use Rattle.mig_base.specs.declared.command.Reply.{Reply}
 use Rattle.mig_base.specs.declared.command.Reply.TheVariants.{Value, Done, At, Segv, BadAccess, Refused}
 use Rattle.mig_base.specs.declared.step.Effect.{Effect}
-use Rattle.mig_base.specs.declared.step.Effect.TheVariants.{Answered}
+use Rattle.mig_base.specs.declared.step.Effect.TheVariants.{Answered, Started, Switched, TookAdvise, TookPage, TookZero, TookDiscard, TookPackage, TookEnd, TookDone, EndSent}
 use Rattle.mig_base.specs.declared.step.Refusal.{Refusal}
-use Rattle.mig_base.specs.declared.step.Refusal.TheVariants.{NoCpu, NoMemory}
+use Rattle.mig_base.specs.declared.step.Refusal.TheVariants.{NoCpu, Phase, NothingThere, CountUsed, NoMemory}
 use Rattle.postmig.specs.WorldState.{Outcome}
 
 -- 0x and lower-case digits without leading zeros
@@ -38,11 +38,24 @@ reply_text (Refused errno) = codes "refused " ++ errno_name errno
 -- the name of a refusal
 abbrev pub refusal_name : Refusal → List ℕ
 refusal_name NoCpu = codes "NoCpu"
+refusal_name Phase = codes "Phase"
+refusal_name NothingThere = codes "NothingThere"
+refusal_name CountUsed = codes "CountUsed"
 refusal_name NoMemory = codes "NoMemory"
 
 -- what a step did
 abbrev pub effect_text : Effect → List ℕ
 effect_text (Answered cpu reply) = codes "cpu " ++ decimal cpu ++ codes " " ++ reply_text reply
+effect_text (Started epoch) = codes "started epoch " ++ decimal epoch
+effect_text (Switched discard owed) = codes "switched discard " ++ decimal discard ++ codes " owed " ++ decimal owed
+effect_text TookAdvise = codes "took advise"
+effect_text (TookPage addr) = codes "took page " ++ hexadecimal addr
+effect_text (TookZero addr) = codes "took zero " ++ hexadecimal addr
+effect_text (TookDiscard pages) = codes "took discard " ++ decimal pages
+effect_text (TookPackage owed) = codes "took package owed " ++ decimal owed
+effect_text TookEnd = codes "took end"
+effect_text TookDone = codes "took done"
+effect_text EndSent = codes "end sent"
 
 -- the line without its line feed
 abbrev pub outcome_text : Outcome → List ℕ

@@ -7,7 +7,7 @@ use Rattle.mig_base.specs.declared.command.Place.TheVariants.{Anywhere}
 use Rattle.mig_base.specs.declared.Prot.{Prot}
 use Rattle.mig_base.specs.declared.Prot.TheVariants.{NoAccess, Read, ReadWrite}
 use Rattle.mig_base.specs.declared.step.Step.{Step}
-use Rattle.mig_base.specs.declared.step.Step.TheVariants.{Issue}
+use Rattle.mig_base.specs.declared.step.Step.TheVariants.{Issue, Start, Switch, Deliver, DeliverBack, End}
 use Rattle.postmig.specs.declared.line.Line.{Line}
 use Rattle.postmig.specs.declared.line.Line.TheVariants.{Skipped, Make}
 use Rattle.postmig.specs.declared.token.Keyword.{Keyword}
@@ -36,6 +36,11 @@ CommandForm (Munmap addr len) tokens = tokens ≡ Key key.Munmap ∷ Number addr
 -- the tokens of a step
 abbrev pub StepForm : Step → List Token → Type 0
 StepForm (Issue cpu command) tokens = (cpu < 256) × (more : List Token) × (tokens ≡ Key key.Cpu ∷ Number cpu ∷ more) × CommandForm command more
+StepForm Start tokens = tokens ≡ Key key.Start ∷ []
+StepForm Switch tokens = tokens ≡ Key key.Switch ∷ []
+StepForm Deliver tokens = tokens ≡ Key key.Deliver ∷ []
+StepForm DeliverBack tokens = tokens ≡ Key key.Back ∷ []
+StepForm End tokens = tokens ≡ Key key.End ∷ []
 
 -- no word, or a first word that begins with #
 abbrev pub IsNothing : List (List ℕ) → Type 0

@@ -36,6 +36,11 @@ keyword_text key.Munmap = codes "munmap"
 keyword_text key.NoAccess = codes "none"
 keyword_text key.Read = codes "r"
 keyword_text key.ReadWrite = codes "rw"
+keyword_text key.Start = codes "start"
+keyword_text key.Switch = codes "switch"
+keyword_text key.Deliver = codes "deliver"
+keyword_text key.Back = codes "back"
+keyword_text key.End = codes "end"
 
 -- the word stands for the token
 abbrev pub IsToken : Token → List ℕ → Type 0

@@ -5,7 +5,8 @@ use Rattle.mig_base.specs.declared.step.Effect.{Effect}
 use Rattle.mig_base.specs.declared.step.Refusal.{Refusal}
 use Rattle.mig_base.specs.declared.step.Refusal.TheVariants.{NoMemory}
 use Rattle.std.specs.Coded.{Coded}
-use Rattle.mig_model.specs.World.{World, coded_world, first_world, Happens}
+use Rattle.mig_model.specs.Codes.{coded_world}
+use Rattle.mig_model.specs.World.{World, first_world, Happens}
 
 -- what is seen of the world
 abbrev pub WorldState : Type 0

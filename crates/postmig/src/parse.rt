@@ -100,6 +100,11 @@ fn step_of(tokens: &[Token]) -> Option<Step>
             let command = command_of(command)?;
             Some(Step::Issue { cpu, command })
         }
+        [Token::Key(Keyword::Start)] => Some(Step::Start),
+        [Token::Key(Keyword::Switch)] => Some(Step::Switch),
+        [Token::Key(Keyword::Deliver)] => Some(Step::Deliver),
+        [Token::Key(Keyword::Back)] => Some(Step::DeliverBack),
+        [Token::Key(Keyword::End)] => Some(Step::End),
         _ => None,
     }
 }

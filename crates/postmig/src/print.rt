@@ -60,6 +60,9 @@ impl fmt::Display for RefusalName {
     fn fmt<W: fmt::Write>(&self, f: &mut fmt::Formatter<W>) -> fmt::Result {
         match self.0 {
             Refusal::NoCpu => write!(f, "NoCpu"),
+            Refusal::Phase => write!(f, "Phase"),
+            Refusal::NothingThere => write!(f, "NothingThere"),
+            Refusal::CountUsed => write!(f, "CountUsed"),
             Refusal::NoMemory => write!(f, "NoMemory"),
         }
     }
@@ -78,6 +81,18 @@ impl fmt::Display for EffectText {
                 let reply = ReplyText(reply);
                 write!(f, "cpu {cpu} {reply}")
             }
+            Effect::Started { epoch } => write!(f, "started epoch {epoch}"),
+            Effect::Switched { discard, owed } => {
+                write!(f, "switched discard {discard} owed {owed}")
+            }
+            Effect::TookAdvise => write!(f, "took advise"),
+            Effect::TookPage { addr } => write!(f, "took page 0x{addr:x}"),
+            Effect::TookZero { addr } => write!(f, "took zero 0x{addr:x}"),
+            Effect::TookDiscard { pages } => write!(f, "took discard {pages}"),
+            Effect::TookPackage { owed } => write!(f, "took package owed {owed}"),
+            Effect::TookEnd => write!(f, "took end"),
+            Effect::TookDone => write!(f, "took done"),
+            Effect::EndSent => write!(f, "end sent"),
         }
     }
 }

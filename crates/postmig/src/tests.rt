@@ -1,5 +1,7 @@
 use crate::engine::{Mode, run_script};
 use crate::fault::RunFault;
+use crate::print::print_line;
+use mig_base::{Effect, Refusal};
 use std::io;
 use std::io::{Read, Write};
 use std::test::Fail;
@@ -156,8 +158,17 @@ fn wrong_lines_have_their_number(rt: HostRuntime) {
             1,
         ),
         (b"cpu 0 mmap 4096 w".as_slice(), b"".as_slice(), 1),
-        (b"start".as_slice(), b"".as_slice(), 1),
         (b"progress\n".as_slice(), b"".as_slice(), 1),
+        (
+            b"switch\nround".as_slice(),
+            b"refused Phase\n".as_slice(),
+            2,
+        ),
+        (b"deliver 3".as_slice(), b"".as_slice(), 1),
+        (b"back 0x1\n".as_slice(), b"".as_slice(), 1),
+        (b"start start".as_slice(), b"".as_slice(), 1),
+        (b"End".as_slice(), b"".as_slice(), 1),
+        (b"starts".as_slice(), b"".as_slice(), 1),
         (b"cpu 0 mmap 1 r\n\xff".as_slice(), mapped, 2),
     ] {
         let (outcome, same) = writes(&rt, script, output);
@@ -166,6 +177,64 @@ fn wrong_lines_have_their_number(rt: HostRuntime) {
     }
     assert_eq!(rt; writes(&rt, b"", b""), (Ok(()), true));
     assert_eq!(rt; writes(&rt, b"\r\n \n#\r", b""), (Ok(()), true));
+}
+
+#[test]
+fn steps_of_hosts_are_one_word(rt: HostRuntime) {
+    for line in [
+        b"switch".as_slice(),
+        b"deliver\r\n".as_slice(),
+        b"  back \n".as_slice(),
+        b"end\n# then nothing".as_slice(),
+    ] {
+        assert_eq!(rt; writes(&rt, line, b"refused Phase\n"), (Ok(()), true));
+    }
+    assert_eq!(rt; writes(&rt, b"start", b"started epoch 1\n"), (Ok(()), true));
+}
+
+#[test]
+fn outcomes_have_their_words(rt: HostRuntime) -> Result<(), Fail> {
+    for (outcome, line) in [
+        (
+            Ok(Effect::Started {
+                epoch: 4_294_967_295,
+            }),
+            "started epoch 4294967295\n",
+        ),
+        (
+            Ok(Effect::Switched {
+                discard: 16,
+                owed: 3,
+            }),
+            "switched discard 16 owed 3\n",
+        ),
+        (Ok(Effect::TookAdvise), "took advise\n"),
+        (
+            Ok(Effect::TookPage { addr: 0xffff_f000 }),
+            "took page 0xfffff000\n",
+        ),
+        (
+            Ok(Effect::TookZero { addr: 0x1_0000 }),
+            "took zero 0x10000\n",
+        ),
+        (Ok(Effect::TookDiscard { pages: 10 }), "took discard 10\n"),
+        (
+            Ok(Effect::TookPackage { owed: 16_384 }),
+            "took package owed 16384\n",
+        ),
+        (Ok(Effect::TookEnd), "took end\n"),
+        (Ok(Effect::TookDone), "took done\n"),
+        (Ok(Effect::EndSent), "end sent\n"),
+        (Err(Refusal::NoCpu), "refused NoCpu\n"),
+        (Err(Refusal::Phase), "refused Phase\n"),
+        (Err(Refusal::NothingThere), "refused NothingThere\n"),
+        (Err(Refusal::CountUsed), "refused CountUsed\n"),
+    ] {
+        let mut text = String::new(rt.alloc());
+        print_line(&mut text, outcome)?;
+        assert_eq!(rt; text.as_str(), line);
+    }
+    Ok(())
 }
 
 #[test]
@@ -231,4 +300,17 @@ fn lines_have_at_most_256_bytes(rt: HostRuntime) -> Result<(), Fail> {
         }
     }
     Ok(())
+}
+
+#[test]
+fn a_migration_is_printed(rt: HostRuntime) {
+    let mut reader =
+        b"cpu 0 mmap 8192 rw\ncpu 0 store 0x10000 8 1\ncpu 0 store 0x11000 8 0\nstart\nswitch\ncpu 0 load 0x10000 8\ndeliver\ndeliver\ndeliver\ndeliver\ndeliver\ndeliver\ncpu 0 load 0x10000 8\nend\nend\ndeliver\nback\n".as_slice();
+    let mut writer = Vec::new(rt.alloc());
+    let outcome = run_script(rt.alloc(), &mut reader, &mut writer, 2, Mode::Lines);
+    assert_eq!(rt; outcome, Ok(()));
+    assert_eq!(rt;
+        writer.as_slice(),
+        b"cpu 0 at 0x10000\ncpu 0 done\ncpu 0 done\nstarted epoch 1\nswitched discard 0 owed 0\nrefused Phase\ntook advise\ntook page 0x10000\ntook zero 0x11000\ntook discard 0\ntook package owed 0\nrefused NothingThere\ncpu 0 value 0x1\nend sent\nrefused Phase\ntook end\ntook done\n".as_slice()
+    );
 }

@@ -22,10 +22,15 @@ pub enum Keyword {
     NoAccess,
     Read,
     ReadWrite,
+    Start,
+    Switch,
+    Deliver,
+    Back,
+    End,
 }
 
 impl Keyword {
-    const ALL: [Keyword; 8] = [
+    const ALL: [Keyword; 13] = [
         Keyword::Cpu,
         Keyword::Load,
         Keyword::Store,
@@ -34,6 +39,11 @@ impl Keyword {
         Keyword::NoAccess,
         Keyword::Read,
         Keyword::ReadWrite,
+        Keyword::Start,
+        Keyword::Switch,
+        Keyword::Deliver,
+        Keyword::Back,
+        Keyword::End,
     ];
 
     fn text(self) -> &'static [u8]
@@ -48,6 +58,11 @@ impl Keyword {
             Keyword::NoAccess => b"none",
             Keyword::Read => b"r",
             Keyword::ReadWrite => b"rw",
+            Keyword::Start => b"start",
+            Keyword::Switch => b"switch",
+            Keyword::Deliver => b"deliver",
+            Keyword::Back => b"back",
+            Keyword::End => b"end",
         }
     }
 

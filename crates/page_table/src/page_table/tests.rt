@@ -90,6 +90,22 @@ fn a_write_leaves_its_neighbours(rt: HostRuntime) -> Result<(), Fail> {
 }
 
 #[test]
+fn a_replaced_page_has_the_new_bytes(rt: HostRuntime) -> Result<(), Fail> {
+    let mut table = PageTable::new(rt.alloc());
+    put(&rt, &mut table, 0x10, filled(rt.alloc(), 7)?);
+    put(&rt, &mut table, 0x11, filled(rt.alloc(), 7)?);
+    assert!(rt; table.get(0x11).is_some());
+    table.protect(0x11);
+    table.replace(0x11, filled(rt.alloc(), 9)?);
+    assert_eq!(rt; byte_at(&table, 0x11, 0), Some(9));
+    assert_eq!(rt; byte_at(&table, 0x11, 4095), Some(9));
+    assert!(rt; !table.is_protected(0x11));
+    assert_eq!(rt; byte_at(&table, 0x10, 4095), Some(7));
+    assert_eq!(rt; byte_at(&table, 0x12, 0), None);
+    Ok(())
+}
+
+#[test]
 fn a_moved_page_takes_its_protection(rt: HostRuntime) {
     let mut table = PageTable::new(rt.alloc());
     put_zero(&rt, &mut table, 0x10);

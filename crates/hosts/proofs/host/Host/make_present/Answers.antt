@@ -1,7 +1,7 @@
-use Rattle.std.proofs.Common.{◌≡◌, true, false, sym, ap, ◌∙◌, Err}
+use Rattle.std.proofs.Common.{◌≡◌, true, sym, ap, ◌∙◌}
 use Rattle.std.proofs.lemmas.Bool.{false≢true}
-use Rattle.std.specs.FinMap.{contains_key, insert}
-use Rattle.mig_base.specs.Bytes.{zero_page, contents}
+use Rattle.std.specs.FinMap.{contains_key}
+use Rattle.mig_base.specs.Bytes.{zero_page}
 use Rattle.mig_model.specs.Host.{Host}
 use Rattle.hosts.proofs.AnswerLemmas.{kept_present, made_present, has_put, sound_put, put_is}
 use Rattle.hosts.proofs.host.Host.make_present.Goals as goal

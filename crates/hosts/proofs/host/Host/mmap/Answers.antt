@@ -1,8 +1,8 @@
-use Rattle.std.proofs.Common.{ap, ◌∙◌, ◌≡◌, arith, Some, None}
-use Rattle.mig_base.specs.Flat.{mmap_reply, at_place}
+use Rattle.std.proofs.Common.{ap, ◌∙◌, arith, Some, None}
+use Rattle.mig_base.specs.Flat.{mmap_reply}
 use Rattle.mig_base.specs.declared.command.Command.TheVariants.{Mmap}
 use Rattle.mig_base.specs.declared.command.Place.TheVariants.{Anywhere}
-use Rattle.mig_model.specs.Host.{Host, memory, host_after}
+use Rattle.mig_model.specs.Host.{Host, memory}
 use Rattle.hosts.proofs.AnswerLemmas.{mmap_full, mmap_placed, after_reply, sound_mapped, after_mapped, place_high}
 use Rattle.hosts.proofs.host.Host.mmap.Goals as goal
 

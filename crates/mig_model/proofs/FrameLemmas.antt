@@ -1,0 +1,119 @@
+-- The frames of pages, and what a destination keeps once it has taken them.
+use Rattle.std.proofs.Common.{◌≡◌, ℕ, zero, suc, ◌≤◌, ◌&&◌, Bool, true, false, cond, not, eqb, ltb, Option, Some, None, List, [], ◌∷◌, ◌++◌, refl, sym, ap, ◌∙◌, arith, length, is_some, if◌then◌else◌}
+use Rattle.std.specs.Prelude.{replicate}
+use Rattle.std.specs.List.{list_all}
+use Rattle.std.specs.Ordering.{nat_cmp}
+use Rattle.std.specs.Cmp.{nat_cmp_total, unsigned_tied}
+use Rattle.std.specs.FinMap.{FinMap, get, insert, empty, get-insert, get-empty, get-retain_keys, nat_cmp-IsAntisymmetric}
+use Rattle.std.specs.FinSet as finset
+use Rattle.std.proofs.lemmas.Bool.Decides.{nat_tests}
+use Rattle.std.proofs.lemmas.Bool.{false≢true}
+use Rattle.std.proofs.lemmas.List.{map-append}
+use Rattle.mig_base.specs.declared.TheConstants.{HIGH_PAGE}
+use Rattle.mig_base.specs.Bytes.{zero_page}
+use Rattle.mig_base.proofs.PageLemmas.{same_pages}
+use Rattle.mig_model.specs.Host.{Host, IsSound}
+use Rattle.mig_model.specs.Frame.{Frame, page_frame, frame_at, page_frames, kept_after, sent_in}
+use Rattle.mig_model.specs.Frame.Frame.{Page, Zero, Discard}
+use Rattle.mig_model.specs.Kept.{kept_by, AreCopies}
+
+pub sent_in-append : (epoch : ℕ) (a b : List Frame) → sent_in epoch (a ++ b) ≡ sent_in epoch a ++ sent_in epoch b
+sent_in-append epoch a b = map-append _ a b
+
+pub kept_by-append : (kept : FinMap nat_cmp (List ℕ)) (a b : List Frame) → kept_by kept (a ++ b) ≡ kept_by (kept_by kept a) b
+kept_by-append kept [] b = refl
+kept_by-append kept (frame ∷ a) b = kept_by-append (kept_after kept frame) a b
+
+pub AreCopies-append : (a b : List Frame) → AreCopies a → AreCopies b → AreCopies (a ++ b)
+AreCopies-append [] b x y = y
+AreCopies-append (Page page bytes ∷ a) b x y = AreCopies-append a b x y
+AreCopies-append (Zero page ∷ a) b x y = AreCopies-append a b x y
+AreCopies-append (_ ∷ a) b x y = absurd x
+
+-- The frame of one page
+
+abbrev frames_of : ℕ → Option (List ℕ) → List Frame
+frames_of page None = []
+frames_of page (Some bytes) = page_frame page bytes ∷ []
+
+is_copy : (b : Bool) (page : ℕ) (bytes : List ℕ) → AreCopies ((if b then Zero page else Page page bytes) ∷ [])
+is_copy true page bytes = tt
+is_copy false page bytes = tt
+
+are_copies_of : (page : ℕ) (o : Option (List ℕ)) → AreCopies (frames_of page o)
+are_copies_of page None = tt
+are_copies_of page (Some bytes) = is_copy (list_all (λ byte. eqb byte 0) bytes) page bytes
+
+zero_tests : (b c : Bool) → (b && c) ≡ true → (b ≡ true) × (c ≡ true)
+zero_tests true c h = (refl, h)
+zero_tests false c h = absurd (false≢true h)
+
+eqb_true : (a b : ℕ) → eqb a b ≡ true → a ≡ b
+eqb_true a b h = grind (arith, nat_tests)
+
+all_zero : (bytes : List ℕ) → list_all (λ byte. eqb byte 0) bytes ≡ true → bytes ≡ replicate (length bytes) 0
+all_zero [] h = refl
+all_zero (byte ∷ bytes) h =
+    let tests = zero_tests (eqb byte 0) (list_all (λ x. eqb x 0) bytes) h in
+    ap (λ x. x ∷ bytes) (eqb_true byte 0 tests.0) ∙ ap (λ xs. 0 ∷ xs) (all_zero bytes tests.1)
+
+zero_bytes : (bytes : List ℕ) → length bytes ≡ 4096 → list_all (λ byte. eqb byte 0) bytes ≡ true → bytes ≡ zero_page
+unfolding zero_page
+zero_bytes bytes n h = all_zero bytes h ∙ ap (λ k. replicate {A = ℕ} k 0) n
+
+kept_page : (b : Bool) (kept : FinMap nat_cmp (List ℕ)) (page : ℕ) (bytes : List ℕ) → (b ≡ true → bytes ≡ zero_page) →
+    kept_after kept (if b then Zero page else Page page bytes) ≡ insert kept page bytes
+kept_page true kept page bytes h = ap (insert kept page) (sym (h refl))
+kept_page false kept page bytes h = refl
+
+get-kept_frame : (kept : FinMap nat_cmp (List ℕ)) (page : ℕ) (o : Option (List ℕ)) → ((bytes : List ℕ) → o ≡ Some bytes → length bytes ≡ 4096) → (q : ℕ) →
+    get (kept_by kept (frames_of page o)) q ≡ cond (eqb q page && is_some o) o (get kept q)
+get-kept_frame kept page None whole q = grind arith
+get-kept_frame kept page (Some bytes) whole q =
+    ap (λ m. get m q) (kept_page (list_all (λ byte. eqb byte 0) bytes) kept page bytes (zero_bytes bytes (whole bytes refl)))
+    ∙ get-insert nat_cmp_total kept page bytes q
+    ∙ ap (λ b. cond b (Some bytes) (get kept q)) (unsigned_tied q page)
+    ∙ grind arith
+
+-- The frames of the pages below a bound
+
+pub AreCopies-page_frames : (pages : FinMap nat_cmp (List ℕ)) (n : ℕ) → AreCopies (page_frames pages n)
+unfolding page_frames
+AreCopies-page_frames pages zero = tt
+AreCopies-page_frames pages (suc n) = AreCopies-append (page_frames pages n) (frame_at pages n) (AreCopies-page_frames pages n) (are_copies_of n (get pages n))
+
+one_more : (f : ℕ → Option (List ℕ)) (n q : ℕ) → cond (eqb q n && is_some (f n)) (f n) (cond (ltb q n) (f q) None) ≡ cond (ltb q (suc n)) (f q) None
+one_more f n q = grind (arith, nat_tests)
+
+none_below : (n : ℕ) (o : Option (List ℕ)) → None ≡ cond (ltb n 0) o None
+none_below n o = grind (arith, nat_tests)
+
+get-page_frames : (pages : FinMap nat_cmp (List ℕ)) (n : ℕ) → ((page : ℕ) (bytes : List ℕ) → get pages page ≡ Some bytes → length bytes ≡ 4096) → (q : ℕ) →
+    get (kept_by empty (page_frames pages n)) q ≡ cond (ltb q n) (get pages q) None
+unfolding page_frames
+get-page_frames pages zero whole q = get-empty nat_cmp q ∙ none_below q (get pages q)
+get-page_frames pages (suc n) whole q =
+    ap (λ m. get m q) (kept_by-append empty (page_frames pages n) (frame_at pages n))
+    ∙ get-kept_frame (kept_by empty (page_frames pages n)) n (get pages n) (whole n) q
+    ∙ ap (cond (eqb q n && is_some (get pages n)) (get pages n)) (get-page_frames pages n whole q)
+    ∙ one_more (get pages) n q
+
+all_below : (n q : ℕ) (o : Option (List ℕ)) → (n ≤ q → o ≡ None) → cond (ltb q n) o None ≡ o
+all_below n q o h = grind (arith, nat_tests)
+
+kept_by-pages : (pages : FinMap nat_cmp (List ℕ)) (n : ℕ) → ((page : ℕ) (bytes : List ℕ) → get pages page ≡ Some bytes → length bytes ≡ 4096) → ((page : ℕ) → n ≤ page →
+    get pages page ≡ None) → kept_by empty (page_frames pages n) ≡ pages
+kept_by-pages pages n whole above =
+    same_pages (kept_by empty (page_frames pages n)) pages (λ q. get-page_frames pages n whole q ∙ all_below n q (get pages q) (above q))
+
+-- a destination that kept nothing, and takes the frames of all present pages of a host, has its pages
+pub kept_by-page_frames : (host : Host) → IsSound host → kept_by empty (page_frames host.bytes HIGH_PAGE) ≡ host.bytes
+kept_by-page_frames host sound = kept_by-pages host.bytes HIGH_PAGE sound.whole (λ page l. sound.mapped page (sound.bound page l))
+
+-- A Discard of none
+
+pub discard_none : (kept : FinMap nat_cmp (List ℕ)) → kept_after kept (Discard finset.empty) ≡ kept
+discard_none kept =
+    same_pages (kept_after kept (Discard finset.empty)) kept (λ q.
+    get-retain_keys kept (λ page. not (finset.contains finset.empty page)) q (λ x e. ap (λ page. not (finset.contains {R = nat_cmp} finset.empty page)) (sym (nat_cmp-IsAntisymmetric q x e)))
+    ∙ ap (λ b. cond (not b) (get kept q) None) (finset.contains-empty nat_cmp q))

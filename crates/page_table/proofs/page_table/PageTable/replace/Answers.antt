@@ -1,0 +1,19 @@
+use Rattle.std.proofs.Common.{◌≤◌, ◌∙◌, Some, false, refl, length, arith}
+use Rattle.page_table.proofs.ViewLemmas.{place_of_cell, present_seen, put_bytes, removed_flags, changed_table}
+use Rattle.page_table.proofs.page_table.PageTable.replace.Goals as goal
+
+pub put_at-requires : goal.put_at-requires
+put_at-requires c = place_of_cell c.self.inside.places.items c.args.page (present_seen c.self.inside.places.items c.args.self.now c.args.page c.self.invariant.few c.self.view_is ∙ c.requires.present)
+
+pub invariant_of-self : goal.invariant_of-self
+invariant_of-self c = changed_table c.self.inside.places.items c.put_at.new.places.items c.args.page false (Some c.args.bytes.value) c.self.invariant c.put_at.ensures.size refl c.put_at.ensures.put
+
+pub returns-clause-bytes : goal.returns-clause-bytes
+returns-clause-bytes c =
+    let still : length c.put_at.new.places.items ≤ 1024 = omega (arith, c.put_at.ensures.size, c.self.invariant.few) in
+    put_bytes c.self.inside.places.items c.put_at.new.places.items c.args.self.now c.args.page c.args.bytes.value false c.self.invariant.few still c.self.view_is c.put_at.ensures.put
+
+pub returns-clause-protected : goal.returns-clause-protected
+returns-clause-protected c =
+    let still : length c.put_at.new.places.items ≤ 1024 = omega (arith, c.put_at.ensures.size, c.self.invariant.few) in
+    removed_flags c.self.inside.places.items c.put_at.new.places.items c.args.self.now c.args.page (Some c.args.bytes.value) c.self.invariant.few still c.self.view_is c.put_at.ensures.put
