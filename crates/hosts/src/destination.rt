@@ -7,6 +7,7 @@ ghost use Rattle.mig_base.specs.Bytes.{zero_page};
 ghost use Rattle.mig_base.specs.Flat.{reply_of};
 ghost use Rattle.mig_base.specs.declared.step.DestinationPhase.TheVariants as phase;
 ghost use Rattle.mig_model.specs.Host.{bare_host, memory, host_after};
+ghost use Rattle.mig_model.specs.Frame.Frame.{Page, Zero};
 ghost use Rattle.mig_model.specs.Node.{is_in_place, destination_took, took, has_run};
 ghost use Rattle.hosts.specs.Frames.{frame_value, sent_value, IsFrameSound};
 
@@ -93,24 +94,8 @@ impl Destination {
                 self.epoch = epoch;
                 Ok(Effect::TookAdvise)
             }
-            Frame::Page { page, bytes } => match keep(&mut self.kept, page, bytes) {
-                Ok(()) => Ok(Effect::TookPage {
-                    addr: address_of(page),
-                }),
-                Err(bytes) => Err(Sent {
-                    epoch,
-                    frame: Frame::Page { page, bytes },
-                }),
-            },
-            Frame::Zero { page } => match keep_zero(self.alloc, &mut self.kept, page) {
-                Ok(()) => Ok(Effect::TookZero {
-                    addr: address_of(page),
-                }),
-                Err(NoMemory) => Err(Sent {
-                    epoch,
-                    frame: Frame::Zero { page },
-                }),
-            },
+            Frame::Page { page, bytes } => take_page(&mut self.kept, epoch, page, bytes),
+            Frame::Zero { page } => take_zero(self.alloc, &mut self.kept, epoch, page),
             Frame::Discard { pages } => {
                 give_up(&mut self.kept, &pages);
                 self.phase = DestinationPhase::Discarding;
@@ -136,6 +121,49 @@ fn address_of(page: PageNo) -> Addr
     ensures { result ≡ 4096 * page }
 {
     u64::from(page) * PAGE_SIZE
+}
+
+/// Takes a page with its bytes. Where there is no memory for it, the frame comes back and nothing has changed.
+fn take_page(
+    kept: &mut PageTable,
+    epoch: u32,
+    page: PageNo,
+    bytes: Box<[u8; 4096]>,
+) -> Result<Effect, Sent>
+    requires { page < HIGH_PAGE }
+    ensures effect { IfOk result (λ effect. effect ≡ Effect.TookPage (4096 * page)) }
+    ensures ok { OnOk result (kept.new.bytes ≡ map.insert kept.old.bytes page bytes.value) }
+    ensures frame { IfErr result (λ back. sent_value back ≡ record { epoch = epoch; frame = Page page bytes.value }) }
+    ensures err { OnErr result (kept.new.bytes ≡ kept.old.bytes) }
+{
+    match keep(kept, page, bytes) {
+        Ok(()) => Ok(Effect::TookPage {
+            addr: address_of(page),
+        }),
+        Err(bytes) => Err(Sent {
+            epoch,
+            frame: Frame::Page { page, bytes },
+        }),
+    }
+}
+
+/// Takes a page of zeros. Where there is no memory for it, the frame comes back and nothing has changed.
+fn take_zero(alloc: Global, kept: &mut PageTable, epoch: u32, page: PageNo) -> Result<Effect, Sent>
+    requires { page < HIGH_PAGE }
+    ensures effect { IfOk result (λ effect. effect ≡ Effect.TookZero (4096 * page)) }
+    ensures ok { OnOk result (kept.new.bytes ≡ map.insert kept.old.bytes page zero_page) }
+    ensures frame { IfErr result (λ back. sent_value back ≡ record { epoch = epoch; frame = Zero page }) }
+    ensures err { OnErr result (kept.new.bytes ≡ kept.old.bytes) }
+{
+    match keep_zero(alloc, kept, page) {
+        Ok(()) => Ok(Effect::TookZero {
+            addr: address_of(page),
+        }),
+        Err(NoMemory) => Err(Sent {
+            epoch,
+            frame: Frame::Zero { page },
+        }),
+    }
 }
 
 /// Keeps the newest copy of a page. Where there is no memory for it, the bytes come back and nothing has changed.

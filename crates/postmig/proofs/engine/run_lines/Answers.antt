@@ -1,8 +1,10 @@
-use Rattle.std.proofs.Common.{◌≡◌, length, arith, rules}
+use Rattle.std.proofs.Common.{◌≡◌, length, arith, rules, ap, sym, subst}
 use Rattle.std.proofs.lemmas.Result.{err_from_is_err_and}
 use Rattle.std.proofs.KnownBytes.{Keeps-refl}
+use Rattle.postmig.specs.Engine.{Place}
+use Rattle.postmig.specs.Script.{HasNoFeed}
 use Rattle.postmig.specs.WorldState.{first_state}
-use Rattle.postmig.proofs.Whole.{ran_then, ran_halts, ran_read_fault, no_start, ran_finished, ran_stopped, at_end}
+use Rattle.postmig.proofs.Whole.{ran_none, ran_then, ran_halts, ran_read_fault, no_start, ran_finished, ran_stopped, at_end}
 use Rattle.postmig.proofs.engine.run_lines.Goals as goal
 
 pub returns-in_err-script-clause-fault : goal.returns-in_err-script-clause-fault
@@ -30,6 +32,16 @@ returns-in-Err-clause-fault g c = ran_read_fault (first_state c.args.cpus) c.loo
 
 pub returns-clause-fault : goal.returns-clause-fault
 returns-clause-fault g c = ran_read_fault (first_state c.args.cpus) c.loop.script _ _ _ _ _ c.loop.invariant.ran (Keeps-refl _) c.loop.invariant.one
+
+pub loop-init : goal.loop-init
+loop-init g c =
+    let new = c.in_ok-script.ensures.ok in
+    record {
+      ran = ran_none (first_state c.args.cpus) c.in_ok-script.script _ _ new;
+      clean = ap (λ (place : Place). place.output) new;
+      one = subst HasNoFeed (sym (ap (λ (place : Place). place.line) new)) tt;
+      number = omega (arith, ap (λ (place : Place). place.number) new);
+    }
 
 pub loop-preserved : goal.loop-preserved
 loop-preserved g c = record {
