@@ -62,6 +62,17 @@ def mapped_and_unmapped(count):
         yield f"cpu 0 munmap {LOW + page * PAGE:#x} {PAGE}"
 
 
+def moves(count, pages=64):
+    """A range that goes to and fro between two places."""
+    places = (LOW, LOW + 4096 * PAGE)
+    yield f"cpu 0 mmap {pages * PAGE} rw"
+    for page in range(pages):
+        yield f"cpu 0 store {LOW + page * PAGE:#x} 8 {page + 1}"
+    for index in range(count):
+        old, new = places[index % 2], places[(index + 1) % 2]
+        yield f"cpu 0 mremap {old:#x} {pages * PAGE} {pages * PAGE} maymove fixed {new:#x}"
+
+
 def stop_and_copy(pages):
     """A whole migration of so many present pages."""
     yield f"cpu 0 mmap {pages * PAGE} rw"
@@ -82,11 +93,32 @@ CASES = {
     "one-area-100k": lambda: over_one_area(100_000, 8192),
     "many-areas-100k": lambda: over_many_areas(100_000, 8192),
     "map-unmap-8192": lambda: mapped_and_unmapped(8192),
+    "moves-10k": lambda: moves(10_000),
     "stop-and-copy-16": lambda: stop_and_copy(16),
     "stop-and-copy-256": lambda: stop_and_copy(256),
     "stop-and-copy-4096": lambda: stop_and_copy(4096),
     "stop-and-copy-16384": lambda: stop_and_copy(16_384),
 }
+
+
+# The same scripts, run to a transcript, and those transcripts checked.
+TRANSCRIPTS = ["accesses-10k", "accesses-100k", "accesses-1m", "map-unmap-8192", "moves-10k"]
+
+
+def timed(name, count, arguments, script):
+    """Prints the row of a program's run on a file, the best of three."""
+    best, memory = None, 0
+    for _ in range(3):
+        with open(script) as source, open(os.devnull, "w") as sink:
+            begun = time.perf_counter()
+            child = subprocess.Popen([PROGRAM, *arguments], stdin=source, stdout=sink)
+            _, status, usage = os.wait4(child.pid, 0)
+            seconds = time.perf_counter() - begun
+        if status:
+            sys.exit(f"{name}: status {status}")
+        best = seconds if best is None else min(best, seconds)
+        memory = max(memory, usage.ru_maxrss)
+    print(f"| {name} | {count:,} | {best:.3f} | {count / best:,.0f} | {memory / 1024:.1f} |")
 
 
 def measure(name, lines):
@@ -97,18 +129,13 @@ def measure(name, lines):
             for line in lines:
                 file.write(line + "\n")
                 count += 1
-        best, memory = None, 0
-        for _ in range(3):
-            with open(script) as source, open(os.devnull, "w") as sink:
-                begun = time.perf_counter()
-                child = subprocess.Popen([PROGRAM, "run"], stdin=source, stdout=sink)
-                _, status, usage = os.wait4(child.pid, 0)
-                seconds = time.perf_counter() - begun
-            if status:
-                sys.exit(f"{name}: status {status}")
-            best = seconds if best is None else min(best, seconds)
-            memory = max(memory, usage.ru_maxrss)
-    print(f"| {name} | {count:,} | {best:.3f} | {count / best:,.0f} | {memory / 1024:.1f} |")
+        timed(name, count, ["run"], script)
+        if name in TRANSCRIPTS:
+            transcript = pathlib.Path(folder) / "transcript"
+            timed(f"{name}, transcript", count, ["run", "--transcript"], script)
+            with open(script) as source, open(transcript, "w") as sink:
+                subprocess.run([PROGRAM, "run", "--transcript"], stdin=source, stdout=sink, check=True)
+            timed(f"{name}, check", count, ["check"], transcript)
 
 
 def main():

@@ -7,3 +7,4 @@ pub mod GapLemmas
 pub mod ViewLemmas
 pub mod OneProtLemmas
 pub mod MoveLemmas
+pub mod MappedLemmas

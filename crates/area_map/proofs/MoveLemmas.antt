@@ -53,7 +53,7 @@ starts_by : (first count q : ℕ) → in_range first count q ≡ true → first 
 starts_by first count q h = grind (arith, nat_tests)
 
 -- the areas up to an index, and one more
-one_more : (areas : List Area) (i p : ℕ) → AreRuns areas → i < length areas → cond (in_range (get_or areas i no_area).first (get_or areas i no_area).count p) (Some (get_or areas i no_area).prot) (prot_in (take i areas) p) ≡ prot_in (take (i + 1) areas) p
+pub one_more : (areas : List Area) (i p : ℕ) → AreRuns areas → i < length areas → cond (in_range (get_or areas i no_area).first (get_or areas i no_area).count p) (Some (get_or areas i no_area).prot) (prot_in (take i areas) p) ≡ prot_in (take (i + 1) areas) p
 unfolding prot_in
 one_more areas i p runs below =
     let a = get_or areas i no_area in

@@ -7,6 +7,7 @@
 //! mapped, and whether it may be, is for its callers to decide.
 #![tactic(auto)]
 
+mod count;
 mod edit;
 mod gap;
 mod moves;
@@ -16,11 +17,12 @@ mod tests;
 
 ghost use Rattle.std.specs.Prelude.{◌≡◌, ℕ, ◌+◌, ◌/◌, ◌≤◌, ◌<◌, ◌⊎◌, OnOk, OnErr, IfOk, IfSome, IfNone, if◌then◌else◌};
 ghost use Rattle.std.specs.FinMap as map;
-ghost use Rattle.mig_base.specs.Ranges.{in_range, free_place};
+ghost use Rattle.mig_base.specs.Ranges.{in_range, count_below, free_place};
 ghost use Rattle.mig_base.specs.Pages.{set_range, remove_range};
 ghost use Rattle.area_map.specs.Areas.{AreRuns, pages_in};
 ghost use Rattle.area_map.specs.Ranges.{HasOneProt, moved};
 
+use crate::count::mapped_between;
 use crate::edit::{apply, mapped_after, plan};
 use crate::gap::free_page;
 use crate::moves::map_moved;
@@ -99,6 +101,14 @@ impl AreaMap {
         ensures { result ≡ map.len self.now }
     {
         self.mapped
+    }
+
+    /// How many of the `count` pages from `first` on are mapped.
+    pub fn mapped_in(&self, first: PageNo, count: u32) -> u32
+        requires { first + count ≤ HIGH_PAGE }
+        ensures { result ≡ count_below (λ i. map.contains_key self.now (first + i)) count }
+    {
+        mapped_between(&self.areas, first, count)
     }
 
     /// The least page-aligned address from [`LOW`] on where a range of `len` bytes is free, below the end of the address

@@ -30,7 +30,7 @@ pub(crate) fn map_moved(
 }
 
 /// The part of an area from page `low` up to page `high`.
-fn clipped(area: Area, low: PageNo, high: PageNo) -> Area
+pub(crate) fn clipped(area: Area, low: PageNo, high: PageNo) -> Area
     requires area { area.first + area.count ≤ HIGH_PAGE }
     requires order { low ≤ high }
     ensures first { result.first ≡ min high (max low area.first) }

@@ -142,6 +142,24 @@ fn a_move_replaces_what_it_meets(rt: HostRuntime) -> Result<(), Fail> {
 }
 
 #[test]
+fn the_mapped_pages_of_a_range_are_counted(rt: HostRuntime) -> Result<(), Fail> {
+    let mut map = AreaMap::new(rt.alloc());
+    assert_eq!(rt; map.mapped_in(0, 0x10_0000), 0);
+    change(&rt, &mut map, 0x10, 2, Some(Prot::Read))?;
+    change(&rt, &mut map, 0x13, 2, Some(Prot::ReadWrite))?;
+    change(&rt, &mut map, 0x15, 1, Some(Prot::Read))?;
+    assert_eq!(rt; map.mapped_in(0, 0x10_0000), 5);
+    assert_eq!(rt; map.mapped_in(0x10, 6), 5);
+    assert_eq!(rt; map.mapped_in(0x11, 3), 2);
+    assert_eq!(rt; map.mapped_in(0x14, 16), 2);
+    assert_eq!(rt; map.mapped_in(0x12, 1), 0);
+    assert_eq!(rt; map.mapped_in(0x11, 0), 0);
+    assert_eq!(rt; map.mapped_in(0, 0x10), 0);
+    assert_eq!(rt; map.mapped_in(0x16, 0xf_ffea), 0);
+    Ok(())
+}
+
+#[test]
 fn the_address_space_fills(rt: HostRuntime) -> Result<(), Fail> {
     let mut map = AreaMap::new(rt.alloc());
     change(&rt, &mut map, 0, 0x10_0000, Some(Prot::ReadWrite))?;

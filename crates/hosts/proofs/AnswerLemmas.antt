@@ -1,5 +1,5 @@
 -- What the calls of `Host` answer.
-use Rattle.std.proofs.Common.{◌≡◌, ℕ, ◌+◌, ◌-◌, ◌*◌, ◌/◌, ◌%◌, ◌^◌, ◌<◌, ◌≤◌, ◌&&◌, Bool, true, false, cond, not, eqb, ltb, Option, Some, None, List, [], refl, sym, ap, ◌∙◌, subst, arith, length, get_or, take, drop, is_some, unwrap_or}
+use Rattle.std.proofs.Common.{◌≡◌, ℕ, ◌+◌, ◌/◌, ◌%◌, ◌^◌, ◌<◌, ◌≤◌, ◌&&◌, Bool, true, false, cond, not, eqb, ltb, Option, Some, None, List, [], refl, sym, ap, ◌∙◌, subst, arith, length, get_or, take, drop, is_some, unwrap_or}
 use Rattle.std.specs.Int.{bytes_low_first}
 use Rattle.std.specs.Ordering.{nat_cmp}
 use Rattle.std.specs.FinMap.{FinMap, get, insert, len, contains_key, get-insert}
@@ -7,24 +7,23 @@ use Rattle.std.specs.Cmp.{nat_cmp_total, unsigned_tied}
 use Rattle.std.proofs.lemmas.Bool.Decides.{nat_tests}
 use Rattle.std.proofs.lemmas.Bool.{false≢true}
 use Rattle.std.proofs.lemmas.List.{get_or-take, get_or-drop, length-take, length-drop}
-use Rattle.mig_base.specs.declared.TheConstants.{LOW, HIGH, LOW_PAGE, HIGH_PAGE, MAX_PAGES}
+use Rattle.mig_base.specs.declared.TheConstants.{HIGH}
 use Rattle.mig_base.specs.declared.Prot.{Prot}
-use Rattle.mig_base.specs.declared.command.Errno.TheVariants.{Enomem, Einval}
-use Rattle.mig_base.specs.declared.command.Place.TheVariants.{Anywhere}
+use Rattle.mig_base.specs.declared.command.Errno.TheVariants.{Einval}
 use Rattle.mig_base.specs.declared.command.Command.{Command}
-use Rattle.mig_base.specs.declared.command.Command.TheVariants.{Load, Store, Mmap, Munmap}
+use Rattle.mig_base.specs.declared.command.Command.TheVariants.{Load, Store, Munmap}
 use Rattle.mig_base.specs.declared.command.Reply.{Reply}
-use Rattle.mig_base.specs.declared.command.Reply.TheVariants.{Value, Done, At, Segv, BadAccess, Refused}
-use Rattle.mig_base.specs.Ranges.{free_place, rounded, pages_of}
-use Rattle.mig_base.specs.Pages.{set_range, remove_range}
+use Rattle.mig_base.specs.declared.command.Reply.TheVariants.{Value, Done, Segv, BadAccess, Refused}
+use Rattle.mig_base.specs.Ranges.{rounded, pages_of}
+use Rattle.mig_base.specs.Pages.{remove_range}
 use Rattle.mig_base.specs.Bytes.{zero_page, page_at, contents, overwrite, little_endian, low_bytes}
-use Rattle.mig_base.specs.Flat.{Cell, is_mapped, mapped_count, byte_of, is_aligned, allows_load, allows_store, access_reply, number_at, mmap_reply, munmap_reply, at_place, reply_of}
+use Rattle.mig_base.specs.Flat.{Cell, byte_of, is_aligned, allows_load, allows_store, access_reply, number_at, munmap_reply, reply_of}
 use Rattle.mig_base.proofs.PageLemmas.{same_pages}
 use Rattle.mig_base.proofs.ByteLemmas.{length-overwrite}
 use Rattle.mig_model.specs.Host.{Host, byte_in, memory, host_changed, host_after, IsSound}
 use Rattle.mig_model.proofs.NumberLemmas.{aligned_inside, number_at-bytes, number_at-zeros}
-use Rattle.mig_model.proofs.HostLemmas.{memory-none, memory-some, is_mapped-memory, mapped_count-memory, IsSound-put}
-use Rattle.mig_model.proofs.CommandLemmas.{placed, IsSound-changed, length-contents}
+use Rattle.mig_model.proofs.HostLemmas.{memory-none, memory-some, IsSound-put}
+use Rattle.mig_model.proofs.CommandLemmas.{IsSound-changed, length-contents}
 
 -- Accesses
 
@@ -104,46 +103,13 @@ number_missing host addr width form has missing =
     byte_of-memory host (addr + i) (ap (contains_key host.areas) here ∙ has)
     ∙ ap (λ o. get_or (unwrap_or o []) ((addr + i) % 4096) 0) (ap (get host.bytes) here ∙ sym missing)))
 
--- Maps
-
-ltb-true : (a b : ℕ) → a < b → ltb a b ≡ true
-ltb-true a b h = grind (arith, nat_tests)
+-- Unmapping
 
 ltb-false : (a b : ℕ) → b ≤ a → ltb a b ≡ false
 ltb-false a b h = grind (arith, nat_tests)
 
 eqb-false : (a b : ℕ) → b < a → eqb a b ≡ false
 eqb-false a b h = grind (arith, nat_tests)
-
-third : {A : Type 0} (a b c : Bool) (x y z w : A) → a ≡ false → b ≡ false → c ≡ true → cond a x (cond b y (cond c z w)) ≡ z
-third a b c x y z w p q r = rw (p, q, r) refl
-
-last : {A : Type 0} (a b c : Bool) (x y z w : A) → a ≡ false → b ≡ false → c ≡ false → cond a x (cond b y (cond c z w)) ≡ w
-last a b c x y z w p q r = rw (p, q, r) refl
-
-place_reply : Option ℕ → Reply
-place_reply None = Refused Enomem
-place_reply (Some start) = At start
-
-pub mmap_full : (host : Host) (bytes count : ℕ) → IsSound host → 0 < bytes → count ≡ pages_of bytes → count ≤ HIGH_PAGE - LOW_PAGE → MAX_PAGES < len host.areas + count → Refused Enomem ≡ mmap_reply (memory host) bytes
-mmap_full host bytes count sound some pages short full =
-    let mapped = mapped_count-memory host sound in
-    sym (third (eqb bytes 0) (ltb (HIGH - LOW) (rounded bytes)) (ltb (4096 * MAX_PAGES) (mapped_count (memory host) + rounded bytes)) (Refused Einval) (Refused Enomem) (Refused Enomem)
-    (at_place (free_place (is_mapped (memory host)) (rounded bytes)))
-    (eqb-false bytes 0 some) (ltb-false (HIGH - LOW) (rounded bytes) (omega arith)) (ltb-true (4096 * MAX_PAGES) (mapped_count (memory host) + rounded bytes) (omega arith)))
-
-pub mmap_placed : (host : Host) (bytes count : ℕ) (found : Option ℕ) → IsSound host → 0 < bytes → count ≡ pages_of bytes → count ≤ HIGH_PAGE - LOW_PAGE → len host.areas + count ≤ MAX_PAGES → found ≡ free_place (λ addr. contains_key host.areas (addr / 4096)) (count * 4096) → at_place found ≡ mmap_reply (memory host) bytes
-mmap_placed host bytes count found sound some pages short room h =
-    let mapped = mapped_count-memory host sound in
-    let size : count * 4096 ≡ rounded bytes = omega arith in
-    let same : found ≡ free_place (is_mapped (memory host)) (rounded bytes) =
-    h ∙ ap (free_place (λ addr. contains_key host.areas (addr / 4096))) size ∙ ap (λ taken. free_place taken (rounded bytes)) (sym (is_mapped-memory host)) in
-    ap at_place same
-    ∙ sym (last (eqb bytes 0) (ltb (HIGH - LOW) (rounded bytes)) (ltb (4096 * MAX_PAGES) (mapped_count (memory host) + rounded bytes)) (Refused Einval) (Refused Enomem) (Refused Enomem)
-    (at_place (free_place (is_mapped (memory host)) (rounded bytes)))
-    (eqb-false bytes 0 some) (ltb-false (HIGH - LOW) (rounded bytes) (omega arith)) (ltb-false (4096 * MAX_PAGES) (mapped_count (memory host) + rounded bytes) (omega arith)))
-
--- Unmapping
 
 first_of_three : (a b c : Bool) → a ≡ true → b ≡ false → c ≡ false → cond (not a) (Refused Einval) (cond b (Refused Einval) (cond c (Refused Einval) Done)) ≡ Done
 first_of_three a b c p q r = rw (p, q, r) refl
@@ -244,25 +210,7 @@ held_page bytes page has =
       | Some held ↦ λ e. refl
     ] refl
 
--- Areas mapped and unmapped
-
-with_areas : (host : Host) (new : FinMap nat_cmp Prot) (len count start : ℕ) (prot : Prot) → count ≡ pages_of len → new ≡ set_range host.areas (start / 4096) count prot → record host { areas = new } ≡ host_changed host (Mmap len prot Anywhere) (At start)
-with_areas host new len count start prot pages is =
-    ap (λ a. record { areas = a; bytes = host.bytes }) is
-    ∙ ap (λ n. record { areas = set_range host.areas (start / 4096) n prot; bytes = host.bytes }) pages
-
-pub sound_mapped : (host : Host) (new : FinMap nat_cmp Prot) (len count start : ℕ) (prot : Prot) → IsSound host → count ≡ pages_of len → At start ≡ mmap_reply (memory host) len → new ≡ set_range host.areas (start / 4096) count prot → IsSound (record host { areas = new })
-sound_mapped host new len count start prot sound pages reply is =
-    subst IsSound (sym (with_areas host new len count start prot pages is)) (IsSound-changed host (Mmap len prot Anywhere) (At start) sound reply)
-
-pub after_mapped : (host value : Host) (new : FinMap nat_cmp Prot) (len count start : ℕ) (prot : Prot) → host ≡ value → count ≡ pages_of len → At start ≡ mmap_reply (memory host) len → new ≡ set_range host.areas (start / 4096) count prot → record host { areas = new } ≡ host_after value (Mmap len prot Anywhere)
-after_mapped host value new len count start prot view pages reply is =
-    with_areas host new len count start prot pages is
-    ∙ after_reply host (Mmap len prot Anywhere) (At start) reply
-    ∙ ap (λ h. host_after h (Mmap len prot Anywhere)) view
-
-pub place_high : (host : Host) (len count start : ℕ) → count ≡ pages_of len → At start ≡ mmap_reply (memory host) len → start / 4096 + count ≤ HIGH_PAGE
-place_high host len count start pages reply = let at = placed host len start reply in let high = at.high in omega arith
+-- Areas unmapped
 
 with_pages : (host : Host) (areas : FinMap nat_cmp Prot) (pages : FinMap nat_cmp (List ℕ)) (addr len count : ℕ) → count ≡ pages_of len → areas ≡ remove_range host.areas (addr / 4096) count → pages ≡ remove_range host.bytes (addr / 4096) count → record { areas = areas; bytes = pages } ≡ host_changed host (Munmap addr len) Done
 with_pages host areas pages addr len count size is_areas is_pages =

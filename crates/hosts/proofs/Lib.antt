@@ -5,3 +5,6 @@ pub mod SendLemmas
 pub mod KeepLemmas
 pub mod StepLemmas
 pub mod ReadyLemmas
+pub mod MapCallLemmas
+pub mod RemapLemmas
+pub mod ChangeLemmas

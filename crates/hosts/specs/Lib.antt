@@ -1,2 +1,4 @@
 pub mod Frames
 pub mod Worlds
+pub mod MapCalls
+pub mod Remaps

@@ -5,14 +5,15 @@ ghost use Rattle.std.specs.FinMap as map;
 ghost use Rattle.std.specs.FinSet as set;
 ghost use Rattle.std.specs.Option.{option_copied};
 ghost use Rattle.mig_base.specs.Bytes.{contents};
-ghost use Rattle.mig_base.specs.Flat.{reply_of, number_at, is_aligned as is_access};
+ghost use Rattle.mig_base.specs.Flat.{reply_of, after, number_at, is_aligned as is_access};
 ghost use Rattle.mig_model.specs.Host.{bare_host, memory, host_changed, host_after, IsSound};
 
 use crate::access::{allows_load, allows_store, fits, is_aligned, number};
+use crate::map_calls::{dontneed_reply, is_invalid, mmap_place, mremap_place, page_count};
+use crate::remap::{Remap, apply};
 use area_map::AreaMap;
 use mig_base::{
-    Addr, Command, Errno, HIGH, HIGH_PAGE, LOW_PAGE, MAX_PAGES, NoMemory, PAGE_SIZE, PageNo,
-    PageSet, Place, Prot, Reply,
+    Addr, Command, Errno, HIGH, HIGH_PAGE, NoMemory, PAGE_SIZE, PageNo, PageSet, Place, Prot, Reply,
 };
 use page_table::{PageTable, PutFault};
 use std::alloc::Global;
@@ -82,18 +83,29 @@ impl Host {
     /// Makes a command, and answers as one flat memory does. Want of memory changes nothing.
     pub fn perform(&mut self, command: Command) -> Result<Reply, NoMemory>
         ensures reply { IfOk result (λ reply. reply ≡ reply_of (memory self.old) command) }
+        ensures memory { OnOk result (memory self.new ≡ after (memory self.old) command) }
         ensures host { OnOk result (self.new ≡ host_after self.old command) }
         ensures err { OnErr result (self.new ≡ self.old) }
     {
+        // The clause on memory rests on the invariant, which is known where a field is read.
+        let _ = &self.areas;
         match command {
             Command::Load { addr, width } => Ok(self.load(addr, width)),
             Command::Store { addr, width, value } => self.store(addr, width, value),
             Command::Mmap {
                 addr_len,
                 prot,
-                place: Place::Anywhere,
-            } => self.mmap(addr_len, prot),
+                place,
+            } => self.mmap(addr_len, prot, place),
             Command::Munmap { addr, len } => self.munmap(addr, len),
+            Command::Mremap {
+                addr,
+                old_len,
+                new_len,
+                may_move,
+                fixed,
+            } => self.mremap(addr, old_len, new_len, may_move, fixed),
+            Command::DontNeed { addr, len } => Ok(self.dontneed(addr, len)),
         }
     }
 
@@ -128,26 +140,18 @@ impl Host {
         }
     }
 
-    fn mmap(&mut self, len: u64, prot: Prot) -> Result<Reply, NoMemory>
-        ensures reply { IfOk result (λ reply. reply ≡ reply_of (memory self.old) (Command.Mmap len prot Place.Anywhere)) }
-        ensures host { OnOk result (self.new ≡ host_after self.old (Command.Mmap len prot Place.Anywhere)) }
+    fn mmap(&mut self, len: u64, prot: Prot, place: Place) -> Result<Reply, NoMemory>
+        ensures reply { IfOk result (λ reply. reply ≡ reply_of (memory self.old) (Command.Mmap len prot place)) }
+        ensures host { OnOk result (self.new ≡ host_after self.old (Command.Mmap len prot place)) }
         ensures err { OnErr result (self.new ≡ self.old) }
     {
-        if len == 0 {
-            return Ok(Reply::Refused(Errno::Einval));
-        }
-        let count = len.div_ceil(PAGE_SIZE);
-        if count > u64::from(HIGH_PAGE - LOW_PAGE) {
-            return Ok(Reply::Refused(Errno::Enomem));
-        }
-        if u64::from(self.areas.mapped_pages()) + count > u64::from(MAX_PAGES) {
-            return Ok(Reply::Refused(Errno::Enomem));
-        }
-        match self.areas.gap(count * PAGE_SIZE) {
-            None => Ok(Reply::Refused(Errno::Enomem)),
-            Some(start) => {
-                self.areas
-                    .map((start / PAGE_SIZE) as PageNo, count as u32, prot)?;
+        match mmap_place(&self.areas, len, place) {
+            Err(errno) => Ok(Reply::Refused(errno)),
+            Ok(start) => {
+                let first = (start / PAGE_SIZE) as PageNo;
+                let count = page_count(len) as u32;
+                self.areas.map(first, count, prot)?;
+                self.pages.drop_range(first, count);
                 Ok(Reply::At(start))
             }
         }
@@ -170,6 +174,48 @@ impl Host {
         self.areas.unmap(first, count as u32)?;
         self.pages.drop_range(first, count as u32);
         Ok(Reply::Done)
+    }
+
+    fn mremap(
+        &mut self,
+        addr: Addr,
+        old_len: u64,
+        new_len: u64,
+        may_move: bool,
+        fixed: Option<Addr>,
+    ) -> Result<Reply, NoMemory>
+        ensures reply { IfOk result (λ reply. reply ≡ reply_of (memory self.old) (Command.Mremap addr old_len new_len may_move fixed)) }
+        ensures host { OnOk result (self.new ≡ host_after self.old (Command.Mremap addr old_len new_len may_move fixed)) }
+        ensures err { OnErr result (self.new ≡ self.old) }
+    {
+        match mremap_place(&self.areas, addr, old_len, new_len, may_move, fixed) {
+            Err(errno) => Ok(Reply::Refused(errno)),
+            Ok(target) => {
+                let range = Remap {
+                    from: (addr / PAGE_SIZE) as PageNo,
+                    count: page_count(old_len) as u32,
+                    to: (target / PAGE_SIZE) as PageNo,
+                    new_count: page_count(new_len) as u32,
+                };
+                apply(&mut self.areas, &mut self.pages, range)?;
+                Ok(Reply::At(target))
+            }
+        }
+    }
+
+    fn dontneed(&mut self, addr: Addr, len: u64) -> Reply
+        ensures reply { result ≡ reply_of (memory self.old) (Command.DontNeed addr len) }
+        ensures host { self.new ≡ host_after self.old (Command.DontNeed addr len) }
+    {
+        let reply = dontneed_reply(&self.areas, addr, len);
+        if is_invalid(reply) {
+            return reply;
+        }
+        let high = u64::from(HIGH_PAGE);
+        let first = (addr / PAGE_SIZE).min(high);
+        let end = (addr / PAGE_SIZE + page_count(len)).min(high);
+        self.pages.drop_range(first as PageNo, (end - first) as u32);
+        reply
     }
 
     /// The protection at an address, if it is mapped.
@@ -229,3 +275,6 @@ impl Host {
         Ok(())
     }
 }
+
+#[cfg(test)]
+mod tests;

@@ -329,7 +329,10 @@ fn is_access(command: Command) -> bool
 {
     match command {
         Command::Load { .. } | Command::Store { .. } => true,
-        Command::Mmap { .. } | Command::Munmap { .. } => false,
+        Command::Mmap { .. }
+        | Command::Munmap { .. }
+        | Command::Mremap { .. }
+        | Command::DontNeed { .. } => false,
     }
 }
 

@@ -1,20 +1,45 @@
 -- Every mapped address lies from LOW up to HIGH.
-use Rattle.std.proofs.Common.{◌≡◌, ℕ, ◌+◌, ◌-◌, ◌*◌, ◌<◌, ◌≤◌, Bool, true, false, cond, eqb, ltb, leb, Option, Some, None, List, [], ◌∷◌, refl, ap, ◌∙◌, ◌⊎◌, ⊎_elim, arith}
+use Rattle.std.proofs.Common.{◌≡◌, ℕ, ◌+◌, ◌-◌, ◌<◌, ◌≤◌, ◌&&◌, Bool, true, false, cond, not, ltb, leb, Option, Some, None, List, [], ◌∷◌, refl, sym, ap, ◌∙◌, ◌⊎◌, inl, inr, ⊎_elim, arith, add-zero}
+use Rattle.std.proofs.lemmas.Bool.{false≢true}
 use Rattle.std.proofs.lemmas.Bool.Decides.{nat_tests}
-use Rattle.mig_base.specs.declared.TheConstants.{LOW, HIGH, MAX_PAGES}
-use Rattle.mig_base.specs.declared.command.Errno.TheVariants.{Enomem, Einval}
-use Rattle.mig_base.specs.declared.command.Place.TheVariants.{Anywhere}
+use Rattle.mig_base.specs.declared.TheConstants.{LOW, HIGH}
+use Rattle.mig_base.specs.declared.command.Errno.TheVariants.{Enomem}
 use Rattle.mig_base.specs.declared.command.Command.{Command}
-use Rattle.mig_base.specs.declared.command.Command.TheVariants.{Store, Mmap, Munmap}
+use Rattle.mig_base.specs.declared.command.Command.TheVariants.{Store, Mmap, Munmap, Mremap, DontNeed}
 use Rattle.mig_base.specs.declared.command.Reply.{Reply}
 use Rattle.mig_base.specs.declared.command.Reply.TheVariants.{Done, At, Refused}
 use Rattle.mig_base.specs.declared.command.Entry.{Entry}
-use Rattle.mig_base.specs.Ranges.{in_range, free_place, rounded}
-use Rattle.mig_base.specs.Flat.{Memory, Cell, is_mapped, mapped_count, no_memory, fill, written, mmap_reply, at_place, reply_of, changed, after, memory_from, memory_of}
-use Rattle.mig_base.proofs.RangeLemmas.{place_found, four_hold, in_range-false_below, in_range-false_above}
+use Rattle.mig_base.specs.Ranges.{in_range, rounded}
+use Rattle.mig_base.specs.Flat.{Memory, Cell, is_mapped, no_memory, fill, zeros_with, moved, grown, same_prot, has_one_prot, written, reply_of, changed, after, memory_from, memory_of}
+use Rattle.mig_base.proofs.RangeLemmas.{none_below_tells, in_range-false_below, in_range-false_above}
+use Rattle.mig_base.proofs.ReplyLemmas.{IsInside, IsRemapped, found_inside, mmap_inside, mremap_told}
+use Rattle.mig_base.proofs.ReplyLemmas.IsWhere.{Shrunk, Grew, Moved, Told}
 
 abbrev pub IsBounded : Memory → Type 0
 IsBounded memory = (addr : ℕ) → (addr < LOW) ⊎ (HIGH ≤ addr) → memory addr ≡ None
+
+and_right : (a b : Bool) → (a && b) ≡ true → b ≡ true
+and_right true b h = h
+and_right false b h = absurd (false≢true h)
+
+low_or : {addr : ℕ} → (addr < LOW → ⊥) → LOW ≤ addr
+low_or h = grind (arith, nat_tests, h)
+
+high_or : {addr : ℕ} → (HIGH ≤ addr → ⊥) → addr < HIGH
+high_or h = grind (arith, nat_tests, h)
+
+same_prot_some : (a b : Option Cell) → same_prot a b ≡ true → b ≡ None → ⊥
+same_prot_some (Some a) (Some b) h e = cc
+same_prot_some (Some a) None h e = false≢true h
+same_prot_some None b h e = false≢true h
+
+not_false : (b : Bool) → not b ≡ false → b ≡ true
+not_false true h = refl
+not_false false h = absurd (false≢true (sym h))
+
+one_prot_some : (memory : Memory) (start size i : ℕ) → has_one_prot memory start size ≡ true → i < size → memory (start + i) ≡ None → ⊥
+one_prot_some memory start size i one l none =
+    same_prot_some (memory start) (memory (start + i)) (not_false _ (none_below_tells (λ k. not (same_prot (memory start) (memory (start + k)))) size i one l)) none
 
 leb_true : (a b : ℕ) → leb a b ≡ true → a ≤ b
 leb_true a b h = grind (arith, nat_tests)
@@ -27,17 +52,6 @@ cleared_none : (t : Bool) (o : Option Cell) → o ≡ None → cond t None o ≡
 cleared_none true o h = refl
 cleared_none false o h = h
 
-place_of_reply : (a b c : Bool) (o : Option ℕ) (start : ℕ) → At start ≡ cond a (Refused Einval) (cond b (Refused Enomem) (cond c (Refused Enomem) (at_place o))) → o ≡ Some start
-place_of_reply true b c o start h = absurd (cc)
-place_of_reply false true c o start h = absurd (cc)
-place_of_reply false false true o start h = absurd (cc)
-place_of_reply false false false None start h = absurd (cc)
-place_of_reply false false false (Some found) start h = cc
-
-mmap_place : (memory : Memory) (len start : ℕ) → At start ≡ mmap_reply memory len → free_place (is_mapped memory) (rounded len) ≡ Some start
-mmap_place memory len start h =
-    place_of_reply (eqb len 0) (ltb (HIGH - LOW) (rounded len)) (ltb (4096 * MAX_PAGES) (mapped_count memory + rounded len)) (free_place (is_mapped memory) (rounded len)) start h
-
 outside : (start len addr : ℕ) → LOW ≤ start → start + len ≤ HIGH → (addr < LOW) ⊎ (HIGH ≤ addr) → in_range start len addr ≡ false
 outside start len addr low high out =
     ⊎_elim
@@ -45,17 +59,45 @@ outside start len addr low high out =
     (λ (above : HIGH ≤ addr). in_range-false_above start len addr (omega arith))
     out
 
-filled_bounded : (memory : Memory) (len start : ℕ) (cell : Cell) → IsBounded memory → At start ≡ mmap_reply memory len → IsBounded (fill memory start (rounded len) cell)
-filled_bounded memory len start cell bounded h addr out =
-    let place = place_found (is_mapped memory) (rounded len) start (mmap_place memory len start h) in
-    let parts = four_hold _ _ _ _ place in
-    ap (λ t. cond t (Some cell) (memory addr)) (outside start (rounded len) addr (leb_true LOW start parts.two) (leb_true (start + rounded len) HIGH parts.three) out)
+filled_bounded : (memory : Memory) (start len : ℕ) (cell : Cell) → IsBounded memory → IsInside start (rounded len) → IsBounded (fill memory start (rounded len) cell)
+filled_bounded memory start len cell bounded inside addr out =
+    ap (λ t. cond t (Some cell) (memory addr)) (outside start (rounded len) addr inside.low inside.high out)
     ∙ bounded addr out
+
+-- each address of a range of one protection is mapped, so the range lies in the address space
+mapped_inside : (memory : Memory) (addr : ℕ) → IsBounded memory → (memory addr ≡ None → ⊥) → (LOW ≤ addr) × (addr < HIGH)
+mapped_inside memory addr bounded some = (low_or (λ l. some (bounded addr (inl l))), high_or (λ l. some (bounded addr (inr l))))
+
+-- the place of an mremap lies in the address space
+pub remapped_inside : (memory : Memory) (addr old_len new_len target : ℕ) → IsBounded memory → IsRemapped memory addr old_len new_len target → IsInside target (rounded new_len)
+remapped_inside memory addr old_len new_len target bounded told =
+    let one = told.one_prot in
+    let old_some = told.old_some in
+    let new_some = told.new_some in
+    let whole = told.whole in
+    let first = mapped_inside memory addr bounded (λ none. one_prot_some memory addr (rounded old_len) 0 one (omega (arith, old_some)) (ap memory (add-zero addr) ∙ none)) in
+    elim told.place [
+      | Shrunk same shorter ↦
+          let last = mapped_inside memory (addr + (rounded new_len - 1)) bounded (one_prot_some memory addr (rounded old_len) (rounded new_len - 1) one (omega (arith, shorter, new_some))) in
+          rw same (record { whole = whole; low = first.0; high = omega (arith, last, new_some) })
+      | Grew same can ↦ rw same (record { whole = whole; low = first.0; high = leb_true (addr + rounded new_len) HIGH (and_right _ _ can) })
+      | Moved found ↦ found_inside (is_mapped memory) (rounded new_len) target found
+      | Told at ↦ at.inside
+    ]
+
+moved_bounded : (memory : Memory) (addr old_size target new_size : ℕ) → IsBounded memory → IsInside target new_size → IsBounded (moved memory addr old_size target new_size)
+moved_bounded memory addr old_size target new_size bounded inside at out =
+    ap (λ t. cond t (cond (ltb (at - target) old_size) (memory (addr + (at - target))) (grown (memory addr))) (cond (in_range addr old_size at) None (memory at))) (outside target new_size at inside.low inside.high out)
+    ∙ cleared_none (in_range addr old_size at) (memory at) (bounded at out)
 
 changed_bounded : (memory : Memory) (command : Command) (reply : Reply) → IsBounded memory → reply ≡ reply_of memory command → IsBounded (changed memory command reply)
 changed_bounded memory (Store addr width value) Done bounded h = λ at out. written_none (in_range addr width at) (memory at) _ (bounded at out)
-changed_bounded memory (Mmap len prot Anywhere) (At start) bounded h = filled_bounded memory len start _ bounded h
+changed_bounded memory (Mmap len prot place) (At start) bounded h = filled_bounded memory start len (zeros_with prot) bounded (mmap_inside memory len prot place start h)
 changed_bounded memory (Munmap addr len) Done bounded h = λ at out. cleared_none (in_range addr (rounded len) at) (memory at) (bounded at out)
+changed_bounded memory (Mremap addr old_len new_len may_move fixed) (At target) bounded h =
+    moved_bounded memory addr (rounded old_len) target (rounded new_len) bounded (remapped_inside memory addr old_len new_len target bounded (mremap_told memory addr old_len new_len may_move fixed target h))
+changed_bounded memory (DontNeed addr len) Done bounded h = λ at out. written_none (in_range addr (rounded len) at) (memory at) 0 (bounded at out)
+changed_bounded memory (DontNeed addr len) (Refused Enomem) bounded h = λ at out. written_none (in_range addr (rounded len) at) (memory at) 0 (bounded at out)
 changed_bounded memory _ _ bounded h = bounded
 
 memory_from_bounded : (memory : Memory) (entries : List Entry) → IsBounded memory → IsBounded (memory_from memory entries)

@@ -1,5 +1,5 @@
 -- Pages of zeros, and pages that others were written into.
-use Rattle.std.proofs.Common.{◌≡◌, ℕ, ◌+◌, ◌-◌, ◌<◌, ◌≤◌, List, [], ◌++◌, refl, sym, ap, ◌∙◌, subst, arith, length, take, drop, get_or, ◌⊎◌, ⊎_elim, length-append}
+use Rattle.std.proofs.Common.{◌≡◌, ℕ, ◌+◌, ◌-◌, ◌<◌, ◌≤◌, List, ◌++◌, refl, sym, ap, ◌∙◌, subst, arith, length, take, drop, get_or, ◌⊎◌, ⊎_elim, length-append}
 use Rattle.std.specs.Prelude.{replicate}
 use Rattle.std.proofs.lemmas.List.{drop-drop, get_or-take, get_or_append_left, get_or-append_right, get_or-drop, get_or-replicate, length-take, length-drop, length-replicate}
 use Rattle.std.proofs.Math.ListN.{get_or-eq_default}

@@ -6,13 +6,14 @@ use Rattle.std.specs.FinMap.{len, get, empty, get-empty, get-insert}
 use Rattle.std.specs.Ordering.{nat_cmp}
 use Rattle.mig_base.specs.declared.command.Entry.{Entry}
 use Rattle.mig_base.specs.declared.command.Command.{Command}
-use Rattle.mig_base.specs.declared.command.Command.TheVariants.{Store, Mmap, Munmap}
+use Rattle.mig_base.specs.declared.command.Command.TheVariants.{Store, Mmap, Munmap, Mremap, DontNeed}
+use Rattle.mig_base.specs.declared.command.Errno.TheVariants.{Enomem}
 use Rattle.mig_base.specs.declared.command.Reply.{Reply}
-use Rattle.mig_base.specs.declared.command.Reply.TheVariants.{Done, At}
+use Rattle.mig_base.specs.declared.command.Reply.TheVariants.{Done, At, Refused}
 use Rattle.mig_base.specs.Ranges.{in_range, rounded}
-use Rattle.mig_base.specs.Flat.{Cell, Memory, write, written, reply_of, changed, memory_from, memory_of, mapped_count}
-use Rattle.mig_base.specs.FlatMap.{Map, look, put_byte, write_map, changed_map, map_from, map_of}
-use Rattle.mig_base.proofs.PageLemmas.{get-set_range, get-remove_range, count_below-contains_key}
+use Rattle.mig_base.specs.Flat.{Cell, Memory, zeros_with, grown, zeroed, write, written, reply_of, changed, memory_from, memory_of, mapped_count}
+use Rattle.mig_base.specs.FlatMap.{Map, look, put_byte, write_map, zeroed_map, changed_map, map_from, map_of}
+use Rattle.mig_base.proofs.PageLemmas.{get-set_range, get-remove_range, get-moved_range, count_below-contains_key}
 use Rattle.mig_base.proofs.BoundLemmas.{memory_of_bounded}
 use Rattle.mig_base.specs.declared.TheConstants.{HIGH}
 
@@ -76,10 +77,34 @@ get-write_map m addr (suc width) value q =
     ∙ ap (λ c. cond (eqb q (addr + width)) (written (get m (addr + width)) (value / 256 ^ width % 256)) c) (get-write_map m addr width value q)
     ∙ joined addr width value q (get m)
 
+joined_zero : (start len q : ℕ) (m : Memory) → cond (eqb q (start + len)) (written (m (start + len)) 0) (zeroed m start len q) ≡ zeroed m start (suc len) q
+joined_zero start len q m = ⊎_elim
+    (λ (e : q ≡ start + len).
+    subst (λ p. cond (eqb p (start + len)) (written (m (start + len)) 0) (zeroed m start len p) ≡ zeroed m start (suc len) p) (sym e)
+    (chosen (eqb (start + len) (start + len)) _ (zeroed m start len (start + len)) (eqb-at (start + len) (start + len) refl)
+    ∙ sym (chosen (in_range start (suc len) (start + len)) _ (m (start + len)) (inside start len))))
+    (λ (n : q ≢ start + len).
+    other (eqb q (start + len)) _ (zeroed m start len q) (eqb-other q (start + len) n)
+    ∙ ap (λ b. cond b (written (m q) 0) (m q)) (sym (before start len q n)))
+    (same_or_other q (start + len))
+
+get-zeroed_map : (m : Map) (start len q : ℕ) → get (zeroed_map m start len) q ≡ zeroed (look m) start len q
+unfolding zeroed_map
+get-zeroed_map m start zero q = sym (other (in_range start 0 q) _ (get m q) (nothing start q))
+get-zeroed_map m start (suc len) q =
+    let less = zeroed_map m start len in
+    get-put_byte less (start + len) 0 q (get less (start + len)) refl
+    ∙ ap (λ c. cond (eqb q (start + len)) (written c 0) (get less q)) (get-zeroed_map m start len (start + len) ∙ other (in_range start len (start + len)) _ (get m (start + len)) (past start len))
+    ∙ ap (λ c. cond (eqb q (start + len)) (written (get m (start + len)) 0) c) (get-zeroed_map m start len q)
+    ∙ joined_zero start len q (get m)
+
 look-changed_map : (m : Map) (command : Command) (reply : Reply) → look (changed_map m command reply) ≡ changed (look m) command reply
 look-changed_map m (Store addr width value) Done = λ i q. get-write_map m addr width value q i
-look-changed_map m (Mmap bytes prot place) (At start) = λ i q. get-set_range m start (rounded bytes) (record { byte = 0; prot = prot }) q i
+look-changed_map m (Mmap bytes prot place) (At start) = λ i q. get-set_range m start (rounded bytes) (zeros_with prot) q i
 look-changed_map m (Munmap addr bytes) Done = λ i q. get-remove_range m addr (rounded bytes) q i
+look-changed_map m (Mremap addr old_bytes new_bytes may_move fixed) (At target) = λ i q. get-moved_range m addr (rounded old_bytes) target (rounded new_bytes) q (grown (get m addr)) i
+look-changed_map m (DontNeed addr bytes) Done = λ i q. get-zeroed_map m addr (rounded bytes) q i
+look-changed_map m (DontNeed addr bytes) (Refused Enomem) = λ i q. get-zeroed_map m addr (rounded bytes) q i
 look-changed_map m _ _ = refl
 
 look-map_from : (m : Map) (entries : List Entry) → look (map_from m entries) ≡ memory_from (look m) entries

@@ -2,6 +2,7 @@ pub mod RangeLemmas
 pub mod PageLemmas
 pub mod ByteLemmas
 pub mod FlatLemmas
+pub mod ReplyLemmas
 pub mod BoundLemmas
 pub mod FlatMapLemmas
 pub mod SetLemmas

@@ -4,12 +4,13 @@ use Rattle.std.specs.Ordering.{nat_cmp}
 use Rattle.std.specs.FinMap.{FinMap, get, insert, empty}
 use Rattle.mig_base.specs.declared.command.Entry.{Entry}
 use Rattle.mig_base.specs.declared.command.Command.{Command}
-use Rattle.mig_base.specs.declared.command.Command.TheVariants.{Store, Mmap, Munmap}
+use Rattle.mig_base.specs.declared.command.Command.TheVariants.{Store, Mmap, Munmap, Mremap, DontNeed}
+use Rattle.mig_base.specs.declared.command.Errno.TheVariants.{Enomem}
 use Rattle.mig_base.specs.declared.command.Reply.{Reply}
-use Rattle.mig_base.specs.declared.command.Reply.TheVariants.{Done, At}
+use Rattle.mig_base.specs.declared.command.Reply.TheVariants.{Done, At, Refused}
 use Rattle.mig_base.specs.Ranges.{rounded}
-use Rattle.mig_base.specs.Pages.{set_range, remove_range}
-use Rattle.mig_base.specs.Flat.{Cell, Memory, reply_of}
+use Rattle.mig_base.specs.Pages.{set_range, remove_range, moved_range}
+use Rattle.mig_base.specs.Flat.{Cell, Memory, zeros_with, grown, reply_of}
 
 abbrev pub Map : Type 0
 Map = FinMap nat_cmp Cell
@@ -27,10 +28,17 @@ write_map m addr zero value = m
 write_map m addr (suc width) value =
     let less = write_map m addr width value in put_byte less (addr + width) (value / 256 ^ width % 256) (get less (addr + width))
 
+unfoldable pub zeroed_map : Map → ℕ → ℕ → Map
+zeroed_map m start zero = m
+zeroed_map m start (suc len) = let less = zeroed_map m start len in put_byte less (start + len) 0 (get less (start + len))
+
 abbrev pub changed_map : Map → Command → Reply → Map
 changed_map m (Store addr width value) Done = write_map m addr width value
-changed_map m (Mmap bytes prot place) (At start) = set_range m start (rounded bytes) (record { byte = 0; prot = prot })
+changed_map m (Mmap bytes prot place) (At start) = set_range m start (rounded bytes) (zeros_with prot)
 changed_map m (Munmap addr bytes) Done = remove_range m addr (rounded bytes)
+changed_map m (Mremap addr old_bytes new_bytes may_move fixed) (At target) = moved_range m addr (rounded old_bytes) target (rounded new_bytes) (grown (get m addr))
+changed_map m (DontNeed addr bytes) Done = zeroed_map m addr (rounded bytes)
+changed_map m (DontNeed addr bytes) (Refused Enomem) = zeroed_map m addr (rounded bytes)
 changed_map m _ _ = m
 
 abbrev pub map_from : Map → List Entry → Map

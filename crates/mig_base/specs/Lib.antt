@@ -7,3 +7,4 @@ pub mod Codes
 pub mod Sets
 pub mod Bits
 pub mod PageSets
+pub mod Messages

@@ -19,6 +19,10 @@ pub enum Errno {
 pub enum Place {
     /// At the least place that is free.
     Anywhere,
+    /// At this address, in place of what is mapped there: MAP_FIXED of mmap(2).
+    Fixed(Addr),
+    /// At this address, where nothing may be mapped: MAP_FIXED_NOREPLACE of mmap(2).
+    NoReplace(Addr),
 }
 
 /// What a processor asks of its address space. Lengths and sizes are bytes, and are rounded up to whole pages.
@@ -46,6 +50,20 @@ pub enum Command {
         addr: Addr,
         len: u64,
     },
+    /// Grows, shrinks or moves a range, as mremap(2): `may_move` is MREMAP_MAYMOVE, and a `fixed` target is that of
+    /// MREMAP_FIXED.
+    Mremap {
+        addr: Addr,
+        old_len: u64,
+        new_len: u64,
+        may_move: bool,
+        fixed: Option<Addr>,
+    },
+    /// Makes the pages of a range zeros again, as MADV_DONTNEED of madvise(2).
+    DontNeed {
+        addr: Addr,
+        len: u64,
+    },
 }
 
 /// What a command answers.
@@ -63,6 +81,17 @@ pub enum Reply {
     BadAccess,
     /// A map call failed.
     Refused(Errno),
+}
+
+/// What a load or store comes to in an address space that a userfault object watches.
+#[derive(Clone, Copy, Debug, PartialEq, Eq)]
+pub enum Access {
+    /// It is answered.
+    Answered(Reply),
+    /// The page is missing and registered for missing faults: the processor sleeps until it is woken, and tries again.
+    Missing,
+    /// The page is write-protected and registered for that: the processor sleeps likewise.
+    Protected,
 }
 
 /// A command that took effect, its processor and its reply.

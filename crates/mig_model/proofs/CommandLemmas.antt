@@ -1,26 +1,28 @@
 -- A command changes the pages of a host as it changes the flat memory that they mean.
-use Rattle.std.proofs.Common.{◌≡◌, ℕ, ◌+◌, ◌-◌, ◌*◌, ◌/◌, ◌%◌, ◌^◌, ◌<◌, ◌≤◌, ◌&&◌, Bool, true, false, cond, not, eqb, ltb, Option, Some, None, List, [], refl, sym, ap, ◌∙◌, subst, arith, length, is_some, unwrap_or, zero-add}
+use Rattle.std.proofs.Common.{◌≡◌, ℕ, ◌+◌, ◌-◌, ◌*◌, ◌/◌, ◌%◌, ◌^◌, ◌<◌, ◌≤◌, ◌&&◌, Bool, true, false, cond, not, ltb, leb, Option, Some, None, List, [], refl, sym, ap, ◌∙◌, arith, length, is_some, unwrap_or, zero-add}
 use Rattle.std.specs.Int.{bytes_low_first}
 use Rattle.std.specs.FinMap.{get, contains_key}
 use Rattle.std.proofs.lemmas.Bool.Decides.{nat_tests}
 use Rattle.std.proofs.lemmas.Bool.{false≢true}
 use Rattle.std.proofs.lemmas.List.{get_or-take, length-take}
-use Rattle.mig_base.specs.declared.TheConstants.{LOW, HIGH, HIGH_PAGE, MAX_PAGES}
+use Rattle.mig_base.specs.declared.TheConstants.{HIGH, HIGH_PAGE}
 use Rattle.mig_base.specs.declared.Prot.{Prot}
-use Rattle.mig_base.specs.declared.command.Errno.TheVariants.{Enomem, Einval}
-use Rattle.mig_base.specs.declared.command.Place.TheVariants.{Anywhere}
+use Rattle.mig_base.specs.declared.command.Errno.TheVariants.{Enomem}
+use Rattle.mig_base.specs.declared.command.Place.{Place}
 use Rattle.mig_base.specs.declared.command.Command.{Command}
-use Rattle.mig_base.specs.declared.command.Command.TheVariants.{Store, Mmap, Munmap}
+use Rattle.mig_base.specs.declared.command.Command.TheVariants.{Store, Mmap, Munmap, Mremap, DontNeed}
 use Rattle.mig_base.specs.declared.command.Reply.{Reply}
 use Rattle.mig_base.specs.declared.command.Reply.TheVariants.{Done, At, BadAccess, Refused}
-use Rattle.mig_base.specs.Ranges.{free_place, rounded, pages_of}
+use Rattle.mig_base.specs.Ranges.{rounded, pages_of}
 use Rattle.mig_base.specs.Bytes.{zero_page, contents, overwrite, low_bytes}
-use Rattle.mig_base.specs.Flat.{Memory, Cell, is_mapped, mapped_count, fill, clear, write, is_aligned, allows_store, access_reply, mmap_reply, munmap_reply, at_place, reply_of, changed}
-use Rattle.mig_base.proofs.RangeLemmas.{IsFreeRun, run_found}
+use Rattle.mig_base.specs.Flat.{Memory, Cell, is_mapped, fill, zeros_with, clear, zeroed, moved, same_prot, has_one_prot, write, is_aligned, allows_store, access_reply, reply_of, changed}
+use Rattle.mig_base.proofs.RangeLemmas.{none_below_tells}
+use Rattle.mig_base.proofs.ReplyLemmas.{IsRemapped, found_inside, mmap_inside, munmap_whole, dontneed_done, dontneed_hole, mremap_told}
+use Rattle.mig_base.proofs.ReplyLemmas.IsWhere.{Shrunk, Grew, Moved, Told}
 use Rattle.mig_base.proofs.ByteLemmas.{get_or-zero_page, length-zero_page, length-overwrite}
-use Rattle.mig_model.specs.Host.{Host, memory, host_changed, IsSound}
+use Rattle.mig_model.specs.Host.{Host, memory, host_changed, host_moved, host_dropped, IsSound}
 use Rattle.mig_model.proofs.NumberLemmas.{aligned_inside, get_or-bytes_low_first}
-use Rattle.mig_model.proofs.HostLemmas.{AreDigits, ReadsAs, is_mapped-memory, memory-write, memory-map, memory-unmap, IsSound-put, IsSound-map, IsSound-unmap}
+use Rattle.mig_model.proofs.HostLemmas.{AreDigits, ReadsAs, is_mapped-memory, memory-none, memory-write, memory-map, memory-unmap, memory-dropped, memory-moved, IsSound-put, IsSound-map, IsSound-unmap, IsSound-dropped, IsSound-moved}
 
 -- A store
 
@@ -89,71 +91,100 @@ IsSound-stored host addr width value sound mapped form =
     IsSound-put host (addr / 4096) (overwrite (contents host.bytes (addr / 4096)) (addr % 4096) (low_bytes value width)) sound mapped
     (length-overwrite (contents host.bytes (addr / 4096)) (low_bytes value width) (addr % 4096) (omega arith) ∙ whole)
 
--- A mapping
+-- Ranges
 
-place_of_reply : (a b c : Bool) (o : Option ℕ) (start : ℕ) → At start ≡ cond a (Refused Einval) (cond b (Refused Enomem) (cond c (Refused Enomem) (at_place o))) → o ≡ Some start
-place_of_reply true b c o start h = absurd (cc)
-place_of_reply false true c o start h = absurd (cc)
-place_of_reply false false true o start h = absurd (cc)
-place_of_reply false false false None start h = absurd (cc)
-place_of_reply false false false (Some found) start h = cc
+-- an address that is the first of a page
+page_start : (addr : ℕ) → addr % 4096 ≡ 0 → addr / 4096 * 4096 ≡ addr
+page_start addr h = omega arith
 
-none_from : {X : Type 0} (o : Option X) → is_some o ≡ false → o ≡ None
-none_from None h = refl
-none_from (Some x) h = absurd (false≢true (sym h))
+memory-mapped : (host : Host) (len start : ℕ) (prot : Prot) (place : Place) → start % 4096 ≡ 0 → memory (host_changed host (Mmap len prot place) (At start)) ≡ fill (memory host) start (rounded len) (zeros_with prot)
+memory-mapped host len start prot place whole =
+    memory-map host (start / 4096) (pages_of len) prot ∙ ap (λ s. fill (memory host) s (rounded len) (zeros_with prot)) (page_start start whole)
 
--- the free pages at a place that mmap answers
-pub record IsPlaced (host : Host) (len start : ℕ) : Type 0 where
-  pub whole : start ≡ start / 4096 * 4096
-  pub high : start / 4096 + pages_of len ≤ HIGH_PAGE
-  pub free : (page : ℕ) → start / 4096 ≤ page → page < start / 4096 + pages_of len → get host.areas page ≡ None
-
-pub placed : (host : Host) (len start : ℕ) → At start ≡ mmap_reply (memory host) len → IsPlaced host len start
-placed host len start h =
-    let place = place_of_reply (eqb len 0) (ltb (HIGH - LOW) (rounded len)) (ltb (4096 * MAX_PAGES) (mapped_count (memory host) + rounded len)) (free_place (is_mapped (memory host)) (rounded len)) start h in
-    let same : free_place (λ addr. contains_key host.areas (addr / 4096)) (rounded len) ≡ Some start = sym (ap (λ taken. free_place taken (rounded len)) (is_mapped-memory host)) ∙ place in
-    let run = run_found (λ page. contains_key host.areas page) (rounded len) start same in
-    let count : (rounded len + 4095) / 4096 ≡ pages_of len = omega arith in
-    let free : IsFreeRun (λ page. contains_key host.areas page) (pages_of len) (start / 4096) = subst (λ n. IsFreeRun (λ page. contains_key host.areas page) n (start / 4096)) count run.1 in
-    record {
-      whole = run.0;
-      high = free.high;
-      free = λ page l u. none_from (get host.areas page) (free.free page l u);
-    }
-
-memory-placed : (host : Host) (len start : ℕ) (prot : Prot) → IsSound host → IsPlaced host len start → memory (host_changed host (Mmap len prot Anywhere) (At start)) ≡ fill (memory host) start (rounded len) (record { byte = 0; prot = prot })
-memory-placed host len start prot sound at =
-    memory-map host (start / 4096) (pages_of len) prot sound at.free
-    ∙ ap (λ s. fill (memory host) s (rounded len) (record { byte = 0; prot = prot })) (sym at.whole)
-
--- An unmapping
-
-whole_unless : (a b c : Bool) → Done ≡ cond (not a) (Refused Einval) (cond b (Refused Einval) (cond c (Refused Einval) Done)) → a ≡ true
-whole_unless true b c h = refl
-whole_unless false b c h = absurd (cc)
-
-eqb_true : (a b : ℕ) → eqb a b ≡ true → a ≡ b
-eqb_true a b h = grind (arith, nat_tests)
-
-unmapped_whole : (addr len : ℕ) → Done ≡ munmap_reply addr len → addr / 4096 * 4096 ≡ addr
-unmapped_whole addr len h =
-    let even = eqb_true (addr % 4096) 0 (whole_unless (eqb (addr % 4096) 0) (eqb len 0) (ltb HIGH (addr + rounded len)) h) in
-    omega arith
-
-memory-unmapped : (host : Host) (addr len : ℕ) → addr / 4096 * 4096 ≡ addr → memory (host_changed host (Munmap addr len) Done) ≡ clear (memory host) addr (rounded len)
+memory-unmapped : (host : Host) (addr len : ℕ) → addr % 4096 ≡ 0 → memory (host_changed host (Munmap addr len) Done) ≡ clear (memory host) addr (rounded len)
 memory-unmapped host addr len whole =
-    memory-unmap host (addr / 4096) (pages_of len) ∙ ap (λ s. clear (memory host) s (rounded len)) whole
+    memory-unmap host (addr / 4096) (pages_of len) ∙ ap (λ s. clear (memory host) s (rounded len)) (page_start addr whole)
+
+memory-zeroed : (host : Host) (addr len : ℕ) → addr % 4096 ≡ 0 → memory (host_dropped host (addr / 4096) (pages_of len)) ≡ zeroed (memory host) addr (rounded len)
+memory-zeroed host addr len whole =
+    memory-dropped host (addr / 4096) (pages_of len) ∙ ap (λ s. zeroed (memory host) s (rounded len)) (page_start addr whole)
+
+memory-remapped : (host : Host) (addr old_len new_len target : ℕ) → addr % 4096 ≡ 0 → target % 4096 ≡ 0 →
+    memory (host_moved host (addr / 4096) (pages_of old_len) (target / 4096) (pages_of new_len)) ≡ moved (memory host) addr (rounded old_len) target (rounded new_len)
+memory-remapped host addr old_len new_len target old new =
+    memory-moved host (addr / 4096) (pages_of old_len) (target / 4096) (pages_of new_len)
+    ∙ ap (λ s. moved (memory host) s (rounded old_len) (target / 4096 * 4096) (rounded new_len)) (page_start addr old)
+    ∙ ap (λ s. moved (memory host) addr (rounded old_len) s (rounded new_len)) (page_start target new)
+
+-- The place of an mremap
+
+same_prot_some : (a b : Option Cell) → same_prot a b ≡ true → b ≡ None → ⊥
+same_prot_some (Some a) (Some b) h e = cc
+same_prot_some (Some a) None h e = false≢true h
+same_prot_some None b h e = false≢true h
+
+not_false : (b : Bool) → not b ≡ false → b ≡ true
+not_false true h = refl
+not_false false h = absurd (false≢true (sym h))
+
+pub one_prot_some : (m : Memory) (start size i : ℕ) → has_one_prot m start size ≡ true → i < size → m (start + i) ≡ None → ⊥
+one_prot_some m start size i one l none =
+    same_prot_some (m start) (m (start + i)) (not_false _ (none_below_tells (λ k. not (same_prot (m start) (m (start + k)))) size i one l)) none
+
+below_or : {addr : ℕ} → (HIGH ≤ addr → ⊥) → addr < HIGH
+below_or h = grind (arith, nat_tests, h)
+
+past_none : (host : Host) (addr : ℕ) → IsSound host → HIGH ≤ addr → memory host addr ≡ None
+past_none host addr sound l = memory-none host addr (sound.bound (addr / 4096) (omega arith))
+
+leb_true : (a b : ℕ) → leb a b ≡ true → a ≤ b
+leb_true a b h = grind (arith, nat_tests)
+
+and_second : (a b : Bool) → (a && b) ≡ true → b ≡ true
+and_second true b h = h
+and_second false b h = absurd (false≢true h)
+
+-- the new range of an mremap begins with a page, and ends in the address space
+pub record IsPlaced (target size : ℕ) : Type 0 where
+  pub whole : target % 4096 ≡ 0
+  pub high : target + size ≤ HIGH
+
+pub remapped_place : (host : Host) (addr old_len new_len target : ℕ) → IsSound host → IsRemapped (memory host) addr old_len new_len target → IsPlaced target (rounded new_len)
+remapped_place host addr old_len new_len target sound told =
+    let some = told.new_some in
+    let whole = told.whole in
+    elim told.place [
+      | Shrunk same shorter ↦
+          let last = below_or (λ past. one_prot_some (memory host) addr (rounded old_len) (rounded new_len - 1) told.one_prot (omega (arith, shorter, some)) (past_none host (addr + (rounded new_len - 1)) sound past)) in
+          rw same (record { whole = whole; high = omega (arith, last, some) })
+      | Grew same can ↦ rw same (record { whole = whole; high = leb_true (addr + rounded new_len) HIGH (and_second _ _ can) })
+      | Moved found ↦ let inside = found_inside (is_mapped (memory host)) (rounded new_len) target found in record { whole = inside.whole; high = inside.high }
+      | Told at ↦ record { whole = at.inside.whole; high = at.inside.high }
+    ]
+
+high_pages : (start len : ℕ) → start + rounded len ≤ HIGH → start / 4096 + pages_of len ≤ HIGH_PAGE
+high_pages start len h = omega arith
 
 -- Every command
 
 pub memory-changed : (host : Host) (command : Command) (reply : Reply) → IsSound host → reply ≡ reply_of (memory host) command → memory (host_changed host command reply) ≡ changed (memory host) command reply
 memory-changed host (Store addr width value) Done sound h = memory-stored host addr width value sound (stored_form (memory host) addr width value h)
-memory-changed host (Mmap len prot Anywhere) (At start) sound h = memory-placed host len start prot sound (placed host len start h)
-memory-changed host (Munmap addr len) Done sound h = memory-unmapped host addr len (unmapped_whole addr len h)
+memory-changed host (Mmap len prot place) (At start) sound h = memory-mapped host len start prot place (mmap_inside (memory host) len prot place start h).whole
+memory-changed host (Munmap addr len) Done sound h = memory-unmapped host addr len (munmap_whole addr len h)
+memory-changed host (Mremap addr old_len new_len may_move fixed) (At target) sound h =
+    let told = mremap_told (memory host) addr old_len new_len may_move fixed target h in
+    memory-remapped host addr old_len new_len target told.whole (remapped_place host addr old_len new_len target sound told).whole
+memory-changed host (DontNeed addr len) Done sound h = memory-zeroed host addr len (dontneed_done (memory host) addr len h)
+memory-changed host (DontNeed addr len) (Refused Enomem) sound h = memory-zeroed host addr len (dontneed_hole (memory host) addr len h)
 memory-changed host _ _ sound h = refl
 
 pub IsSound-changed : (host : Host) (command : Command) (reply : Reply) → IsSound host → reply ≡ reply_of (memory host) command → IsSound (host_changed host command reply)
 IsSound-changed host (Store addr width value) Done sound h = IsSound-stored host addr width value sound (stored_mapped host addr width value h) (stored_form (memory host) addr width value h)
-IsSound-changed host (Mmap len prot Anywhere) (At start) sound h = let at = placed host len start h in IsSound-map host (start / 4096) (pages_of len) prot sound at.high
+IsSound-changed host (Mmap len prot place) (At start) sound h = IsSound-map host (start / 4096) (pages_of len) prot sound (high_pages start len (mmap_inside (memory host) len prot place start h).high)
 IsSound-changed host (Munmap addr len) Done sound h = IsSound-unmap host (addr / 4096) (pages_of len) sound
+IsSound-changed host (Mremap addr old_len new_len may_move fixed) (At target) sound h =
+    let told = mremap_told (memory host) addr old_len new_len may_move fixed target h in
+    IsSound-moved host (addr / 4096) (pages_of old_len) (target / 4096) (pages_of new_len) sound (high_pages target new_len (remapped_place host addr old_len new_len target sound told).high)
+IsSound-changed host (DontNeed addr len) Done sound h = IsSound-dropped host (addr / 4096) (pages_of len) sound
+IsSound-changed host (DontNeed addr len) (Refused Enomem) sound h = IsSound-dropped host (addr / 4096) (pages_of len) sound
 IsSound-changed host _ _ sound h = sound

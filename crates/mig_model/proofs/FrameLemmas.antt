@@ -57,7 +57,7 @@ all_zero (byte ∷ bytes) h =
     let tests = zero_tests (eqb byte 0) (list_all (λ x. eqb x 0) bytes) h in
     ap (λ x. x ∷ bytes) (eqb_true byte 0 tests.0) ∙ ap (λ xs. 0 ∷ xs) (all_zero bytes tests.1)
 
-zero_bytes : (bytes : List ℕ) → length bytes ≡ 4096 → list_all (λ byte. eqb byte 0) bytes ≡ true → bytes ≡ zero_page
+pub zero_bytes : (bytes : List ℕ) → length bytes ≡ 4096 → list_all (λ byte. eqb byte 0) bytes ≡ true → bytes ≡ zero_page
 unfolding zero_page
 zero_bytes bytes n h = all_zero bytes h ∙ ap (λ k. replicate {A = ℕ} k 0) n
 

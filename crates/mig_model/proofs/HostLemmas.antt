@@ -1,5 +1,5 @@
 -- The memory of a host, and how the changes of its maps change it.
-use Rattle.std.proofs.Common.{◌≡◌, ◌≢◌, ℕ, ◌+◌, ◌-◌, ◌*◌, ◌/◌, ◌%◌, ◌^◌, ◌<◌, ◌≤◌, Bool, true, false, cond, eqb, Option, Some, None, List, [], refl, sym, ap, ◌∙◌, ◌⊎◌, ⊎_elim, arith, length, get_or, is_some, unwrap_or}
+use Rattle.std.proofs.Common.{◌≡◌, ◌≢◌, ℕ, ◌+◌, ◌-◌, ◌*◌, ◌/◌, ◌%◌, ◌^◌, ◌<◌, ◌≤◌, Bool, true, false, cond, eqb, ltb, Option, Some, None, List, [], refl, sym, ap, ◌∙◌, ◌⊎◌, ⊎_elim, arith, length, get_or, is_some, unwrap_or}
 use Rattle.std.specs.Option.{option_map}
 use Rattle.std.specs.Ordering.{nat_cmp}
 use Rattle.std.specs.Cmp.{nat_cmp_total, unsigned_tied}
@@ -11,11 +11,11 @@ use Rattle.mig_base.specs.declared.Prot.{Prot}
 use Rattle.mig_base.specs.Ranges.{in_range, count_below}
 use Rattle.mig_base.specs.Pages.{set_range, remove_range}
 use Rattle.mig_base.specs.Bytes.{page_at, overwrite}
-use Rattle.mig_base.specs.Flat.{Memory, Cell, no_memory, is_mapped, mapped_count, fill, clear, write, written}
+use Rattle.mig_base.specs.Flat.{Memory, Cell, no_memory, is_mapped, mapped_count, fill, clear, zeroed, moved, grown, write, written}
 use Rattle.mig_base.proofs.RangeLemmas.{count_below-blocks, in_range_tells, in_range-true, in_range-false_below, in_range-false_above}
-use Rattle.mig_base.proofs.PageLemmas.{get-set_range, get-remove_range, count_below-contains_key}
+use Rattle.mig_base.proofs.PageLemmas.{get-set_range, get-remove_range, get-moved_range, count_below-contains_key}
 use Rattle.mig_base.proofs.ByteLemmas.{get_or-overwrite_below, get_or-overwrite_in, get_or-overwrite_above}
-use Rattle.mig_model.specs.Host.{Host, byte_in, memory, IsSound}
+use Rattle.mig_model.specs.Host.{Host, byte_in, memory, host_moved, host_dropped, IsSound}
 
 none_some : {A : Type 0} (x : A) → None ≡ Some x → ⊥
 none_some x h = cc
@@ -76,7 +76,7 @@ same_cells a b areas bytes = same_memory (memory a) (memory b) (λ addr.
 
 -- A page put in
 
-get-put : (bytes : FinMap nat_cmp (List ℕ)) (page q : ℕ) (held : List ℕ) → get (insert bytes page held) q ≡ cond (eqb q page) (Some held) (get bytes q)
+pub get-put : (bytes : FinMap nat_cmp (List ℕ)) (page q : ℕ) (held : List ℕ) → get (insert bytes page held) q ≡ cond (eqb q page) (Some held) (get bytes q)
 get-put bytes page q held = get-insert nat_cmp_total bytes page held q ∙ ap (λ b. cond b (Some held) (get bytes q)) (unsigned_tied q page)
 
 eqb_tells_same : (q page : ℕ) → eqb q page ≡ true → q ≡ page
@@ -179,6 +179,9 @@ memory-write host addr width value held digits same n are inside =
 
 -- Ranges of pages
 
+ltb_same : (a b c d : ℕ) → (a < b → c < d) → (c < d → a < b) → ltb a b ≡ ltb c d
+ltb_same a b c d f g = grind (arith, nat_tests, f, g)
+
 in_range-pages : (first count q : ℕ) → in_range first count (q / 4096) ≡ in_range (first * 4096) (4096 * count) q
 in_range-pages first count q =
     ⊎_elim
@@ -196,32 +199,49 @@ in_range-pages first count q =
 in_range_first : (first count q : ℕ) → in_range first count q ≡ true → (first ≤ q) × (q < first + count)
 in_range_first first count q h = grind (arith, nat_tests)
 
-filled : (b : Bool) (bytes : FinMap nat_cmp (List ℕ)) (addr : ℕ) (prot : Prot) (o : Option Prot) → (b ≡ true → byte_in bytes addr ≡ 0) → cell_at bytes addr (cond b (Some prot) o) ≡ cond b (Some (record { byte = 0; prot = prot })) (cell_at bytes addr o)
-filled true bytes addr prot o h = ap (λ byte. Some (record { byte = byte; prot = prot })) (h refl)
-filled false bytes addr prot o h = refl
+no_byte : (b : Bool) (o : Option (List ℕ)) (i : ℕ) → get_or (unwrap_or (cond b None o) []) i 0 ≡ cond b 0 (get_or (unwrap_or o []) i 0)
+no_byte true o i = refl
+no_byte false o i = refl
 
-pub memory-map : (host : Host) (first count : ℕ) (prot : Prot) → IsSound host → ((page : ℕ) → first ≤ page → page < first + count → get host.areas page ≡ None) → memory (record host { areas = set_range host.areas first count prot }) ≡ fill (memory host) (first * 4096) (4096 * count) (record { byte = 0; prot = prot })
-memory-map host first count prot sound free =
-    let new : Host = record host { areas = set_range host.areas first count prot } in
+byte_in-remove : (bytes : FinMap nat_cmp (List ℕ)) (first count addr : ℕ) → byte_in (remove_range bytes first count) addr ≡ cond (in_range first count (addr / 4096)) 0 (byte_in bytes addr)
+byte_in-remove bytes first count addr =
+    ap (λ o. get_or (unwrap_or o []) (addr % 4096) 0) (get-remove_range bytes first count (addr / 4096))
+    ∙ no_byte (in_range first count (addr / 4096)) (get bytes (addr / 4096)) (addr % 4096)
+
+abbrev with_byte : ℕ → Option Prot → Option Cell
+with_byte byte o = option_map (λ prot. record { byte = byte; prot = prot }) o
+
+filled : (b : Bool) (byte : ℕ) (prot : Prot) (o : Option Prot) → with_byte (cond b 0 byte) (cond b (Some prot) o) ≡ cond b (Some (record { byte = 0; prot = prot })) (with_byte byte o)
+filled true byte prot o = refl
+filled false byte prot o = refl
+
+pub memory-map : (host : Host) (first count : ℕ) (prot : Prot) → memory (record { areas = set_range host.areas first count prot; bytes = remove_range host.bytes first count }) ≡ fill (memory host) (first * 4096) (4096 * count) (record { byte = 0; prot = prot })
+memory-map host first count prot =
+    let new : Host = record { areas = set_range host.areas first count prot; bytes = remove_range host.bytes first count } in
     same_memory (memory new) (fill (memory host) (first * 4096) (4096 * count) (record { byte = 0; prot = prot })) (λ q.
     memory-at new q
-    ∙ ap (cell_at host.bytes q) (get-set_range host.areas first count prot (q / 4096))
-    ∙ filled (in_range first count (q / 4096)) host.bytes q prot (get host.areas (q / 4096))
-    (λ e. let page = in_range_first first count (q / 4096) e in
-    ap (λ o. get_or (unwrap_or o []) (q % 4096) 0) (sound.mapped (q / 4096) (free (q / 4096) page.0 page.1)))
+    ∙ ap (cell_at new.bytes q) (get-set_range host.areas first count prot (q / 4096))
+    ∙ ap (λ byte. with_byte byte (cond (in_range first count (q / 4096)) (Some prot) (get host.areas (q / 4096)))) (byte_in-remove host.bytes first count q)
+    ∙ filled (in_range first count (q / 4096)) (byte_in host.bytes q) prot (get host.areas (q / 4096))
     ∙ ap (λ b. cond b (Some (record { byte = 0; prot = prot })) (cell_at host.bytes q (get host.areas (q / 4096)))) (in_range-pages first count q)
     ∙ ap (λ c. cond (in_range (first * 4096) (4096 * count) q) (Some (record { byte = 0; prot = prot })) c) (sym (memory-at host q)))
 
-cond_some_none : (b : Bool) (prot : Prot) (o : Option Prot) → cond b (Some prot) o ≡ None → o ≡ None
-cond_some_none true prot o h = absurd (none_some prot (sym h))
-cond_some_none false prot o h = h
+some_or_none : (b : Bool) (prot : Prot) (o : Option Prot) (p : Option (List ℕ)) → cond b (Some prot) o ≡ None → (o ≡ None → p ≡ None) → cond b None p ≡ None
+some_or_none true prot o p h rest = refl
+some_or_none false prot o p h rest = rest h
 
-pub IsSound-map : (host : Host) (first count : ℕ) (prot : Prot) → IsSound host → first + count ≤ HIGH_PAGE → IsSound (record host { areas = set_range host.areas first count prot })
+some_kept : (b : Bool) (bytes : List ℕ) (p : Option (List ℕ)) → cond b None p ≡ Some bytes → p ≡ Some bytes
+some_kept true bytes p h = absurd (none_some bytes h)
+some_kept false bytes p h = h
+
+pub IsSound-map : (host : Host) (first count : ℕ) (prot : Prot) → IsSound host → first + count ≤ HIGH_PAGE → IsSound (record { areas = set_range host.areas first count prot; bytes = remove_range host.bytes first count })
 IsSound-map host first count prot sound high =
     record {
       bound = λ page l. get-set_range host.areas first count prot page ∙ ap (λ b. cond b (Some prot) (get host.areas page)) (in_range-false_above first count page (omega arith)) ∙ sound.bound page l;
-      mapped = λ page none. sound.mapped page (cond_some_none (in_range first count page) prot (get host.areas page) (sym (get-set_range host.areas first count prot page) ∙ none));
-      whole = sound.whole;
+      mapped = λ page none.
+          get-remove_range host.bytes first count page
+          ∙ some_or_none (in_range first count page) prot (get host.areas page) (get host.bytes page) (sym (get-set_range host.areas first count prot page) ∙ none) (sound.mapped page);
+      whole = λ page bytes h. sound.whole page bytes (some_kept (in_range first count page) bytes (get host.bytes page) (sym (get-remove_range host.bytes first count page) ∙ h));
     }
 
 cleared : (b : Bool) (old new : FinMap nat_cmp (List ℕ)) (addr : ℕ) (o : Option Prot) → (b ≡ false → byte_in new addr ≡ byte_in old addr) → cell_at new addr (cond b None o) ≡ cond b None (cell_at old addr o)
@@ -243,10 +263,6 @@ none_kept : (b : Bool) (a o : Option Prot) (p : Option (List ℕ)) → cond b No
 none_kept true a o p h rest = refl
 none_kept false a o p h rest = rest h
 
-some_kept : (b : Bool) (bytes : List ℕ) (p : Option (List ℕ)) → cond b None p ≡ Some bytes → p ≡ Some bytes
-some_kept true bytes p h = absurd (none_some bytes h)
-some_kept false bytes p h = h
-
 cond_none : (b : Bool) (o : Option Prot) → o ≡ None → cond b None o ≡ None
 cond_none true o h = refl
 cond_none false o h = h
@@ -257,4 +273,123 @@ IsSound-unmap host first count sound =
       bound = λ page l. get-remove_range host.areas first count page ∙ cond_none (in_range first count page) (get host.areas page) (sound.bound page l);
       mapped = λ page none. get-remove_range host.bytes first count page ∙ none_kept (in_range first count page) None (get host.areas page) (get host.bytes page) (sym (get-remove_range host.areas first count page) ∙ none) (sound.mapped page);
       whole = λ page bytes h. sound.whole page bytes (some_kept (in_range first count page) bytes (get host.bytes page) (sym (get-remove_range host.bytes first count page) ∙ h));
+    }
+
+-- Pages made missing
+
+zeroes : (b : Bool) (byte : ℕ) (o : Option Prot) → with_byte (cond b 0 byte) o ≡ cond b (written (with_byte byte o) 0) (with_byte byte o)
+zeroes true byte None = refl
+zeroes true byte (Some prot) = refl
+zeroes false byte o = refl
+
+pub memory-dropped : (host : Host) (first count : ℕ) → memory (host_dropped host first count) ≡ zeroed (memory host) (first * 4096) (4096 * count)
+memory-dropped host first count =
+    same_memory (memory (host_dropped host first count)) (zeroed (memory host) (first * 4096) (4096 * count)) (λ q.
+    memory-at (host_dropped host first count) q
+    ∙ ap (λ byte. with_byte byte (get host.areas (q / 4096))) (byte_in-remove host.bytes first count q)
+    ∙ zeroes (in_range first count (q / 4096)) (byte_in host.bytes q) (get host.areas (q / 4096))
+    ∙ ap (λ b. cond b (written (cell_at host.bytes q (get host.areas (q / 4096))) 0) (cell_at host.bytes q (get host.areas (q / 4096)))) (in_range-pages first count q)
+    ∙ ap (λ c. cond (in_range (first * 4096) (4096 * count) q) (written c 0) c) (sym (memory-at host q)))
+
+none_or : (b : Bool) (p : Option (List ℕ)) → p ≡ None → cond b None p ≡ None
+none_or true p h = refl
+none_or false p h = h
+
+pub IsSound-dropped : (host : Host) (first count : ℕ) → IsSound host → IsSound (host_dropped host first count)
+IsSound-dropped host first count sound =
+    record {
+      bound = sound.bound;
+      mapped = λ page none. get-remove_range host.bytes first count page ∙ none_or (in_range first count page) (get host.bytes page) (sound.mapped page none);
+      whole = λ page bytes h. sound.whole page bytes (some_kept (in_range first count page) bytes (get host.bytes page) (sym (get-remove_range host.bytes first count page) ∙ h));
+    }
+
+-- Pages moved
+
+-- a cell from what a page has
+abbrev cell_of : Option (List ℕ) → ℕ → Option Prot → Option Cell
+cell_of held offset o = with_byte (get_or (unwrap_or held []) offset 0) o
+
+abbrev zero_cell : Option Prot → Option Cell
+zero_cell o = with_byte 0 o
+
+chosen_cell : (new old from : Bool) (area growth here : Option Prot) (held own : Option (List ℕ)) (offset : ℕ) →
+    cell_of (cond new (cond old held None) (cond from None own)) offset (cond new (cond old area growth) (cond from None here))
+    ≡ cond new (cond old (cell_of held offset area) (zero_cell growth)) (cond from None (cell_of own offset here))
+chosen_cell true true from area growth here held own offset = refl
+chosen_cell true false from area growth here held own offset = refl
+chosen_cell false old true area growth here held own offset = refl
+chosen_cell false old false area growth here held own offset = refl
+
+shorter_pages : (to count q : ℕ) → ltb (q / 4096 - to) count ≡ ltb (q - to * 4096) (4096 * count)
+shorter_pages to count q = ltb_same (q / 4096 - to) count (q - to * 4096) (4096 * count) (λ h. omega arith) (λ h. omega arith)
+
+grown_cell : (host : Host) (from : ℕ) → zero_cell (get host.areas from) ≡ grown (memory host (from * 4096))
+grown_cell host from =
+    let page : from ≡ from * 4096 / 4096 = omega arith in
+    ap (λ p. zero_cell (get host.areas p)) page
+    ∙ sym (written-cell host.bytes (from * 4096) 0 (get host.areas (from * 4096 / 4096)))
+    ∙ sym (ap (λ c. written c 0) (memory-at host (from * 4096)))
+
+carried_cell : (host : Host) (from to q : ℕ) → to ≤ q / 4096 → cell_of (get host.bytes (from + (q / 4096 - to))) (q % 4096) (get host.areas (from + (q / 4096 - to))) ≡ memory host (from * 4096 + (q - to * 4096))
+carried_cell host from to q l =
+    let page : from + (q / 4096 - to) ≡ (from * 4096 + (q - to * 4096)) / 4096 = omega arith in
+    let offset : q % 4096 ≡ (from * 4096 + (q - to * 4096)) % 4096 = omega arith in
+    ap (λ p. cell_of (get host.bytes p) (q % 4096) (get host.areas p)) page
+    ∙ ap (λ i. cell_of (get host.bytes ((from * 4096 + (q - to * 4096)) / 4096)) i (get host.areas ((from * 4096 + (q - to * 4096)) / 4096))) offset
+    ∙ sym (memory-at host (from * 4096 + (q - to * 4096)))
+
+taken_cell : (new old : Bool) (a b growth rest : Option Cell) → (new ≡ true → a ≡ b) → cond new (cond old a growth) rest ≡ cond new (cond old b growth) rest
+taken_cell true old a b growth rest h = ap (λ c. cond old c growth) (h refl)
+taken_cell false old a b growth rest h = refl
+
+pub memory-moved : (host : Host) (from count to new_count : ℕ) → memory (host_moved host from count to new_count) ≡ moved (memory host) (from * 4096) (4096 * count) (to * 4096) (4096 * new_count)
+memory-moved host from count to new_count =
+    let new = host_moved host from count to new_count in
+    same_memory (memory new) (moved (memory host) (from * 4096) (4096 * count) (to * 4096) (4096 * new_count)) (λ q.
+    let page = q / 4096 in
+    let inside = in_range to new_count page in
+    let carried = ltb (page - to) count in
+    let gone = in_range from count page in
+    memory-at new q
+    ∙ ap (λ o. cell_of (get new.bytes page) (q % 4096) o) (get-moved_range host.areas from count to new_count page (get host.areas from))
+    ∙ ap (λ o. cell_of o (q % 4096) (cond inside (cond carried (get host.areas (from + (page - to))) (get host.areas from)) (cond gone None (get host.areas page)))) (get-moved_range host.bytes from count to new_count page None)
+    ∙ chosen_cell inside carried gone (get host.areas (from + (page - to))) (get host.areas from) (get host.areas page) (get host.bytes (from + (page - to))) (get host.bytes page) (q % 4096)
+    ∙ taken_cell inside carried (cell_of (get host.bytes (from + (page - to))) (q % 4096) (get host.areas (from + (page - to)))) (memory host (from * 4096 + (q - to * 4096))) (zero_cell (get host.areas from)) (cond gone None (cell_at host.bytes q (get host.areas page)))
+    (λ e. carried_cell host from to q (in_range_first to new_count page e).0)
+    ∙ ap (λ c. cond inside (cond carried (memory host (from * 4096 + (q - to * 4096))) c) (cond gone None (cell_at host.bytes q (get host.areas page)))) (grown_cell host from)
+    ∙ ap (λ c. cond inside (cond carried (memory host (from * 4096 + (q - to * 4096))) (grown (memory host (from * 4096)))) (cond gone None c)) (sym (memory-at host q))
+    ∙ ap (λ b. cond b (cond carried (memory host (from * 4096 + (q - to * 4096))) (grown (memory host (from * 4096)))) (cond gone None (memory host q))) (in_range-pages to new_count q)
+    ∙ ap (λ b. cond (in_range (to * 4096) (4096 * new_count) q) (cond b (memory host (from * 4096 + (q - to * 4096))) (grown (memory host (from * 4096)))) (cond gone None (memory host q))) (shorter_pages to count q)
+    ∙ ap (λ b. cond (in_range (to * 4096) (4096 * new_count) q) (cond (ltb (q - to * 4096) (4096 * count)) (memory host (from * 4096 + (q - to * 4096))) (grown (memory host (from * 4096)))) (cond b None (memory host q))) (in_range-pages from count q))
+
+moved_mapped : (new old from : Bool) (area growth here : Option Prot) (held own : Option (List ℕ)) → (area ≡ None → held ≡ None) → (here ≡ None → own ≡ None) →
+    cond new (cond old area growth) (cond from None here) ≡ None → cond new (cond old held None) (cond from None own) ≡ None
+moved_mapped true true from area growth here held own a b h = a h
+moved_mapped true false from area growth here held own a b h = refl
+moved_mapped false old true area growth here held own a b h = refl
+moved_mapped false old false area growth here held own a b h = b h
+
+moved_whole : (new old from : Bool) (held own : Option (List ℕ)) (bytes : List ℕ) → (held ≡ Some bytes → length bytes ≡ 4096) → (own ≡ Some bytes → length bytes ≡ 4096) →
+    cond new (cond old held None) (cond from None own) ≡ Some bytes → length bytes ≡ 4096
+moved_whole true true from held own bytes a b h = a h
+moved_whole true false from held own bytes a b h = absurd (none_some bytes h)
+moved_whole false old true held own bytes a b h = absurd (none_some bytes h)
+moved_whole false old false held own bytes a b h = b h
+
+pub IsSound-moved : (host : Host) (from count to new_count : ℕ) → IsSound host → to + new_count ≤ HIGH_PAGE → IsSound (host_moved host from count to new_count)
+IsSound-moved host from count to new_count sound high =
+    let areas = λ (page : ℕ). get-moved_range host.areas from count to new_count page (get host.areas from) in
+    let bytes = λ (page : ℕ). get-moved_range host.bytes from count to new_count page None in
+    record {
+      bound = λ page l.
+          areas page
+          ∙ ap (λ b. cond b (cond (ltb (page - to) count) (get host.areas (from + (page - to))) (get host.areas from)) (cond (in_range from count page) None (get host.areas page))) (in_range-false_above to new_count page (omega arith))
+          ∙ cond_none (in_range from count page) (get host.areas page) (sound.bound page l);
+      mapped = λ page none.
+          bytes page
+          ∙ moved_mapped (in_range to new_count page) (ltb (page - to) count) (in_range from count page) (get host.areas (from + (page - to))) (get host.areas from) (get host.areas page) (get host.bytes (from + (page - to))) (get host.bytes page)
+          (sound.mapped (from + (page - to))) (sound.mapped page) (sym (areas page) ∙ none);
+      whole = λ page held h.
+          moved_whole (in_range to new_count page) (ltb (page - to) count) (in_range from count page) (get host.bytes (from + (page - to))) (get host.bytes page) held
+          (sound.whole (from + (page - to)) held) (sound.whole page held) (sym (bytes page) ∙ h);
     }

@@ -8,12 +8,13 @@ use Rattle.std.specs.Coded.{Coded, code_by, coded×, coded_ℕ, coded_list}
 use Rattle.mig_base.specs.declared.TheConstants.{PAGE_SIZE, HIGH_PAGE}
 use Rattle.mig_base.specs.declared.Prot.{Prot}
 use Rattle.mig_base.specs.declared.command.Command.{Command}
-use Rattle.mig_base.specs.declared.command.Command.TheVariants.{Store, Mmap, Munmap}
+use Rattle.mig_base.specs.declared.command.Command.TheVariants.{Store, Mmap, Munmap, Mremap, DontNeed}
+use Rattle.mig_base.specs.declared.command.Errno.TheVariants.{Enomem}
 use Rattle.mig_base.specs.declared.command.Reply.{Reply}
-use Rattle.mig_base.specs.declared.command.Reply.TheVariants.{Done, At}
+use Rattle.mig_base.specs.declared.command.Reply.TheVariants.{Done, At, Refused}
 use Rattle.mig_base.specs.Codes.{coded_prot}
 use Rattle.mig_base.specs.Ranges.{pages_of}
-use Rattle.mig_base.specs.Pages.{set_range, remove_range}
+use Rattle.mig_base.specs.Pages.{set_range, remove_range, moved_range}
 use Rattle.mig_base.specs.Bytes.{page_at, contents, overwrite, low_bytes}
 use Rattle.mig_base.specs.Flat.{Memory, reply_of}
 
@@ -41,13 +42,28 @@ byte_in bytes addr = slice_index (page_at bytes (addr / PAGE_SIZE)) (addr % PAGE
 unfoldable pub memory : Host → Memory
 memory host = λ addr. option_map (λ prot. record { byte = byte_in host.bytes addr; prot = prot }) (get host.areas (addr / PAGE_SIZE))
 
--- the host after a command that is answered so. A store makes its page present; new pages are not present yet
+-- the host once its pages have gone from one range to another, where they may be more or fewer: the pages by which it grows have
+-- the protection of the first and are not present
+abbrev pub host_moved : Host → ℕ → ℕ → ℕ → ℕ → Host
+host_moved host from count to new_count =
+    record { areas = moved_range host.areas from count to new_count (get host.areas from); bytes = moved_range host.bytes from count to new_count None }
+
+-- the host once the pages of a range are missing
+abbrev pub host_dropped : Host → ℕ → ℕ → Host
+host_dropped host first count = record host { bytes = remove_range host.bytes first count }
+
+-- the host after a command that is answered so. A store makes its page present; new pages, and those that madvise(2) has made
+-- zeros, are not present
 abbrev pub host_changed : Host → Command → Reply → Host
 host_changed host (Store addr width value) Done =
     record host { bytes = insert host.bytes (addr / PAGE_SIZE) (overwrite (contents host.bytes (addr / PAGE_SIZE)) (addr % PAGE_SIZE) (low_bytes value width)) }
-host_changed host (Mmap len prot place) (At start) = record host { areas = set_range host.areas (start / PAGE_SIZE) (pages_of len) prot }
+host_changed host (Mmap len prot place) (At start) =
+    record { areas = set_range host.areas (start / PAGE_SIZE) (pages_of len) prot; bytes = remove_range host.bytes (start / PAGE_SIZE) (pages_of len) }
 host_changed host (Munmap addr len) Done =
     record { areas = remove_range host.areas (addr / PAGE_SIZE) (pages_of len); bytes = remove_range host.bytes (addr / PAGE_SIZE) (pages_of len) }
+host_changed host (Mremap addr old_len new_len may_move fixed) (At target) = host_moved host (addr / PAGE_SIZE) (pages_of old_len) (target / PAGE_SIZE) (pages_of new_len)
+host_changed host (DontNeed addr len) Done = host_dropped host (addr / PAGE_SIZE) (pages_of len)
+host_changed host (DontNeed addr len) (Refused Enomem) = host_dropped host (addr / PAGE_SIZE) (pages_of len)
 host_changed host _ _ = host
 
 -- the host after a command, which it answers as its memory does

@@ -2,5 +2,15 @@ pub mod Host
 pub mod Frame
 pub mod Node
 pub mod World
+pub mod Userfault
+pub mod Space
+pub mod Ioctls
+pub mod Guest
+pub mod Wire
+pub mod Nodes
+pub mod Migration
+pub mod Invariant
+pub mod Parts
+pub mod Promises
 pub mod Kept
 pub mod Codes

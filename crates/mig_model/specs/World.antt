@@ -4,7 +4,7 @@ use Rattle.std.specs.FinSet as finset
 use Rattle.std.specs.FinMap as finmap
 use Rattle.mig_base.specs.declared.TheConstants.{HIGH_PAGE}
 use Rattle.mig_base.specs.declared.command.Command.{Command}
-use Rattle.mig_base.specs.declared.command.Command.TheVariants.{Load, Store, Mmap, Munmap}
+use Rattle.mig_base.specs.declared.command.Command.TheVariants.{Load, Store, Mmap, Munmap, Mremap, DontNeed}
 use Rattle.mig_base.specs.declared.command.Entry.{Entry}
 use Rattle.mig_base.specs.declared.step.Step.{Step}
 use Rattle.mig_base.specs.declared.step.Step.TheVariants as step
@@ -66,6 +66,8 @@ is_access (Load addr width) = true
 is_access (Store addr width value) = true
 is_access (Mmap len prot place) = false
 is_access (Munmap addr len) = false
+is_access (Mremap addr old_len new_len may_move fixed) = false
+is_access (DontNeed addr len) = false
 
 -- whether a host may take the command now: while none runs processors there is none, and a destination takes no map call yet
 abbrev pub may_issue : World → Command → Bool

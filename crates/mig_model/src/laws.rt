@@ -1,14 +1,18 @@
 //! What holds after every list of steps. Each law is a function with an empty body, whose contract is the law.
 
-ghost use Rattle.std.specs.Prelude.{◌≡◌, ℕ, ◌++◌, ◌∷◌, true, List};
+ghost use Rattle.std.specs.Prelude.{◌≡◌, ℕ, ◌++◌, ◌∷◌, true, false, List};
 ghost use Rattle.mig_base.specs.declared.step.Step.{Step};
 ghost use Rattle.mig_base.specs.declared.step.WorldPhase.TheVariants as phase;
 ghost use Rattle.mig_base.specs.declared.command.Command.{Command};
-ghost use Rattle.mig_base.specs.Flat.{IsFlatRun, memory_of, after};
+ghost use Rattle.mig_base.specs.declared.command.Reply.{Reply};
+ghost use Rattle.mig_base.specs.declared.command.Access.TheVariants as access;
+ghost use Rattle.mig_base.specs.Flat.{IsFlatRun, memory_of, reply_of, after};
 ghost use Rattle.mig_model.specs.Host.{Host, bare_host, memory, host_after, IsSound};
 ghost use Rattle.mig_model.specs.Frame.{Sent};
 ghost use Rattle.mig_model.specs.Node.{IsTaken, is_in_place_back, destination_took};
-ghost use Rattle.mig_model.specs.World.{World, first_world_with, active_host, after_steps, next, phase_of};
+ghost use Rattle.mig_model.specs.World.{World, first_world_with, is_access, active_host, after_steps, next, phase_of};
+ghost use Rattle.mig_model.specs.Space.{Space, fresh_space, IsSoundSpace, access_of, accessed, called};
+ghost use Rattle.mig_model.specs.Ioctls.{handshaken, registered, range_unregistered, copied, zeropaged, write_protected, read_space};
 
 /// The transcript is the run of one flat memory, and the host that runs the processors holds the last memory of that run: the
 /// source until the destination runs, and from then on the destination. It holds after every list of steps, those that are
@@ -48,4 +52,29 @@ pub fn each_step_changes_its_parts()
 pub fn every_command()
     ensures memory { (host : Host) (command : Command) → IsSound host → memory (host_after host command) ≡ after (memory host) command }
     ensures sound { (host : Host) (command : Command) → IsSound host → IsSound (host_after host command) }
+{}
+
+/// Each load, store, map call and call of the userfault object leaves a space with a userfault object in order: what is registered is mapped, and what is
+/// write-protected is present and registered for that.
+pub fn a_space_stays_sound()
+    ensures fresh { IsSoundSpace fresh_space }
+    ensures access { (space : Space) (cpu : ℕ) (command : Command) → is_access command ≡ true → IsSoundSpace space → IsSoundSpace (accessed space cpu command) }
+    ensures call { (space : Space) (cpu : ℕ) (command : Command) → is_access command ≡ false → IsSoundSpace space → IsSoundSpace (called space cpu command) }
+    ensures handshake { (space : Space) (api features : ℕ) → IsSoundSpace space → IsSoundSpace (handshaken space api features) }
+    ensures register { (space : Space) (start len mode : ℕ) → IsSoundSpace space → IsSoundSpace (registered space start len mode) }
+    ensures unregister { (space : Space) (start len : ℕ) → IsSoundSpace space → IsSoundSpace (range_unregistered space start len) }
+    ensures copy { (space : Space) (start : ℕ) (bytes : List ℕ) (mode : ℕ) → IsSoundSpace space → IsSoundSpace (copied space start bytes mode) }
+    ensures zeropage { (space : Space) (start len mode : ℕ) → IsSoundSpace space → IsSoundSpace (zeropaged space start len mode) }
+    ensures writeprotect { (space : Space) (start len mode : ℕ) → IsSoundSpace space → IsSoundSpace (write_protected space start len mode) }
+    ensures read { (space : Space) → IsSoundSpace space → IsSoundSpace (read_space space) }
+{}
+
+/// A space answers as the flat memory of its host does. A load or store that is a page fault leaves the memory as it is, one that is
+/// answered changes it as the flat memory changes, and so does a map call.
+pub fn a_space_answers_as_its_memory()
+    ensures reply { (space : Space) (command : Command) (reply : Reply) → access_of space command ≡ access.Answered reply → reply ≡ reply_of (memory space.host) command }
+    ensures answered { (space : Space) (cpu : ℕ) (command : Command) (reply : Reply) → IsSoundSpace space → access_of space command ≡ access.Answered reply → memory (accessed space cpu command).host ≡ after (memory space.host) command }
+    ensures missing { (space : Space) (cpu : ℕ) (command : Command) → access_of space command ≡ access.Missing → memory (accessed space cpu command).host ≡ memory space.host }
+    ensures protected { (space : Space) (cpu : ℕ) (command : Command) → access_of space command ≡ access.Protected → memory (accessed space cpu command).host ≡ memory space.host }
+    ensures call { (space : Space) (cpu : ℕ) (command : Command) → IsSoundSpace space → memory (called space cpu command).host ≡ after (memory space.host) command }
 {}

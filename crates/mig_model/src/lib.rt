@@ -1,9 +1,15 @@
-//! The machine of a migration: what each step of a world answers and leaves, and its theorem for every list of steps.
+//! The machines: what an address space, a node and a world are, what each step answers and leaves, and the theorems for every list
+//! of steps. There is no code here to run.
 //!
-//! There is no code here to run. `specs/Host.antt` says which flat memory the pages of a host mean, `specs/Frame.antt` what the
-//! two nodes tell each other, `specs/Node.antt` what a node is and how it takes a frame, `specs/World.antt` what a step does, and
-//! `specs/Kept.antt` what every world keeps. [`laws`] has what is proved of it. The crate `hosts` makes the same steps on real
-//! tables.
+//! - One address space: `specs/Host.antt` says which flat memory the pages of a host mean, `specs/Userfault.antt`, `specs/Space.antt`
+//!   and `specs/Ioctls.antt` what a userfault object is, and what loads, stores, map calls and the calls of the object do.
+//! - Stop and copy, which the crate `hosts` makes on real tables: `specs/Frame.antt`, `specs/Node.antt`, `specs/World.antt`, and
+//!   `specs/Kept.antt` for what every world keeps.
+//! - The whole migration, which no code makes yet: `specs/Guest.antt`, `specs/Wire.antt`, `specs/Nodes.antt`, `specs/Migration.antt`,
+//!   and `specs/Invariant.antt`, `specs/Parts.antt` and `specs/Promises.antt` for what holds of it.
+//!
+//! [`laws`] has what is proved of the first two, and [`migration`] what is proved of the third.
 #![tactic(auto)]
 
 pub mod laws;
+pub mod migration;

@@ -1,12 +1,15 @@
 pub mod Bytes
+pub mod Entries
 pub mod Grammar
 pub mod Keywords
 pub mod Lines
 pub mod Meaning
 pub mod Numbers
+pub mod Outcomes
 pub mod Pieces
 pub mod Runs
 pub mod Spaces
 pub mod Tokens
+pub mod Transcripts
 pub mod Whole
 pub mod Writes

@@ -1,11 +1,10 @@
 -- Where the lines of a script end.
 use Rattle.std.proofs.Common.{◌≡◌, ℕ, ◌≤◌, List, [], ◌∷◌, ◌++◌, length, refl, sym, ap, subst, ◌∙◌, append_assoc, arith, inl}
+use Rattle.postmig.specs.declared.line.Language.{Language}
 use Rattle.postmig.specs.declared.line.Line.{Line}
-use Rattle.postmig.specs.declared.line.Line.TheVariants.{Skipped, Make}
-use Rattle.postmig.specs.Printed.{outcome_line}
-use Rattle.postmig.specs.Script.{HasNoFeed, EndedLine, Reads, Runs}
-use Rattle.postmig.specs.Engine.{ReadsEnded}
-use Rattle.postmig.specs.WorldState.{WorldState}
+use Rattle.postmig.specs.declared.line.Line.TheVariants.{Skipped, Make, Enter}
+use Rattle.postmig.specs.Script.{HasNoFeed, EndedLine, Reads}
+use Rattle.postmig.specs.Engine.{Work, Running, Keeping, language_of, Does, Works, ReadsEnded}
 
 pub no_feed-append : (xs ys : List ℕ) → HasNoFeed xs → HasNoFeed ys → HasNoFeed (xs ++ ys)
 no_feed-append [] ys p q = q
@@ -35,8 +34,8 @@ feed_behind (x ∷ xs) (y ∷ ys) a more q e =
     let r = feed_behind xs ys a more q.1 t in
     omega (arith, r)
 
-ended_more : (bytes : List ℕ) (line : Line) (mid more : List ℕ) → EndedLine bytes line mid → EndedLine (bytes ++ more) line (mid ++ more)
-ended_more bytes line mid more e = record {
+ended_more : (l : Language) (bytes : List ℕ) (line : Line) (mid more : List ℕ) → EndedLine l bytes line mid → EndedLine l (bytes ++ more) line (mid ++ more)
+ended_more l bytes line mid more e = record {
   raw = e.raw;
   whole = ap (λ (b : List ℕ). b ++ more) e.whole ∙ append_assoc e.raw (10 ∷ mid) more;
   one = e.one;
@@ -44,24 +43,35 @@ ended_more bytes line mid more e = record {
   spells = e.spells;
 }
 
-pub reads_more : (bytes : List ℕ) (lines : List Line) (rest more : List ℕ) → ReadsEnded bytes lines rest → ReadsEnded (bytes ++ more) lines (rest ++ more)
-reads_more bytes [] rest more r = ap (λ (b : List ℕ). b ++ more) r
-reads_more bytes (line ∷ lines) rest more r = (r.0 ++ more, ended_more bytes line r.0 more r.1, reads_more r.0 lines rest more r.2)
+pub reads_more : (l : Language) (bytes : List ℕ) (lines : List Line) (rest more : List ℕ) → ReadsEnded l bytes lines rest → ReadsEnded l (bytes ++ more) lines (rest ++ more)
+reads_more l bytes [] rest more r = ap (λ (b : List ℕ). b ++ more) r
+reads_more l bytes (line ∷ lines) rest more r = (r.0 ++ more, ended_more l bytes line r.0 more r.1, reads_more l r.0 lines rest more r.2)
 
-pub reads_then : (a : List ℕ) (xs : List Line) (b : List ℕ) (ys : List Line) (c : List ℕ) → ReadsEnded a xs b → ReadsEnded b ys c → ReadsEnded a (xs ++ ys) c
-reads_then a [] b ys c p q = subst (λ (t : List ℕ). ReadsEnded t ys c) (sym p) q
-reads_then a (x ∷ xs) b ys c p q = (p.0, p.1, reads_then p.0 xs b ys c p.2 q)
+pub reads_then : (l : Language) (a : List ℕ) (xs : List Line) (b : List ℕ) (ys : List Line) (c : List ℕ) → ReadsEnded l a xs b → ReadsEnded l b ys c → ReadsEnded l a (xs ++ ys) c
+reads_then l a [] b ys c p q = subst (λ (t : List ℕ). ReadsEnded l t ys c) (sym p) q
+reads_then l a (x ∷ xs) b ys c p q = (p.0, p.1, reads_then l p.0 xs b ys c p.2 q)
 
-pub reads_is : (a : List ℕ) (xs : List Line) (b : List ℕ) → ReadsEnded a xs b → Reads a xs b
-reads_is a [] b p = p
-reads_is a (x ∷ xs) b p = (p.0, inl p.1, reads_is p.0 xs b p.2)
+pub reads_is : (l : Language) (a : List ℕ) (xs : List Line) (b : List ℕ) → ReadsEnded l a xs b → Reads l a xs b
+reads_is l a [] b p = p
+reads_is l a (x ∷ xs) b p = (p.0, inl p.1, reads_is l p.0 xs b p.2)
 
-pub reads_last : (a : List ℕ) (xs : List Line) (b : List ℕ) (ys : List Line) (c : List ℕ) → ReadsEnded a xs b → Reads b ys c → Reads a (xs ++ ys) c
-reads_last a [] b ys c p last = subst (λ (t : List ℕ). Reads t ys c) (sym p) last
-reads_last a (x ∷ xs) b ys c p last = (p.0, inl p.1, reads_last p.0 xs b ys c p.2 last)
+pub reads_last : (l : Language) (a : List ℕ) (xs : List Line) (b : List ℕ) (ys : List Line) (c : List ℕ) → ReadsEnded l a xs b → Reads l b ys c → Reads l a (xs ++ ys) c
+reads_last l a [] b ys c p last = subst (λ (t : List ℕ). Reads l t ys c) (sym p) last
+reads_last l a (x ∷ xs) b ys c p last = (p.0, inl p.1, reads_last l p.0 xs b ys c p.2 last)
 
-pub runs_then : (a : WorldState) (xs : List Line) (b : WorldState) (t : List ℕ) (ys : List Line) (c : WorldState) (u : List ℕ) → Runs a xs b t → Runs b ys c u → Runs a (xs ++ ys) c (t ++ u)
-runs_then a [] b t ys c u p q = rw (p.1, ← p.0) q
-runs_then a (Skipped ∷ xs) b t ys c u p q = runs_then a xs b t ys c u p q
-runs_then a (Make step ∷ xs) b t ys c u p q =
-    (p.0, p.1, p.2 ++ u, p.3, ap (λ (x : List ℕ). x ++ u) p.4 ∙ append_assoc (outcome_line p.0) p.2 u, runs_then p.1 xs b p.2 ys c u p.5 q)
+pub works_then : (a : Work) (xs : List Line) (b : Work) (t : List ℕ) (ys : List Line) (c : Work) (u : List ℕ) → Works a xs b t → Works b ys c u → Works a (xs ++ ys) c (t ++ u)
+works_then a [] b t ys c u p q = rw (p.1, ← p.0) q
+works_then a (x ∷ xs) b t ys c u p q =
+    (p.0, p.1, p.2 ++ u, p.3, ap (λ (z : List ℕ). z ++ u) p.4 ∙ append_assoc p.1 p.2 u, works_then p.0 xs b p.2 ys c u p.5 q)
+
+-- a line leaves the language as it is
+does_keep : (a : Work) (x : Line) (b : Work) (t : List ℕ) → Does a x b t → language_of b ≡ language_of a
+does_keep a Skipped b t d = ap language_of d.0
+does_keep (Running mode state) (Make step) b t d = ap language_of d.1
+does_keep (Running mode state) (Enter entry) b t d = absurd d
+does_keep (Keeping entries) (Make step) b t d = absurd d
+does_keep (Keeping entries) (Enter entry) b t d = ap language_of d.0
+
+pub works_keep : (a : Work) (xs : List Line) (b : Work) (t : List ℕ) → Works a xs b t → language_of b ≡ language_of a
+works_keep a [] b t p = ap language_of p.0
+works_keep a (x ∷ xs) b t p = works_keep p.0 xs b p.2 p.5 ∙ does_keep a x p.0 p.1 p.3

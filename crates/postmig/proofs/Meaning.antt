@@ -1,21 +1,25 @@
--- A script has one meaning.
+-- A script and a transcript have one meaning.
 use Rattle.std.proofs.Common.{◌≡◌, ℕ, ◌≤◌, List, [], ◌∷◌, ◌++◌, length, Some, refl, sym, ap, subst, ◌∙◌, arith, inl, inr}
 use Rattle.std.specs.Prelude.{slice_get}
 use Rattle.std.specs.Str.Lines.{strip_carriage_return}
 use Rattle.mig_base.specs.declared.step.Step.{Step}
 use Rattle.mig_base.specs.declared.step.Step.TheVariants.{Issue, Start, Switch, Deliver, DeliverBack, End}
+use Rattle.mig_base.specs.declared.command.Entry.{Entry}
+use Rattle.postmig.specs.declared.line.Language.{Language}
+use Rattle.postmig.specs.declared.line.Language.TheVariants.{Script, Transcript}
 use Rattle.postmig.specs.declared.line.Line.{Line}
-use Rattle.postmig.specs.declared.line.Line.TheVariants.{Skipped, Make}
+use Rattle.postmig.specs.declared.line.Line.TheVariants.{Skipped, Make, Enter}
+use Rattle.postmig.specs.declared.line_runner.Mode.{Mode}
 use Rattle.postmig.specs.declared.token.Keyword.{Keyword}
 use Rattle.postmig.specs.declared.token.Token.{Token}
-use Rattle.postmig.specs.declared.token.Token.TheVariants.{Key}
+use Rattle.postmig.specs.declared.token.Token.TheVariants.{Key, Number}
 use Rattle.postmig.specs.Words.{keyword_text, words_of, AreTokens}
-use Rattle.postmig.specs.Spelling.{StepForm, IsNothing, SpellsStep, Spells}
-use Rattle.postmig.specs.Script.{HasNoFeed, ReadsLine, Reads, BeginsWrong, Runs}
-use Rattle.postmig.specs.Printed.{outcome_line}
+use Rattle.postmig.specs.Spelling.{StepForm, IsNothing, SpellsStep, SpellsEntry, Spells}
+use Rattle.postmig.specs.Script.{HasNoFeed, ReadsLine, Reads, BeginsWrong, printed, Runs}
 use Rattle.postmig.specs.WorldState.{WorldState, Outcome, Answered}
-use Rattle.postmig.proofs.Tokens.{letter_first}
+use Rattle.postmig.proofs.Tokens.{first_no_digit, number_no_comment}
 use Rattle.postmig.proofs.Grammar.{one_step}
+use Rattle.postmig.proofs.Entries.{one_entry}
 use Rattle.postmig.proofs.Lines.{feed_inside, one_cut}
 
 -- each step begins with a keyword
@@ -27,12 +31,12 @@ form_first Deliver ts h = (_, _, h)
 form_first DeliverBack ts h = (_, _, h)
 form_first End ts h = (_, _, h)
 
-first_byte : (b : ℕ) (bs : List ℕ) → 97 ≤ b → slice_get (b ∷ bs) 0 ≡ Some 35 → ⊥
+first_byte : (b : ℕ) (bs : List ℕ) → 58 ≤ b → slice_get (b ∷ bs) 0 ≡ Some 35 → ⊥
 first_byte b bs le e = let h : b ≡ 35 = cc in absurd (omega (arith, le, h))
 
 no_comment : (k : Keyword) (w : List ℕ) → w ≡ keyword_text k → slice_get w 0 ≡ Some 35 → ⊥
 no_comment k w e h =
-    let l = letter_first k in
+    let l = first_no_digit k in
     first_byte l.0 l.1 l.3 (subst (λ (t : List ℕ). slice_get t 0 ≡ Some 35) (e ∙ l.2) h)
 
 first_is : (k : Keyword) (more : List Token) (words : List (List ℕ)) → AreTokens (Key k ∷ more) words → IsNothing words → ⊥
@@ -44,23 +48,48 @@ nothing_or_step words s nothing p =
     let f = form_first s p.0 p.2 in
     first_is f.0 f.1 words (subst (λ (ts : List Token). AreTokens ts words) f.2 p.1) nothing
 
-pub one_line : (text : List ℕ) (a b : Line) → Spells text a → Spells text b → a ≡ b
-one_line text Skipped Skipped p q = refl
-one_line text Skipped (Make t) p q = absurd (nothing_or_step (words_of text) t p q)
-one_line text (Make s) Skipped p q = absurd (nothing_or_step (words_of text) s q p)
-one_line text (Make s) (Make t) p q = ap (λ (x : Step). Make x) (one_step (words_of text) s t p q)
+number_first : (n : ℕ) (more : List Token) (words : List (List ℕ)) → AreTokens (Number n ∷ more) words → IsNothing words → ⊥
+number_first n more [] are nothing = absurd are
+number_first n more (w ∷ words) are nothing = number_no_comment w n are.0 nothing
 
-pub one_first : (bytes : List ℕ) (a b : Line) (r s : List ℕ) → ReadsLine bytes a r → ReadsLine bytes b s → (a ≡ b) × (r ≡ s)
-one_first bytes a b r s p q = elim p [
+nothing_or_entry : (words : List (List ℕ)) (e : Entry) → IsNothing words → SpellsEntry words e → ⊥
+nothing_or_entry words e nothing p = number_first e.cpu _ words (subst (λ (ts : List Token). AreTokens ts words) p.2.2 p.1) nothing
+
+pub one_line : (l : Language) (text : List ℕ) (a b : Line) → Spells l text a → Spells l text b → a ≡ b
+one_line l text Skipped Skipped p q = refl
+one_line Script text Skipped (Make t) p q = absurd (nothing_or_step (words_of text) t p q)
+one_line Script text (Make s) Skipped p q = absurd (nothing_or_step (words_of text) s q p)
+one_line Script text (Make s) (Make t) p q = ap (λ (x : Step). Make x) (one_step (words_of text) s t p q)
+one_line Script text (Enter d) b p q = absurd p
+one_line Script text a (Enter e) p q = absurd q
+one_line Transcript text Skipped (Enter e) p q = absurd (nothing_or_entry (words_of text) e p q)
+one_line Transcript text (Enter d) Skipped p q = absurd (nothing_or_entry (words_of text) d q p)
+one_line Transcript text (Enter d) (Enter e) p q = ap (λ (x : Entry). Enter x) (one_entry (words_of text) d e p q)
+one_line Transcript text (Make s) b p q = absurd p
+one_line Transcript text a (Make t) p q = absurd q
+
+-- a text that is neither nothing nor a step is no line of a script
+pub no_script_line : (text : List ℕ) → (IsNothing (words_of text) → ⊥) → ((step : Step) → SpellsStep (words_of text) step → ⊥) → (line : Line) → Spells Script text line → ⊥
+no_script_line text nothing none Skipped h = nothing h
+no_script_line text nothing none (Make step) h = none step h
+no_script_line text nothing none (Enter entry) h = h
+
+pub no_transcript_line : (text : List ℕ) → (IsNothing (words_of text) → ⊥) → ((entry : Entry) → SpellsEntry (words_of text) entry → ⊥) → (line : Line) → Spells Transcript text line → ⊥
+no_transcript_line text nothing none Skipped h = nothing h
+no_transcript_line text nothing none (Make step) h = h
+no_transcript_line text nothing none (Enter entry) h = none entry h
+
+pub one_first : (l : Language) (bytes : List ℕ) (a b : Line) (r s : List ℕ) → ReadsLine l bytes a r → ReadsLine l bytes b s → (a ≡ b) × (r ≡ s)
+one_first l bytes a b r s p q = elim p [
   | inl e ↦ elim q [
     | inl f ↦
         let cut = one_cut e.raw f.raw r s e.one f.one (sym e.whole ∙ f.whole) in
-        (one_line (strip_carriage_return f.raw) a b (subst (λ (t : List ℕ). Spells (strip_carriage_return t) a) cut.0 e.spells) f.spells, cut.1)
+        (one_line l (strip_carriage_return f.raw) a b (subst (λ (t : List ℕ). Spells l (strip_carriage_return t) a) cut.0 e.spells) f.spells, cut.1)
     | inr f ↦ absurd (feed_inside e.raw r (subst (λ (t : List ℕ). HasNoFeed t) e.whole f.0.one))
   ]
   | inr e ↦ elim q [
     | inl f ↦ absurd (feed_inside f.raw s (subst (λ (t : List ℕ). HasNoFeed t) f.whole e.0.one))
-    | inr f ↦ (one_line bytes a b e.0.spells f.0.spells, e.1 ∙ sym f.1)
+    | inr f ↦ (one_line l bytes a b e.0.spells f.0.spells, e.1 ∙ sym f.1)
   ]
 ]
 
@@ -69,42 +98,42 @@ long [] ys e = cc
 long (x ∷ xs) ys e = cc
 
 -- no line is read where nothing is left
-some_left : (bytes : List ℕ) (a : Line) (r : List ℕ) → ReadsLine bytes a r → bytes ≡ [] → ⊥
-some_left bytes a r p none = elim p [
+some_left : (l : Language) (bytes : List ℕ) (a : Line) (r : List ℕ) → ReadsLine l bytes a r → bytes ≡ [] → ⊥
+some_left l bytes a r p none = elim p [
   | inl e ↦ long e.raw r (sym e.whole ∙ none)
   | inr e ↦ let zero_long : length bytes ≡ 0 = ap length none in absurd (omega (arith, e.0.some, zero_long))
 ]
 
-pub one_reading : (input : List ℕ) (xs ys : List Line) → Reads input xs [] → Reads input ys [] → xs ≡ ys
-one_reading input [] [] p q = refl
-one_reading input [] (y ∷ ys) p q = absurd (some_left input y q.0 q.1 p)
-one_reading input (x ∷ xs) [] p q = absurd (some_left input x p.0 p.1 q)
-one_reading input (x ∷ xs) (y ∷ ys) p q =
-    let f = one_first input x y p.0 q.0 p.1 q.1 in
-    let rest = one_reading q.0 xs ys (subst (λ (t : List ℕ). Reads t xs []) f.1 p.2) q.2 in
+pub one_reading : (l : Language) (input : List ℕ) (xs ys : List Line) → Reads l input xs [] → Reads l input ys [] → xs ≡ ys
+one_reading l input [] [] p q = refl
+one_reading l input [] (y ∷ ys) p q = absurd (some_left l input y q.0 q.1 p)
+one_reading l input (x ∷ xs) [] p q = absurd (some_left l input x p.0 p.1 q)
+one_reading l input (x ∷ xs) (y ∷ ys) p q =
+    let f = one_first l input x y p.0 q.0 p.1 q.1 in
+    let rest = one_reading l q.0 xs ys (subst (λ (t : List ℕ). Reads l t xs []) f.1 p.2) q.2 in
     ap (λ (z : Line). z ∷ xs) f.0 ∙ ap (λ (zs : List Line). y ∷ zs) rest
 
-wrong_or_line : (bytes : List ℕ) (a : Line) (r : List ℕ) (rest : List ℕ) → BeginsWrong rest → bytes ≡ rest → ReadsLine bytes a r → ⊥
-wrong_or_line bytes a r rest w e p = w.wrong a r (subst (λ (t : List ℕ). ReadsLine t a r) e p)
+wrong_or_line : (l : Language) (bytes : List ℕ) (a : Line) (r : List ℕ) (rest : List ℕ) → BeginsWrong l rest → bytes ≡ rest → ReadsLine l bytes a r → ⊥
+wrong_or_line l bytes a r rest w e p = w.wrong a r (subst (λ (t : List ℕ). ReadsLine l t a r) e p)
 
 -- a script has one first line that is wrong
-pub one_fault : (input : List ℕ) (xs ys : List Line) (r s : List ℕ) → Reads input xs r → BeginsWrong r → Reads input ys s → BeginsWrong s → xs ≡ ys
-one_fault input [] [] r s p w q v = refl
-one_fault input [] (y ∷ ys) r s p w q v = absurd (wrong_or_line input y q.0 r w p q.1)
-one_fault input (x ∷ xs) [] r s p w q v = absurd (wrong_or_line input x p.0 s v q p.1)
-one_fault input (x ∷ xs) (y ∷ ys) r s p w q v =
-    let f = one_first input x y p.0 q.0 p.1 q.1 in
-    let rest = one_fault q.0 xs ys r s (subst (λ (t : List ℕ). Reads t xs r) f.1 p.2) w q.2 v in
+pub one_fault : (l : Language) (input : List ℕ) (xs ys : List Line) (r s : List ℕ) → Reads l input xs r → BeginsWrong l r → Reads l input ys s → BeginsWrong l s → xs ≡ ys
+one_fault l input [] [] r s p w q v = refl
+one_fault l input [] (y ∷ ys) r s p w q v = absurd (wrong_or_line l input y q.0 r w p q.1)
+one_fault l input (x ∷ xs) [] r s p w q v = absurd (wrong_or_line l input x p.0 s v q p.1)
+one_fault l input (x ∷ xs) (y ∷ ys) r s p w q v =
+    let f = one_first l input x y p.0 q.0 p.1 q.1 in
+    let rest = one_fault l q.0 xs ys r s (subst (λ (t : List ℕ). Reads l t xs r) f.1 p.2) w q.2 v in
     ap (λ (z : Line). z ∷ xs) f.0 ∙ ap (λ (zs : List Line). y ∷ zs) rest
 
 -- a script that is read to its end has none
-pub no_fault : (input : List ℕ) (xs ys : List Line) (s : List ℕ) → Reads input xs [] → Reads input ys s → BeginsWrong s → ⊥
-no_fault input [] [] s p q v = let zero_long : length s ≡ 0 = ap length (sym q ∙ p) in absurd (omega (arith, zero_long, v.some))
-no_fault input [] (y ∷ ys) s p q v = some_left input y q.0 q.1 p
-no_fault input (x ∷ xs) [] s p q v = wrong_or_line input x p.0 s v q p.1
-no_fault input (x ∷ xs) (y ∷ ys) s p q v =
-    let f = one_first input x y p.0 q.0 p.1 q.1 in
-    no_fault q.0 xs ys s (subst (λ (t : List ℕ). Reads t xs []) f.1 p.2) q.2 v
+pub no_fault : (l : Language) (input : List ℕ) (xs ys : List Line) (s : List ℕ) → Reads l input xs [] → Reads l input ys s → BeginsWrong l s → ⊥
+no_fault l input [] [] s p q v = let zero_long : length s ≡ 0 = ap length (sym q ∙ p) in absurd (omega (arith, zero_long, v.some))
+no_fault l input [] (y ∷ ys) s p q v = some_left l input y q.0 q.1 p
+no_fault l input (x ∷ xs) [] s p q v = wrong_or_line l input x p.0 s v q p.1
+no_fault l input (x ∷ xs) (y ∷ ys) s p q v =
+    let f = one_first l input x y p.0 q.0 p.1 q.1 in
+    no_fault l q.0 xs ys s (subst (λ (t : List ℕ). Reads l t xs []) f.1 p.2) q.2 v
 
 -- a step has one outcome, want of memory aside
 one_answer : (old : WorldState) (step : Step) (a b : Outcome) (s t : WorldState) → Answered old step a s → Answered old step b t → (a ≡ b) × (s ≡ t)
@@ -117,10 +146,11 @@ one_answer old step a b s t p q = elim p.1 [
 ]
 
 -- lines have one output
-pub one_run : (start : WorldState) (lines : List Line) (s t : WorldState) (a b : List ℕ) → Runs start lines s a → Runs start lines t b → (s ≡ t) × (a ≡ b)
-one_run start [] s t a b p q = (p.0 ∙ sym q.0, p.1 ∙ sym q.1)
-one_run start (Skipped ∷ lines) s t a b p q = one_run start lines s t a b p q
-one_run start (Make step ∷ lines) s t a b p q =
+pub one_run : (mode : Mode) (start : WorldState) (lines : List Line) (s t : WorldState) (a b : List ℕ) → Runs mode start lines s a → Runs mode start lines t b → (s ≡ t) × (a ≡ b)
+one_run mode start [] s t a b p q = (p.0 ∙ sym q.0, p.1 ∙ sym q.1)
+one_run mode start (Skipped ∷ lines) s t a b p q = one_run mode start lines s t a b p q
+one_run mode start (Make step ∷ lines) s t a b p q =
     let same = one_answer start step p.0 q.0 p.1 q.1 p.3 q.3 in
-    let rest = one_run q.1 lines s t p.2 q.2 (subst (λ (x : WorldState). Runs x lines s p.2) same.1 p.5) q.5 in
-    (rest.0, p.4 ∙ ap (λ (x : Outcome). outcome_line x ++ p.2) same.0 ∙ ap (λ (x : List ℕ). outcome_line q.0 ++ x) rest.1 ∙ sym q.4)
+    let rest = one_run mode q.1 lines s t p.2 q.2 (subst (λ (x : WorldState). Runs mode x lines s p.2) same.1 p.5) q.5 in
+    (rest.0, p.4 ∙ ap (λ (x : Outcome). printed mode start x p.1 ++ p.2) same.0 ∙ ap (λ (x : WorldState). printed mode start q.0 x ++ p.2) same.1 ∙ ap (λ (x : List ℕ). printed mode start q.0 q.1 ++ x) rest.1 ∙ sym q.4)
+one_run mode start (Enter entry ∷ lines) s t a b p q = absurd p

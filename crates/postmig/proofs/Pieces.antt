@@ -7,10 +7,10 @@ use Rattle.postmig.specs.declared.line.Line.{Line}
 use Rattle.postmig.specs.declared.fault.RunFault.{RunFault}
 use Rattle.postmig.specs.declared.fault.RunFault.TheVariants as faults
 use Rattle.postmig.specs.Spelling.{Spells}
-use Rattle.postmig.specs.Script.{HasNoFeed, LastLine, BeginsWrong, Runs}
-use Rattle.postmig.specs.Engine.{Gathered, Place, Made, MakeFault, Advances, Fed, Faults, FedUntil, Passes, Halts, Closes, CloseFault}
+use Rattle.postmig.specs.Script.{HasNoFeed, LastLine, BeginsWrong}
+use Rattle.postmig.specs.Engine.{Gathered, Place, Work, language_of, Works, Made, MakeFault, Advances, Fed, Faults, FedUntil, Front, Passes, Halts, Closes, CloseFault}
 use Rattle.postmig.proofs.Lines.{feed_inside}
-use Rattle.postmig.proofs.Runs.{fed_none, fed_then, until_then, until_more, fed_held}
+use Rattle.postmig.proofs.Runs.{fed_none, fed_then, until_then, until_more, fed_held, one_work}
 
 -- ---- the lines of a piece
 
@@ -62,13 +62,13 @@ pub piece_passes : {T E : Type 0} (fed : Result T E) (a b c : Place) (bytes : Li
 piece_passes (Err x) a b c bytes u v none f e appends = tt
 piece_passes (Ok x) a b c bytes u v none f e appends = rw e (record {
   text = f.text;
-  advances = record { lines = f.advances.lines; reads = f.advances.reads; number = f.advances.number; runs = f.advances.runs };
+  advances = record { lines = f.advances.lines; reads = f.advances.reads; number = f.advances.number; works = f.advances.works };
   appends = subst (λ (t : List ℕ). Appends u v t) (only a.output b.output f.text none f.gathers) appends;
 })
 
 -- the output that was written is taken away
-pub cleared : (b : Place) (runner new : Gathered) (line : List ℕ) (number : ℕ) → record { state = runner.state; output = runner.output; line = line; number = number } ≡ b → new ≡ record runner { output = [] }
-    → record { state = new.state; output = new.output; line = line; number = number } ≡ record b { output = [] }
+pub cleared : (b : Place) (runner new : Gathered) (line : List ℕ) (number : ℕ) → record { work = runner.work; output = runner.output; line = line; number = number } ≡ b → new ≡ record runner { output = [] }
+    → record { work = new.work; output = new.output; line = line; number = number } ≡ record b { output = [] }
 cleared b runner new line number e none = rw (none, ← e) refl
 
 until_halts : (a : Place) (bytes output : List ℕ) (fault : RunFault) (u v : Option (List ℕ)) → a.output ≡ [] → FedUntil a bytes fault output → Appends u v output → Halts a bytes fault u v
@@ -82,32 +82,31 @@ pub piece_halts : {T : Type 0} (fed : Result T RunFault) (a : Place) (bytes outp
 piece_halts (Ok x) a bytes output u v none f appends = tt
 piece_halts (Err fault) a bytes output u v none f appends = until_halts a bytes output fault u v none f appends
 
--- a front of the bytes went out
-abbrev pub Front : List ℕ → Option (List ℕ) → Option (List ℕ) → Type 0
-Front bytes before after = (written : List ℕ) × (more : List ℕ) × (bytes ≡ written ++ more) × Appends before after written
-
 advances_unwritten : (a b : Place) (bytes text output : List ℕ) (u v : Option (List ℕ)) → Advances a bytes b text → output ≡ text → Front output u v → Halts a bytes faults.WriteFault u v
 advances_unwritten a b bytes text output u v p e front = (
   front.0,
   front.1,
-  record { lines = p.lines; rest = b.line; end = b.state; reads = p.reads; runs = subst (λ (t : List ℕ). Runs a.state p.lines b.state t) (sym e ∙ front.2) p.runs },
+  record { lines = p.lines; rest = b.line; end = b.work; reads = p.reads; works = subst (λ (t : List ℕ). Works a.work p.lines b.work t) (sym e ∙ front.2) p.works },
   front.3,
+  front.4,
 )
 
 until_unwritten : (a : Place) (bytes text output : List ℕ) (fault : RunFault) (u v : Option (List ℕ)) → Faults a bytes fault text → output ≡ text → Front output u v → Halts a bytes faults.WriteFault u v
 until_unwritten a bytes text output (faults.Line n) u v p e front = (
   front.0,
   front.1,
-  record { lines = p.lines; rest = p.rest; end = p.end; reads = p.reads; runs = subst (λ (t : List ℕ). Runs a.state p.lines p.end t) (sym e ∙ front.2) p.runs },
+  record { lines = p.lines; rest = p.rest; end = p.end; reads = p.reads; works = subst (λ (t : List ℕ). Works a.work p.lines p.end t) (sym e ∙ front.2) p.works },
   front.3,
+  front.4,
 )
 until_unwritten a bytes text output faults.ReadFault u v p e front = absurd p
 until_unwritten a bytes text output faults.WriteFault u v p e front = absurd p
 until_unwritten a bytes text output faults.NoMemory u v p e front = (
   front.0,
   front.1,
-  record { lines = p.lines; rest = p.rest; end = p.end; reads = p.reads; runs = subst (λ (t : List ℕ). Runs a.state p.lines p.end t) (append-nil text ∙ sym e ∙ front.2) p.runs },
+  record { lines = p.lines; rest = p.rest; end = p.end; reads = p.reads; works = subst (λ (t : List ℕ). Works a.work p.lines p.end t) (append-nil text ∙ sym e ∙ front.2) p.works },
   front.3,
+  front.4,
 )
 
 pub piece_unwritten : {T : Type 0} (fed : Result T RunFault) (a b : Place) (bytes : List ℕ) (u v : Option (List ℕ)) → a.output ≡ [] → OnOk fed (Fed a bytes b) → IfErr fed (λ fault. FedUntil a bytes fault b.output) → Front b.output u v
@@ -123,10 +122,10 @@ pub record IsOpen (a : Place) : Type 0 where
   pub one : HasNoFeed a.line
   pub short : length a.line ≤ 256
 
-last_line : (a : Place) (line : Line) → IsOpen a → Spells a.line line → LastLine a.line line
+last_line : (a : Place) (line : Line) → IsOpen a → Spells (language_of a.work) a.line line → LastLine (language_of a.work) a.line line
 last_line a line held spells = record { some = held.some; one = held.one; short = held.short; spells = spells }
 
-last_wrong : (a : Place) → IsOpen a → ((line : Line) → Spells a.line line → ⊥) → BeginsWrong a.line
+last_wrong : (a : Place) → IsOpen a → ((line : Line) → Spells (language_of a.work) a.line line → ⊥) → BeginsWrong (language_of a.work) a.line
 last_wrong a held wrong = record {
   some = held.some;
   wrong = λ line rest r. elim r [
@@ -135,24 +134,24 @@ last_wrong a held wrong = record {
   ];
 }
 
-pub closes_nothing : (a : Place) (u : Option (List ℕ)) → a.line ≡ [] → Closes a [] [] [] u u
-closes_nothing a u none = record { lines = []; end = a.state; reads = none; runs = (refl, refl); appends = Appends-nil u }
+pub closes_nothing : (a : Place) (u : Option (List ℕ)) → a.line ≡ [] → Closes a a.work [] [] [] u u
+closes_nothing a u none = record { lines = []; reads = none; works = (refl, refl); appends = Appends-nil u }
 
-pub closes_made : {T E : Type 0} (run : Result T E) (a : Place) (new : Gathered) (u v : Option (List ℕ)) → IsOpen a → a.output ≡ [] → OnOk run (Made (record { state = a.state; output = a.output }) a.line new) → Appends u v new.output
-    → OnOk run ((text : List ℕ) × Closes a [] text [] u v)
-closes_made (Err x) a new u v held none m appends = tt
-closes_made (Ok x) a new u v held none m appends = (
-  m.out,
+pub closes_made : {T E : Type 0} (run : Result T E) (a : Place) (new : Gathered) (end : Work) (u v : Option (List ℕ)) → IsOpen a → a.output ≡ [] → OnOk run (Made (record { work = a.work; output = a.output }) a.line new) → end ≡ new.work
+    → Appends u v new.output → OnOk run ((text : List ℕ) × Closes a end [] text [] u v)
+closes_made (Err x) a new end u v held none m is appends = tt
+closes_made (Ok x) a new end u v held none m is appends = (
+  m.2.out,
   record {
-    lines = m.line ∷ [];
-    end = new.state;
-    reads = ([], inr (last_line a m.line held m.spells, refl), refl);
-    runs = subst (λ (t : List ℕ). Runs a.state (m.line ∷ []) new.state t) (sym (append-nil m.out)) m.runs;
-    appends = subst (λ (t : List ℕ). Appends u v t) (only a.output new.output m.out none m.gathers) appends;
+    lines = m.0 ∷ [];
+    reads = ([], inr (last_line a m.0 held m.1, refl), refl);
+    works = subst (λ (w : Work). Works a.work (m.0 ∷ []) w (m.2.out ++ [])) (sym is)
+        (subst (λ (t : List ℕ). Works a.work (m.0 ∷ []) new.work t) (sym (append-nil m.2.out)) (one_work a.work m.0 new.work m.2.out m.2.does));
+    appends = subst (λ (t : List ℕ). Appends u v t) (only a.output new.output m.2.out none m.2.gathers) appends;
   },
 )
 
-closes_fault : (a : Place) (output : List ℕ) (fault : RunFault) (u v : Option (List ℕ)) → IsOpen a → output ≡ [] → MakeFault (a.number + 1) a.line fault → Appends u v output → CloseFault a fault u v
+closes_fault : (a : Place) (output : List ℕ) (fault : RunFault) (u v : Option (List ℕ)) → IsOpen a → output ≡ [] → MakeFault (language_of a.work) (a.number + 1) a.line fault → Appends u v output → CloseFault a fault u v
 closes_fault a output (faults.Line n) u v held none h appends = record {
   number = h.0;
   wrong = last_wrong a held h.1;
@@ -161,36 +160,38 @@ closes_fault a output (faults.Line n) u v held none h appends = record {
 closes_fault a output faults.ReadFault u v held none h appends = h
 closes_fault a output faults.WriteFault u v held none h appends = absurd h
 closes_fault a output faults.NoMemory u v held none h appends =
-    (a.line, [], record { lines = []; end = a.state; reads = refl; runs = (refl, refl); appends = subst (λ (t : List ℕ). Appends u v t) none appends })
+    (a.work, a.line, [], record { lines = []; reads = refl; works = (refl, refl); appends = subst (λ (t : List ℕ). Appends u v t) none appends })
 
-pub closes_faulted : {T : Type 0} (run : Result T RunFault) (a : Place) (output : List ℕ) (u v : Option (List ℕ)) → IsOpen a → a.output ≡ [] → IfErr run (λ fault. MakeFault (a.number + 1) a.line fault) → OnErr run (output ≡ a.output)
-    → Appends u v output → IfErr run (λ fault. CloseFault a fault u v)
+pub closes_faulted : {T : Type 0} (run : Result T RunFault) (a : Place) (output : List ℕ) (u v : Option (List ℕ)) → IsOpen a → a.output ≡ [] → IfErr run (λ fault. MakeFault (language_of a.work) (a.number + 1) a.line fault)
+    → OnErr run (output ≡ a.output) → Appends u v output → IfErr run (λ fault. CloseFault a fault u v)
 closes_faulted (Ok x) a output u v held none h kept appends = tt
 closes_faulted (Err fault) a output u v held none h kept appends = closes_fault a output fault u v held (kept ∙ none) h appends
 
-pub closes_unwritten : {T : Type 0} (run : Result T RunFault) (a : Place) (new : Gathered) (u v : Option (List ℕ)) → IsOpen a → a.output ≡ [] → OnOk run (Made (record { state = a.state; output = a.output }) a.line new)
+pub closes_unwritten : {T : Type 0} (run : Result T RunFault) (a : Place) (new : Gathered) (u v : Option (List ℕ)) → IsOpen a → a.output ≡ [] → OnOk run (Made (record { work = a.work; output = a.output }) a.line new)
     → OnErr run (new.output ≡ a.output) → Front new.output u v → CloseFault a faults.WriteFault u v
 closes_unwritten (Ok x) a new u v held none m kept front = (
+  new.work,
   [],
   front.0,
   front.1,
+  front.3,
   record {
-    lines = m.line ∷ [];
-    end = new.state;
-    reads = ([], inr (last_line a m.line held m.spells, refl), refl);
-    runs = subst (λ (t : List ℕ). Runs a.state (m.line ∷ []) new.state t) (sym (only a.output new.output m.out none m.gathers) ∙ front.2) m.runs;
-    appends = front.3;
+    lines = m.0 ∷ [];
+    reads = ([], inr (last_line a m.0 held m.1, refl), refl);
+    works = subst (λ (t : List ℕ). Works a.work (m.0 ∷ []) new.work t) (sym (only a.output new.output m.2.out none m.2.gathers) ∙ front.2) (one_work a.work m.0 new.work m.2.out m.2.does);
+    appends = front.4;
   },
 )
 closes_unwritten (Err x) a new u v held none m kept front = (
+  a.work,
   a.line,
   front.0,
   front.1,
+  front.3,
   record {
     lines = [];
-    end = a.state;
     reads = refl;
-    runs = (refl, sym front.2 ∙ kept ∙ none);
-    appends = front.3;
+    works = (refl, sym front.2 ∙ kept ∙ none);
+    appends = front.4;
   },
 )

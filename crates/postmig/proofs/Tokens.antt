@@ -1,5 +1,6 @@
 -- The tokens of a list of words.
-use Rattle.std.proofs.Common.{◌≡◌, ℕ, ◌<◌, List, [], ◌∷◌, ◌++◌, arith, refl, ap, ◌∙◌, sym, subst, ◌≤◌, lit≤, cond, inl, inr, append_assoc, append-nil}
+use Rattle.std.proofs.Common.{◌≡◌, ℕ, ◌<◌, List, [], ◌∷◌, ◌++◌, arith, refl, ap, ◌∙◌, sym, subst, ◌≤◌, lit≤, cond, inl, inr, append_assoc, append-nil, Some}
+use Rattle.std.specs.Prelude.{slice_get}
 use Rattle.std.proofs.lemmas.Bool.Decides.{nat_tests}
 use Rattle.std.specs.Char.{digit_value}
 use Rattle.std.specs.Str.{bytes_eq}
@@ -56,23 +57,46 @@ tokens_wrong text tokens rest word behind so_far first none others are =
 
 -- ---- a word is one token, and a line one list of tokens
 
-pub letter_first : (k : Keyword) → (b : ℕ) × (bs : List ℕ) × (keyword_text k ≡ b ∷ bs) × (97 ≤ b)
-letter_first key.Cpu = (_, _, refl, lit≤ tt)
-letter_first key.Load = (_, _, refl, lit≤ tt)
-letter_first key.Store = (_, _, refl, lit≤ tt)
-letter_first key.Mmap = (_, _, refl, lit≤ tt)
-letter_first key.Munmap = (_, _, refl, lit≤ tt)
-letter_first key.NoAccess = (_, _, refl, lit≤ tt)
-letter_first key.Read = (_, _, refl, lit≤ tt)
-letter_first key.ReadWrite = (_, _, refl, lit≤ tt)
-letter_first key.Start = (_, _, refl, lit≤ tt)
-letter_first key.Switch = (_, _, refl, lit≤ tt)
-letter_first key.Deliver = (_, _, refl, lit≤ tt)
-letter_first key.Back = (_, _, refl, lit≤ tt)
-letter_first key.End = (_, _, refl, lit≤ tt)
+-- the first byte of a keyword comes after the digits
+pub first_no_digit : (k : Keyword) → (b : ℕ) × (bs : List ℕ) × (keyword_text k ≡ b ∷ bs) × (58 ≤ b)
+first_no_digit key.Cpu = (_, _, refl, lit≤ tt)
+first_no_digit key.Load = (_, _, refl, lit≤ tt)
+first_no_digit key.Store = (_, _, refl, lit≤ tt)
+first_no_digit key.Mmap = (_, _, refl, lit≤ tt)
+first_no_digit key.Munmap = (_, _, refl, lit≤ tt)
+first_no_digit key.NoAccess = (_, _, refl, lit≤ tt)
+first_no_digit key.Read = (_, _, refl, lit≤ tt)
+first_no_digit key.ReadWrite = (_, _, refl, lit≤ tt)
+first_no_digit key.Start = (_, _, refl, lit≤ tt)
+first_no_digit key.Switch = (_, _, refl, lit≤ tt)
+first_no_digit key.Deliver = (_, _, refl, lit≤ tt)
+first_no_digit key.Back = (_, _, refl, lit≤ tt)
+first_no_digit key.End = (_, _, refl, lit≤ tt)
+first_no_digit key.Gives = (_, _, refl, lit≤ tt)
+first_no_digit key.Value = (_, _, refl, lit≤ tt)
+first_no_digit key.Done = (_, _, refl, lit≤ tt)
+first_no_digit key.At = (_, _, refl, lit≤ tt)
+first_no_digit key.Segv = (_, _, refl, lit≤ tt)
+first_no_digit key.Unmapped = (_, _, refl, lit≤ tt)
+first_no_digit key.Protected = (_, _, refl, lit≤ tt)
+first_no_digit key.Bad = (_, _, refl, lit≤ tt)
+first_no_digit key.Access = (_, _, refl, lit≤ tt)
+first_no_digit key.Refused = (_, _, refl, lit≤ tt)
+first_no_digit key.Eperm = (_, _, refl, lit≤ tt)
+first_no_digit key.Enoent = (_, _, refl, lit≤ tt)
+first_no_digit key.Eagain = (_, _, refl, lit≤ tt)
+first_no_digit key.Enomem = (_, _, refl, lit≤ tt)
+first_no_digit key.Efault = (_, _, refl, lit≤ tt)
+first_no_digit key.Eexist = (_, _, refl, lit≤ tt)
+first_no_digit key.Einval = (_, _, refl, lit≤ tt)
+first_no_digit key.Mremap = (_, _, refl, lit≤ tt)
+first_no_digit key.DontNeed = (_, _, refl, lit≤ tt)
+first_no_digit key.Fixed = (_, _, refl, lit≤ tt)
+first_no_digit key.NoReplace = (_, _, refl, lit≤ tt)
+first_no_digit key.MayMove = (_, _, refl, lit≤ tt)
 
-letter_no_digit : (b : ℕ) → 97 ≤ b → digit_value b < 10 → ⊥
-letter_no_digit b le lt = grind (arith, nat_tests)
+behind_digits : (b : ℕ) → 58 ≤ b → digit_value b < 10 → ⊥
+behind_digits b le lt = grind (arith, nat_tests)
 
 head_is : (a : ℕ) (rest : List ℕ) (b : ℕ) (bs : List ℕ) → a ∷ rest ≡ b ∷ bs → a ≡ b
 head_is a rest b bs e = cc
@@ -80,20 +104,40 @@ head_is a rest b bs e = cc
 tail_is : (xs ys : List ℕ) → 48 ∷ 120 ∷ xs ≡ 48 ∷ 120 ∷ ys → xs ≡ ys
 tail_is xs ys e = cc
 
-no_number : (b : ℕ) (bs : List ℕ) (n : ℕ) → 97 ≤ b → IsNumber (b ∷ bs) n → ⊥
+no_number : (b : ℕ) (bs : List ℕ) (n : ℕ) → 58 ≤ b → IsNumber (b ∷ bs) n → ⊥
 no_number b bs n le h = elim h.1 [
-  | inl d ↦ letter_no_digit b le d.each.0
+  | inl d ↦ behind_digits b le d.each.0
   | inr d ↦ let e : b ≡ 48 = head_is b bs 48 (120 ∷ d.0) d.1 in absurd (omega arith)
 ]
 
 keyword_no_number : (k : Keyword) (w : List ℕ) (n : ℕ) → w ≡ keyword_text k → IsNumber w n → ⊥
 keyword_no_number k w n e h =
-    let l = letter_first k in
+    let l = first_no_digit k in
     no_number l.0 l.1 n l.3 (subst (λ (t : List ℕ). IsNumber t n) (e ∙ l.2) h)
+
+no_mark : (b : ℕ) → b ≡ 48 → b ≡ 35 → ⊥
+no_mark b e f = absurd (omega arith)
+
+first_is : (b : ℕ) (bs : List ℕ) → slice_get (b ∷ bs) 0 ≡ Some 35 → b ≡ 35
+first_is b bs e = cc
+
+mark_no_digit : (b : ℕ) → b ≡ 35 → digit_value b < 10 → ⊥
+mark_no_digit b e lt = grind (arith, nat_tests)
+
+decimal_no_comment : (w : List ℕ) (n : ℕ) → Digits 10 20 w n → slice_get w 0 ≡ Some 35 → ⊥
+decimal_no_comment [] n d e = cc
+decimal_no_comment (b ∷ bs) n d e = mark_no_digit b (first_is b bs e) d.each.0
+
+-- a number begins with no #
+pub number_no_comment : (w : List ℕ) (n : ℕ) → IsNumber w n → slice_get w 0 ≡ Some 35 → ⊥
+number_no_comment w n h e = elim h.1 [
+  | inl d ↦ decimal_no_comment w n d e
+  | inr d ↦ no_mark 48 refl (first_is 48 (120 ∷ d.0) (subst (λ (t : List ℕ). slice_get t 0 ≡ Some 35) d.1 e))
+]
 
 -- no word is both decimal and hexadecimal
 mixed : (w : List ℕ) (m n : ℕ) → Digits 10 20 w m → (text : List ℕ) → w ≡ 48 ∷ 120 ∷ text → ⊥
-mixed w m n d text e = letter_no_digit 120 (lit≤ tt) (subst (λ (t : List ℕ). AllDigits 10 t) e d.each).1.0
+mixed w m n d text e = behind_digits 120 (lit≤ tt) (subst (λ (t : List ℕ). AllDigits 10 t) e d.each).1.0
 
 one_number : (w : List ℕ) (m n : ℕ) → IsNumber w m → IsNumber w n → m ≡ n
 one_number w m n p q = elim p.1 [
@@ -127,6 +171,28 @@ keyword_again key.Switch = refl
 keyword_again key.Deliver = refl
 keyword_again key.Back = refl
 keyword_again key.End = refl
+keyword_again key.Gives = refl
+keyword_again key.Value = refl
+keyword_again key.Done = refl
+keyword_again key.At = refl
+keyword_again key.Segv = refl
+keyword_again key.Unmapped = refl
+keyword_again key.Protected = refl
+keyword_again key.Bad = refl
+keyword_again key.Access = refl
+keyword_again key.Refused = refl
+keyword_again key.Eperm = refl
+keyword_again key.Enoent = refl
+keyword_again key.Eagain = refl
+keyword_again key.Enomem = refl
+keyword_again key.Efault = refl
+keyword_again key.Eexist = refl
+keyword_again key.Einval = refl
+keyword_again key.Mremap = refl
+keyword_again key.DontNeed = refl
+keyword_again key.Fixed = refl
+keyword_again key.NoReplace = refl
+keyword_again key.MayMove = refl
 
 one_keyword : (j k : Keyword) → keyword_text j ≡ keyword_text k → j ≡ k
 one_keyword j k e = sym (keyword_again j) ∙ ap (λ (w : List ℕ). first_of_text w all_keywords) e ∙ keyword_again k

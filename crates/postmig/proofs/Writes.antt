@@ -1,6 +1,7 @@
 -- Bytes that go out in several writes.
-use Rattle.std.proofs.Common.{◌≡◌, ℕ, ◌-◌, List, [], ◌++◌, length, take, drop, refl, sym, ap, ◌∙◌, append_assoc, append-nil, arith}
+use Rattle.std.proofs.Common.{◌≡◌, ℕ, ◌-◌, ◌<◌, List, [], ◌++◌, length, take, drop, refl, sym, ap, ◌∙◌, append_assoc, append-nil, arith}
 use Rattle.std.specs.Prelude.{Option}
+use Rattle.postmig.specs.Engine.{Front}
 use Rattle.std.specs.Io.KnownBytes.{Appends, Keeps}
 use Rattle.std.proofs.lemmas.List.{take-append-drop, take_all, length-drop}
 use Rattle.std.proofs.KnownBytes.{Appends-nil, Appends-trans, Appends-kept}
@@ -21,14 +22,15 @@ wrote_more bytes rest n a b c so_far next = record {
   appends = Appends-trans a b c so_far.written (take n rest) so_far.appends next;
 }
 
-pub wrote_kept : (bytes rest : List ℕ) (a b c : Option (List ℕ)) → Wrote bytes rest a b → Keeps b c → Wrote bytes rest a c
-wrote_kept bytes rest a b c so_far kept = record { written = so_far.written; parts = so_far.parts; appends = Appends-kept a b c so_far.written so_far.appends kept }
-
 pub wrote_all : (bytes rest : List ℕ) (a b : Option (List ℕ)) → Wrote bytes rest a b → rest ≡ [] → Appends a b bytes
 wrote_all bytes rest a b so_far none =
     let whole : bytes ≡ so_far.written = so_far.parts ∙ ap (λ (t : List ℕ). so_far.written ++ t) none ∙ append-nil so_far.written in
     rw whole so_far.appends
 
 -- the value of `&rest[n..]`
-pub slice_rest : (n : ℕ) (xs : List ℕ) → take (length xs - n) (drop n xs) ≡ drop n xs
+pub slice_rest : {T : Type 0} (n : ℕ) (xs : List T) → take (length xs - n) (drop n xs) ≡ drop n xs
 slice_rest n xs = take_all (length xs - n) (drop n xs) (omega (arith, length-drop n xs))
+
+-- what is left when a write fails is missing
+pub wrote_front : (bytes rest : List ℕ) (a b c : Option (List ℕ)) → Wrote bytes rest a b → Keeps b c → 0 < length rest → Front bytes a c
+wrote_front bytes rest a b c so_far kept some = (so_far.written, rest, so_far.parts, some, Appends-kept a b c so_far.written so_far.appends kept)

@@ -1,3 +1,4 @@
+pub mod Checking
 pub mod Engine
 pub mod Parsing
 pub mod Printed

@@ -1,39 +1,12 @@
 -- What is printed for the outcome of a step.
-use Rattle.std.specs.Prelude.{ℕ, List, [], ◌∷◌, ◌++◌, codes, false, true, Ok, Err}
-use Rattle.std.specs.Fmt.{decimal, digits}
-use Rattle.mig_base.specs.declared.command.Errno.{Errno}
-use Rattle.mig_base.specs.declared.command.Errno.TheVariants.{Eperm, Enoent, Eagain, Enomem, Efault, Eexist, Einval}
-use Rattle.mig_base.specs.declared.command.Reply.{Reply}
-use Rattle.mig_base.specs.declared.command.Reply.TheVariants.{Value, Done, At, Segv, BadAccess, Refused}
+use Rattle.std.specs.Prelude.{ℕ, List, [], ◌∷◌, ◌++◌, codes, Ok, Err}
+use Rattle.std.specs.Fmt.{decimal}
+use Rattle.report.specs.Texts.{hexadecimal, reply_text}
 use Rattle.mig_base.specs.declared.step.Effect.{Effect}
 use Rattle.mig_base.specs.declared.step.Effect.TheVariants.{Answered, Started, Switched, TookAdvise, TookPage, TookZero, TookDiscard, TookPackage, TookEnd, TookDone, EndSent}
 use Rattle.mig_base.specs.declared.step.Refusal.{Refusal}
 use Rattle.mig_base.specs.declared.step.Refusal.TheVariants.{NoCpu, Phase, NothingThere, CountUsed, NoMemory}
 use Rattle.postmig.specs.WorldState.{Outcome}
-
--- 0x and lower-case digits without leading zeros
-abbrev pub hexadecimal : ℕ → List ℕ
-hexadecimal n = codes "0x" ++ digits 16 false n
-
--- the name of an error number, as in errno(3)
-abbrev pub errno_name : Errno → List ℕ
-errno_name Eperm = codes "EPERM"
-errno_name Enoent = codes "ENOENT"
-errno_name Eagain = codes "EAGAIN"
-errno_name Enomem = codes "ENOMEM"
-errno_name Efault = codes "EFAULT"
-errno_name Eexist = codes "EEXIST"
-errno_name Einval = codes "EINVAL"
-
--- a reply
-abbrev pub reply_text : Reply → List ℕ
-reply_text (Value n) = codes "value " ++ hexadecimal n
-reply_text Done = codes "done"
-reply_text (At addr) = codes "at " ++ hexadecimal addr
-reply_text (Segv false) = codes "segv unmapped"
-reply_text (Segv true) = codes "segv protected"
-reply_text BadAccess = codes "bad access"
-reply_text (Refused errno) = codes "refused " ++ errno_name errno
 
 -- the name of a refusal
 abbrev pub refusal_name : Refusal → List ℕ

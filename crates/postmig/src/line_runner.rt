@@ -1,19 +1,23 @@
-//! Running one line of a script.
+//! Doing one line: a step of a script is made on a world, and an entry of a transcript is kept.
 
-ghost use Rattle.std.specs.Prelude.{◌≡◌, ◌≤◌, ◌++◌, ℕ, List, [], OnOk, OnErr, IfErr, IfOk};
+ghost use Rattle.std.specs.Prelude.{◌≡◌, ◌<◌, ◌≤◌, ◌++◌, ℕ, List, [], OnOk, OnErr, IfErr, IfOk, length, drop, string_bytes};
 ghost use Rattle.std.specs.Io.KnownBytes.{Appends};
 ghost use Rattle.postmig.specs.declared.fault.RunFault.TheVariants.{WriteFault, NoMemory};
-ghost use Rattle.postmig.specs.Engine.{Gathered, coded_gathered, Takes, Made, MakeFault};
+ghost use Rattle.postmig.specs.declared.line.Language.TheVariants.{Script as AScript, Transcript as ATranscript};
+ghost use Rattle.postmig.specs.declared.line.Line.TheVariants.{Make, Enter};
+ghost use Rattle.postmig.specs.Script.{entry_lines};
+ghost use Rattle.postmig.specs.Engine.{Running, Keeping, Gathered, coded_gathered, work_of, language_of as language_of_work, kept_entries, Makes, Takes, Made, MakeFault, Front};
 ghost use Rattle.postmig.specs.WorldState.{first_state};
 
 use crate::fault::RunFault;
-use crate::line::Line;
+use crate::line::{Language, Line};
 use crate::parse::parse;
 use crate::print::print_line;
 use crate::token::Token;
 use hosts::World;
-use mig_base::{Refusal, Step};
-use std::alloc::Global;
+use mig_base::{Entry, Refusal, Step};
+use report::print_entry;
+use std::alloc::{AllocError, Global};
 use std::io::Write;
 use std::marker::Model;
 
@@ -26,12 +30,29 @@ const OUTPUT_LINE: usize = 128;
 /// The room that is made at the start for the output of one piece.
 const OUTPUT: usize = 65_536;
 
+/// What a run writes.
+#[derive(Clone, Copy, Debug, PartialEq, Eq)]
+pub enum Mode {
+    /// One line for each step, with its outcome.
+    Lines,
+    /// One line for each entry of the transcript, as it is made.
+    Transcript,
+}
+
+/// What is done with the lines.
+#[derive(Drop)]
+pub enum Job {
+    /// Their steps are made on a world, and printed as the mode says.
+    Run { world: World, mode: Mode },
+    /// Their entries are kept.
+    Keep { entries: Vec<Entry> },
+}
+
 /// Writes all of the bytes. A write that takes none is a fault.
-fn write_out<W: Write>(writer: &mut W, bytes: &[u8]) -> Result<(), RunFault>
+pub fn write_out<W: Write>(writer: &mut W, bytes: &[u8]) -> Result<(), RunFault>
     ensures ok { OnOk result (Appends (W.contents writer.old) (W.contents writer.new) bytes.now) }
     ensures fault { IfErr result (λ fault. fault ≡ WriteFault) }
-    ensures front { OnErr result ((written : List ℕ) × (more : List ℕ) × (bytes.now ≡ written ++ more)
-        × Appends (W.contents writer.old) (W.contents writer.new) written) }
+    ensures front { OnErr result (Front bytes.now (W.contents writer.old) (W.contents writer.new)) }
 {
     let mut rest = bytes;
     while !rest.is_empty() {
@@ -43,13 +64,41 @@ fn write_out<W: Write>(writer: &mut W, bytes: &[u8]) -> Result<(), RunFault>
     Ok(())
 }
 
-/// Runs lines of a script on a world, and gathers their output.
+/// Prints the lines of entries behind a text.
+fn print_entries(text: &mut String, entries: &[Entry]) -> Result<(), AllocError>
+    ensures { OnOk result (string_bytes text.new ≡ string_bytes text.old ++ entry_lines entries.now) }
+{
+    for entry in entries {
+        print_entry(text, *entry)?;
+    }
+    Ok(())
+}
+
+/// Makes a step, and puts what the mode prints of it in the place of a text.
+fn make_step(world: &mut World, mode: Mode, step: Step, text: &mut String) -> Result<(), RunFault>
+    ensures ok { OnOk result (Makes mode world.old step world.new (string_bytes text.new)) }
+    ensures fault { IfErr result (λ fault. fault ≡ NoMemory) }
+{
+    text.clear();
+    let count = world.transcript().len();
+    let outcome = world.step(step);
+    if let Err(Refusal::NoMemory) = outcome {
+        return Err(RunFault::NoMemory);
+    }
+    match mode {
+        Mode::Lines => print_line(text, outcome)?,
+        Mode::Transcript => print_entries(text, &world.transcript()[count..])?,
+    }
+    Ok(())
+}
+
+/// Does lines, and gathers their output.
 #[derive(Drop)]
 pub struct LineRunner {
-    world: World,
+    job: Job,
     /// The tokens of the last line, kept for their room.
     tokens: Vec<Token>,
-    /// The last line of output, kept for its room.
+    /// What was printed last, kept for its room.
     printed: String,
     /// The output that is not written yet.
     output: Vec<u8>,
@@ -60,54 +109,109 @@ impl Model for LineRunner {
 
     ghost coded = { coded_gathered };
 
-    ghost view = { λ r. record { state = r.world; output = r.output.items } };
+    ghost view = { λ r. record { work = work_of r.job; output = r.output.items } };
 }
 
 impl LineRunner {
-    /// A new world of so many processors, and no output.
-    pub fn new(alloc: Global, cpus: u8) -> Result<LineRunner, RunFault>
-        requires low { 1 ≤ cpus }
-        requires high { cpus ≤ 16 }
-        ensures ok { IfOk result (λ runner. (runner.state ≡ first_state cpus) × (runner.output ≡ [])) }
+    /// Does lines as the job says. There is no output yet.
+    fn new(alloc: Global, job: Job) -> Result<LineRunner, RunFault>
+        ensures ok { IfOk result (λ runner. (runner.work ≡ work_of job) × (runner.output ≡ [])) }
         ensures err { IfErr result (λ fault. fault ≡ NoMemory) }
     {
-        let Ok(world) = World::new(alloc, cpus) else {
-            return Err(RunFault::NoMemory);
-        };
         Ok(LineRunner {
-            world,
+            job,
             tokens: Vec::with_capacity(alloc, TOKENS)?,
             printed: String::with_capacity(alloc, OUTPUT_LINE)?,
             output: Vec::with_capacity(alloc, OUTPUT)?,
         })
     }
 
-    /// Makes a step, and gathers the line of its outcome.
+    /// Makes steps on a new world of so many processors.
+    pub fn on_world(alloc: Global, cpus: u8, mode: Mode) -> Result<LineRunner, RunFault>
+        requires low { 1 ≤ cpus }
+        requires high { cpus ≤ 16 }
+        ensures ok { IfOk result (λ runner. (runner.work ≡ Running mode (first_state cpus)) × (runner.output ≡ [])) }
+        ensures err { IfErr result (λ fault. fault ≡ NoMemory) }
+    {
+        let Ok(world) = World::new(alloc, cpus) else {
+            return Err(RunFault::NoMemory);
+        };
+        LineRunner::new(alloc, Job::Run { world, mode })
+    }
+
+    /// Keeps entries, of which there are none yet.
+    pub fn keeping(alloc: Global) -> Result<LineRunner, RunFault>
+        ensures ok { IfOk result (λ runner. (runner.work ≡ Keeping []) × (runner.output ≡ [])) }
+        ensures err { IfErr result (λ fault. fault ≡ NoMemory) }
+    {
+        let entries = Vec::new(alloc);
+        LineRunner::new(alloc, Job::Keep { entries })
+    }
+
+    /// The language of the lines.
+    fn language(&self) -> Language
+        ensures { result ≡ language_of_work self.now.work }
+    {
+        match self.job {
+            Job::Run { .. } => Language::Script,
+            Job::Keep { .. } => Language::Transcript,
+        }
+    }
+
+    /// The entries that were kept, none where steps are made.
+    pub fn entries(&self) -> &[Entry]
+        ensures { result.now ≡ kept_entries self.now.work }
+    {
+        match &self.job {
+            Job::Run { .. } => &[],
+            Job::Keep { entries } => entries,
+        }
+    }
+
+    /// Makes a step, and gathers what is printed of it.
     fn make(&mut self, step: Step) -> Result<(), RunFault>
-        ensures ok { OnOk result (Takes self.old step self.new) }
+        requires { language_of_work self.old.work ≡ AScript }
+        ensures ok { OnOk result (Takes self.old (Make step) self.new) }
         ensures fault { IfErr result (λ fault. fault ≡ NoMemory) }
         ensures kept { OnErr result (self.new.output ≡ self.old.output) }
     {
-        let outcome = self.world.step(step);
-        if let Err(Refusal::NoMemory) = outcome {
-            return Err(RunFault::NoMemory);
+        match &mut self.job {
+            Job::Run { world, mode } => {
+                make_step(world, *mode, step, &mut self.printed)?;
+                self.output.extend_from_slice(self.printed.as_bytes())?;
+                Ok(())
+            }
+            Job::Keep { .. } => unreachable!(),
         }
-        self.printed.clear();
-        print_line(&mut self.printed, outcome)?;
-        self.output.extend_from_slice(self.printed.as_bytes())?;
-        Ok(())
     }
 
-    /// Runs the line of this number and text. At a fault nothing of it is in the output.
-    pub fn run_line(&mut self, number: u64, text: &[u8]) -> Result<(), RunFault>
-        ensures ok { OnOk result (Made self.old text.now self.new) }
-        ensures fault { IfErr result (λ fault. MakeFault number text.now fault) }
+    /// Keeps an entry.
+    fn enter(&mut self, entry: Entry) -> Result<(), RunFault>
+        requires { language_of_work self.old.work ≡ ATranscript }
+        ensures ok { OnOk result (Takes self.old (Enter entry) self.new) }
+        ensures fault { IfErr result (λ fault. fault ≡ NoMemory) }
         ensures kept { OnErr result (self.new.output ≡ self.old.output) }
     {
-        match parse(&mut self.tokens, text)? {
+        match &mut self.job {
+            Job::Run { .. } => unreachable!(),
+            Job::Keep { entries } => {
+                entries.push(entry)?;
+                Ok(())
+            }
+        }
+    }
+
+    /// Does the line of this number and text. At a fault nothing of it is in the output.
+    pub fn run_line(&mut self, number: u64, text: &[u8]) -> Result<(), RunFault>
+        ensures ok { OnOk result (Made self.old text.now self.new) }
+        ensures fault { IfErr result (λ fault. MakeFault (language_of_work self.old.work) number text.now fault) }
+        ensures kept { OnErr result (self.new.output ≡ self.old.output) }
+    {
+        match parse(self.language(), &mut self.tokens, text)? {
             None => Err(RunFault::Line(number)),
             Some(Line::Skipped) => Ok(()),
             Some(Line::Make(step)) => self.make(step),
+            Some(Line::Enter(entry)) => self.enter(entry),
         }
     }
 
@@ -116,8 +220,7 @@ impl LineRunner {
         ensures ok { OnOk result (Appends (W.contents writer.old) (W.contents writer.new) self.old.output) }
         ensures none { OnOk result (self.new ≡ record self.old { output = [] }) }
         ensures fault { IfErr result (λ fault. fault ≡ WriteFault) }
-        ensures front { OnErr result ((written : List ℕ) × (more : List ℕ) × (self.old.output ≡ written ++ more)
-            × Appends (W.contents writer.old) (W.contents writer.new) written) }
+        ensures front { OnErr result (Front self.old.output (W.contents writer.old) (W.contents writer.new)) }
     {
         write_out(writer, &self.output)?;
         self.output.clear();

@@ -1,29 +1,36 @@
 //! Runs scripts of steps on a model of post-copy live migration.
 //!
-//! `postmig run` reads a script from standard input and writes one line for each step to standard output; `docs/SCRIPT.md`
-//! says what a script is. [`engine`] reads and writes, [`script`] finds the lines, [`parse`] and [`token`] read them, [`print`]
-//! prints outcomes. What a run writes is defined in `specs/Script.antt`, and stands on the contract of [`engine::run_script`].
+//! `postmig run` reads a script from standard input and writes one line for each step to standard output, or with
+//! `--transcript` one for each command that took effect; `postmig check` reads such a transcript, and says whether it is that of
+//! one flat memory. `docs/SCRIPT.md` says what a script is. [`engine`] reads and writes, [`script`] finds the lines, [`parse`],
+//! [`parse_entry`] and [`token`] read them, [`line_runner`] does them, [`print`] prints outcomes, [`check`] judges. What a run
+//! writes is defined in `specs/Script.antt`, and stands on the contract of [`engine::run_script`]; what a check writes, in
+//! `specs/Checking.antt`, on that of [`check::check_script`].
 #![tactic(auto)]
 
-ghost use Rattle.std.specs.Prelude.{◌≡◌, ◌≤◌, OnOk, IfErr};
-ghost use Rattle.postmig.specs.Status.{fault_status};
+ghost use Rattle.std.specs.Prelude.{◌≡◌, ◌≤◌, IfOk, IfErr};
+ghost use Rattle.postmig.specs.Status.{answer_status, fault_status};
 
+mod check;
 mod engine;
 mod fault;
 mod laws;
 mod line;
 mod line_runner;
 mod parse;
+mod parse_entry;
 mod print;
 mod script;
 #[cfg(test)]
 mod tests;
 mod token;
 
-use crate::engine::{Mode, run_script};
+use crate::check::check_script;
+use crate::engine::run_script;
 use crate::fault::RunFault;
+use crate::line_runner::Mode;
 use clap::error::ErrorKind;
-use clap::{Arg, Command, value_parser};
+use clap::{Arg, ArgAction, ArgMatches, Command, value_parser};
 use std::alloc::{AllocError, Global};
 use std::process::ExitCode;
 use std::{env, io};
@@ -34,9 +41,11 @@ const BAD_COMMAND_OR_SCRIPT: u8 = 1;
 
 const READ_OR_WRITE_FAULT: u8 = 2;
 
+const NO_FLAT_RUN: u8 = 3;
+
 const NO_MEMORY: u8 = 4;
 
-/// The command line: `postmig run [--cpus N]`.
+/// The command line: `postmig run [--cpus N] [--transcript]`, or `postmig check`.
 fn command_line<'a>(alloc: Global) -> Result<Command<'a>, AllocError> {
     let cpus = Arg::new(alloc, "cpus")
         .long("cpus")
@@ -44,47 +53,84 @@ fn command_line<'a>(alloc: Global) -> Result<Command<'a>, AllocError> {
         .help("How many processors the guest has")
         .value_parser(value_parser!(u8).range(1..=16))
         .default_value("2");
+    let transcript = Arg::new(alloc, "transcript")
+        .long("transcript")
+        .help("Writes the commands that took effect, with their replies")
+        .action(ArgAction::SetTrue);
     let run = Command::new(alloc, "run")
         .about("Runs the script on standard input")
-        .arg(cpus)?;
+        .arg(cpus)?
+        .arg(transcript)?;
+    let check = Command::new(alloc, "check").about(
+        "Says whether the transcript on standard input is that of one flat memory",
+    );
     Command::new(alloc, "postmig")
         .about("Runs scripts on a model of post-copy live migration")
         .subcommand_required(true)
-        .subcommand(run)
+        .subcommand(run)?
+        .subcommand(check)
 }
 
-/// The exit status of a run.
-fn status_of(outcome: Result<(), RunFault>) -> u8
-    ensures done { OnOk outcome (result ≡ 0) }
+/// The exit status of a run or a check: whether all is well, or the fault that ended it.
+fn status_of(outcome: Result<bool, RunFault>) -> u8
+    ensures answer { IfOk outcome (λ answer. result ≡ answer_status answer) }
     ensures fault { IfErr outcome (λ fault. result ≡ fault_status fault) }
 {
     match outcome {
-        Ok(()) => ALL_DONE,
+        Ok(true) => ALL_DONE,
+        Ok(false) => NO_FLAT_RUN,
         Err(RunFault::Line(_)) => BAD_COMMAND_OR_SCRIPT,
         Err(RunFault::ReadFault | RunFault::WriteFault) => READ_OR_WRITE_FAULT,
         Err(RunFault::NoMemory) => NO_MEMORY,
     }
 }
 
-/// Runs the script on standard input, and says on standard error why it ended early.
-fn run(rt: &HostRuntime, cpus: u8) -> u8
-    requires low { 1 ≤ cpus }
-    requires high { cpus ≤ 16 }
+/// Says on standard error why a run or a check ended early, and gives its exit status.
+fn explain(rt: &HostRuntime, outcome: Result<bool, RunFault>) -> u8
+    ensures answer { IfOk outcome (λ answer. result ≡ answer_status answer) }
+    ensures fault { IfErr outcome (λ fault. result ≡ fault_status fault) }
 {
-    let outcome = run_script(
-        rt.alloc(),
-        &mut rt.stdin(),
-        &mut rt.stdout(),
-        cpus,
-        Mode::Lines,
-    );
     if let Err(fault) = outcome {
         let _ = eprintln!(rt; "{fault}");
     }
     status_of(outcome)
 }
 
-/// Reads the command line, runs what it asks for, and gives the exit status.
+/// Runs the script on standard input.
+fn run(rt: &HostRuntime, cpus: u8, mode: Mode) -> u8
+    requires low { 1 ≤ cpus }
+    requires high { cpus ≤ 16 }
+{
+    let outcome = run_script(rt.alloc(), &mut rt.stdin(), &mut rt.stdout(), cpus, mode);
+    explain(rt, outcome.map(|()| true))
+}
+
+/// Checks the transcript on standard input.
+fn check_input(rt: &HostRuntime) -> u8 {
+    let outcome = check_script(rt.alloc(), &mut rt.stdin(), &mut rt.stdout());
+    explain(rt, outcome)
+}
+
+/// Does what the command line asks for, and gives the exit status.
+fn do_command(rt: &HostRuntime, matches: &ArgMatches) -> u8 {
+    match matches.subcommand() {
+        Some(("run", matches)) => {
+            let mode = if matches.get_flag("transcript") {
+                Mode::Transcript
+            } else {
+                Mode::Lines
+            };
+            match matches.get_one::<u8>("cpus") {
+                Some(cpus @ 1..=16) => run(rt, cpus, mode),
+                _ => BAD_COMMAND_OR_SCRIPT,
+            }
+        }
+        Some(("check", _)) => check_input(rt),
+        _ => BAD_COMMAND_OR_SCRIPT,
+    }
+}
+
+/// Reads the command line, does what it asks for, and gives the exit status.
 fn dispatch(rt: &HostRuntime) -> io::Result<u8> {
     let words: Vec<String> = env::args(rt)?.collect(rt.alloc())?;
     let command = command_line(rt.alloc())?;
@@ -103,13 +149,7 @@ fn dispatch(rt: &HostRuntime) -> io::Result<u8> {
             });
         }
     };
-    match matches.subcommand() {
-        Some(("run", matches)) => match matches.get_one::<u8>("cpus") {
-            Some(cpus @ 1..=16) => Ok(run(rt, cpus)),
-            _ => Ok(BAD_COMMAND_OR_SCRIPT),
-        },
-        _ => Ok(BAD_COMMAND_OR_SCRIPT),
-    }
+    Ok(do_command(rt, &matches))
 }
 
 fn main(rt: HostRuntime) -> ExitCode {

@@ -1,4 +1,4 @@
-//! What a line of a script asks for.
+//! What a line asks for.
 //!
 //! Each word is a [`Keyword`] or a number, so a line is a list of [`Token`]s, and a step is an arm over them. The arms stand
 //! again in `specs/Parsing.antt`, and `specs/Spelling.antt` says from the step what its tokens are; `proofs/Grammar.antt` has
@@ -9,11 +9,12 @@ ghost use Rattle.mig_base.specs.declared.step.Step.{Step as StepOf};
 ghost use Rattle.postmig.specs.declared.line.Line.{Line as LineOf};
 ghost use Rattle.postmig.specs.Words.{words_of};
 ghost use Rattle.postmig.specs.Spelling.{IsNothing, Spells, SpellsStep};
-ghost use Rattle.postmig.specs.Parsing.{prot_from, place_from, command_from, step_from};
+ghost use Rattle.postmig.specs.Parsing.{prot_from, place_from, target_from, access_from, mmap_from, mremap_from, map_call_from, command_from, step_from};
 
-use crate::line::Line;
+use crate::line::{Language, Line};
+use crate::parse_entry::entry_in;
 use crate::token::{Keyword, Token, next_word, read_tokens};
-use mig_base::{Command, Place, Prot, Step};
+use mig_base::{Addr, Command, Place, Prot, Step};
 use std::alloc::AllocError;
 
 #[tactic(auto, unfolding(crate::specs::Parsing::prot_from))]
@@ -34,13 +35,34 @@ fn place_of(tokens: &[Token]) -> Option<Place>
 {
     match tokens {
         [] => Some(Place::Anywhere),
+        [Token::Key(Keyword::Fixed), Token::Number(addr)] => Some(Place::Fixed(*addr)),
+        [Token::Key(Keyword::NoReplace), Token::Number(addr)] => Some(Place::NoReplace(*addr)),
         _ => None,
     }
 }
 
-#[tactic(auto, unfolding(crate::specs::Parsing::command_from))]
-fn command_of(tokens: &[Token]) -> Option<Command>
-    ensures { result ≡ command_from tokens.now }
+/// Whether a mapping may move, and its target if it has to go there.
+#[tactic(auto, unfolding(crate::specs::Parsing::target_from))]
+fn target_of(tokens: &[Token]) -> Option<(bool, Option<Addr>)>
+    ensures { result ≡ target_from tokens.now }
+{
+    match tokens {
+        [] => Some((false, None)),
+        [Token::Key(Keyword::MayMove)] => Some((true, None)),
+        [Token::Key(Keyword::Fixed), Token::Number(addr)] => Some((false, Some(*addr))),
+        [
+            Token::Key(Keyword::MayMove),
+            Token::Key(Keyword::Fixed),
+            Token::Number(addr),
+        ] => { Some((true, Some(*addr))) }
+        _ => None,
+    }
+}
+
+/// The load or store that tokens stand for.
+#[tactic(auto, unfolding(crate::specs::Parsing::access_from))]
+fn access_of(tokens: &[Token]) -> Option<Command>
+    ensures { result ≡ access_from tokens.now }
 {
     match tokens {
         [
@@ -64,29 +86,85 @@ fn command_of(tokens: &[Token]) -> Option<Command>
                 value: *value,
             })
         }
+        _ => None,
+    }
+}
+
+fn mmap_of(len: u64, prot: Keyword, place: &[Token]) -> Option<Command>
+    ensures { result ≡ mmap_from len prot place.now }
+{
+    let prot = prot_of(prot)?;
+    let place = place_of(place)?;
+    Some(Command::Mmap {
+        addr_len: len,
+        prot,
+        place,
+    })
+}
+
+fn mremap_of(addr: Addr, old_len: u64, new_len: u64, target: &[Token]) -> Option<Command>
+    ensures { result ≡ mremap_from addr old_len new_len target.now }
+{
+    let (may_move, fixed) = target_of(target)?;
+    Some(Command::Mremap {
+        addr,
+        old_len,
+        new_len,
+        may_move,
+        fixed,
+    })
+}
+
+/// The map call that tokens stand for.
+#[tactic(auto, unfolding(crate::specs::Parsing::map_call_from))]
+fn map_call_of(tokens: &[Token]) -> Option<Command>
+    ensures { result ≡ map_call_from tokens.now }
+{
+    match tokens {
         [
             Token::Key(Keyword::Mmap),
             Token::Number(len),
             Token::Key(prot),
             place @ ..,
-        ] => {
-            let prot = prot_of(*prot)?;
-            let place = place_of(place)?;
-            Some(Command::Mmap {
-                addr_len: *len,
-                prot,
-                place,
-            })
-        }
+        ] => mmap_of(*len, *prot, place),
         [
             Token::Key(Keyword::Munmap),
             Token::Number(addr),
             Token::Number(len),
-        ] => Some(Command::Munmap {
-            addr: *addr,
-            len: *len,
-        }),
+        ] => {
+            Some(Command::Munmap {
+                addr: *addr,
+                len: *len,
+            })
+        }
+        [
+            Token::Key(Keyword::Mremap),
+            Token::Number(addr),
+            Token::Number(old_len),
+            Token::Number(new_len),
+            target @ ..,
+        ] => mremap_of(*addr, *old_len, *new_len, target),
+        [
+            Token::Key(Keyword::DontNeed),
+            Token::Number(addr),
+            Token::Number(len),
+        ] => {
+            Some(Command::DontNeed {
+                addr: *addr,
+                len: *len,
+            })
+        }
         _ => None,
+    }
+}
+
+/// The command that tokens stand for, without a processor.
+pub fn command_of(tokens: &[Token]) -> Option<Command>
+    ensures { result ≡ command_from tokens.now }
+{
+    match access_of(tokens) {
+        Some(command) => Some(command),
+        None => map_call_of(tokens),
     }
 }
 
@@ -131,17 +209,27 @@ fn is_nothing(text: &[u8]) -> bool
     }
 }
 
-/// What the text of a line, without its ending, asks for: `None` if it is no script line. The tokens are replaced, and serve
-/// only to keep their room from line to line.
-pub fn parse(tokens: &mut Vec<Token>, text: &[u8]) -> Result<Option<Line>, AllocError>
-    ensures found { IfOk result (λ found. IfSome found (λ line. Spells text.now line)) }
-    ensures none { IfOk result (λ found. IfNone found ((line : LineOf) → Spells text.now line → ⊥)) }
+/// What the text of a line, without its ending, asks for in a language: `None` if it is no line of it. The tokens are
+/// replaced, and serve only to keep their room from line to line.
+pub fn parse(
+    language: Language,
+    tokens: &mut Vec<Token>,
+    text: &[u8],
+) -> Result<Option<Line>, AllocError>
+    ensures found { IfOk result (λ found. IfSome found (λ line. Spells language text.now line)) }
+    ensures none { IfOk result (λ found. IfNone found ((line : LineOf) → Spells language text.now line → ⊥)) }
 {
     if is_nothing(text) {
         return Ok(Some(Line::Skipped));
     }
-    match step_in(tokens, text)? {
-        Some(step) => Ok(Some(Line::Make(step))),
-        None => Ok(None),
+    match language {
+        Language::Script => match step_in(tokens, text)? {
+            Some(step) => Ok(Some(Line::Make(step))),
+            None => Ok(None),
+        },
+        Language::Transcript => match entry_in(tokens, text)? {
+            Some(entry) => Ok(Some(Line::Enter(entry))),
+            None => Ok(None),
+        },
     }
 }

@@ -1,54 +1,12 @@
 //! How the outcome of a step is printed.
 
 ghost use Rattle.std.specs.Prelude.{◌≡◌, ◌++◌, OnOk, Some, string_bytes};
-ghost use Rattle.postmig.specs.Printed.{outcome_line, outcome_text, effect_text, reply_text, errno_name, refusal_name};
+ghost use Rattle.postmig.specs.Printed.{outcome_line, outcome_text, effect_text, refusal_name};
 
-use mig_base::{Effect, Errno, Refusal, Reply};
+use mig_base::{Effect, Refusal};
+use report::ReplyText;
 use std::alloc::AllocError;
 use std::fmt;
-
-/// The name of an error number.
-#[derive(Clone, Copy)]
-struct ErrnoName(Errno);
-
-impl fmt::Display for ErrnoName {
-    ghost output = { λ x. Some (errno_name x.0) };
-
-    fn fmt<W: fmt::Write>(&self, f: &mut fmt::Formatter<W>) -> fmt::Result {
-        match self.0 {
-            Errno::Eperm => write!(f, "EPERM"),
-            Errno::Enoent => write!(f, "ENOENT"),
-            Errno::Eagain => write!(f, "EAGAIN"),
-            Errno::Enomem => write!(f, "ENOMEM"),
-            Errno::Efault => write!(f, "EFAULT"),
-            Errno::Eexist => write!(f, "EEXIST"),
-            Errno::Einval => write!(f, "EINVAL"),
-        }
-    }
-}
-
-/// A reply to a command.
-#[derive(Clone, Copy)]
-struct ReplyText(Reply);
-
-impl fmt::Display for ReplyText {
-    ghost output = { λ x. Some (reply_text x.0) };
-
-    fn fmt<W: fmt::Write>(&self, f: &mut fmt::Formatter<W>) -> fmt::Result {
-        match self.0 {
-            Reply::Value(value) => write!(f, "value 0x{value:x}"),
-            Reply::Done => write!(f, "done"),
-            Reply::At(addr) => write!(f, "at 0x{addr:x}"),
-            Reply::Segv { mapped: false } => write!(f, "segv unmapped"),
-            Reply::Segv { mapped: true } => write!(f, "segv protected"),
-            Reply::BadAccess => write!(f, "bad access"),
-            Reply::Refused(errno) => {
-                let name = ErrnoName(errno);
-                write!(f, "refused {name}")
-            }
-        }
-    }
-}
 
 /// The name of a refusal.
 #[derive(Clone, Copy)]

@@ -1,15 +1,15 @@
-//! A script that is being read: where its lines end, and their numbers.
+//! A script or a transcript that is being read: where its lines end, and their numbers.
 
 ghost use Rattle.std.specs.Prelude.{◌≡◌, ◌+◌, ◌<◌, ◌≤◌, ◌^◌, ◌++◌, ℕ, List, [], ◌∷◌, length, OnOk, OnErr, IfErr, IfOk, IfSome, IfNone, vec_len};
 ghost use Rattle.std.specs.Str.Lines.{strip_carriage_return};
 ghost use Rattle.postmig.specs.declared.fault.RunFault.TheVariants.{NoMemory};
 ghost use Rattle.postmig.specs.Script.{HasNoFeed};
-ghost use Rattle.postmig.specs.Engine.{Place, coded_place, Fed, FedUntil, Passes, Halts, Closes, CloseFault};
-ghost use Rattle.postmig.specs.WorldState.{first_state};
+ghost use Rattle.postmig.specs.Engine.{Place, coded_place, kept_entries, start_of, Fed, FedUntil, Passes, Halts, Closes, CloseFault};
 
 use crate::fault::RunFault;
 use crate::line_runner::LineRunner;
 use memchr::memchr;
+use mig_base::Entry;
 use std::alloc::Global;
 use std::io::Write;
 use std::marker::Model;
@@ -37,7 +37,7 @@ fn split_line(bytes: &[u8]) -> Option<(&[u8], &[u8])>
     Some((&bytes[..end], &bytes[end + 1..]))
 }
 
-/// A script that is being read.
+/// A script or a transcript that is being read.
 #[derive(Drop)]
 pub struct Script {
     runner: LineRunner,
@@ -52,24 +52,30 @@ impl Model for Script {
 
     ghost coded = { coded_place };
 
-    ghost view = { λ s. record { state = s.runner.state; output = s.runner.output; line = s.line.items; number = s.number } };
+    ghost view = { λ s. record { work = s.runner.work; output = s.runner.output; line = s.line.items; number = s.number } };
 
     ghost invariant = { λ s. (vec_len s.line ≤ 256) × HasNoFeed s.line.items };
 }
 
 impl Script {
-    /// The start of a script, on a new world of so many processors.
-    pub fn new(alloc: Global, cpus: u8) -> Result<Script, RunFault>
-        requires low { 1 ≤ cpus }
-        requires high { cpus ≤ 16 }
-        ensures ok { IfOk result (λ script. script ≡ record { state = first_state cpus; output = []; line = []; number = 0 }) }
+    /// The start, where nothing was read.
+    pub fn new(alloc: Global, runner: LineRunner) -> Result<Script, RunFault>
+        requires { runner.output ≡ [] }
+        ensures ok { IfOk result (λ script. script ≡ start_of runner.work) }
         ensures err { IfErr result (λ fault. fault ≡ NoMemory) }
     {
         Ok(Script {
-            runner: LineRunner::new(alloc, cpus)?,
+            runner,
             line: Vec::with_capacity(alloc, MAX_LINE)?,
             number: 0,
         })
+    }
+
+    /// The entries that were kept, none where steps are made.
+    pub fn entries(&self) -> &[Entry]
+        ensures { result.now ≡ kept_entries self.now.work }
+    {
+        self.runner.entries()
     }
 
     /// Takes bytes of the open line, among which no line feed is.
@@ -86,7 +92,7 @@ impl Script {
         Ok(())
     }
 
-    /// Runs the line that ends with these bytes and a line feed.
+    /// Does the line that ends with these bytes and a line feed.
     fn end_line(&mut self, bytes: &[u8]) -> Result<(), RunFault>
         requires feed { HasNoFeed bytes.now }
         requires number { self.old.number + 1 < 2 ^ 64 }
@@ -102,7 +108,7 @@ impl Script {
         Ok(())
     }
 
-    /// Takes the next bytes of the script, runs each line that ends in them, and gathers the output.
+    /// Takes the next bytes, does each line that ends in them, and gathers the output.
     fn feed(&mut self, bytes: &[u8]) -> Result<(), RunFault>
         requires { self.old.number + length bytes.now + 1 < 2 ^ 64 }
         ensures ok { OnOk result (Fed self.old bytes.now self.new) }
@@ -117,7 +123,7 @@ impl Script {
         self.hold(rest)
     }
 
-    /// Takes the next bytes of the script, runs each line that ends in them, and writes the output.
+    /// Takes the next bytes, does each line that ends in them, and writes the output.
     pub fn run_piece<W: Write>(&mut self, writer: &mut W, bytes: &[u8]) -> Result<(), RunFault>
         requires clean { self.old.output ≡ [] }
         requires number { self.old.number + length bytes.now + 1 < 2 ^ 64 }
@@ -132,19 +138,18 @@ impl Script {
         fed
     }
 
-    /// Runs the last line, if it lacks its line feed, and writes its output.
-    pub fn finish<W: Write>(self, writer: &mut W) -> Result<(), RunFault>
-        requires clean { self.output ≡ [] }
-        requires number { self.number + 1 < 2 ^ 64 }
-        ensures ok { OnOk result ((text : List ℕ) × Closes self [] text [] (W.contents writer.old) (W.contents writer.new)) }
-        ensures fault { IfErr result (λ fault. CloseFault self fault (W.contents writer.old) (W.contents writer.new)) }
+    /// Does the last line, if it lacks its line feed, and writes its output.
+    pub fn finish<W: Write>(&mut self, writer: &mut W) -> Result<(), RunFault>
+        requires clean { self.old.output ≡ [] }
+        requires number { self.old.number + 1 < 2 ^ 64 }
+        ensures ok { OnOk result ((text : List ℕ) × Closes self.old self.new.work [] text [] (W.contents writer.old) (W.contents writer.new)) }
+        ensures fault { IfErr result (λ fault. CloseFault self.old fault (W.contents writer.old) (W.contents writer.new)) }
     {
-        let mut script = self;
-        if script.line.is_empty() {
+        if self.line.is_empty() {
             return Ok(());
         }
-        let run = script.runner.run_line(script.number + 1, &script.line);
-        script.runner.write_output(writer)?;
+        let run = self.runner.run_line(self.number + 1, &self.line);
+        self.runner.write_output(writer)?;
         run
     }
 }

@@ -11,7 +11,7 @@ ghost use Rattle.postmig.specs.Words.{words_of, HasNone, IsNumber, keyword_text,
 use memchr::memchr;
 use std::alloc::{AllocError, Global};
 
-/// A word of the script language.
+/// A word of scripts or transcripts.
 #[derive(Clone, Copy, Debug, PartialEq, Eq)]
 pub enum Keyword {
     Cpu,
@@ -27,10 +27,33 @@ pub enum Keyword {
     Deliver,
     Back,
     End,
+    /// The arrow before a reply.
+    Gives,
+    Value,
+    Done,
+    At,
+    Segv,
+    Unmapped,
+    Protected,
+    Bad,
+    Access,
+    Refused,
+    Eperm,
+    Enoent,
+    Eagain,
+    Enomem,
+    Efault,
+    Eexist,
+    Einval,
+    Mremap,
+    DontNeed,
+    Fixed,
+    NoReplace,
+    MayMove,
 }
 
 impl Keyword {
-    const ALL: [Keyword; 13] = [
+    const ALL: [Keyword; 35] = [
         Keyword::Cpu,
         Keyword::Load,
         Keyword::Store,
@@ -44,6 +67,28 @@ impl Keyword {
         Keyword::Deliver,
         Keyword::Back,
         Keyword::End,
+        Keyword::Gives,
+        Keyword::Value,
+        Keyword::Done,
+        Keyword::At,
+        Keyword::Segv,
+        Keyword::Unmapped,
+        Keyword::Protected,
+        Keyword::Bad,
+        Keyword::Access,
+        Keyword::Refused,
+        Keyword::Eperm,
+        Keyword::Enoent,
+        Keyword::Eagain,
+        Keyword::Enomem,
+        Keyword::Efault,
+        Keyword::Eexist,
+        Keyword::Einval,
+        Keyword::Mremap,
+        Keyword::DontNeed,
+        Keyword::Fixed,
+        Keyword::NoReplace,
+        Keyword::MayMove,
     ];
 
     fn text(self) -> &'static [u8]
@@ -63,6 +108,28 @@ impl Keyword {
             Keyword::Deliver => b"deliver",
             Keyword::Back => b"back",
             Keyword::End => b"end",
+            Keyword::Gives => b"=>",
+            Keyword::Value => b"value",
+            Keyword::Done => b"done",
+            Keyword::At => b"at",
+            Keyword::Segv => b"segv",
+            Keyword::Unmapped => b"unmapped",
+            Keyword::Protected => b"protected",
+            Keyword::Bad => b"bad",
+            Keyword::Access => b"access",
+            Keyword::Refused => b"refused",
+            Keyword::Eperm => b"EPERM",
+            Keyword::Enoent => b"ENOENT",
+            Keyword::Eagain => b"EAGAIN",
+            Keyword::Enomem => b"ENOMEM",
+            Keyword::Efault => b"EFAULT",
+            Keyword::Eexist => b"EEXIST",
+            Keyword::Einval => b"EINVAL",
+            Keyword::Mremap => b"mremap",
+            Keyword::DontNeed => b"dontneed",
+            Keyword::Fixed => b"fixed",
+            Keyword::NoReplace => b"noreplace",
+            Keyword::MayMove => b"maymove",
         }
     }
 

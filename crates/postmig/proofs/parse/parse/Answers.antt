@@ -1,9 +1,10 @@
-use Rattle.postmig.specs.declared.line.Line.TheVariants.{Skipped, Make}
-use Rattle.postmig.specs.Spelling.{Spells}
+use Rattle.postmig.proofs.Meaning.{no_script_line, no_transcript_line}
 use Rattle.postmig.proofs.parse.parse.Goals as goal
 
 pub returns-in-None-clause-none : goal.returns-in-None-clause-none
-returns-in-None-clause-none c = λ line. elim line as (λ x. Spells c.args.text.now x → ⊥) [
-  | Skipped ↦ λ h. let no = c.if-is_nothing.ensures.1 h in absurd cc
-  | Make step ↦ λ h. (rw c.in-None.is at c.in_ok-step.ensures.none) step h
-]
+returns-in-None-clause-none c =
+    rw c.in-Script.is (no_script_line c.args.text.now (λ h. let no = c.if-is_nothing.ensures.1 h in absurd cc) (rw c.in-None.is at c.in_ok-step-in-Script.ensures.none))
+
+pub returns-in-None-2-clause-none : goal.returns-in-None-2-clause-none
+returns-in-None-2-clause-none c =
+    rw c.in-Transcript.is (no_transcript_line c.args.text.now (λ h. let no = c.if-is_nothing.ensures.1 h in absurd cc) (rw c.in-None-2.is at c.in_ok-entry-in-Transcript.ensures.none))

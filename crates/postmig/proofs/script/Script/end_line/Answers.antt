@@ -14,7 +14,7 @@ pub returns-in_err-run_line-clause-fault : goal.returns-in_err-run_line-clause-f
 returns-in_err-run_line-clause-fault c =
     let p = err_from_is_err_and c.from_residual-in_err-run_line.result c.from_residual-in_err-run_line.ensures.1 in
     let a = c.args.self.now in
-    let b : Place = record { state = c.self.inside.runner.state; output = c.self.inside.runner.output; line = c.self.inside.line.items; number = c.self.inside.number } in
+    let b : Place = record { work = c.self.inside.runner.work; output = c.self.inside.runner.output; line = c.self.inside.line.items; number = c.self.inside.number } in
     let held : b ≡ record a { line = a.line ++ c.args.bytes.now } = c.self.view_is ∙ c.in_ok-hold.ensures.ok in
     let text = c.without_return.ensures ∙ ap strip_carriage_return c.deref.ensures.value in
     rw (p.1, p.2)
@@ -24,7 +24,7 @@ returns-in_err-run_line-clause-fault c =
 pub returns-clause-ok : goal.returns-clause-ok
 returns-clause-ok c =
     let a = c.args.self.now in
-    let b : Place = record { state = c.self.inside.runner.state; output = c.self.inside.runner.output; line = c.self.inside.line.items; number = c.self.inside.number } in
+    let b : Place = record { work = c.self.inside.runner.work; output = c.self.inside.runner.output; line = c.self.inside.line.items; number = c.self.inside.number } in
     let held : b ≡ record a { line = a.line ++ c.args.bytes.now } = c.self.view_is ∙ c.in_ok-hold.ensures.ok in
     let text = c.without_return.ensures ∙ ap strip_carriage_return c.deref.ensures.value in
     let short : length b.line ≤ 256 = omega (arith, c.self.inside.line.ok.0, c.self.invariant.0) in

@@ -1,0 +1,149 @@
+//! The messages of a userfault object.
+
+ghost use Rattle.std.specs.Prelude.{◌≡◌};
+ghost use Rattle.mig_base.specs.Messages.{message_bytes, event_bytes, fault_flags};
+
+use crate::Addr;
+use byteorder::{ByteOrder, LittleEndian};
+
+/// What a userfault object tells its reader, as `uffd_msg` of userfaultfd(2). Addresses and lengths are bytes, and multiples of
+/// the page size.
+#[derive(Clone, Copy, Debug, PartialEq, Eq)]
+pub enum Message {
+    /// UFFD_EVENT_PAGEFAULT: a processor sleeps on the page at the address.
+    PageFault {
+        addr: Addr,
+        /// UFFD_PAGEFAULT_FLAG_WRITE: a store caused it.
+        write: bool,
+        /// UFFD_PAGEFAULT_FLAG_WP: the page is write-protected. Otherwise it is missing.
+        wp: bool,
+    },
+    /// UFFD_EVENT_REMAP: mremap moved a range.
+    Remap {
+        from: Addr,
+        to: Addr,
+        len: u64,
+    },
+    /// UFFD_EVENT_REMOVE: madvise made the pages of a range missing.
+    Remove {
+        start: Addr,
+        end: Addr,
+    },
+    /// UFFD_EVENT_UNMAP: the pages of a range are no longer mapped, or were replaced.
+    Unmap {
+        start: Addr,
+        end: Addr,
+    },
+}
+
+impl Message {
+    /// The 32 bytes in which a reader of the object gets the message: `struct uffd_msg` of userfaultfd(2). The event is the
+    /// first byte, and its numbers follow from the ninth on, 8 bytes each, the lowest byte first. The other bytes are 0.
+    pub fn to_bytes(self) -> [u8; 32]
+        ensures { result ≡ message_bytes self }
+    {
+        match self {
+            Message::PageFault { addr, write, wp } => with_numbers(0x12, flags(write, wp), addr, 0),
+            Message::Remap { from, to, len } => with_numbers(0x14, from, to, len),
+            Message::Remove { start, end } => with_numbers(0x15, start, end, 0),
+            Message::Unmap { start, end } => with_numbers(0x16, start, end, 0),
+        }
+    }
+}
+
+/// The flags of a page fault: UFFD_PAGEFAULT_FLAG_WRITE is bit 0, UFFD_PAGEFAULT_FLAG_WP bit 1.
+fn flags(write: bool, wp: bool) -> u64
+    ensures { result ≡ fault_flags write wp }
+{
+    let by_store = if write { 1 } else { 0 };
+    let protected = if wp { 2 } else { 0 };
+    by_store + protected
+}
+
+/// The bytes of an event with its three numbers.
+fn with_numbers(event: u8, first: u64, second: u64, third: u64) -> [u8; 32]
+    ensures { result ≡ event_bytes event first second third }
+{
+    let mut bytes = [0; 32];
+    bytes[0] = event;
+    LittleEndian::write_u64(&mut bytes[8..], first);
+    LittleEndian::write_u64(&mut bytes[16..], second);
+    LittleEndian::write_u64(&mut bytes[24..], third);
+    bytes
+}
+
+#[cfg(test)]
+mod tests {
+    use super::*;
+
+    /// A missing fault by a store to page 0x11000.
+    #[test]
+    fn a_fault_tells_its_flags_and_its_address(rt: HostRuntime) {
+        let message = Message::PageFault {
+            addr: 0x11000,
+            write: true,
+            wp: false,
+        };
+        assert_eq!(rt;
+            message.to_bytes(),
+            [
+                0x12, 0, 0, 0, 0, 0, 0, 0, 1, 0, 0, 0, 0, 0, 0, 0, 0, 0x10, 1, 0, 0, 0, 0, 0, 0, 0,
+                0, 0, 0, 0, 0, 0,
+            ]
+        );
+        let message = Message::PageFault {
+            addr: 0xfedc_b000,
+            write: false,
+            wp: true,
+        };
+        assert_eq!(rt;
+            message.to_bytes(),
+            [
+                0x12, 0, 0, 0, 0, 0, 0, 0, 2, 0, 0, 0, 0, 0, 0, 0, 0, 0xb0, 0xdc, 0xfe, 0, 0, 0, 0,
+                0, 0, 0, 0, 0, 0, 0, 0,
+            ]
+        );
+    }
+
+    #[test]
+    fn a_remap_tells_where_from_and_where_to(rt: HostRuntime) {
+        let message = Message::Remap {
+            from: 0x10000,
+            to: 0x2000_0000,
+            len: 0x3000,
+        };
+        assert_eq!(rt;
+            message.to_bytes(),
+            [
+                0x14, 0, 0, 0, 0, 0, 0, 0, 0, 0, 1, 0, 0, 0, 0, 0, 0, 0, 0, 0x20, 0, 0, 0, 0, 0,
+                0x30, 0, 0, 0, 0, 0, 0,
+            ]
+        );
+    }
+
+    #[test]
+    fn a_range_tells_its_start_and_its_end(rt: HostRuntime) {
+        let message = Message::Remove {
+            start: 0x12000,
+            end: 0x1_0000_0000,
+        };
+        assert_eq!(rt;
+            message.to_bytes(),
+            [
+                0x15, 0, 0, 0, 0, 0, 0, 0, 0, 0x20, 1, 0, 0, 0, 0, 0, 0, 0, 0, 0, 1, 0, 0, 0, 0, 0,
+                0, 0, 0, 0, 0, 0,
+            ]
+        );
+        let message = Message::Unmap {
+            start: 0x12000,
+            end: 0x13000,
+        };
+        assert_eq!(rt;
+            message.to_bytes(),
+            [
+                0x16, 0, 0, 0, 0, 0, 0, 0, 0, 0x20, 1, 0, 0, 0, 0, 0, 0, 0x30, 1, 0, 0, 0, 0, 0, 0,
+                0, 0, 0, 0, 0, 0, 0,
+            ]
+        );
+    }
+}

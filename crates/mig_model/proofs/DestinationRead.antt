@@ -1,0 +1,276 @@
+-- What a step of the destination's handler has to show, and that a message that is read keeps what every world keeps.
+use Rattle.std.proofs.Common.{◌≡◌, set, ℕ, ◌+◌, ◌/◌, ◌<◌, ◌||◌, Bool, true, false, not, Option, Some, None, List, [], ◌∷◌, ◌++◌, refl, sym, ap, ◌∙◌, if◌then◌else◌}
+use Rattle.std.specs.Ordering.{nat_cmp}
+use Rattle.std.specs.FinMap as finmap
+use Rattle.std.specs.FinMap.{FinMap, get, get-empty}
+use Rattle.std.specs.FinSet.{contains}
+use Rattle.std.proofs.lemmas.Bool.{false≢true}
+use Rattle.mig_base.specs.declared.TheConstants.{HIGH_PAGE}
+use Rattle.mig_base.specs.declared.message.Message.{Message}
+use Rattle.mig_base.specs.declared.message.Message.TheVariants.{PageFault, Remap, Remove, Unmap}
+use Rattle.mig_base.proofs.PageLemmas.{same_pages}
+use Rattle.mig_model.specs.Host.{memory}
+use Rattle.mig_model.specs.Userfault.{Noted}
+use Rattle.mig_model.specs.Space.{IsSoundSpace}
+use Rattle.mig_model.specs.Guest.{Guest, Fault, Processor, all_woken, is_left_by, is_present, message_less, processor_at}
+use Rattle.mig_model.specs.Wire.{Sent, Copy, Received}
+use Rattle.mig_model.specs.Nodes.{Source, SourcePhase, Destination, DestinationPhase, space_of, settled_by, owed_table_after}
+use Rattle.mig_model.specs.Nodes.SourcePhase.{Idle, Precopy, Stopped, Paused, Released}
+use Rattle.mig_model.specs.Nodes.DestinationPhase.{NotAdvised, Advised, Discarding, Runs, Interrupted, HasEnded}
+use Rattle.mig_model.specs.Migration.{World, Refusal, accepted, refusal_of}
+use Rattle.mig_model.specs.Migration.Step.{DestRead}
+use Rattle.mig_model.specs.Migration.Refusal.{Phase}
+use Rattle.mig_model.specs.Invariant.{IsKept, Wires, IsReceiving, IsFlowing, AreRight, AreFaults, AreFaithful, has_copy, copies_of, seen_host, current_host}
+use Rattle.mig_model.proofs.IoctlLemmas.{IsSoundSpace-read}
+use Rattle.mig_model.proofs.SettledLemmas.{get-owed_table_after, settled_by-applied, values-after, none-after, IsOneToOne-after, owed_below-after}
+
+-- a destination whose guest, owed table, requests, arrivals and counts are others
+abbrev pub handled : Destination → Guest → FinMap nat_cmp ℕ → List ℕ → List Copy → ℕ → ℕ → ℕ → Destination
+handled node guest owed requests arrivals installed dropped faults =
+    record node { guest = guest; owed = owed; requests = requests; arrivals = arrivals; installed = installed; dropped = dropped; faults = faults }
+
+-- what such a destination has to keep
+pub record IsHandled (world : World) (guest : Guest) (owed : FinMap nat_cmp ℕ) (arrivals : List Copy) : Type 0 where
+  pub space : IsSoundSpace guest.space
+  pub unprotected : (page : ℕ) → contains guest.space.protected page ≡ false
+  pub only_missing : (page : ℕ) → contains guest.space.object.protect page ≡ false
+  pub events : AreRight guest.space.object.events
+  pub faults : AreFaults guest.space.object.faults
+  -- the guest sees the same memory
+  pub same_memory : memory (seen_host guest.space.host (space_of world.source).host (settled_by guest.space.object.events (get owed)))
+      ≡ memory (seen_host world.destination.guest.space.host (space_of world.source).host (settled_by world.destination.guest.space.object.events (get world.destination.owed)))
+  -- each source page that is owed was owed before, to one page, and its copy is among the arrivals if it was
+  pub values : (page origin : ℕ) → get owed page ≡ Some origin → (other : ℕ) × (get world.destination.owed other ≡ Some origin)
+  pub one_to_one : (page other origin : ℕ) → get owed page ≡ Some origin → get owed other ≡ Some origin → page ≡ other
+  pub below : (page origin : ℕ) → get owed page ≡ Some origin → page < HIGH_PAGE
+  pub copies : (page origin : ℕ) → get owed page ≡ Some origin → has_copy world.destination.arrivals origin ≡ true → has_copy arrivals origin ≡ true
+  pub missing : (page origin : ℕ) → settled_by guest.space.object.events (get owed) page ≡ Some origin → (contains guest.space.object.missing page ≡ true) × (is_present guest.space page ≡ false)
+  pub faithful : AreFaithful (space_of world.source).host.bytes arrivals
+  pub ended : world.destination.ended ≡ true → (owed ≡ finmap.empty) × (arrivals ≡ [])
+
+-- The wires
+
+still_receiving : (source : Source) (node new : Destination) (state : Received) (back : List Sent) → ((page origin : ℕ) → get new.owed page ≡ Some origin → (other : ℕ) × (get node.owed other ≡ Some origin)) →
+    IsReceiving source node state back → IsReceiving source new state back
+still_receiving source node new state back values old =
+    record {
+      owed = old.owed;
+      epoch = old.epoch;
+      rest = old.rest;
+      first = old.first;
+      requests = old.requests;
+      alone = old.alone;
+      needed = λ page origin h. let was = values page origin h in old.needed was.0 origin was.1;
+      owed_present = old.owed_present;
+    }
+
+last_of_three : (a b c d : Bool) → (c ≡ true → d ≡ true) → (a || b || c) ≡ true → (a || b || d) ≡ true
+last_of_three true b c d h k = k
+last_of_three false true c d h k = k
+last_of_three false false c d h k = h k
+
+still_flowing : (source : Source) (node new : Destination) (forward : List Sent) → ((page origin : ℕ) → get new.owed page ≡ Some origin → (other : ℕ) × (get node.owed other ≡ Some origin)) →
+    ((page origin : ℕ) → get new.owed page ≡ Some origin → has_copy node.arrivals origin ≡ true → has_copy new.arrivals origin ≡ true) → IsFlowing source node forward → IsFlowing source new forward
+still_flowing source node new forward values copies old =
+    record {
+      whereabouts = λ page origin h.
+          let was = values page origin h in
+          last_of_three (contains source.remaining origin) (has_copy (copies_of forward) origin) (has_copy node.arrivals origin) (has_copy new.arrivals origin) (copies page origin h) (old.whereabouts was.0 origin was.1);
+    }
+
+wires_handled : (from : SourcePhase) (to : DestinationPhase) (source : Source) (node : Destination) (forward back : List Sent) (guest : Guest) (owed : FinMap nat_cmp ℕ) (requests : List ℕ) (arrivals : List Copy) (installed dropped faults : ℕ) →
+    ((page origin : ℕ) → get owed page ≡ Some origin → (other : ℕ) × (get node.owed other ≡ Some origin)) →
+    ((page origin : ℕ) → get owed page ≡ Some origin → has_copy node.arrivals origin ≡ true → has_copy arrivals origin ≡ true) →
+    Wires (record source { phase = from }) (record node { phase = to }) forward back →
+    Wires (record source { phase = from }) (handled (record node { phase = to }) guest owed requests arrivals installed dropped faults) forward back
+wires_handled Idle to source node forward back guest owed requests arrivals installed dropped faults values copies w = w
+wires_handled Released to source node forward back guest owed requests arrivals installed dropped faults values copies w = w
+wires_handled Precopy NotAdvised source node forward back guest owed requests arrivals installed dropped faults values copies w = w
+wires_handled Precopy Advised source node forward back guest owed requests arrivals installed dropped faults values copies w = w
+wires_handled Precopy Discarding source node forward back guest owed requests arrivals installed dropped faults values copies w = w
+wires_handled Precopy Runs source node forward back guest owed requests arrivals installed dropped faults values copies w = w
+wires_handled Precopy Interrupted source node forward back guest owed requests arrivals installed dropped faults values copies w = w
+wires_handled Precopy HasEnded source node forward back guest owed requests arrivals installed dropped faults values copies w = w
+wires_handled Stopped NotAdvised source node forward back guest owed requests arrivals installed dropped faults values copies w = w
+wires_handled Stopped Advised source node forward back guest owed requests arrivals installed dropped faults values copies w = w
+wires_handled Stopped Discarding source node forward back guest owed requests arrivals installed dropped faults values copies w = w
+wires_handled Stopped Runs source node forward back guest owed requests arrivals installed dropped faults values copies w =
+    let old : Destination = record node { phase = Runs } in
+    (w.0, w.1, still_flowing (record source { phase = Stopped }) old (handled old guest owed requests arrivals installed dropped faults) forward values copies w.2)
+wires_handled Stopped Interrupted source node forward back guest owed requests arrivals installed dropped faults values copies w = w
+wires_handled Stopped HasEnded source node forward back guest owed requests arrivals installed dropped faults values copies w = w
+wires_handled Paused NotAdvised source node forward back guest owed requests arrivals installed dropped faults values copies w = w
+wires_handled Paused Advised source node forward back guest owed requests arrivals installed dropped faults values copies w = w
+wires_handled Paused Discarding source node forward back guest owed requests arrivals installed dropped faults values copies w = w
+wires_handled Paused Runs source node forward back guest owed requests arrivals installed dropped faults values copies w =
+    let old : Destination = record node { phase = Runs } in
+    (w.0, still_receiving (record source { phase = Paused }) old (handled old guest owed requests arrivals installed dropped faults) Received.Running back values w.1)
+wires_handled Paused Interrupted source node forward back guest owed requests arrivals installed dropped faults values copies w = w
+wires_handled Paused HasEnded source node forward back guest owed requests arrivals installed dropped faults values copies w =
+    let old : Destination = record node { phase = HasEnded } in
+    (w.0, still_receiving (record source { phase = Paused }) old (handled old guest owed requests arrivals installed dropped faults) Received.Ended back values w.1)
+
+-- The invariant
+
+ran_already : {A : Type 0} (b : Bool) → b ≡ true → b ≡ false → A
+ran_already b h k = absurd (false≢true (sym k ∙ h))
+
+runs_memory : (runs : Bool) (world : World) → runs ≡ true → memory (current_host (record world { destination = record world.destination { has_run = runs } })) ≡ memory (seen_host world.destination.guest.space.host (space_of world.source).host (settled_by world.destination.guest.space.object.events (get world.destination.owed)))
+runs_memory true world h = refl
+runs_memory false world h = absurd (false≢true h)
+
+pub kept-handled : (world : World) (guest : Guest) (owed : FinMap nat_cmp ℕ) (requests : List ℕ) (arrivals : List Copy) (installed dropped faults : ℕ) → IsKept world → world.destination.has_run ≡ true → IsHandled world guest owed arrivals →
+    IsKept (record world { destination = handled world.destination guest owed requests arrivals installed dropped faults })
+kept-handled world guest owed requests arrivals installed dropped faults kept runs new =
+    let node : Destination = handled world.destination guest owed requests arrivals installed dropped faults in
+    let next : World = record world { destination = node } in
+    record {
+      flat = kept.flat;
+      holds = runs_memory world.destination.has_run next runs ∙ new.same_memory ∙ sym (runs_memory world.destination.has_run world runs) ∙ kept.holds;
+      source_space = kept.source_space;
+      destination_space = new.space;
+      both_modes = kept.both_modes;
+      unprotected = new.unprotected;
+      only_missing = new.only_missing;
+      source_events = kept.source_events;
+      destination_events = new.events;
+      destination_faults = new.faults;
+      source_phase = kept.source_phase;
+      destination_phase = kept.destination_phase;
+      ran_after_switch = kept.ran_after_switch;
+      ended_after_run = kept.ended_after_run;
+      source_quiet = kept.source_quiet;
+      before_switch = kept.before_switch;
+      end_sent = kept.end_sent;
+      remaining_present = kept.remaining_present;
+      ended_before = kept.ended_before;
+      paused_fresh = kept.paused_fresh;
+      idle_source = kept.idle_source;
+      not_run = λ h. ran_already world.destination.has_run runs h;
+      kept_none = kept.kept_none;
+      kept_advised = kept.kept_advised;
+      kept_whole = kept.kept_whole;
+      copies_whole = kept.copies_whole;
+      clean_protected = kept.clean_protected;
+      todo_sendable = kept.todo_sendable;
+      one_to_one = new.one_to_one;
+      owed_below = new.below;
+      origins_present = λ page origin h. let was = new.values page origin h in kept.origins_present was.0 origin was.1;
+      pairs_missing = new.missing;
+      arrivals_faithful = λ h. new.faithful;
+      flight_faithful = kept.flight_faithful;
+      ended_empty = new.ended;
+      released_empty = kept.released_empty;
+      down = kept.down;
+      wires = λ up. wires_handled world.source.phase world.destination.phase world.source world.destination world.forward world.back guest owed requests arrivals installed dropped faults new.values new.copies (kept.wires up);
+      forward_epoch = kept.forward_epoch;
+      back_epoch = kept.back_epoch;
+      epochs = kept.epochs;
+      epoch_at = kept.epoch_at;
+    }
+
+-- A message is read
+
+-- the world with these messages unread at the destination, and with these processors. Each world is one at its own
+abbrev pub at_queues : List Noted → List Noted → World → World
+at_queues faults events world =
+    record world {
+      destination = record world.destination {
+        guest = record world.destination.guest { space = record world.destination.guest.space { object = record world.destination.guest.space.object { faults = faults; events = events } } };
+      };
+    }
+
+nothing_owed : (owed : FinMap nat_cmp ℕ) → owed ≡ finmap.empty → (page : ℕ) → get owed page ≡ None
+nothing_owed owed h page = ap (λ m. get m page) h ∙ get-empty nat_cmp page
+
+empty-after : (message : Message) (owed : FinMap nat_cmp ℕ) → owed ≡ finmap.empty → owed_table_after message owed ≡ finmap.empty
+empty-after message owed h =
+    same_pages (owed_table_after message owed) finmap.empty (λ page.
+    get-owed_table_after message owed page ∙ none-after message (get owed) (nothing_owed owed h) page ∙ sym (get-empty nat_cmp page))
+
+-- an event is read: the settled relation is as it was, and the owed table is what the event makes of it
+event_read : (message : Message) (cpu : ℕ) (events : List Noted) (world : World) (processors : List Processor) (faults : ℕ) →
+    IsKept (at_queues [] (record { message = message; cpu = cpu } ∷ events) world) → world.destination.has_run ≡ true →
+    IsKept (record world { destination = handled world.destination (record (at_queues [] events world).destination.guest { processors = processors }) (owed_table_after message world.destination.owed) world.destination.requests world.destination.arrivals world.destination.installed world.destination.dropped faults })
+event_read message cpu events world processors faults kept runs =
+    let noted : Noted = record { message = message; cpu = cpu } in
+    let old : World = at_queues [] (noted ∷ events) world in
+    let owed : FinMap nat_cmp ℕ = world.destination.owed in
+    let guest : Guest = record (at_queues [] events world).destination.guest { processors = processors } in
+    let right : AreRight (noted ∷ events) = kept.destination_events in
+    let still : settled_by events (get (owed_table_after message owed)) ≡ settled_by (noted ∷ events) (get owed) = settled_by-applied noted events owed in
+    kept-handled old guest (owed_table_after message owed) world.destination.requests world.destination.arrivals world.destination.installed world.destination.dropped faults kept runs
+    (record {
+      space = IsSoundSpace-read old.destination.guest.space kept.destination_space;
+      unprotected = kept.unprotected;
+      only_missing = kept.only_missing;
+      events = right.1;
+      faults = kept.destination_faults;
+      same_memory = ap (λ f. memory (seen_host world.destination.guest.space.host (space_of world.source).host f)) still;
+      values = λ page origin h. values-after message (get owed) page origin (sym (get-owed_table_after message owed page) ∙ h);
+      one_to_one = λ page other origin h k. IsOneToOne-after message (get owed) kept.one_to_one page other origin (sym (get-owed_table_after message owed page) ∙ h) (sym (get-owed_table_after message owed other) ∙ k);
+      below = λ page origin h. owed_below-after message (get owed) right.0 kept.owed_below page origin (sym (get-owed_table_after message owed page) ∙ h);
+      copies = λ page origin h k. k;
+      missing = λ page origin h. kept.pairs_missing page origin (sym (ap (λ f. f page) still) ∙ h);
+      faithful = kept.arrivals_faithful runs;
+      ended = λ h. let none = kept.ended_empty h in (empty-after message owed none.0, none.1);
+    })
+
+-- a fault is only held
+fault_read : (noted : Noted) (faults events : List Noted) (world : World) (held : List Fault) (count : ℕ) → IsKept (at_queues (noted ∷ faults) events world) → world.destination.has_run ≡ true →
+    IsKept (record world { destination = handled world.destination (record (at_queues faults events world).destination.guest { held = held }) world.destination.owed world.destination.requests world.destination.arrivals world.destination.installed world.destination.dropped count })
+fault_read noted faults events world held count kept runs =
+    let old : World = at_queues (noted ∷ faults) events world in
+    kept-handled old (record (at_queues faults events world).destination.guest { held = held }) world.destination.owed world.destination.requests world.destination.arrivals world.destination.installed world.destination.dropped count kept runs
+    (record {
+      space = IsSoundSpace-read old.destination.guest.space kept.destination_space;
+      unprotected = kept.unprotected;
+      only_missing = kept.only_missing;
+      events = kept.destination_events;
+      faults = kept.destination_faults.1;
+      same_memory = refl;
+      values = λ page origin h. (page, h);
+      one_to_one = kept.one_to_one;
+      below = kept.owed_below;
+      copies = λ page origin h k. k;
+      missing = kept.pairs_missing;
+      faithful = kept.arrivals_faithful runs;
+      ended = kept.ended_empty;
+    })
+
+event_in : (message : Message) (cpu : ℕ) (events : List Noted) (world : World) → IsKept (at_queues [] (record { message = message; cpu = cpu } ∷ events) world) → world.destination.has_run ≡ true →
+    IsKept (accepted (at_queues [] (record { message = message; cpu = cpu } ∷ events) world) DestRead)
+event_in (PageFault addr write wp) cpu events world kept runs = absurd (kept.destination_events.0)
+event_in (Remap from to len) cpu events world kept runs =
+    event_read (Remap from to len) cpu events world (all_woken (is_left_by (Remap from to len)) (set world.destination.guest.processors cpu (message_less (processor_at world.destination.guest.processors cpu)))) (world.destination.faults + 0) kept runs
+event_in (Remove start end) cpu events world kept runs =
+    event_read (Remove start end) cpu events world (all_woken (is_left_by (Remove start end)) (set world.destination.guest.processors cpu (message_less (processor_at world.destination.guest.processors cpu)))) (world.destination.faults + 0) kept runs
+event_in (Unmap start end) cpu events world kept runs =
+    event_read (Unmap start end) cpu events world (all_woken (is_left_by (Unmap start end)) (set world.destination.guest.processors cpu (message_less (processor_at world.destination.guest.processors cpu)))) (world.destination.faults + 0) kept runs
+
+fault_in : (message : Message) (cpu : ℕ) (faults events : List Noted) (world : World) → IsKept (at_queues (record { message = message; cpu = cpu } ∷ faults) events world) → world.destination.has_run ≡ true →
+    IsKept (accepted (at_queues (record { message = message; cpu = cpu } ∷ faults) events world) DestRead)
+fault_in (PageFault addr write wp) cpu faults events world kept runs =
+    fault_read (record { message = PageFault addr write wp; cpu = cpu }) faults events world (world.destination.guest.held ++ record { page = addr / 4096; wp = wp } ∷ []) (world.destination.faults + 1) kept runs
+fault_in (Remap from to len) cpu faults events world kept runs = absurd kept.destination_faults.0
+fault_in (Remove start end) cpu faults events world kept runs = absurd kept.destination_faults.0
+fault_in (Unmap start end) cpu faults events world kept runs = absurd kept.destination_faults.0
+
+read_in : (faults events : List Noted) (world : World) → IsKept (at_queues faults events world) → world.destination.has_run ≡ true → IsKept (accepted (at_queues faults events world) DestRead)
+read_in [] [] world kept runs = kept
+read_in [] (noted ∷ events) world kept runs = event_in noted.message noted.cpu events world kept runs
+read_in (noted ∷ faults) events world kept runs = fault_in noted.message noted.cpu faults events world kept runs
+
+-- the first test of the reasons does not hold
+pub first_holds_not : (test : Bool) (refusal : Refusal) (rest : Option Refusal) → (if test then Some refusal else rest) ≡ None → (test ≡ false) × (rest ≡ None)
+first_holds_not true refusal rest h = absurd (cc)
+first_holds_not false refusal rest h = (refl, h)
+
+pub not_false : (b : Bool) → not b ≡ false → b ≡ true
+not_false true h = refl
+not_false false h = absurd (false≢true (sym h))
+
+pub kept-dest_read : (world : World) → IsKept world → refusal_of world DestRead ≡ None → IsKept (accepted world DestRead)
+kept-dest_read world kept none =
+    let told = first_holds_not (not world.destination.has_run) Phase _ none in
+    read_in world.destination.guest.space.object.faults world.destination.guest.space.object.events world kept (not_false world.destination.has_run told.0)

@@ -1,0 +1,126 @@
+-- Which frame can be the first of the wire to the destination: one that is in place.
+use Rattle.std.proofs.Common.{◌≡◌, ℕ, Bool, true, false, cond, Option, Some, None, is_some, List, [], ◌∷◌, refl, sym, ap, ◌∙◌}
+use Rattle.std.specs.Option.{option_and_then}
+use Rattle.std.proofs.lemmas.Bool.{false≢true}
+use Rattle.mig_model.specs.Wire.{Frame, Sent, copy_in}
+use Rattle.mig_model.specs.Wire.Frame.{Page, Zero, Discard, Package, End, Resume}
+use Rattle.mig_model.specs.Nodes.{Source, SourcePhase, Destination, DestinationPhase}
+use Rattle.mig_model.specs.Nodes.SourcePhase.{Idle, Precopy, Stopped, Paused, Released}
+use Rattle.mig_model.specs.Nodes.DestinationPhase.{NotAdvised, Advised, Discarding, Runs, Interrupted, HasEnded}
+use Rattle.mig_model.specs.Migration.{World, first_of}
+use Rattle.mig_model.specs.Migration as migration
+use Rattle.mig_model.specs.Invariant.{Flow, flow_next, flow_after, Wires}
+use Rattle.mig_model.specs.Invariant.Flow.{BeforeAdvise, Copies, BeforePackage, Pushed, AfterEnd}
+
+-- a world with these phases and wires. Each world is one with its own
+abbrev pub at_state : SourcePhase → DestinationPhase → (ran up : Bool) → List Sent → World → World
+at_state from to ran up wire world =
+    record world { source = record world.source { phase = from }; destination = record world.destination { phase = to; has_run = ran }; forward = wire; up = up }
+
+-- Refusals: where there is none, the first test does not hold, nor do the others
+
+tested : (test : Bool) (refusal : migration.Refusal) (rest : Option migration.Refusal) → cond test (Some refusal) rest ≡ None → (test ≡ false) × (rest ≡ None)
+tested true refusal rest h = absurd (let e : Some refusal ≡ None = h in cc)
+tested false refusal rest h = (refl, h)
+
+pub not_refused : (test : Bool) (refusal : migration.Refusal) (rest : List (Bool × migration.Refusal)) → first_of ((test, refusal) ∷ rest) ≡ None → (test ≡ false) × (first_of rest ≡ None)
+not_refused test refusal rest h = tested test refusal (first_of rest) h
+
+-- Flows
+
+pub none_some : {A : Type 0} (x : A) → None ≡ Some x → ⊥
+none_some x h = cc
+
+pub empty_not : {A : Type 0} (x : A) (xs : List A) → x ∷ xs ≡ [] → ⊥
+empty_not x xs h = cc
+
+some_first : (o : Option Flow) (rest : List Sent) (flow : Flow) → option_and_then (λ next. flow_after next rest) o ≡ Some flow → is_some o ≡ true
+some_first None rest flow h = absurd (none_some flow h)
+some_first (Some next) rest flow h = refl
+
+-- the first frame of a wire that is in order may come there
+pub first_flows : (flow : Flow) (sent : Sent) (rest : List Sent) (end : Flow) → flow_after flow (sent ∷ rest) ≡ Some end → is_some (flow_next flow sent.frame) ≡ true
+first_flows flow sent rest end h = some_first (flow_next flow sent.frame) rest end h
+
+-- whether the Discard was on the wire
+abbrev is_late : Flow → Bool
+is_late BeforeAdvise = false
+is_late Copies = false
+is_late flow = true
+
+late_next : (flow next : Flow) (frame : Frame) → is_late flow ≡ true → flow_next flow frame ≡ Some next → is_late next ≡ true
+late_next BeforeAdvise next frame late h = absurd (false≢true late)
+late_next Copies next frame late h = absurd (false≢true late)
+late_next BeforePackage next (Package areas owed commands) late h = ap (λ o. elim o [ None ↦ true | Some flow ↦ is_late flow ]) (sym h)
+late_next BeforePackage next _ late h = absurd (none_some next h)
+late_next Pushed next (Page page bytes) late h = ap (λ o. elim o [ None ↦ true | Some flow ↦ is_late flow ]) (sym h)
+late_next Pushed next (Zero page) late h = ap (λ o. elim o [ None ↦ true | Some flow ↦ is_late flow ]) (sym h)
+late_next Pushed next End late h = ap (λ o. elim o [ None ↦ true | Some flow ↦ is_late flow ]) (sym h)
+late_next Pushed next _ late h = absurd (none_some next h)
+late_next AfterEnd next frame late h = absurd (none_some next h)
+
+-- behind a Discard the wire does not come back to copies that are kept
+pub stays_late : (flow : Flow) (wire : List Sent) → is_late flow ≡ true → flow_after flow wire ≡ Some Copies → ⊥
+stays_late flow [] late h = false≢true (ap (λ o. elim o [ None ↦ false | Some f ↦ is_late f ]) (sym h) ∙ late)
+stays_late flow (sent ∷ wire) late h =
+    elim (flow_next flow sent.frame) as (λ o. flow_next flow sent.frame ≡ o → option_and_then (λ next. flow_after next wire) o ≡ Some Copies → ⊥) [
+      | None ↦ λ e g. none_some Copies g
+      | Some next ↦ λ e g. stays_late next wire (late_next flow next sent.frame late e) g
+    ] refl h
+
+pub ends_late : (wire : List Sent) → flow_after BeforePackage wire ≡ Some Copies → ⊥
+ends_late wire h = stays_late BeforePackage wire refl h
+
+-- behind End nothing comes
+pub nothing_behind : (wire : List Sent) (flow : Flow) → flow_after AfterEnd wire ≡ Some flow → (wire ≡ []) × (flow ≡ AfterEnd)
+nothing_behind [] flow h = (refl, ap (λ o. elim o [ None ↦ AfterEnd | Some f ↦ f ]) (sym h))
+nothing_behind (sent ∷ wire) flow h = absurd (none_some flow h)
+
+-- The first frame
+
+-- whether a frame may be the first of the wire in these phases
+abbrev pub comes : SourcePhase → DestinationPhase → Frame → Bool
+comes Precopy NotAdvised frame = is_some (flow_next BeforeAdvise frame)
+comes Precopy Advised frame = is_some (copy_in frame)
+comes Stopped NotAdvised frame = is_some (flow_next BeforeAdvise frame)
+comes Stopped Advised frame = is_some (flow_next Copies frame)
+comes Stopped Discarding frame = is_some (flow_next BeforePackage frame)
+comes Stopped Runs frame = is_some (flow_next Pushed frame)
+comes Paused Interrupted Resume = true
+comes from to frame = false
+
+copy_first : (frame : Frame) (rest : List Sent) → option_and_then (λ next. flow_after next rest) (flow_next Copies frame) ≡ Some Copies → is_some (copy_in frame) ≡ true
+copy_first (Page page bytes) rest h = refl
+copy_first (Zero page) rest h = refl
+copy_first (Discard pages) rest h = absurd (ends_late rest h)
+copy_first _ rest h = absurd (none_some Copies h)
+
+resume_first : (sent : Sent) (rest : List Sent) (epoch : ℕ) → sent ∷ rest ≡ record { epoch = epoch; frame = Resume } ∷ [] → comes Paused Interrupted sent.frame ≡ true
+resume_first sent rest epoch h = ap (λ (wire : List Sent). elim wire [ [] ↦ false | s ∷ _ ↦ comes Paused Interrupted s.frame ]) h
+
+in_place_by : (from : SourcePhase) (to : DestinationPhase) (source : Source) (destination : Destination) (sent : Sent) (rest back : List Sent)
+    → Wires (record source { phase = from }) (record destination { phase = to }) (sent ∷ rest) back → comes from to sent.frame ≡ true
+in_place_by Idle to source destination sent rest back w = absurd (empty_not sent rest w.1)
+in_place_by Precopy NotAdvised source destination sent rest back w = first_flows BeforeAdvise sent rest Copies w.0
+in_place_by Precopy Advised source destination sent rest back w = copy_first sent.frame rest w.0
+in_place_by Precopy Discarding source destination sent rest back w = absurd w
+in_place_by Precopy Runs source destination sent rest back w = absurd w
+in_place_by Precopy Interrupted source destination sent rest back w = absurd w
+in_place_by Precopy HasEnded source destination sent rest back w = absurd w
+in_place_by Stopped NotAdvised source destination sent rest back w = first_flows BeforeAdvise sent rest _ w.0
+in_place_by Stopped Advised source destination sent rest back w = first_flows Copies sent rest _ w.0
+in_place_by Stopped Discarding source destination sent rest back w = first_flows BeforePackage sent rest _ w.0
+in_place_by Stopped Runs source destination sent rest back w = first_flows Pushed sent rest _ w.0
+in_place_by Stopped Interrupted source destination sent rest back w = absurd w
+in_place_by Stopped HasEnded source destination sent rest back w = absurd (empty_not sent rest w.0)
+in_place_by Paused NotAdvised source destination sent rest back w = absurd w
+in_place_by Paused Advised source destination sent rest back w = absurd (empty_not sent rest w.0)
+in_place_by Paused Discarding source destination sent rest back w = absurd w
+in_place_by Paused Runs source destination sent rest back w = absurd (empty_not sent rest w.0)
+in_place_by Paused Interrupted source destination sent rest back w = resume_first sent rest source.epoch w.0
+in_place_by Paused HasEnded source destination sent rest back w = absurd (empty_not sent rest w.0)
+in_place_by Released to source destination sent rest back w = absurd (empty_not sent rest w.1)
+
+-- while the link is up the first frame is never out of place
+pub first_in_place : (source : Source) (destination : Destination) (sent : Sent) (rest back : List Sent) → Wires source destination (sent ∷ rest) back → comes source.phase destination.phase sent.frame ≡ true
+first_in_place source destination sent rest back w = in_place_by source.phase destination.phase source destination sent rest back w

@@ -1,0 +1,234 @@
+-- What the source does with each frame of the wire back keeps the invariant: a request, a Recv, and Done, with which it is released.
+use Rattle.std.proofs.Common.{◌≡◌, ◌≢◌, ℕ, ◌/◌, ◌≤◌, ◌&&◌, ◌||◌, Bool, true, false, cond, eqb, ltb, Option, Some, None, is_some, List, [], ◌∷◌, refl, sym, ap, ◌∙◌, ◌⊎◌, inl, subst, arith}
+use Rattle.std.specs.Ordering.{nat_cmp}
+use Rattle.std.specs.FinMap as finmap
+use Rattle.std.specs.FinMap.{FinMap, get, contains_key, get-empty}
+use Rattle.std.specs.FinSet.{FinSet, contains, contains-empty}
+use Rattle.std.proofs.lemmas.Bool.{false≢true}
+use Rattle.std.proofs.lemmas.Bool.Decides.{nat_tests}
+use Rattle.mig_base.specs.declared.TheConstants.{HIGH_PAGE}
+use Rattle.mig_base.specs.declared.message.Message.{Message}
+use Rattle.mig_base.specs.declared.message.Message.TheVariants.{PageFault, Remap, Remove, Unmap}
+use Rattle.mig_base.specs.Flat.{memory_of}
+use Rattle.mig_base.specs.Ranges.{in_range}
+use Rattle.mig_base.proofs.SetLemmas.{member_below}
+use Rattle.mig_model.specs.Host.{Host, memory, IsSound}
+use Rattle.mig_model.specs.Userfault.{Noted}
+use Rattle.mig_model.specs.Space.{fresh_space, IsSoundSpace}
+use Rattle.mig_model.specs.Guest.{is_present, is_changed_by}
+use Rattle.mig_model.specs.Wire.{Sent, kept_after}
+use Rattle.mig_model.specs.Wire.Received.{NotRun, Running}
+use Rattle.mig_model.specs.Wire.Frame.{Discard, Request, Recv}
+use Rattle.mig_model.specs.Nodes.{Source, SourcePhase, DestinationPhase, no_pages, owed_after, settled_by, settled, released, space_of, present}
+use Rattle.mig_model.specs.Nodes.SourcePhase.{Idle, Precopy, Stopped, Paused, Released}
+use Rattle.mig_model.specs.Nodes.DestinationPhase.{Advised, Runs, HasEnded}
+use Rattle.mig_model.specs.Migration.{World, delivered_back}
+use Rattle.mig_model.specs.Invariant.{Wires, IsKept, IsPrecopying, IsSwitching, IsFlowing, AreOf, AreRight, AreFaithful, SwitchedAt, copies_of, has_copy, is_unread, are_requests, seen_host, current_host, flow_of}
+use Rattle.mig_model.specs.Invariant.Flow.{AfterEnd, Pushed}
+use Rattle.mig_model.proofs.FrameLemmas.{discard_none}
+use Rattle.mig_model.proofs.SpaceLemmas.{IsSoundSpace-fresh}
+use Rattle.mig_model.proofs.FirstFrame.{none_some}
+
+-- a world with these phases and this wire back, whose link is up
+abbrev pub at_back : SourcePhase → DestinationPhase → (ran switched : Bool) → (forward back : List Sent) → World → World
+at_back from to ran switched forward back world =
+    record world { source = record world.source { phase = from; switched = switched }; destination = record world.destination { phase = to; has_run = ran }; forward = forward; back = back; up = true }
+
+pub not_up : true ≡ false → ⊥
+not_up h = false≢true (sym h)
+
+none_in : {A : Type 0} (page : ℕ) → contains no_pages page ≡ true → A
+none_in page h = absurd (false≢true (sym (contains-empty nat_cmp page) ∙ h))
+
+-- A request
+
+pub request_taken : (to : DestinationPhase) (ran switched : Bool) (epoch page : ℕ) (rest : List Sent) (world : World) →
+    let old : World = at_back Stopped to ran switched world.forward (record { epoch = epoch; frame = Request page } ∷ rest) world in
+    let new : World = delivered_back old old.back in
+    IsKept old → Wires new.source new.destination new.forward new.back → IsKept new
+request_taken to ran switched epoch page rest world kept on_wires =
+    let old : World = at_back Stopped to ran switched world.forward (record { epoch = epoch; frame = Request page } ∷ rest) world in
+    let new : World = delivered_back old old.back in
+    let wires : new.up ≡ true → Wires new.source new.destination new.forward new.back = λ u. on_wires in
+    let down : new.up ≡ false → (new.forward ≡ []) × (new.back ≡ []) × (new.source.phase ≢ Idle) × (new.source.phase ≢ Released) = λ h. absurd (not_up h) in
+    let back_epoch : AreOf new.source.epoch new.back = kept.back_epoch.1 in
+    assumption
+
+-- A source that is released
+
+-- where nothing is owed, nothing is owed once the events are read
+cond_same : (b c : Bool) (x : Option ℕ) → cond b x (cond c x x) ≡ x
+cond_same true c x = refl
+cond_same false true x = refl
+cond_same false false x = refl
+
+nothing_after : (message : Message) → owed_after message (λ _. None) ≡ (λ _. None)
+nothing_after (Remap from to len) = λ i page. cond_same (in_range (to / 4096) (len / 4096) page) (in_range (from / 4096) (len / 4096) page) None i
+nothing_after (Remove start end) = λ i page. cond_same false (is_changed_by (Remove start end) page) None i
+nothing_after (Unmap start end) = λ i page. cond_same false (is_changed_by (Unmap start end) page) None i
+nothing_after (PageFault addr write wp) = refl
+
+pub settled_by-none : (events : List Noted) → settled_by events (λ _. None) ≡ (λ _. None)
+settled_by-none [] = refl
+settled_by-none (noted ∷ events) = ap (settled_by events) (nothing_after noted.message) ∙ settled_by-none events
+
+pub settled_by-empty : (events : List Noted) (owed : FinMap nat_cmp ℕ) → owed ≡ finmap.empty → settled_by events (get owed) ≡ (λ _. None)
+settled_by-empty events owed h = ap (settled_by events) (λ i page. (ap (λ o. get o page) h ∙ get-empty nat_cmp page) i) ∙ settled_by-none events
+
+-- then the destination's memory is its own
+pub seen_alone : (here there other : Host) (owed : ℕ → Option ℕ) → owed ≡ (λ _. None) → seen_host here there owed ≡ seen_host here other owed
+seen_alone here there other owed h = ap (seen_host here there) h ∙ sym (ap (seen_host here other) h)
+
+pub released_kept : (from : SourcePhase) (forward back rest : List Sent) (world : World) →
+    let old : World = at_back from HasEnded true true forward back world in
+    let new : World = record old { source = released old.source; back = rest } in
+    IsKept old → forward ≡ [] → rest ≡ [] → IsKept new
+released_kept from forward back rest world kept none last =
+    let old : World = at_back from HasEnded true true forward back world in
+    let new : World = record old { source = released old.source; back = rest } in
+    let ended : world.destination.ended ≡ true = kept.destination_phase in
+    let bare = kept.ended_empty ended in
+    let holds : memory (current_host new) ≡ memory_of new.transcript =
+    ap memory (seen_alone world.destination.guest.space.host fresh_space.host world.source.guest.space.host (settled world.destination) (settled_by-empty world.destination.guest.space.object.events world.destination.owed bare.0)) ∙ kept.holds in
+    let source_space : IsSoundSpace (space_of new.source) = IsSoundSpace-fresh in
+    let both_modes : (page : ℕ) → contains (space_of new.source).object.missing page ≡ contains (space_of new.source).object.protect page = λ page. refl in
+    let source_events : AreRight (space_of new.source).object.events = tt in
+    let source_phase : SwitchedAt new.source.phase new.source.switched = refl in
+    let source_quiet : new.source.switched ≡ true → (space_of new.source).object.events ≡ [] = λ h. refl in
+    let before_switch : new.source.switched ≡ false → (new.source.remaining ≡ no_pages) × (new.source.ended ≢ new.source.epoch ⊎ (new.source.phase ≡ Idle)) = λ h. absurd (not_up h) in
+    let end_sent : new.source.ended ≡ new.source.epoch → new.source.remaining ≡ no_pages = λ h. refl in
+    let remaining_present : (page : ℕ) → contains new.source.remaining page ≡ true → is_present (space_of new.source) page ≡ true = λ page h. none_in page h in
+    let paused_fresh : new.up ≡ true → new.source.phase ≡ Paused → new.source.ended ≢ new.source.epoch = λ u h. absurd (let e : Released ≡ Paused = h in cc) in
+    let idle_source : new.source.phase ≡ Idle → (new.source.clean ≡ no_pages) × (new.source.todo ≡ no_pages) × (new.source.sent ≡ no_pages) × ((space_of new.source).object.events ≡ []) × ((page : ℕ) → contains (space_of new.source).object.missing page ≡ false) =
+    λ h. absurd (let e : Released ≡ Idle = h in cc) in
+    let clean_protected : new.source.switched ≡ false → (page : ℕ) → contains new.source.clean page ≡ true → is_unread (space_of new.source).object.events page ≡ false → contains (space_of new.source).protected page ≡ true = λ h. absurd (not_up h) in
+    let todo_sendable : new.source.switched ≡ false → (page : ℕ) → contains new.source.todo page ≡ true → is_unread (space_of new.source).object.events page ≡ false → (is_present (space_of new.source) page ≡ true) × (contains (space_of new.source).object.protect page ≡ true) = λ h. absurd (not_up h) in
+    let origins_present : (page origin : ℕ) → get new.destination.owed page ≡ Some origin → is_present (space_of new.source) origin ≡ true =
+    λ page origin h. absurd (none_some origin (sym (get-empty nat_cmp page) ∙ sym (ap (λ o. get o page) bare.0) ∙ h)) in
+    let arrivals_faithful : new.destination.has_run ≡ true → AreFaithful (space_of new.source).host.bytes new.destination.arrivals = λ h. subst (AreFaithful fresh_space.host.bytes) (sym bare.1) tt in
+    let flight_faithful : new.destination.has_run ≡ true → AreFaithful (space_of new.source).host.bytes (copies_of new.forward) = λ h. subst (λ wire. AreFaithful fresh_space.host.bytes (copies_of wire)) (sym none) tt in
+    let released_empty : new.source.phase ≡ Released → (space_of new.source ≡ fresh_space) × (new.source.remaining ≡ no_pages) = λ h. (refl, refl) in
+    let wires : new.up ≡ true → Wires new.source new.destination new.forward new.back = λ u. (refl, none, last) in
+    let down : new.up ≡ false → (new.forward ≡ []) × (new.back ≡ []) × (new.source.phase ≢ Idle) × (new.source.phase ≢ Released) = λ h. absurd (not_up h) in
+    let back_epoch : AreOf new.source.epoch new.back = subst (AreOf world.source.epoch) (sym last) tt in
+    assumption
+
+-- Recv
+
+no_copy : (page : ℕ) (kept : FinMap nat_cmp (List ℕ)) → kept ≡ finmap.empty → contains_key kept page ≡ false
+no_copy page kept h = ap (λ k. contains_key k page) h ∙ ap is_some (get-empty nat_cmp page)
+
+-- it has not run, and the source still makes rounds: all is sent anew
+pub recv_precopy : (owed : FinSet nat_cmp) (epoch : ℕ) (rest : List Sent) (world : World) →
+    let old : World = at_back Paused Advised false false [] (record { epoch = epoch; frame = Recv NotRun owed } ∷ rest) world in
+    IsKept old → rest ≡ [] → IsKept (delivered_back old old.back)
+recv_precopy owed epoch rest world kept last =
+    let old : World = at_back Paused Advised false false [] (record { epoch = epoch; frame = Recv NotRun owed } ∷ rest) world in
+    let new : World = delivered_back old old.back in
+    let w = kept.wires refl in
+    let source_phase : SwitchedAt new.source.phase new.source.switched = refl in
+    let before_switch : new.source.switched ≡ false → (new.source.remaining ≡ no_pages) × (new.source.ended ≢ new.source.epoch ⊎ (new.source.phase ≡ Idle)) =
+    λ h. ((kept.before_switch refl).0, inl (kept.paused_fresh refl refl)) in
+    let paused_fresh : new.up ≡ true → new.source.phase ≡ Paused → new.source.ended ≢ new.source.epoch = λ u h. kept.paused_fresh refl refl in
+    let idle_source : new.source.phase ≡ Idle → (new.source.clean ≡ no_pages) × (new.source.todo ≡ no_pages) × (new.source.sent ≡ no_pages) × ((space_of new.source).object.events ≡ []) × ((page : ℕ) → contains (space_of new.source).object.missing page ≡ false) =
+    λ h. absurd (let e : Precopy ≡ Idle = h in cc) in
+    let clean_protected : new.source.switched ≡ false → (page : ℕ) → contains new.source.clean page ≡ true → is_unread (space_of new.source).object.events page ≡ false → contains (space_of new.source).protected page ≡ true = λ s page h. none_in page h in
+    let todo_sendable : new.source.switched ≡ false → (page : ℕ) → contains new.source.todo page ≡ true → is_unread (space_of new.source).object.events page ≡ false → (is_present (space_of new.source) page ≡ true) × (contains (space_of new.source).object.protect page ≡ true) = λ s page h. none_in page h in
+    let released_empty : new.source.phase ≡ Released → (space_of new.source ≡ fresh_space) × (new.source.remaining ≡ no_pages) = λ h. absurd (let e : Precopy ≡ Released = h in cc) in
+    let precopying : IsPrecopying new.source new.destination.kept new.forward =
+    record {
+      clean_copy = λ page h unread. none_in page h;
+      copies_sent = λ page h. absurd (false≢true (sym (no_copy page world.destination.kept w.2) ∙ h));
+    } in
+    let wires : new.up ≡ true → Wires new.source new.destination new.forward new.back = λ u. (refl, last, precopying) in
+    let down : new.up ≡ false → (new.forward ≡ []) × (new.back ≡ []) × (new.source.phase ≢ Idle) × (new.source.phase ≢ Released) = λ h. absurd (not_up h) in
+    let back_epoch : AreOf new.source.epoch new.back = kept.back_epoch.1 in
+    assumption
+
+eqb_other : (a b : ℕ) → a ≢ b → eqb a b ≡ false
+eqb_other a b h = grind (arith, nat_tests)
+
+-- where End was not sent in this epoch
+flow_pushed : (source : Source) → source.ended ≢ source.epoch → Some Pushed ≡ Some (flow_of source)
+flow_pushed source h = sym (ap (λ t. Some (cond t AfterEnd Pushed)) (eqb_other source.ended source.epoch h))
+
+-- what is present, and what is not
+present_tells : (low some : Bool) → (low && some) ≡ true → some ≡ true
+present_tells true some h = h
+present_tells false some h = absurd (false≢true h)
+
+either_way : (b : Bool) (o : Option (List ℕ)) → o ≡ cond b o o
+either_way true o = refl
+either_way false o = refl
+
+all_owed : (low : Bool) (o : Option (List ℕ)) → (low ≡ false → o ≡ None) → None ≡ cond (low && is_some o) None o
+all_owed low None none = either_way (low && false) None
+all_owed true (Some bytes) none = refl
+all_owed false (Some bytes) none = sym (none refl)
+
+not_below : (q bound : ℕ) → ltb q bound ≡ false → bound ≤ q
+not_below q bound h = grind (arith, nat_tests)
+
+nothing_kept : (kept : FinMap nat_cmp (List ℕ)) (page : ℕ) → kept ≡ finmap.empty → get (kept_after kept (Discard no_pages)) page ≡ None
+nothing_kept kept page h =
+    ap (λ k. get k page) (discard_none kept) ∙ ap (λ k. get k page) h ∙ get-empty nat_cmp page
+
+-- it has not run, and the source has stopped: a Package that owes all present pages
+pub recv_switched : (owed : FinSet nat_cmp) (epoch : ℕ) (rest : List Sent) (world : World) →
+    let old : World = at_back Paused Advised false true [] (record { epoch = epoch; frame = Recv NotRun owed } ∷ rest) world in
+    IsKept old → rest ≡ [] → IsKept (delivered_back old old.back)
+recv_switched owed epoch rest world kept last =
+    let old : World = at_back Paused Advised false true [] (record { epoch = epoch; frame = Recv NotRun owed } ∷ rest) world in
+    let new : World = delivered_back old old.back in
+    let w = kept.wires refl in
+    let fresh : world.source.ended ≢ world.source.epoch = kept.paused_fresh refl refl in
+    let sound : IsSound world.source.guest.space.host = kept.source_space.host in
+    let here : (page : ℕ) → contains (present world.source.guest.space) page ≡ (ltb page HIGH_PAGE && is_present world.source.guest.space page) = λ page. member_below _ HIGH_PAGE page in
+    let source_phase : SwitchedAt new.source.phase new.source.switched = refl in
+    let before_switch : new.source.switched ≡ false → (new.source.remaining ≡ no_pages) × (new.source.ended ≢ new.source.epoch ⊎ (new.source.phase ≡ Idle)) = λ h. absurd (not_up h) in
+    let end_sent : new.source.ended ≡ new.source.epoch → new.source.remaining ≡ no_pages = λ h. absurd (fresh h) in
+    let paused_fresh : new.up ≡ true → new.source.phase ≡ Paused → new.source.ended ≢ new.source.epoch = λ u h. fresh in
+    let idle_source : new.source.phase ≡ Idle → (new.source.clean ≡ no_pages) × (new.source.todo ≡ no_pages) × (new.source.sent ≡ no_pages) × ((space_of new.source).object.events ≡ []) × ((page : ℕ) → contains (space_of new.source).object.missing page ≡ false) =
+    λ h. absurd (let e : Stopped ≡ Idle = h in cc) in
+    let released_empty : new.source.phase ≡ Released → (space_of new.source ≡ fresh_space) × (new.source.remaining ≡ no_pages) = λ h. absurd (let e : Stopped ≡ Released = h in cc) in
+    let remaining_present : (page : ℕ) → contains new.source.remaining page ≡ true → is_present (space_of new.source) page ≡ true = λ page h. present_tells (ltb page HIGH_PAGE) (is_present world.source.guest.space page) (sym (here page) ∙ h) in
+    let switching : IsSwitching new.source new.destination.kept new.forward =
+    record {
+      owed = present world.source.guest.space;
+      plan = refl;
+      owed_present = remaining_present;
+      kept_rest = λ page.
+          nothing_kept world.destination.kept page w.2
+          ∙ all_owed (ltb page HIGH_PAGE) (get world.source.guest.space.host.bytes page) (λ l. sound.mapped page (sound.bound page (not_below page HIGH_PAGE l)))
+          ∙ sym (ap (λ b. cond b None (get world.source.guest.space.host.bytes page)) (here page));
+      whereabouts = λ page h. ap (λ b. b || false) h;
+      faithful = tt;
+    } in
+    let wires : new.up ≡ true → Wires new.source new.destination new.forward new.back = λ u. (flow_pushed world.source fresh, last, switching) in
+    let down : new.up ≡ false → (new.forward ≡ []) × (new.back ≡ []) × (new.source.phase ≢ Idle) × (new.source.phase ≢ Released) = λ h. absurd (not_up h) in
+    let forward_epoch : AreOf new.source.epoch new.forward = (refl, (refl, tt)) in
+    let back_epoch : AreOf new.source.epoch new.back = kept.back_epoch.1 in
+    assumption
+
+-- it runs: what it still needs is to be pushed
+pub recv_running : (owed : FinSet nat_cmp) (epoch : ℕ) (rest : List Sent) (world : World) →
+    let old : World = at_back Paused Runs true true [] (record { epoch = epoch; frame = Recv Running owed } ∷ rest) world in
+    IsKept old → are_requests rest ≡ true → ((page origin : ℕ) → get world.destination.owed page ≡ Some origin → contains owed origin ≡ true) →
+    ((page : ℕ) → contains owed page ≡ true → is_present world.source.guest.space page ≡ true) → IsKept (delivered_back old old.back)
+recv_running owed epoch rest world kept requests needed owed_present =
+    let old : World = at_back Paused Runs true true [] (record { epoch = epoch; frame = Recv Running owed } ∷ rest) world in
+    let new : World = delivered_back old old.back in
+    let fresh : world.source.ended ≢ world.source.epoch = kept.paused_fresh refl refl in
+    let source_phase : SwitchedAt new.source.phase new.source.switched = refl in
+    let before_switch : new.source.switched ≡ false → (new.source.remaining ≡ no_pages) × (new.source.ended ≢ new.source.epoch ⊎ (new.source.phase ≡ Idle)) = λ h. absurd (not_up h) in
+    let end_sent : new.source.ended ≡ new.source.epoch → new.source.remaining ≡ no_pages = λ h. absurd (fresh h) in
+    let paused_fresh : new.up ≡ true → new.source.phase ≡ Paused → new.source.ended ≢ new.source.epoch = λ u h. fresh in
+    let idle_source : new.source.phase ≡ Idle → (new.source.clean ≡ no_pages) × (new.source.todo ≡ no_pages) × (new.source.sent ≡ no_pages) × ((space_of new.source).object.events ≡ []) × ((page : ℕ) → contains (space_of new.source).object.missing page ≡ false) =
+    λ h. absurd (let e : Stopped ≡ Idle = h in cc) in
+    let released_empty : new.source.phase ≡ Released → (space_of new.source ≡ fresh_space) × (new.source.remaining ≡ no_pages) = λ h. absurd (let e : Stopped ≡ Released = h in cc) in
+    let remaining_present : (page : ℕ) → contains new.source.remaining page ≡ true → is_present (space_of new.source) page ≡ true = owed_present in
+    let flowing : IsFlowing new.source new.destination new.forward = record { whereabouts = λ page origin h. ap (λ b. b || false || has_copy world.destination.arrivals origin) (needed page origin h) } in
+    let wires : new.up ≡ true → Wires new.source new.destination new.forward new.back = λ u. (flow_pushed world.source fresh, requests, flowing) in
+    let down : new.up ≡ false → (new.forward ≡ []) × (new.back ≡ []) × (new.source.phase ≢ Idle) × (new.source.phase ≢ Released) = λ h. absurd (not_up h) in
+    let back_epoch : AreOf new.source.epoch new.back = kept.back_epoch.1 in
+    assumption

@@ -1,0 +1,285 @@
+-- Install keeps what every world keeps: a copy is put where its page belongs now, which was missing just before, or is given up.
+use Rattle.std.proofs.Common.{◌≡◌, ℕ, suc, ◌+◌, ◌*◌, ◌/◌, ◌&&◌, ◌||◌, Bool, true, false, cond, not, eqb, ltb, Option, Some, None, List, [], ◌∷◌, refl, sym, ap, ◌∙◌, subst, arith, Ok, is_some, length}
+use Rattle.std.specs.Option.{option_and_then}
+use Rattle.std.specs.Ordering.{nat_cmp}
+use Rattle.std.specs.Cmp.{nat_cmp_total, unsigned_tied}
+use Rattle.std.specs.FinMap as finmap
+use Rattle.std.specs.FinMap.{FinMap, get, contains_key, get-remove}
+use Rattle.std.specs.FinSet.{contains}
+use Rattle.std.proofs.lemmas.Bool.Decides.{nat_tests}
+use Rattle.std.proofs.lemmas.Bool.{false≢true}
+use Rattle.mig_base.specs.declared.TheConstants.{HIGH_PAGE}
+use Rattle.mig_base.specs.Ranges.{in_range}
+use Rattle.mig_base.specs.Pages.{map_below}
+use Rattle.mig_base.proofs.SetLemmas.{member_below}
+use Rattle.mig_model.specs.Host.{Host, memory}
+use Rattle.mig_model.specs.Userfault.{Noted}
+use Rattle.mig_model.specs.Space.{Space, IsSoundSpace}
+use Rattle.mig_model.specs.Ioctls.{put_pages, installed as pages_installed}
+use Rattle.mig_model.specs.Guest.{Guest, all_woken, is_present}
+use Rattle.mig_model.specs.Wire.{Copy}
+use Rattle.mig_model.specs.Nodes.{space_of, home, install_by, without_request}
+use Rattle.mig_model.specs.Migration.{World, Effect, Refusal, accepted, effect_of, refusal_of, install_effect_by, outcome, outcome_by, next, next_by}
+use Rattle.mig_model.specs.Migration.Effect.{Installed, Dropped, EndSent}
+use Rattle.mig_model.specs.Migration.Step.{Install}
+use Rattle.mig_model.specs.Migration.Refusal.{Phase, NothingThere, Changing}
+use Rattle.mig_model.specs.Invariant.{IsKept, AreFaithful, has_copy, seen_host, seen_bytes}
+use Rattle.mig_model.specs.Promises.{IsPut}
+use Rattle.mig_model.proofs.IoctlLemmas.{IsSoundSpace-installed, get-put_pages}
+use Rattle.mig_model.proofs.SettledLemmas.{none_some, none_absurd, eqb_true, eqb-refl, home_tells, home-none}
+use Rattle.mig_model.proofs.DestinationRead.{kept-handled, first_holds_not, not_false}
+
+-- One page put
+
+only_one : (page q : ℕ) → in_range page 1 q ≡ eqb q page
+only_one page q = grind (arith, nat_tests)
+
+pub get-put_one : (pages : FinMap nat_cmp (List ℕ)) (page q : ℕ) (bytes : List ℕ) → get (put_pages pages page 1 (λ i. bytes)) q ≡ cond (eqb q page) (Some bytes) (get pages q)
+get-put_one pages page q bytes = get-put_pages pages page 1 q (λ i. bytes) ∙ ap (λ b. cond b (Some bytes) (get pages q)) (only_one page q)
+
+get-without : (owed : FinMap nat_cmp ℕ) (page q : ℕ) → get (finmap.remove owed page) q ≡ cond (eqb q page) None (get owed q)
+get-without owed page q = get-remove nat_cmp_total owed page q ∙ ap (λ b. cond b None (get owed q)) (unsigned_tied q page)
+
+none_protected : (low old : Bool) → old ≡ false → (low && (old || false)) ≡ false
+none_protected false old h = refl
+none_protected true true h = h
+none_protected true false h = refl
+
+-- a space in which no page is protected, once a missing page is put
+pub put-unprotected : (space : Space) (page : ℕ) (bytes : List ℕ) → ((q : ℕ) → contains space.protected q ≡ false) → (q : ℕ) → contains (pages_installed space page 1 (λ i. bytes) false).protected q ≡ false
+put-unprotected space page bytes none q = member_below _ HIGH_PAGE q ∙ none_protected (ltb q HIGH_PAGE) (contains space.protected q) (none q)
+
+pub put-sound : (space : Space) (page : ℕ) (bytes : List ℕ) → contains_key space.host.areas page ≡ true → length bytes ≡ 4096 → IsSoundSpace space → IsSoundSpace (pages_installed space page 1 (λ i. bytes) false)
+put-sound space page bytes mapped whole sound =
+    IsSoundSpace-installed space page 1 (λ i. bytes) false
+    (record {
+      mapped = λ q h. ap (contains_key space.host.areas) (eqb_true q page (sym (only_one page q) ∙ h)) ∙ mapped;
+      whole = λ i l. whole;
+      watched = λ h q e. none_absurd h;
+    }) sound
+
+still_missing : (here : Bool) (bytes : List ℕ) (o : Option (List ℕ)) → here ≡ false → is_some o ≡ false → is_some (cond here (Some bytes) o) ≡ false
+still_missing true bytes o h k = absurd (false≢true (sym h))
+still_missing false bytes o h k = k
+
+-- any other page that was missing still is
+pub put-missing : (space : Space) (page q : ℕ) (bytes : List ℕ) → eqb q page ≡ false → is_present space q ≡ false → is_present (pages_installed space page 1 (λ i. bytes) false) q ≡ false
+put-missing space page q bytes other h = ap is_some (get-put_one space.host.bytes page q bytes) ∙ still_missing (eqb q page) bytes (get space.host.bytes q) other h
+
+-- The memory that the guest sees
+
+abbrev pub seen_by : Option (List ℕ) → Option (List ℕ) → Option (List ℕ)
+seen_by own other = elim own [ Some bytes ↦ Some bytes | None ↦ other ]
+
+seen_there : (here : Bool) (bytes : List ℕ) (own : Option (List ℕ)) (owed : Option ℕ) (there : ℕ → Option (List ℕ)) → (here ≡ true → own ≡ None) → (here ≡ true → option_and_then there owed ≡ Some bytes) →
+    seen_by (cond here (Some bytes) own) (option_and_then there (cond here None owed)) ≡ seen_by own (option_and_then there owed)
+seen_there true bytes own owed there none same = sym (ap (λ o. seen_by o (option_and_then there owed)) (none refl) ∙ same refl)
+seen_there false bytes own owed there none same = refl
+
+-- the page that is put there is the one that was read through to the source
+seen-put : (here there : Host) (owed : FinMap nat_cmp ℕ) (page origin q : ℕ) (bytes : List ℕ) → get here.bytes page ≡ None → get owed page ≡ Some origin → get there.bytes origin ≡ Some bytes →
+    seen_bytes (record here { bytes = put_pages here.bytes page 1 (λ i. bytes) }) there (get (finmap.remove owed page)) q ≡ seen_bytes here there (get owed) q
+seen-put here there owed page origin q bytes none pair same =
+    ap (λ o. seen_by o (option_and_then (get there.bytes) (get (finmap.remove owed page) q))) (get-put_one here.bytes page q bytes)
+    ∙ ap (λ o. seen_by (cond (eqb q page) (Some bytes) (get here.bytes q)) (option_and_then (get there.bytes) o)) (get-without owed page q)
+    ∙ seen_there (eqb q page) bytes (get here.bytes q) (get owed q) (get there.bytes)
+    (λ e. ap (get here.bytes) (eqb_true q page e) ∙ none)
+    (λ e. ap (λ k. option_and_then (get there.bytes) (get owed k)) (eqb_true q page e) ∙ ap (option_and_then (get there.bytes)) pair ∙ same)
+
+memory-put : (here there : Host) (owed : FinMap nat_cmp ℕ) (page origin : ℕ) (bytes : List ℕ) → get here.bytes page ≡ None → get owed page ≡ Some origin → get there.bytes origin ≡ Some bytes →
+    memory (seen_host (record here { bytes = put_pages here.bytes page 1 (λ i. bytes) }) there (get (finmap.remove owed page))) ≡ memory (seen_host here there (get owed))
+memory-put here there owed page origin bytes none pair same =
+    let all : seen_bytes (record here { bytes = put_pages here.bytes page 1 (λ i. bytes) }) there (get (finmap.remove owed page)) ≡ seen_bytes here there (get owed) = λ i q. seen-put here there owed page origin q bytes none pair same i in
+    ap (λ f. memory (record { areas = here.areas; bytes = map_below f HIGH_PAGE })) all
+
+-- The pairs that are left
+
+left_pair : (here : Bool) (o : Option ℕ) (origin : ℕ) → cond here None o ≡ Some origin → (here ≡ false) × (o ≡ Some origin)
+left_pair true o origin h = absurd (none_some origin h)
+left_pair false o origin h = (refl, h)
+
+left : (owed : FinMap nat_cmp ℕ) (page q origin : ℕ) → get (finmap.remove owed page) q ≡ Some origin → (eqb q page ≡ false) × (get owed q ≡ Some origin)
+left owed page q origin h = left_pair (eqb q page) (get owed q) origin (sym (get-without owed page q) ∙ h)
+
+behind_first : (first rest : Bool) → (first ≡ true → ⊥) → (first || rest) ≡ true → rest ≡ true
+behind_first true rest not_first h = absurd (not_first refl)
+behind_first false rest not_first h = h
+
+-- The step
+
+-- the world with these events unread and these copies waiting. Each world is one at its own
+abbrev at_copies : List Noted → List Copy → World → World
+at_copies events arrivals world =
+    record world {
+      destination = record world.destination {
+        guest = record world.destination.guest { space = record world.destination.guest.space { object = record world.destination.guest.space.object { events = events } } };
+        arrivals = arrivals;
+      };
+    }
+
+some_first : (copy : Copy) (rest : List Copy) → copy ∷ rest ≡ [] → ⊥
+some_first copy rest h = cc
+
+pub missing_none : (o : Option (List ℕ)) → is_some o ≡ false → o ≡ None
+missing_none None h = refl
+missing_none (Some bytes) h = absurd (false≢true (sym h))
+
+or_first : (a b : Bool) → a ≡ true → (a || b) ≡ true
+or_first true b h = refl
+or_first false b h = none_absurd h
+
+-- what is known where a copy has a page: the page is owed from it, is registered and is missing, and the copy is the source's page
+record HasHome (world : World) (copy : Copy) (page : ℕ) : Type 0 where
+  pair : get world.destination.owed page ≡ Some copy.page
+  registered : contains world.destination.guest.space.object.missing page ≡ true
+  missing : is_present world.destination.guest.space page ≡ false
+  same : get (space_of world.source).host.bytes copy.page ≡ Some copy.bytes
+
+has_home : (copy : Copy) (rest : List Copy) (world : World) (page : ℕ) → IsKept (at_copies [] (copy ∷ rest) world) → world.destination.has_run ≡ true → home world.destination.owed copy.page ≡ Some page → HasHome (at_copies [] (copy ∷ rest) world) copy page
+has_home copy rest world page kept runs found =
+    let pair : get world.destination.owed page ≡ Some copy.page = home_tells world.destination.owed copy.page page found in
+    let alone = kept.pairs_missing page copy.page pair in
+    let faithful : AreFaithful (space_of world.source).host.bytes (copy ∷ rest) = kept.arrivals_faithful runs in
+    record { pair = pair; registered = alone.0; missing = alone.1; same = faithful.0 }
+
+put_there : (copy : Copy) (rest : List Copy) (world : World) (page : ℕ) → IsKept (at_copies [] (copy ∷ rest) world) → world.destination.has_run ≡ true → home world.destination.owed copy.page ≡ Some page →
+    IsKept (record (at_copies [] (copy ∷ rest) world) { destination = install_by (Some page) (at_copies [] (copy ∷ rest) world).destination copy rest })
+put_there copy rest world page kept runs found =
+    let old : World = at_copies [] (copy ∷ rest) world in
+    let space : Space = old.destination.guest.space in
+    let owed : FinMap nat_cmp ℕ = world.destination.owed in
+    let new : Space = pages_installed space page 1 (λ i. copy.bytes) false in
+    let guest : Guest = record old.destination.guest { space = new; processors = all_woken (λ q. eqb q page) world.destination.guest.processors } in
+    let there = has_home copy rest world page kept runs found in
+    let faithful : AreFaithful (space_of world.source).host.bytes (copy ∷ rest) = kept.arrivals_faithful runs in
+    kept-handled old guest (finmap.remove owed page) (without_request world.destination.requests copy.page) rest (world.destination.installed + 1) world.destination.dropped world.destination.faults kept runs
+    (record {
+      space = put-sound space page copy.bytes (kept.destination_space.mapped page (or_first (contains space.object.missing page) (contains space.object.protect page) there.registered)) (kept.source_space.host.whole copy.page copy.bytes there.same) kept.destination_space;
+      unprotected = put-unprotected space page copy.bytes kept.unprotected;
+      only_missing = kept.only_missing;
+      events = tt;
+      faults = kept.destination_faults;
+      same_memory = memory-put space.host (space_of world.source).host owed page copy.page copy.bytes (missing_none (get space.host.bytes page) there.missing) there.pair there.same;
+      values = λ q origin h. (q, (left owed page q origin h).1);
+      one_to_one = λ q other origin h k. kept.one_to_one q other origin (left owed page q origin h).1 (left owed page other origin k).1;
+      below = λ q origin h. kept.owed_below q origin (left owed page q origin h).1;
+      copies = λ q origin h k.
+          let was = left owed page q origin h in
+          behind_first (eqb copy.page origin) (has_copy rest origin)
+          (λ e.
+          let here : get owed page ≡ Some origin = there.pair ∙ ap Some (eqb_true copy.page origin e) in
+          let one = kept.one_to_one q page origin was.1 here in
+          false≢true (sym was.0 ∙ ap (λ n. eqb n page) one ∙ eqb-refl page)) k;
+      missing = λ q origin h.
+          let was = left owed page q origin h in
+          let alone = kept.pairs_missing q origin was.1 in
+          (alone.0, put-missing space page q copy.bytes was.0 alone.1);
+      faithful = faithful.1;
+      ended = λ h. absurd (some_first copy rest (kept.ended_empty h).1);
+    })
+
+given_up : (copy : Copy) (rest : List Copy) (world : World) → IsKept (at_copies [] (copy ∷ rest) world) → world.destination.has_run ≡ true → home world.destination.owed copy.page ≡ None →
+    IsKept (record (at_copies [] (copy ∷ rest) world) { destination = install_by None (at_copies [] (copy ∷ rest) world).destination copy rest })
+given_up copy rest world kept runs lost =
+    let old : World = at_copies [] (copy ∷ rest) world in
+    let faithful : AreFaithful (space_of world.source).host.bytes (copy ∷ rest) = kept.arrivals_faithful runs in
+    kept-handled old old.destination.guest world.destination.owed world.destination.requests rest world.destination.installed (world.destination.dropped + 1) world.destination.faults kept runs
+    (record {
+      space = kept.destination_space;
+      unprotected = kept.unprotected;
+      only_missing = kept.only_missing;
+      events = tt;
+      faults = kept.destination_faults;
+      same_memory = refl;
+      values = λ q origin h. (q, h);
+      one_to_one = kept.one_to_one;
+      below = kept.owed_below;
+      copies = λ q origin h k.
+          behind_first (eqb copy.page origin) (has_copy rest origin)
+          (λ e. home-none world.destination.owed copy.page q lost (kept.owed_below q origin h) (h ∙ ap Some (sym (eqb_true copy.page origin e)))) k;
+      missing = kept.pairs_missing;
+      faithful = faithful.1;
+      ended = λ h. absurd (some_first copy rest (kept.ended_empty h).1);
+    })
+
+install_at : (o : Option ℕ) (copy : Copy) (rest : List Copy) (world : World) → IsKept (at_copies [] (copy ∷ rest) world) → world.destination.has_run ≡ true → home world.destination.owed copy.page ≡ o →
+    IsKept (record (at_copies [] (copy ∷ rest) world) { destination = install_by o (at_copies [] (copy ∷ rest) world).destination copy rest })
+install_at None copy rest world kept runs found = given_up copy rest world kept runs found
+install_at (Some page) copy rest world kept runs found = put_there copy rest world page kept runs found
+
+pub none_changing : (n : ℕ) → ltb 0 (suc n) ≡ false → ⊥
+none_changing n h = grind (arith, nat_tests)
+
+install_in : (events : List Noted) (arrivals : List Copy) (world : World) → IsKept (at_copies events arrivals world) → world.destination.has_run ≡ true → ltb 0 (length events) ≡ false → IsKept (accepted (at_copies events arrivals world) Install)
+install_in (noted ∷ events) arrivals world kept runs quiet = absurd (none_changing (length events) quiet)
+install_in [] [] world kept runs quiet = kept
+install_in [] (copy ∷ rest) world kept runs quiet = install_at (home world.destination.owed copy.page) copy rest world kept runs refl
+
+pub kept-install : (world : World) → IsKept world → refusal_of world Install ≡ None → IsKept (accepted world Install)
+kept-install world kept none =
+    let ran = first_holds_not (not world.destination.has_run) Phase _ none in
+    let some = first_holds_not _ NothingThere _ ran.1 in
+    let quiet = first_holds_not (ltb 0 (length world.destination.guest.space.object.events)) Changing _ some.1 in
+    install_in world.destination.guest.space.object.events world.destination.arrivals world kept (not_false world.destination.has_run ran.0) quiet.0
+
+-- What was put
+
+same_effect : (a b c d : ℕ) → Installed a b ≡ Installed c d → (a ≡ c) × (b ≡ d)
+same_effect a b c d h = (cc, cc)
+
+dropped_not : (a c d : ℕ) → Dropped a ≡ Installed c d → ⊥
+dropped_not a c d h = cc
+
+end_not : (c d : ℕ) → EndSent ≡ Installed c d → ⊥
+end_not c d h = cc
+
+page_again : (addr page : ℕ) → 4096 * page ≡ addr → page ≡ addr / 4096
+page_again addr page h = omega arith
+
+put_at : (o : Option ℕ) (copy : Copy) (rest : List Copy) (world : World) (addr source : ℕ) → IsKept (at_copies [] (copy ∷ rest) world) → world.destination.has_run ≡ true → home world.destination.owed copy.page ≡ o →
+    install_effect_by o copy.page ≡ Installed addr source →
+    IsPut (at_copies [] (copy ∷ rest) world) (record (at_copies [] (copy ∷ rest) world) { destination = install_by o (at_copies [] (copy ∷ rest) world).destination copy rest }) (addr / 4096) (source / 4096)
+put_at None copy rest world addr source kept runs found same = absurd (dropped_not (4096 * copy.page) addr source same)
+put_at (Some page) copy rest world addr source kept runs found same =
+    let old : World = at_copies [] (copy ∷ rest) world in
+    let space : Space = old.destination.guest.space in
+    let new : World = record old { destination = install_by (Some page) old.destination copy rest } in
+    let there = has_home copy rest world page kept runs found in
+    let both = same_effect (4096 * page) (4096 * copy.page) addr source same in
+    let now : get (put_pages space.host.bytes page 1 (λ i. copy.bytes)) page ≡ Some copy.bytes =
+    get-put_one space.host.bytes page page copy.bytes ∙ ap (λ b. cond b (Some copy.bytes) (get space.host.bytes page)) (eqb-refl page) in
+    let put : IsPut old new page copy.page =
+    record {
+      missing = there.missing;
+      mapped = kept.destination_space.mapped page (or_first (contains space.object.missing page) (contains space.object.protect page) there.registered);
+      registered = there.registered;
+      owed = there.pair;
+      source = there.same ∙ sym now;
+      present = ap is_some now;
+    } in
+    subst (λ p. IsPut old new p (source / 4096)) (page_again addr page both.0) (subst (λ p. IsPut old new page p) (page_again source copy.page both.1) put)
+
+put_in : (events : List Noted) (arrivals : List Copy) (world : World) (addr source : ℕ) → IsKept (at_copies events arrivals world) → world.destination.has_run ≡ true → ltb 0 (length events) ≡ false →
+    effect_of (at_copies events arrivals world) Install ≡ Installed addr source → IsPut (at_copies events arrivals world) (accepted (at_copies events arrivals world) Install) (addr / 4096) (source / 4096)
+put_in (noted ∷ events) arrivals world addr source kept runs quiet same = absurd (none_changing (length events) quiet)
+put_in [] [] world addr source kept runs quiet same = absurd (end_not addr source same)
+put_in [] (copy ∷ rest) world addr source kept runs quiet same = put_at (home world.destination.owed copy.page) copy rest world addr source kept runs refl same
+
+-- an Install that answers Installed has put a page that was missing just before
+pub install_put : (world : World) (addr source : ℕ) → IsKept world → refusal_of world Install ≡ None → effect_of world Install ≡ Installed addr source → IsPut world (accepted world Install) (addr / 4096) (source / 4096)
+install_put world addr source kept none same =
+    let ran = first_holds_not (not world.destination.has_run) Phase _ none in
+    let some = first_holds_not _ NothingThere _ ran.1 in
+    let quiet = first_holds_not (ltb 0 (length world.destination.guest.space.object.events)) Changing _ some.1 in
+    put_in world.destination.guest.space.object.events world.destination.arrivals world addr source kept (not_false world.destination.has_run ran.0) quiet.0 same
+
+outcome_told : (o : Option Refusal) (effect other : Effect) → outcome_by o effect ≡ Ok other → (o ≡ None) × (effect ≡ other)
+outcome_told None effect other h = (refl, cc)
+outcome_told (Some refusal) effect other h = absurd (cc)
+
+-- the same for what a step answers, and the world after it
+pub install_put_next : (world : World) (addr source : ℕ) → IsKept world → outcome world Install ≡ Ok (Installed addr source) → IsPut world (next world Install) (addr / 4096) (source / 4096)
+unfolding outcome next
+install_put_next world addr source kept answered =
+    let told = outcome_told (refusal_of world Install) (effect_of world Install) (Installed addr source) answered in
+    subst (λ o. IsPut world (next_by o world (accepted world Install)) (addr / 4096) (source / 4096)) (sym told.0) (install_put world addr source kept told.0 told.1)

@@ -1,0 +1,381 @@
+-- The calls of a userfault object leave a space in order.
+use Rattle.std.proofs.Common.{◌≡◌, ℕ, zero, suc, ◌+◌, ◌-◌, ◌/◌, ◌<◌, ◌≤◌, ◌&&◌, ◌||◌, Bool, true, false, cond, not, eqb, ltb, Option, Some, None, List, [], ◌∷◌, refl, sym, ap, ◌∙◌, ◌⊎◌, inl, inr, ⊎_elim, arith, is_some, unwrap_or, length}
+use Rattle.std.specs.Ordering.{nat_cmp}
+use Rattle.std.specs.FinMap.{FinMap, get, contains_key}
+use Rattle.std.specs.FinSet.{contains}
+use Rattle.std.proofs.lemmas.Bool.Decides.{nat_tests}
+use Rattle.std.proofs.lemmas.Bool.{false≢true}
+use Rattle.std.proofs.lemmas.List.{length-take, length-drop}
+use Rattle.mig_base.specs.declared.TheConstants.{HIGH_PAGE}
+use Rattle.mig_base.specs.declared.command.Errno.{Errno}
+use Rattle.mig_base.specs.Bits.{is_one}
+use Rattle.mig_base.specs.Bytes.{zero_page}
+use Rattle.mig_base.specs.Ranges.{in_range, least_below}
+use Rattle.mig_base.specs.Sets.{without, pages_where}
+use Rattle.mig_base.proofs.ByteLemmas.{length-zero_page}
+use Rattle.mig_base.proofs.RangeLemmas.{none_below_tells}
+use Rattle.mig_base.proofs.SetLemmas.{member_without, member_below}
+use Rattle.mig_model.specs.Userfault.{Object, Noted, Mode, is_registered, has_modes, registered_where, message_read, read_by, enabled_with}
+use Rattle.mig_model.specs.Space.{Space, IsSoundSpace}
+use Rattle.mig_model.specs.Ioctls.{first_error, left_by, mode_of, is_every, is_mapped_in, registered_in, registered, register_error, unregistered_in, range_unregistered, unregister_error, handshake_error, handshaken, put_pages, handed, missing_run, installed, same_bool, same_area, is_one_area, copy_errors, copy_error, copied, zeropage_errors, zeropage_error, zeropaged, protected_in, writeprotect_errors, writeprotect_error, write_protected, read_error, read_space}
+use Rattle.mig_model.proofs.HostLemmas.{get-put}
+
+none_absurd : {A : Type 0} → false ≡ true → A
+none_absurd h = absurd (false≢true h)
+
+-- Registered pages
+
+either_true : (a b : Bool) → (a || b) ≡ true → (a ≡ true) ⊎ (b ≡ true)
+either_true true b h = inl refl
+either_true false b h = inr h
+
+-- a page that has a mode afterwards had it, or is one of those that were asked for
+registered_one : (low test has mode old : Bool) → (low && cond (test && not has) mode old) ≡ true → (test ≡ true) ⊎ (old ≡ true)
+registered_one false test has mode old h = none_absurd h
+registered_one true true true mode old h = inr h
+registered_one true true false mode old h = inl refl
+registered_one true false has mode old h = inr h
+
+left_mapped : (a b : Bool) → (a && b) ≡ true → b ≡ true
+left_mapped true b h = h
+left_mapped false b h = none_absurd h
+
+left_own : (a b : Bool) → (a && b) ≡ true → a ≡ true
+left_own true b h = refl
+left_own false b h = none_absurd h
+
+or_first : (a b : Bool) → a ≡ true → (a || b) ≡ true
+or_first true b h = refl
+or_first false b h = none_absurd h
+
+or_second : (a b : Bool) → b ≡ true → (a || b) ≡ true
+or_second true b h = refl
+or_second false b h = h
+
+refl_or : (a : Bool) → cond (not (a && true)) true true ≡ true
+refl_or true = refl
+refl_or false = refl
+
+refl_kept : (a : Bool) → cond (not ((a || true) && true)) false true ≡ true
+refl_kept true = refl
+refl_kept false = refl
+
+-- the page keeps its write-protect mode where it stays protected
+still_watched : (low mapped missing has_missing mode_missing mode_protect protect : Bool) → low ≡ true → protect ≡ true →
+    (mode_protect || ((not mode_missing || has_missing) && (not mode_protect || protect)) || not mapped) ≡ true →
+    (low && cond (mapped && not ((not mode_missing || has_missing) && (not mode_protect || protect))) mode_protect protect) ≡ true
+still_watched false mapped missing has_missing mode_missing mode_protect protect low is h = none_absurd low
+still_watched true mapped missing has_missing mode_missing mode_protect false low is h = none_absurd is
+still_watched true false missing has_missing mode_missing mode_protect true low is h = refl
+still_watched true true missing has_missing mode_missing true true low is h = refl_or (not mode_missing || has_missing)
+still_watched true true missing true mode_missing false true low is h = refl_kept (not mode_missing)
+still_watched true true missing false true false true low is h = none_absurd h
+still_watched true true missing false false false true low is h = refl
+
+low_or : {page : ℕ} → (HIGH_PAGE ≤ page → ⊥) → ltb page HIGH_PAGE ≡ true
+low_or h = grind (arith, nat_tests, h)
+
+below_high : (space : Space) (page : ℕ) → IsSoundSpace space → contains_key space.host.areas page ≡ true → ltb page HIGH_PAGE ≡ true
+below_high space page sound mapped = low_or (λ h. false≢true (sym (ap is_some (sound.host.bound page h)) ∙ mapped))
+
+pub IsSoundSpace-registered : (space : Space) (first count : ℕ) (mode : Mode) → IsSoundSpace space → IsSoundSpace (registered_in space first count mode)
+IsSoundSpace-registered space first count mode sound =
+    let object = space.object in
+    let mapped = is_mapped_in space first count in
+    record {
+      host = sound.host;
+      mapped = λ page h.
+          ⊎_elim
+          (λ one. ⊎_elim
+          (λ asked. left_mapped (in_range first count page) (contains_key space.host.areas page) asked)
+          (λ old. sound.mapped page (or_first (contains object.missing page) (contains object.protect page) old))
+          (registered_one (ltb page HIGH_PAGE) (mapped page) (has_modes object page mode) mode.missing (contains object.missing page) (sym (member_below _ HIGH_PAGE page) ∙ one)))
+          (λ one. ⊎_elim
+          (λ asked. left_mapped (in_range first count page) (contains_key space.host.areas page) asked)
+          (λ old. sound.mapped page (or_second (contains object.missing page) (contains object.protect page) old))
+          (registered_one (ltb page HIGH_PAGE) (mapped page) (has_modes object page mode) mode.protect (contains object.protect page) (sym (member_below _ HIGH_PAGE page) ∙ one)))
+          (either_true (contains (registered_where object mapped mode).missing page) (contains (registered_where object mapped mode).protect page) h);
+      present = λ page h.
+          sound.present page (left_own (contains space.protected page) _ (left_mapped (ltb page HIGH_PAGE) _ (sym (member_below _ HIGH_PAGE page) ∙ h)));
+      watched = λ page h.
+          let told = left_mapped (ltb page HIGH_PAGE) _ (sym (member_below _ HIGH_PAGE page) ∙ h) in
+          let was = left_own (contains space.protected page) _ told in
+          let watched = sound.watched page was in
+          member_below _ HIGH_PAGE page
+          ∙ still_watched (ltb page HIGH_PAGE) (mapped page) true (contains object.missing page) mode.missing mode.protect (contains object.protect page)
+          (below_high space page sound (sound.mapped page (or_second (contains object.missing page) (contains object.protect page) watched))) watched
+          (left_mapped (contains space.protected page) _ told);
+    }
+
+-- A range that is registered no longer
+
+pub IsSoundSpace-unregistered : (space : Space) (first count : ℕ) → IsSoundSpace space → IsSoundSpace (unregistered_in space first count)
+IsSoundSpace-unregistered space first count sound =
+    let object = space.object in
+    record {
+      host = sound.host;
+      mapped = λ page h.
+          ⊎_elim
+          (λ one. sound.mapped page (or_first (contains object.missing page) (contains object.protect page) (left_own (contains object.missing page) _ (sym (member_without object.missing first count page) ∙ one))))
+          (λ one. sound.mapped page (or_second (contains object.missing page) (contains object.protect page) (left_own (contains object.protect page) _ (sym (member_without object.protect first count page) ∙ one))))
+          (either_true (contains (without object.missing first count) page) (contains (without object.protect first count) page) h);
+      present = λ page h. sound.present page (left_own (contains space.protected page) _ (sym (member_without space.protected first count page) ∙ h));
+      watched = λ page h.
+          let told = sym (member_without space.protected first count page) ∙ h in
+          member_without object.protect first count page
+          ∙ ap (λ b. b && not (in_range first count page)) (sound.watched page (left_own (contains space.protected page) _ told))
+          ∙ left_mapped (contains space.protected page) (not (in_range first count page)) told;
+    }
+
+-- Pages put
+
+same_or_other : (a b : ℕ) → (a ≡ b) ⊎ (eqb a b ≡ false)
+same_or_other a b = grind (arith, nat_tests)
+
+eqb-refl : (n : ℕ) → eqb n n ≡ true
+eqb-refl n = grind (arith, nat_tests)
+
+nothing_in : (first n : ℕ) → in_range first 0 n ≡ false
+nothing_in first n = grind (arith, nat_tests)
+
+last_of : (first count : ℕ) → in_range first (suc count) (first + count) ≡ true
+last_of first count = grind (arith, nat_tests)
+
+but_the_last : (first count q : ℕ) → eqb q (first + count) ≡ false → in_range first count q ≡ in_range first (suc count) q
+but_the_last first count q h = grind (arith, nat_tests)
+
+same_some : {A : Type 0} (x y : A) → Some x ≡ Some y → x ≡ y
+same_some x y h = cc
+
+one_more : {A : Type 0} (first count q : ℕ) (f : ℕ → A) (old : A) → cond (eqb q (first + count)) (f count) (cond (in_range first count q) (f (q - first)) old) ≡ cond (in_range first (suc count) q) (f (q - first)) old
+one_more first count q f old = ⊎_elim
+    (λ (e : q ≡ first + count).
+    let away : first + count - first ≡ count = omega arith in
+    rw (e, eqb-refl (first + count), last_of first count, away) refl)
+    (λ (other : eqb q (first + count) ≡ false). rw (other, but_the_last first count q other) refl)
+    (same_or_other q (first + count))
+
+pub get-put_pages : (pages : FinMap nat_cmp (List ℕ)) (first count q : ℕ) (bytes : ℕ → List ℕ) → get (put_pages pages first count bytes) q ≡ cond (in_range first count q) (Some (bytes (q - first))) (get pages q)
+unfolding put_pages
+get-put_pages pages first zero q bytes = ap (λ b. cond b (Some (bytes (q - first))) (get pages q)) (sym (nothing_in first q))
+get-put_pages pages first (suc count) q bytes =
+    get-put (put_pages pages first count bytes) (first + count) q (bytes count)
+    ∙ ap (λ o. cond (eqb q (first + count)) (Some (bytes count)) o) (get-put_pages pages first count q bytes)
+    ∙ one_more first count q (λ i. Some (bytes i)) (get pages q)
+
+put_or_was : (here : Bool) (bytes : List ℕ) (o : Option (List ℕ)) → is_some o ≡ true → is_some (cond here (Some bytes) o) ≡ true
+put_or_was true bytes o h = refl
+put_or_was false bytes o h = h
+
+put_here : (here : Bool) (bytes : List ℕ) (o : Option (List ℕ)) → here ≡ true → is_some (cond here (Some bytes) o) ≡ true
+put_here true bytes o h = refl
+put_here false bytes o h = none_absurd h
+
+put_whole : (here : Bool) (put held : List ℕ) (o : Option (List ℕ)) → (here ≡ true → length put ≡ 4096) → (o ≡ Some held → length held ≡ 4096) → cond here (Some put) o ≡ Some held → length held ≡ 4096
+put_whole true put held o n rest h = ap length (sym (same_some put held h)) ∙ n refl
+put_whole false put held o n rest h = rest h
+
+put_mapped : (here : Bool) (put : List ℕ) (o : Option (List ℕ)) → (here ≡ true → ⊥) → o ≡ None → cond here (Some put) o ≡ None
+put_mapped true put o away h = absurd (away refl)
+put_mapped false put o away h = h
+
+in_range_inside : (first count q : ℕ) → in_range first count q ≡ true → (first ≤ q) × (q < first + count)
+in_range_inside first count q h = grind (arith, nat_tests)
+
+-- pages are put where each is mapped, and registered for write-protect faults if they are to be protected
+pub record CanPut (space : Space) (first count : ℕ) (bytes : ℕ → List ℕ) (protect : Bool) : Type 0 where
+  pub mapped : (page : ℕ) → in_range first count page ≡ true → contains_key space.host.areas page ≡ true
+  pub whole : (i : ℕ) → i < count → length (bytes i) ≡ 4096
+  pub watched : protect ≡ true → (page : ℕ) → in_range first count page ≡ true → contains space.object.protect page ≡ true
+
+pub IsSoundSpace-installed : (space : Space) (first count : ℕ) (bytes : ℕ → List ℕ) (protect : Bool) → CanPut space first count bytes protect → IsSoundSpace space → IsSoundSpace (installed space first count bytes protect)
+IsSoundSpace-installed space first count bytes protect can sound =
+    let put = put_pages space.host.bytes first count bytes in
+    let told = λ (page : ℕ) (h : contains (pages_where (λ q. contains space.protected q || (protect && in_range first count q))) page ≡ true).
+    either_true (contains space.protected page) (protect && in_range first count page) (left_mapped (ltb page HIGH_PAGE) _ (sym (member_below _ HIGH_PAGE page) ∙ h)) in
+    record {
+      host = record {
+        bound = sound.host.bound;
+        mapped = λ page none.
+            get-put_pages space.host.bytes first count page bytes
+            ∙ put_mapped (in_range first count page) (bytes (page - first)) (get space.host.bytes page) (λ e. false≢true (sym (ap is_some none) ∙ can.mapped page e)) (sound.host.mapped page none);
+        whole = λ page held h.
+            put_whole (in_range first count page) (bytes (page - first)) held (get space.host.bytes page) (λ e. let inside = in_range_inside first count page e in can.whole (page - first) (omega (arith, inside))) (sound.host.whole page held) (sym (get-put_pages space.host.bytes first count page bytes) ∙ h);
+      };
+      mapped = sound.mapped;
+      present = λ page h.
+          ap is_some (get-put_pages space.host.bytes first count page bytes)
+          ∙ ⊎_elim
+          (λ was. put_or_was (in_range first count page) (bytes (page - first)) (get space.host.bytes page) (sound.present page was))
+          (λ new. put_here (in_range first count page) (bytes (page - first)) (get space.host.bytes page) (left_mapped protect (in_range first count page) new))
+          (told page h);
+      watched = λ page h.
+          ⊎_elim
+          (λ was. sound.watched page was)
+          (λ new. can.watched (left_own protect (in_range first count page) new) page (left_mapped protect (in_range first count page) new))
+          (told page h);
+    }
+
+-- Write protection
+
+protected_one : (low here protect present old : Bool) → (low && cond here (protect && present) old) ≡ true → (here ≡ true) × (present ≡ true) ⊎ (old ≡ true)
+protected_one false here protect present old h = none_absurd h
+protected_one true true true true old h = inl (refl, refl)
+protected_one true true true false old h = none_absurd h
+protected_one true true false present old h = none_absurd h
+protected_one true false protect present old h = inr h
+
+pub IsSoundSpace-protected : (space : Space) (first count : ℕ) (protect : Bool) → ((page : ℕ) → in_range first count page ≡ true → contains space.object.protect page ≡ true) → IsSoundSpace space → IsSoundSpace (protected_in space first count protect)
+IsSoundSpace-protected space first count protect watched sound =
+    let told = λ (page : ℕ) (h : contains (protected_in space first count protect).protected page ≡ true).
+    protected_one (ltb page HIGH_PAGE) (in_range first count page) protect (contains_key space.host.bytes page) (contains space.protected page) (sym (member_below _ HIGH_PAGE page) ∙ h) in
+    record {
+      host = sound.host;
+      mapped = sound.mapped;
+      present = λ page h. ⊎_elim (λ new. new.1) (λ was. sound.present page was) (told page h);
+      watched = λ page h. ⊎_elim (λ new. watched page new.0) (λ was. sound.watched page was) (told page h);
+    }
+
+-- Reading a message, and the handshake
+
+read_missing : (faults : List Noted) (object : Object) → (read_by faults object).missing ≡ object.missing
+read_missing [] object = refl
+read_missing (fault ∷ faults) object = refl
+
+read_protect : (faults : List Noted) (object : Object) → (read_by faults object).protect ≡ object.protect
+read_protect [] object = refl
+read_protect (fault ∷ faults) object = refl
+
+pub IsSoundSpace-read : (space : Space) → IsSoundSpace space → IsSoundSpace (record space { object = message_read space.object })
+IsSoundSpace-read space sound =
+    let new = message_read space.object in
+    let missing : new.missing ≡ space.object.missing = read_missing space.object.faults space.object in
+    let protect : new.protect ≡ space.object.protect = read_protect space.object.faults space.object in
+    record {
+      host = sound.host;
+      mapped = λ page h. sound.mapped page (ap (λ s. contains s page || contains space.object.protect page) (sym missing) ∙ ap (λ s. contains new.missing page || contains s page) (sym protect) ∙ h);
+      present = sound.present;
+      watched = λ page h. ap (λ s. contains s page) protect ∙ sound.watched page h;
+    }
+
+pub IsSoundSpace-enabled : (space : Space) (features : ℕ) → IsSoundSpace space → IsSoundSpace (record space { object = enabled_with space.object features })
+IsSoundSpace-enabled space features sound = record { host = sound.host; mapped = sound.mapped; present = sound.present; watched = sound.watched }
+
+-- The calls as the table has them
+
+error_none : (test : Bool) (errno : Errno) (rest : Option Errno) → cond test (Some errno) rest ≡ None → (test ≡ false) × (rest ≡ None)
+error_none true errno rest h = absurd (cc)
+error_none false errno rest h = (refl, h)
+
+-- no error of the list holds
+abbrev NoneHolds : List (Bool × Errno) → Type 0
+NoneHolds [] = Unit {0}
+NoneHolds (error ∷ errors) = (error.0 ≡ false) × NoneHolds errors
+
+none_holds : (errors : List (Bool × Errno)) → first_error errors ≡ None → NoneHolds errors
+none_holds [] h = tt
+none_holds (error ∷ errors) h = let one = error_none error.0 error.1 (first_error errors) h in (one.0, none_holds errors one.1)
+
+-- a call that is refused leaves the space, so it is enough to look at one that is not
+left_sound : (error : Option Errno) (old new : Space) → IsSoundSpace old → (error ≡ None → IsSoundSpace new) → IsSoundSpace (left_by error old new)
+left_sound None old new sound h = h refl
+left_sound (Some errno) old new sound h = sound
+
+not_false : (b : Bool) → not b ≡ false → b ≡ true
+not_false true h = refl
+not_false false h = none_absurd (sym h)
+
+every_page : (test : ℕ → Bool) (first count page : ℕ) → is_every test first count ≡ true → first ≤ page → page < first + count → test page ≡ true
+every_page test first count page h low high =
+    let at : first + (page - first) ≡ page = omega arith in
+    ap test (sym at) ∙ not_false (test (first + (page - first))) (none_below_tells (λ i. not (test (first + i))) count (page - first) h (omega arith))
+
+found_bound : (o : Option ℕ) (here : Bool) (bound k : ℕ) → (o ≡ Some k → k < bound) → (elim o [ Some least ↦ Some least | None ↦ cond here (Some bound) None ]) ≡ Some k → k < suc bound
+found_bound (Some least) here bound k h e = let l = h e in omega (arith, l)
+found_bound None true bound k h e = let same = same_some bound k e in omega (arith, same)
+found_bound None false bound k h e = absurd (cc)
+
+least_bound : (test : ℕ → Bool) (bound k : ℕ) → least_below test bound ≡ Some k → k < bound
+unfolding least_below
+least_bound test zero k h = absurd (cc)
+least_bound test (suc bound) k h = found_bound (least_below test bound) (test bound) bound k (λ e. least_bound test bound k e) h
+
+run_by : (o : Option ℕ) (count : ℕ) → ((k : ℕ) → o ≡ Some k → k < count) → unwrap_or o count ≤ count
+run_by None count h = omega arith
+run_by (Some k) count h = let l = h k refl in omega (arith, l)
+
+missing_run-few : (space : Space) (first count : ℕ) → missing_run space first count ≤ count
+missing_run-few space first count = run_by (least_below (λ i. contains_key space.host.bytes (first + i)) count) count (λ k. least_bound (λ i. contains_key space.host.bytes (first + i)) count k)
+
+pub IsSoundSpace-handshaken : (space : Space) (api features : ℕ) → IsSoundSpace space → IsSoundSpace (handshaken space api features)
+IsSoundSpace-handshaken space api features sound =
+    left_sound (handshake_error space api features) space _ sound (λ e. IsSoundSpace-enabled space features sound)
+
+pub IsSoundSpace-range_registered : (space : Space) (start len bits : ℕ) → IsSoundSpace space → IsSoundSpace (registered space start len bits)
+IsSoundSpace-range_registered space start len bits sound =
+    left_sound (register_error space start len bits) space _ sound (λ e. IsSoundSpace-registered space (start / 4096) (len / 4096) (mode_of bits) sound)
+
+pub IsSoundSpace-range_unregistered : (space : Space) (start len : ℕ) → IsSoundSpace space → IsSoundSpace (range_unregistered space start len)
+IsSoundSpace-range_unregistered space start len sound =
+    left_sound (unregister_error space start len) space _ sound (λ e. IsSoundSpace-unregistered space (start / 4096) (len / 4096) sound)
+
+pub IsSoundSpace-write_protected : (space : Space) (start len bits : ℕ) → IsSoundSpace space → IsSoundSpace (write_protected space start len bits)
+IsSoundSpace-write_protected space start len bits sound =
+    let first = start / 4096 in
+    let count = len / 4096 in
+    left_sound (writeprotect_error space start len bits) space _ sound (λ e.
+    let told = none_holds (writeprotect_errors space start len bits) e in
+    let every = not_false (is_every (λ page. contains space.object.protect page) first count) told.1.1.1.1.0 in
+    IsSoundSpace-protected space first count (is_one bits 0) (λ page h.
+    let inside = in_range_inside first count page h in
+    every_page (λ q. contains space.object.protect q) first count page every inside.0 inside.1) sound)
+
+pub IsSoundSpace-read_space : (space : Space) → IsSoundSpace space → IsSoundSpace (read_space space)
+IsSoundSpace-read_space space sound = left_sound (read_error space) space _ sound (λ e. IsSoundSpace-read space sound)
+
+same_bool_true : (a b : Bool) → a ≡ true → same_bool a b ≡ true → b ≡ true
+same_bool_true true b h e = e
+same_bool_true false b h e = none_absurd h
+
+-- the pages before the first that is present can be put
+can_put : (space : Space) (first count : ℕ) (bytes : ℕ → List ℕ) (protect : Bool) → IsSoundSpace space → is_one_area space first count ≡ true → ((i : ℕ) → i < count → length (bytes i) ≡ 4096) →
+    (protect ≡ true → contains space.object.protect first ≡ true) → CanPut space first (missing_run space first count) bytes protect
+can_put space first count bytes protect sound area whole watched =
+    let few = missing_run-few space first count in
+    let each = λ (page : ℕ) (h : in_range first (missing_run space first count) page ≡ true).
+    let inside = in_range_inside first (missing_run space first count) page h in
+    every_page (λ q. is_registered space.object q && same_area space first q) first count page area inside.0 (omega (arith, inside, few)) in
+    record {
+      mapped = λ page h. sound.mapped page (left_own (is_registered space.object page) (same_area space first page) (each page h));
+      whole = λ i l. whole i (omega (arith, l, few));
+      watched = λ e page h.
+          let same = left_mapped (is_registered space.object page) (same_area space first page) (each page h) in
+          same_bool_true (contains space.object.protect first) (contains space.object.protect page) (watched e) (left_mapped _ (same_bool (contains space.object.protect first) (contains space.object.protect page)) same);
+    }
+
+-- either not asked for, or registered
+protect_told : (asked has : Bool) → (asked && not has) ≡ false → asked ≡ true → has ≡ true
+protect_told true has h e = not_false has h
+protect_told false has h e = none_absurd e
+
+length-handed : (bytes : List ℕ) (i : ℕ) → i < length bytes / 4096 → length (handed bytes i) ≡ 4096
+length-handed bytes i l = simp (length-take, length-drop) (omega (arith, l))
+
+pub IsSoundSpace-copied : (space : Space) (start : ℕ) (bytes : List ℕ) (bits : ℕ) → IsSoundSpace space → IsSoundSpace (copied space start bytes bits)
+IsSoundSpace-copied space start bytes bits sound =
+    let first = start / 4096 in
+    let count = length bytes / 4096 in
+    left_sound (copy_error space start (length bytes) bits) space _ sound (λ e.
+    let told = none_holds (copy_errors space start (length bytes) bits) e in
+    IsSoundSpace-installed space first (missing_run space first count) (handed bytes) (is_one bits 1)
+    (can_put space first count (handed bytes) (is_one bits 1) sound (not_false (is_one_area space first count) told.1.1.1.1.0) (λ i l. length-handed bytes i l)
+    (protect_told (is_one bits 1) (contains space.object.protect first) told.1.1.1.1.1.0)) sound)
+
+pub IsSoundSpace-zeropaged : (space : Space) (start len bits : ℕ) → IsSoundSpace space → IsSoundSpace (zeropaged space start len bits)
+IsSoundSpace-zeropaged space start len bits sound =
+    let first = start / 4096 in
+    let count = len / 4096 in
+    left_sound (zeropage_error space start len bits) space _ sound (λ e.
+    let told = none_holds (zeropage_errors space start len bits) e in
+    IsSoundSpace-installed space first (missing_run space first count) (λ i. zero_page) false
+    (can_put space first count (λ i. zero_page) false sound (not_false (is_one_area space first count) told.1.1.1.1.0) (λ i l. length-zero_page) (λ e. none_absurd e)) sound)

@@ -1,0 +1,244 @@
+-- The destination takes the Package, and runs: what it then has, with what it is owed, is the memory of the source.
+use Rattle.std.proofs.Common.{◌≡◌, ◌≢◌, ℕ, zero, suc, ◌<◌, ◌≤◌, ◌&&◌, ◌||◌, Bool, true, false, cond, not, eqb, ltb, Option, Some, None, is_some, List, [], ◌∷◌, refl, sym, ap, ◌∙◌, subst, arith, length, if◌then◌else◌}
+use Rattle.std.specs.Option.{option_and_then}
+use Rattle.std.specs.Ordering.{nat_cmp}
+use Rattle.std.specs.FinMap as finmap
+use Rattle.std.specs.FinMap.{FinMap, get, contains_key, get-empty}
+use Rattle.std.specs.FinSet.{FinSet, contains, contains-empty}
+use Rattle.std.proofs.lemmas.Bool.{false≢true}
+use Rattle.std.proofs.lemmas.Bool.Decides.{nat_tests}
+use Rattle.mig_base.specs.declared.TheConstants.{HIGH_PAGE}
+use Rattle.mig_base.specs.declared.Prot.{Prot}
+use Rattle.mig_base.specs.declared.command.Command.{Command}
+use Rattle.mig_base.specs.Pages.{map_below}
+use Rattle.mig_base.specs.Flat.{memory_of}
+use Rattle.mig_base.proofs.PageLemmas.{same_pages, get-put, get-map_below}
+use Rattle.mig_base.proofs.SetLemmas.{member_below}
+use Rattle.mig_model.specs.Host.{Host, memory, IsSound}
+use Rattle.mig_model.specs.Space.{fresh_space, IsSoundSpace}
+use Rattle.mig_model.specs.Guest.{is_present}
+use Rattle.mig_model.specs.Wire.{Sent}
+use Rattle.mig_model.specs.Wire.Frame.{Package}
+use Rattle.mig_model.specs.Nodes.{Source, no_pages, assembled, own_places, settled, space_of, commands_of}
+use Rattle.mig_model.specs.Nodes.SourcePhase.{Idle, Stopped, Released}
+use Rattle.mig_model.specs.Nodes.DestinationPhase.{NotAdvised, Discarding}
+use Rattle.mig_model.specs.Migration.{World, delivered}
+use Rattle.mig_model.specs.Invariant.{Wires, IsKept, IsSwitching, AreOf, AreRight, AreFaults, AreFaithful, copies_of, has_copy, RanAt, are_requests, seen_host, seen_bytes, current_host}
+use Rattle.mig_model.proofs.FirstFrame.{at_state, none_some}
+
+-- Owed pages at their own places
+
+placed : (owed : FinSet nat_cmp) (bound q : ℕ) → cond (eqb q bound) (cond (contains owed bound) (Some bound) None) (cond (ltb q bound && contains owed q) (Some q) None) ≡ cond (ltb q (suc bound) && contains owed q) (Some q) None
+placed owed bound q = grind (arith, nat_tests)
+
+none_lower : (q : ℕ) (b : Bool) → cond (ltb q 0 && b) (Some q) None ≡ None
+none_lower q b = grind (arith, nat_tests)
+
+pub get-own_places : (owed : FinSet nat_cmp) (bound q : ℕ) → get (own_places owed bound) q ≡ (if ltb q bound && contains owed q then Some q else None)
+unfolding own_places
+get-own_places owed zero q = get-empty nat_cmp q ∙ sym (none_lower q (contains owed q))
+get-own_places owed (suc bound) q =
+    get-put (own_places owed bound) bound q (cond (contains owed bound) (Some bound) None)
+    ∙ ap (λ o. cond (eqb q bound) (cond (contains owed bound) (Some bound) None) o) (get-own_places owed bound q)
+    ∙ placed owed bound q
+
+same_some : {A : Type 0} (x y : A) → Some x ≡ Some y → x ≡ y
+same_some x y h = cc
+
+own_tells : (low owed : Bool) (q origin : ℕ) → cond (low && owed) (Some q) None ≡ Some origin → (low ≡ true) × (owed ≡ true) × (origin ≡ q)
+own_tells true true q origin h = (refl, refl, sym (same_some q origin h))
+own_tells true false q origin h = absurd (none_some origin h)
+own_tells false owed q origin h = absurd (none_some origin h)
+
+below : (q bound : ℕ) → ltb q bound ≡ true → q < bound
+below q bound h = grind (arith, nat_tests)
+
+-- what a pair of the table tells
+pub own_place : (owed : FinSet nat_cmp) (page origin : ℕ) → get (own_places owed HIGH_PAGE) page ≡ Some origin → (page < HIGH_PAGE) × (contains owed page ≡ true) × (origin ≡ page)
+own_place owed page origin h =
+    let told = own_tells (ltb page HIGH_PAGE) (contains owed page) page origin (sym (get-own_places owed HIGH_PAGE page) ∙ h) in
+    (below page HIGH_PAGE told.0, told.1, told.2)
+
+-- The space that is put together
+
+missing_by : (low mapped empty : Bool) → empty ≡ false → (low && cond (mapped && not ((false || empty) && (true || empty))) true empty) ≡ (low && mapped)
+missing_by low mapped true h = absurd (false≢true (sym h))
+missing_by low true false h = refl
+missing_by low false false h = refl
+
+protect_by : (low mapped empty : Bool) → empty ≡ false → (low && cond (mapped && not ((false || empty) && (true || empty))) false empty) ≡ false
+protect_by low mapped true h = absurd (false≢true (sym h))
+protect_by true true false h = refl
+protect_by true false false h = refl
+protect_by false mapped false h = refl
+
+pub assembled_missing : (areas : FinMap nat_cmp Prot) (kept : FinMap nat_cmp (List ℕ)) (page : ℕ) → contains (assembled areas kept).object.missing page ≡ (ltb page HIGH_PAGE && contains_key areas page)
+assembled_missing areas kept page = member_below _ HIGH_PAGE page ∙ missing_by (ltb page HIGH_PAGE) (contains_key areas page) (contains {R = nat_cmp} no_pages page) (contains-empty nat_cmp page)
+
+pub assembled_protect : (areas : FinMap nat_cmp Prot) (kept : FinMap nat_cmp (List ℕ)) (page : ℕ) → contains (assembled areas kept).object.protect page ≡ false
+assembled_protect areas kept page = member_below _ HIGH_PAGE page ∙ protect_by (ltb page HIGH_PAGE) (contains_key areas page) (contains {R = nat_cmp} no_pages page) (contains-empty nat_cmp page)
+
+and_second : (a b : Bool) → ((a && b) || false) ≡ true → b ≡ true
+and_second true true h = refl
+and_second true false h = absurd (false≢true h)
+and_second false b h = absurd (false≢true h)
+
+pub IsSoundSpace-assembled : (areas : FinMap nat_cmp Prot) (kept : FinMap nat_cmp (List ℕ)) → IsSound (record { areas = areas; bytes = kept }) → IsSoundSpace (assembled areas kept)
+IsSoundSpace-assembled areas kept sound =
+    record {
+      host = sound;
+      mapped = λ page h.
+          and_second (ltb page HIGH_PAGE) (contains_key areas page)
+          (sym (λ i. assembled_missing areas kept page i || assembled_protect areas kept page i) ∙ h);
+      present = λ page h. absurd (false≢true (sym (contains-empty nat_cmp page) ∙ h));
+      watched = λ page h. absurd (false≢true (sym (contains-empty nat_cmp page) ∙ h));
+    }
+
+-- The kept pages are those of the source that are not owed
+
+abbrev IsRest : Host → FinSet nat_cmp → FinMap nat_cmp (List ℕ) → Type 0
+IsRest host owed kept = (page : ℕ) → get kept page ≡ (if contains owed page then None else get host.bytes page)
+
+none_left : (owed : Bool) (o : Option (List ℕ)) → o ≡ None → cond owed None o ≡ None
+none_left true o h = refl
+none_left false o h = h
+
+-- a host of the source's areas with these pages is sound
+sound_rest : (host : Host) (owed : FinSet nat_cmp) (areas : FinMap nat_cmp Prot) (kept : FinMap nat_cmp (List ℕ)) → areas ≡ host.areas → IsRest host owed kept → IsSound host →
+    ((page : ℕ) (bytes : List ℕ) → get kept page ≡ Some bytes → length bytes ≡ 4096) → IsSound (record { areas = areas; bytes = kept })
+sound_rest host owed areas kept same rest sound whole =
+    record {
+      bound = λ page l. ap (λ a. get a page) same ∙ sound.bound page l;
+      mapped = λ page h. rest page ∙ none_left (contains owed page) (get host.bytes page) (sound.mapped page (sym (ap (λ a. get a page) same) ∙ h));
+      whole = whole;
+    }
+
+seen_rest : (low owed : Bool) (q : ℕ) (pages : FinMap nat_cmp (List ℕ)) (here : Option (List ℕ)) (own : Option ℕ) → here ≡ cond owed None (get pages q) → own ≡ cond (low && owed) (Some q) None → (low ≡ false → get pages q ≡ None) →
+    cond low (elim here [ Some bytes ↦ Some bytes | None ↦ option_and_then (get pages) own ]) None ≡ get pages q
+seen_rest false owed q pages here own kept place none = sym (none refl)
+seen_rest true true q pages here own kept place none =
+    (λ i. elim (kept i) [ Some bytes ↦ Some bytes | None ↦ option_and_then (get pages) (place i) ])
+seen_rest true false q pages here own kept place none =
+    (λ i. elim (kept i) [ Some bytes ↦ Some bytes | None ↦ option_and_then (get pages) (place i) ])
+    ∙ elim (get pages q) as (λ o. elim o [ Some bytes ↦ Some bytes | None ↦ None ] ≡ o) [ None ↦ refl | Some bytes ↦ refl ]
+
+not_below : (q bound : ℕ) → ltb q bound ≡ false → bound ≤ q
+not_below q bound h = grind (arith, nat_tests)
+
+-- with what is owed it is the memory of the source
+pub seen_source : (host : Host) (owed : FinSet nat_cmp) (areas : FinMap nat_cmp Prot) (kept : FinMap nat_cmp (List ℕ)) → areas ≡ host.areas → IsRest host owed kept → IsSound host →
+    seen_host (record { areas = areas; bytes = kept }) host (get (own_places owed HIGH_PAGE)) ≡ host
+seen_source host owed areas kept same rest sound =
+    let here : Host = record { areas = areas; bytes = kept } in
+    let own = get (own_places owed HIGH_PAGE) in
+    let bytes : map_below (seen_bytes here host own) HIGH_PAGE ≡ host.bytes =
+    same_pages (map_below (seen_bytes here host own) HIGH_PAGE) host.bytes (λ q.
+    get-map_below (seen_bytes here host own) HIGH_PAGE q
+    ∙ seen_rest (ltb q HIGH_PAGE) (contains owed q) q host.bytes (get kept q) (own q) (rest q) (get-own_places owed HIGH_PAGE q)
+    (λ l. sound.mapped q (sound.bound q (not_below q HIGH_PAGE l)))) in
+    λ i. record { areas = same i; bytes = bytes i }
+
+-- The step
+
+not_true : (b : Bool) → (b ≡ true → ⊥) → b ≡ false
+not_true true h = absurd (h refl)
+not_true false h = refl
+
+or_more : (a b c : Bool) → (a || b) ≡ true → (a || b || c) ≡ true
+or_more true b c h = refl
+or_more false true c h = refl
+or_more false false c h = absurd (false≢true h)
+
+owed_none : (owed : Bool) (o : Option (List ℕ)) → owed ≡ true → cond owed None o ≡ None
+owed_none owed o h = ap (λ b. cond b None o) h
+
+has_areas : (host : Host) (page : ℕ) → IsSound host → contains_key host.bytes page ≡ true → contains_key host.areas page ≡ true
+has_areas host page sound h =
+    elim (get host.areas page) as (λ o. get host.areas page ≡ o → is_some o ≡ true) [
+      | None ↦ λ e. absurd (false≢true (sym (ap is_some (sound.mapped page e)) ∙ h))
+      | Some prot ↦ λ e. refl
+    ] refl
+
+is_below : (q bound : ℕ) → q < bound → ltb q bound ≡ true
+is_below q bound h = grind (arith, nat_tests)
+
+and_true : (a b : Bool) → a ≡ true → b ≡ true → (a && b) ≡ true
+and_true true b x y = y
+and_true false b x y = absurd (false≢true x)
+
+-- what the Package says, where it is the first frame
+record IsPlan (source : Source) (kept : FinMap nat_cmp (List ℕ)) (rest : List Sent) (areas : FinMap nat_cmp Prot) (owed : FinSet nat_cmp) : Type 0 where
+  same : areas ≡ (space_of source).host.areas
+  owed_present : (page : ℕ) → contains owed page ≡ true → is_present (space_of source) page ≡ true
+  kept_rest : IsRest (space_of source).host owed kept
+  whereabouts : (page : ℕ) → contains owed page ≡ true → (contains source.remaining page || has_copy (copies_of rest) page) ≡ true
+  faithful : AreFaithful (space_of source).host.bytes (copies_of rest)
+
+plan_of : (source : Source) (kept : FinMap nat_cmp (List ℕ)) (rest : List Sent) (epoch : ℕ) (areas : FinMap nat_cmp Prot) (owed : FinSet nat_cmp) (commands : List (Option Command)) →
+    IsSwitching source kept (record { epoch = epoch; frame = Package areas owed commands } ∷ rest) → IsPlan source kept rest areas owed
+plan_of source kept rest epoch areas owed commands w =
+    let plan : Some (Package areas owed commands) ≡ Some (Package (space_of source).host.areas w.owed (commands_of source.guest.processors)) = w.plan in
+    let same_owed : w.owed ≡ owed = cc in
+    record {
+      same = cc;
+      owed_present = subst (λ (o : FinSet nat_cmp). (page : ℕ) → contains o page ≡ true → is_present (space_of source) page ≡ true) same_owed w.owed_present;
+      kept_rest = subst (λ (o : FinSet nat_cmp). IsRest (space_of source).host o kept) same_owed w.kept_rest;
+      whereabouts = subst (λ (o : FinSet nat_cmp). (page : ℕ) → contains o page ≡ true → (contains source.remaining page || has_copy (copies_of rest) page) ≡ true) same_owed w.whereabouts;
+      faithful = w.faithful;
+    }
+
+pub package_taken : (epoch : ℕ) (areas : FinMap nat_cmp Prot) (owed : FinSet nat_cmp) (commands : List (Option Command)) (rest : List Sent) (world : World) →
+    let old : World = at_state Stopped Discarding false true (record { epoch = epoch; frame = Package areas owed commands } ∷ rest) world in
+    IsKept old → IsKept (delivered old old.forward)
+package_taken epoch areas owed commands rest world kept =
+    let old : World = at_state Stopped Discarding false true (record { epoch = epoch; frame = Package areas owed commands } ∷ rest) world in
+    let new : World = delivered old old.forward in
+    let host : Host = world.source.guest.space.host in
+    let pages : FinMap nat_cmp (List ℕ) = world.destination.kept in
+    let w = kept.wires refl in
+    let sound : IsSound host = kept.source_space.host in
+    let plan : IsPlan old.source pages rest areas owed = plan_of old.source pages rest epoch areas owed commands w.2 in
+    let not_ended : world.destination.ended ≡ false = not_true world.destination.ended (λ e. false≢true (kept.ended_after_run e)) in
+    let holds : memory (current_host new) ≡ memory_of new.transcript = ap memory (seen_source host owed areas pages plan.same plan.kept_rest sound) ∙ kept.holds in
+    let destination_space : IsSoundSpace new.destination.guest.space = IsSoundSpace-assembled areas pages (sound_rest host owed areas pages plan.same plan.kept_rest sound kept.kept_whole) in
+    let unprotected : (page : ℕ) → contains new.destination.guest.space.protected page ≡ false = λ page. contains-empty nat_cmp page in
+    let only_missing : (page : ℕ) → contains new.destination.guest.space.object.protect page ≡ false = assembled_protect areas pages in
+    let destination_events : AreRight new.destination.guest.space.object.events = tt in
+    let destination_faults : AreFaults new.destination.guest.space.object.faults = tt in
+    let destination_phase : RanAt new.destination.phase new.destination.has_run new.destination.ended = (refl, not_ended) in
+    let ran_after_switch : new.destination.has_run ≡ true → new.source.switched ≡ true = λ h. kept.source_phase in
+    let ended_after_run : new.destination.ended ≡ true → new.destination.has_run ≡ true = λ h. refl in
+    let not_run : new.destination.has_run ≡ false → (new.destination.owed ≡ finmap.empty) × (new.destination.guest.space ≡ fresh_space) × (new.destination.arrivals ≡ []) = λ h. absurd (false≢true (sym h)) in
+    let kept_none : new.destination.has_run ≡ true → new.destination.kept ≡ finmap.empty = λ h. refl in
+    let kept_advised : new.destination.phase ≡ NotAdvised → new.destination.kept ≡ finmap.empty = λ h. refl in
+    let kept_whole : (page : ℕ) (bytes : List ℕ) → get new.destination.kept page ≡ Some bytes → length bytes ≡ 4096 = λ page bytes h. absurd (none_some bytes (sym (get-empty nat_cmp page) ∙ h)) in
+    let one_to_one : (page other origin : ℕ) → get new.destination.owed page ≡ Some origin → get new.destination.owed other ≡ Some origin → page ≡ other =
+    λ page other origin h g. sym (own_place owed page origin h).2 ∙ (own_place owed other origin g).2 in
+    let owed_below : (page origin : ℕ) → get new.destination.owed page ≡ Some origin → page < HIGH_PAGE = λ page origin h. (own_place owed page origin h).0 in
+    let origins_present : (page origin : ℕ) → get new.destination.owed page ≡ Some origin → is_present new.source.guest.space origin ≡ true =
+    λ page origin h. let own = own_place owed page origin h in ap (is_present new.source.guest.space) own.2 ∙ plan.owed_present page own.1 in
+    let pairs_missing : (page origin : ℕ) → settled new.destination page ≡ Some origin → (contains new.destination.guest.space.object.missing page ≡ true) × (is_present new.destination.guest.space page ≡ false) =
+    λ page origin h.
+    let own = own_place owed page origin h in (
+      assembled_missing areas pages page
+          ∙ and_true (ltb page HIGH_PAGE) (contains_key areas page) (is_below page HIGH_PAGE own.0) (ap (λ a. contains_key a page) plan.same ∙ has_areas host page sound (plan.owed_present page own.1)),
+      ap is_some (plan.kept_rest page ∙ owed_none (contains owed page) (get host.bytes page) own.1),
+    ) in
+    let arrivals_faithful : new.destination.has_run ≡ true → AreFaithful new.source.guest.space.host.bytes new.destination.arrivals =
+    λ h. subst (AreFaithful host.bytes) (sym (kept.not_run refl).2) tt in
+    let flight_faithful : new.destination.has_run ≡ true → AreFaithful new.source.guest.space.host.bytes (copies_of new.forward) = λ h. plan.faithful in
+    let ended_empty : new.destination.ended ≡ true → (new.destination.owed ≡ finmap.empty) × (new.destination.arrivals ≡ []) = λ h. absurd (false≢true (sym not_ended ∙ h)) in
+    let wires : new.up ≡ true → Wires new.source new.destination new.forward new.back =
+    λ u. (
+      w.0,
+      ap are_requests w.1,
+      record {
+        whereabouts = λ page origin h.
+            let own = own_place owed page origin h in
+            or_more (contains world.source.remaining origin) (has_copy (copies_of rest) origin) (has_copy world.destination.arrivals origin)
+            (ap (λ q. contains world.source.remaining q || has_copy (copies_of rest) q) own.2 ∙ plan.whereabouts page own.1);
+      },
+    ) in
+    let down : new.up ≡ false → (new.forward ≡ []) × (new.back ≡ []) × (new.source.phase ≢ Idle) × (new.source.phase ≢ Released) = λ h. absurd (false≢true (sym h)) in
+    let forward_epoch : AreOf new.source.epoch new.forward = kept.forward_epoch.1 in
+    assumption

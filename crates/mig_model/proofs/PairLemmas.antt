@@ -1,0 +1,143 @@
+-- After a map call each page that is still owed is registered and missing, and where no page was protected or registered for
+-- write-protect faults, none is.
+use Rattle.std.proofs.Common.{◌≡◌, ℕ, ◌+◌, ◌-◌, ◌/◌, ◌<◌, ◌≤◌, ◌&&◌, Bool, true, false, cond, not, ltb, Option, Some, None, refl, sym, ap, ◌∙◌, ◌⊎◌, ⊎_elim, arith, is_some}
+use Rattle.std.specs.Ordering.{nat_cmp}
+use Rattle.std.specs.FinMap.{get, contains_key}
+use Rattle.std.specs.FinSet.{FinSet, contains}
+use Rattle.std.proofs.lemmas.Bool.Decides.{nat_tests}
+use Rattle.std.proofs.lemmas.Bool.{false≢true}
+use Rattle.mig_base.specs.declared.TheConstants.{HIGH, HIGH_PAGE}
+use Rattle.mig_base.specs.declared.command.Errno.TheVariants.{Enomem}
+use Rattle.mig_base.specs.declared.command.Command.{Command}
+use Rattle.mig_base.specs.declared.command.Command.TheVariants.{Load, Store, Mmap, Munmap, Mremap, DontNeed}
+use Rattle.mig_base.specs.declared.command.Reply.{Reply}
+use Rattle.mig_base.specs.declared.command.Reply.TheVariants.{Done, At, Refused}
+use Rattle.mig_base.specs.Ranges.{in_range, pages_of, rounded}
+use Rattle.mig_base.specs.Pages.{remove_range}
+use Rattle.mig_base.specs.Sets.{without, moved_set}
+use Rattle.mig_base.specs.Flat.{reply_of}
+use Rattle.mig_base.proofs.PageLemmas.{get-remove_range, get-moved_range}
+use Rattle.mig_base.proofs.SetLemmas.{member_without, member_below}
+use Rattle.mig_base.proofs.ReplyLemmas.{mremap_told}
+use Rattle.mig_model.specs.Host.{Host, memory, host_changed, IsSound}
+use Rattle.mig_model.specs.World.{is_access}
+use Rattle.mig_model.specs.Userfault.{Object}
+use Rattle.mig_model.specs.Guest.{is_present}
+use Rattle.mig_model.specs.Space.{Space, IsSoundSpace, modes_after, protected_after}
+use Rattle.mig_model.proofs.CommandLemmas.{remapped_place}
+use Rattle.mig_model.proofs.SeenLemmas.{AreWatched, watched_mapped}
+use Rattle.mig_model.proofs.SettledCalls.{owed_changed, in_range_is}
+
+none_absurd : {A : Type 0} → false ≡ true → A
+none_absurd h = absurd (false≢true h)
+
+abbrev Set : Type 0
+Set = FinSet nat_cmp
+
+-- each owed page is registered for missing faults, and missing
+abbrev pub ArePairs : Space → (ℕ → Option ℕ) → Type 0
+ArePairs space owed = (page origin : ℕ) → owed page ≡ Some origin → (contains space.object.missing page ≡ true) × (is_present space page ≡ false)
+
+pub pairs_watched : (space : Space) (owed : ℕ → Option ℕ) → ArePairs space owed → AreWatched space owed
+pairs_watched space owed pairs page origin h = (pairs page origin h).0
+
+-- one page of a range that goes
+gone_pair : {X : Type 0} (c m : Bool) (o : Option ℕ) (b : Option X) (origin : ℕ) → ((origin : ℕ) → o ≡ Some origin → (m ≡ true) × (is_some b ≡ false)) → cond c None o ≡ Some origin → ((m && not c) ≡ true) × (m ≡ true) × (is_some (cond c None b) ≡ false)
+gone_pair true m o b origin pairs h = absurd (cc)
+gone_pair false m o b origin pairs h = let is = pairs origin h in (and_true m is.0, is.0, is.1)
+  where
+    and_true : (m : Bool) → m ≡ true → (m && true) ≡ true
+    and_true true h = refl
+    and_true false h = h
+
+-- one page of a range that moves
+moved_pair : {X : Type 0} (low new old from m1 m2 mg : Bool) (x y : Option ℕ) (b1 b2 : Option X) (origin : ℕ) → (new ≡ true → low ≡ true) → (y ≡ Some origin → low ≡ true) →
+    ((origin : ℕ) → x ≡ Some origin → (m1 ≡ true) × (is_some b1 ≡ false)) → ((origin : ℕ) → y ≡ Some origin → (m2 ≡ true) × (is_some b2 ≡ false)) →
+    cond new (cond old x None) (cond from None y) ≡ Some origin → ((low && cond new (cond old m1 mg) (not from && m2)) ≡ true) × (is_some (cond new (cond old b1 None) (cond from None b2)) ≡ false)
+moved_pair true true true from m1 m2 mg x y b1 b2 origin high low one two h = one origin h
+moved_pair true true false from m1 m2 mg x y b1 b2 origin high low one two h = absurd (cc)
+moved_pair true false old true m1 m2 mg x y b1 b2 origin high low one two h = absurd (cc)
+moved_pair true false old false m1 m2 mg x y b1 b2 origin high low one two h = two origin h
+moved_pair false true old from m1 m2 mg x y b1 b2 origin high low one two h = none_absurd (high refl)
+moved_pair false false old true m1 m2 mg x y b1 b2 origin high low one two h = absurd (cc)
+moved_pair false false old false m1 m2 mg x y b1 b2 origin high low one two h = none_absurd (low h)
+
+below-true : (a b : ℕ) → a < b → ltb a b ≡ true
+below-true a b h = grind (arith, nat_tests)
+
+below_or_past : (a b : ℕ) → (a < b) ⊎ (b ≤ a)
+below_or_past a b = grind (arith, nat_tests)
+
+mapped_below : (here : Host) (page : ℕ) → IsSound here → contains_key here.areas page ≡ true → ltb page HIGH_PAGE ≡ true
+mapped_below here page sound h =
+    ⊎_elim (λ (low : page < HIGH_PAGE). below-true page HIGH_PAGE low) (λ (high : HIGH_PAGE ≤ page). none_absurd (sym (ap is_some (sound.bound page high)) ∙ h)) (below_or_past page HIGH_PAGE)
+
+in_new : (to target new_len page : ℕ) → to ≡ target / 4096 → target + rounded new_len ≤ HIGH → in_range to (pages_of new_len) page ≡ true → ltb page HIGH_PAGE ≡ true
+in_new to target new_len page is high h = let r = in_range_is to (pages_of new_len) page h in let a = r.1 in below-true page HIGH_PAGE (omega (arith, is, high, a))
+
+gone_pairs : (space : Space) (owed : ℕ → Option ℕ) (first count page origin : ℕ) → ArePairs space owed → cond (in_range first count page) None (owed page) ≡ Some origin →
+    (contains (without space.object.missing first count) page ≡ true) × (contains space.object.missing page ≡ true) × (contains_key (remove_range space.host.bytes first count) page ≡ false)
+gone_pairs space owed first count page origin pairs h =
+    let is = gone_pair (in_range first count page) (contains space.object.missing page) (owed page) (get space.host.bytes page) origin (pairs page) h in
+    (member_without space.object.missing first count page ∙ is.0, is.1, ap is_some (get-remove_range space.host.bytes first count page) ∙ is.2)
+
+pub pairs_called : (space : Space) (owed : ℕ → Option ℕ) (command : Command) (reply : Reply) → is_access command ≡ false → IsSoundSpace space → reply ≡ reply_of (memory space.host) command → ArePairs space owed →
+    (page origin : ℕ) → owed_changed owed command reply page ≡ Some origin → (contains (modes_after space.object command reply).missing page ≡ true) × (contains_key (host_changed space.host command reply).bytes page ≡ false)
+pairs_called space owed (Load addr width) reply call sound is pairs page origin h = none_absurd (sym call)
+pairs_called space owed (Store addr width value) reply call sound is pairs page origin h = none_absurd (sym call)
+pairs_called space owed (Mmap len prot place) (At start) call sound is pairs page origin h = let both = gone_pairs space owed (start / 4096) (pages_of len) page origin pairs h in (both.0, both.2)
+pairs_called space owed (Munmap addr len) Done call sound is pairs page origin h = let both = gone_pairs space owed (addr / 4096) (pages_of len) page origin pairs h in (both.0, both.2)
+pairs_called space owed (DontNeed addr len) Done call sound is pairs page origin h = let both = gone_pairs space owed (addr / 4096) (pages_of len) page origin pairs h in (both.1, both.2)
+pairs_called space owed (DontNeed addr len) (Refused Enomem) call sound is pairs page origin h = let both = gone_pairs space owed (addr / 4096) (pages_of len) page origin pairs h in (both.1, both.2)
+pairs_called space owed (Mremap addr old_len new_len may_move fixed) (At target) call sound is pairs page origin h =
+    let from = addr / 4096 in
+    let to = target / 4096 in
+    let count = pages_of old_len in
+    let new_count = pages_of new_len in
+    let growth = contains space.object.missing (addr / 4096 + (pages_of old_len - 1)) in
+    let placed = remapped_place space.host addr old_len new_len target sound.host (mremap_told (memory space.host) addr old_len new_len may_move fixed target is) in
+    let mapped = watched_mapped space owed sound (pairs_watched space owed pairs) in
+    let both = moved_pair (ltb page HIGH_PAGE) (in_range to new_count page) (ltb (page - to) count) (in_range from count page) (contains space.object.missing (from + (page - to))) (contains space.object.missing page) growth
+    (owed (from + (page - to))) (owed page) (get space.host.bytes (from + (page - to))) (get space.host.bytes page) origin
+    (in_new to target new_len page refl placed.high) (λ g. mapped_below space.host page sound.host (mapped page origin g)) (pairs (from + (page - to))) (pairs page) h in
+    (member_below _ HIGH_PAGE page ∙ both.0, ap is_some (get-moved_range space.host.bytes from count to new_count page None) ∙ both.1)
+pairs_called space owed _ _ call sound is pairs page origin h = pairs page origin h
+
+-- Sets in which no page is
+
+abbrev pub HasNone : FinSet nat_cmp → Type 0
+HasNone set = (page : ℕ) → contains set page ≡ false
+
+still_none : (c m : Bool) → m ≡ false → (m && not c) ≡ false
+still_none c true h = none_absurd (sym h)
+still_none c false h = refl
+
+none_moved : (low new old from m1 m2 mg : Bool) → m1 ≡ false → m2 ≡ false → mg ≡ false → (low && cond new (cond old m1 mg) (not from && m2)) ≡ false
+none_moved false new old from m1 m2 mg a b c = refl
+none_moved true true true from m1 m2 mg a b c = a
+none_moved true true false from m1 m2 mg a b c = c
+none_moved true false old true m1 m2 mg a b c = refl
+none_moved true false old false m1 m2 mg a b c = b
+
+none-without : (set : Set) (first count : ℕ) → HasNone set → HasNone (without set first count)
+none-without set first count none page = member_without set first count page ∙ still_none (in_range first count page) (contains set page) (none page)
+
+none-moved : (set : Set) (from count to new_count : ℕ) (growth : Bool) → growth ≡ false → HasNone set → HasNone (moved_set set from count to new_count growth)
+none-moved set from count to new_count growth never none page =
+    member_below _ HIGH_PAGE page
+    ∙ none_moved (ltb page HIGH_PAGE) (in_range to new_count page) (ltb (page - to) count) (in_range from count page) (contains set (from + (page - to))) (contains set page) growth (none (from + (page - to))) (none page) never
+
+pub none_protected : (set : FinSet nat_cmp) (command : Command) (reply : Reply) → HasNone set → HasNone (protected_after set command reply)
+none_protected set (Mmap len prot place) (At start) none = none-without set (start / 4096) (pages_of len) none
+none_protected set (Munmap addr len) Done none = none-without set (addr / 4096) (pages_of len) none
+none_protected set (Mremap addr old_len new_len may_move fixed) (At target) none = none-moved set (addr / 4096) (pages_of old_len) (target / 4096) (pages_of new_len) false refl none
+none_protected set (DontNeed addr len) Done none = none-without set (addr / 4096) (pages_of len) none
+none_protected set (DontNeed addr len) (Refused Enomem) none = none-without set (addr / 4096) (pages_of len) none
+none_protected set _ _ none = none
+
+pub none_in_mode : (object : Object) (command : Command) (reply : Reply) → HasNone object.protect → HasNone (modes_after object command reply).protect
+none_in_mode object (Mmap len prot place) (At start) none = none-without object.protect (start / 4096) (pages_of len) none
+none_in_mode object (Munmap addr len) Done none = none-without object.protect (addr / 4096) (pages_of len) none
+none_in_mode object (Mremap addr old_len new_len may_move fixed) (At target) none =
+    none-moved object.protect (addr / 4096) (pages_of old_len) (target / 4096) (pages_of new_len) (contains object.protect (addr / 4096 + (pages_of old_len - 1))) (none (addr / 4096 + (pages_of old_len - 1))) none
+none_in_mode object _ _ none = none

@@ -1,0 +1,208 @@
+-- The promises of the whole migration from what every world of it keeps.
+use Rattle.std.proofs.Common.{◌≡◌, ℕ, ◌≤◌, ◌||◌, Bool, true, false, cond, ltb, Option, Some, None, List, [], ◌∷◌, refl, sym, ap, ◌∙◌, subst, arith}
+use Rattle.std.specs.Option.{option_and_then}
+use Rattle.std.specs.Ordering.{nat_cmp}
+use Rattle.std.specs.FinMap.{FinMap, get, get-empty}
+use Rattle.std.specs.FinSet.{contains}
+use Rattle.std.proofs.lemmas.Bool.Decides.{nat_tests}
+use Rattle.std.proofs.lemmas.Bool.{false≢true}
+use Rattle.mig_base.specs.declared.TheConstants.{HIGH_PAGE}
+use Rattle.mig_base.specs.declared.message.Message.{Message}
+use Rattle.mig_base.specs.declared.message.Message.TheVariants.{PageFault, Remap, Remove, Unmap}
+use Rattle.mig_base.specs.Pages.{map_below}
+use Rattle.mig_base.proofs.PageLemmas.{same_pages, get-map_below}
+use Rattle.mig_model.specs.Host.{Host, memory, IsSound}
+use Rattle.mig_model.specs.Userfault.{Noted}
+use Rattle.mig_model.specs.Wire.Received.{Running}
+use Rattle.mig_model.specs.Guest.{Fault, is_present}
+use Rattle.mig_model.specs.Nodes.{SourcePhase, DestinationPhase, is_released, is_stopped, is_precopy, is_source_paused, is_running, space_of, source_act, source_act_by, destination_act, destination_act_by, owed_after, settled, settled_by}
+use Rattle.mig_model.specs.Nodes.Act.{Zeroed}
+use Rattle.mig_model.specs.Nodes.SourcePhase.{Idle, Precopy, Stopped, Paused, Released}
+use Rattle.mig_model.specs.Nodes.DestinationPhase.{NotAdvised, Advised, Discarding, Runs, Interrupted, HasEnded}
+use Rattle.mig_model.specs.Migration.{World}
+use Rattle.mig_model.specs.Invariant.{IsKept, IsPrecopying, IsSwitching, IsReceiving, RanAt, seen_bytes, seen_host, current_by, copies_of, has_copy}
+use Rattle.mig_model.specs.Promises.{IsComplete, IsAlone, ArePaired, AreUnderWay}
+use Rattle.mig_model.proofs.Stopping.{in_phases, none_absurd}
+
+-- A table without pairs
+
+cond_none : {A : Type 0} (b : Bool) (o : Option A) → o ≡ None → cond b None o ≡ None
+cond_none true o h = refl
+cond_none false o h = h
+
+both_none : {A : Type 0} (b : Bool) (x y : Option A) → x ≡ None → y ≡ None → cond b x y ≡ None
+both_none true x y hx hy = hx
+both_none false x y hx hy = hy
+
+none_after : (message : Message) (owed : ℕ → Option ℕ) → ((page : ℕ) → owed page ≡ None) → (page : ℕ) → owed_after message owed page ≡ None
+none_after (Remap from to len) owed none page = both_none _ _ _ (none _) (cond_none _ (owed page) (none page))
+none_after (Remove start end) owed none page = cond_none _ (owed page) (none page)
+none_after (Unmap start end) owed none page = cond_none _ (owed page) (none page)
+none_after (PageFault addr write wp) owed none page = none page
+
+settled_none : (events : List Noted) (owed : ℕ → Option ℕ) → ((page : ℕ) → owed page ≡ None) → (page : ℕ) → settled_by events owed page ≡ None
+settled_none [] owed none page = none page
+settled_none (noted ∷ events) owed none page = settled_none events (owed_after noted.message owed) (none_after noted.message owed none) page
+
+own_bytes : (o : Option (List ℕ)) (there : FinMap nat_cmp (List ℕ)) (owed : Option ℕ) → owed ≡ None → (elim o [ Some bytes ↦ Some bytes | None ↦ option_and_then (get there) owed ]) ≡ o
+own_bytes None there owed h = ap (option_and_then (get there)) h
+own_bytes (Some bytes) there owed h = refl
+
+all_low : (low : Bool) (o : Option (List ℕ)) → (low ≡ false → o ≡ None) → cond low o None ≡ o
+all_low true o h = refl
+all_low false o h = sym (h refl)
+
+not_low : (page : ℕ) → ltb page HIGH_PAGE ≡ false → HIGH_PAGE ≤ page
+not_low page h = grind (arith, nat_tests)
+
+-- where nothing is owed the guest sees the destination's own host
+seen_own : (here there : Host) (owed : ℕ → Option ℕ) → IsSound here → ((page : ℕ) → owed page ≡ None) → seen_host here there owed ≡ here
+seen_own here there owed sound none =
+    ap (λ bytes. record { areas = here.areas; bytes = bytes })
+    (same_pages (map_below (seen_bytes here there owed) HIGH_PAGE) here.bytes (λ page.
+    get-map_below (seen_bytes here there owed) HIGH_PAGE page
+    ∙ ap (λ o. cond (ltb page HIGH_PAGE) o None) (own_bytes (get here.bytes page) there.bytes (owed page) (none page))
+    ∙ all_low (ltb page HIGH_PAGE) (get here.bytes page) (λ h. sound.mapped page (sound.bound page (not_low page h)))))
+
+-- Completion
+
+up_or_down : (up : Bool) → (up ≡ false → ⊥) → up ≡ true
+up_or_down true h = refl
+up_or_down false h = absurd (h refl)
+
+ended_told : (phase : DestinationPhase) (ran ended : Bool) → phase ≡ HasEnded → RanAt phase ran ended → ended ≡ true
+ended_told phase ran ended is told = subst (λ p. RanAt p ran ended) is told
+
+complete_in : (from : SourcePhase) (world : World) → is_released from ≡ true → IsKept (in_phases from world.destination.phase world) → IsAlone (in_phases from world.destination.phase world)
+complete_in Released world released kept =
+    let up = up_or_down world.up (λ h. (kept.down h).3 refl) in
+    let wires = kept.wires up in
+    let ended = ended_told world.destination.phase world.destination.has_run world.destination.ended wires.0 kept.destination_phase in
+    let ran = kept.ended_after_run ended in
+    let empty_now = kept.ended_empty ended in
+    let none_owed = λ (page : ℕ). ap (λ m. get m page) empty_now.0 ∙ get-empty nat_cmp page in
+    let none = settled_none world.destination.guest.space.object.events (get world.destination.owed) none_owed in
+    let host = world.destination.guest.space.host in
+    let there = world.source.guest.space.host in
+    record {
+      holds =
+          ap memory (sym (seen_own host there (settled world.destination) kept.destination_space.host none))
+          ∙ ap memory (ap (λ b. current_by b host there (settled world.destination)) (sym ran))
+          ∙ kept.holds;
+      alone = (kept.released_empty refl).0;
+      none_owed = empty_now.0;
+      none_settled = none;
+      none_arrived = empty_now.1;
+    }
+complete_in Idle world released kept = none_absurd released
+complete_in Precopy world released kept = none_absurd released
+complete_in Stopped world released kept = none_absurd released
+complete_in Paused world released kept = none_absurd released
+
+pub is_alone : (world : World) → IsKept world → IsComplete world → IsAlone world
+is_alone world kept complete = complete_in world.source.phase world complete kept
+
+-- Pairs
+
+pub are_paired : (world : World) → IsKept world → ArePaired world
+are_paired world kept =
+    record {
+      one_to_one = kept.one_to_one;
+      present = kept.origins_present;
+      registered = λ page origin h. (kept.pairs_missing page origin h).0;
+      missing = λ page origin h. (kept.pairs_missing page origin h).1;
+    }
+
+-- Whereabouts
+
+-- a destination that has run and has not ended runs, while the source is stopped and the link is up
+none_some : {A : Type 0} (x : A) → None ≡ Some x → ⊥
+none_some x h = cc
+
+whereabouts_in : (from : SourcePhase) (to : DestinationPhase) (world : World) → is_stopped from ≡ true → world.destination.has_run ≡ true → world.up ≡ true → IsKept (in_phases from to world) → (page origin : ℕ) → get world.destination.owed page ≡ Some origin →
+    (contains world.source.remaining origin || has_copy (copies_of world.forward) origin || has_copy world.destination.arrivals origin) ≡ true
+whereabouts_in Stopped Runs world stopped ran up kept page origin owed = (kept.wires up).2.whereabouts page origin owed
+whereabouts_in Stopped NotAdvised world stopped ran up kept page origin owed = absurd (false≢true (sym kept.destination_phase ∙ ran))
+whereabouts_in Stopped Advised world stopped ran up kept page origin owed = absurd (false≢true (sym kept.destination_phase ∙ ran))
+whereabouts_in Stopped Discarding world stopped ran up kept page origin owed = absurd (false≢true (sym kept.destination_phase ∙ ran))
+whereabouts_in Stopped Interrupted world stopped ran up kept page origin owed = absurd (kept.wires up)
+whereabouts_in Stopped HasEnded world stopped ran up kept page origin owed = absurd (none_some origin (sym (ap (λ m. get m page) (kept.ended_empty kept.destination_phase).0 ∙ get-empty nat_cmp page) ∙ owed))
+whereabouts_in Idle to world stopped ran up kept page origin owed = none_absurd stopped
+whereabouts_in Precopy to world stopped ran up kept page origin owed = none_absurd stopped
+whereabouts_in Paused to world stopped ran up kept page origin owed = none_absurd stopped
+whereabouts_in Released to world stopped ran up kept page origin owed = none_absurd stopped
+
+pub are_under_way : (world : World) → IsKept world → world.destination.has_run ≡ true → AreUnderWay world
+are_under_way world kept ran =
+    record {
+      whereabouts = λ up stopped. whereabouts_in world.source.phase world.destination.phase world stopped ran up kept;
+      in_flight = kept.flight_faithful ran;
+      arrived = kept.arrivals_faithful ran;
+    }
+
+-- What is in flight
+
+precopying_in : (from : SourcePhase) (to : DestinationPhase) (world : World) → is_precopy from ≡ true → world.up ≡ true → IsKept (in_phases from to world) → IsPrecopying (in_phases from to world).source world.destination.kept world.forward
+precopying_in Precopy NotAdvised world precopy up kept = (kept.wires up).2
+precopying_in Precopy Advised world precopy up kept = (kept.wires up).2
+precopying_in Precopy Discarding world precopy up kept = absurd (kept.wires up)
+precopying_in Precopy Runs world precopy up kept = absurd (kept.wires up)
+precopying_in Precopy Interrupted world precopy up kept = absurd (kept.wires up)
+precopying_in Precopy HasEnded world precopy up kept = absurd (kept.wires up)
+precopying_in Idle to world precopy up kept = none_absurd precopy
+precopying_in Stopped to world precopy up kept = none_absurd precopy
+precopying_in Paused to world precopy up kept = none_absurd precopy
+precopying_in Released to world precopy up kept = none_absurd precopy
+
+pub is_precopying : (world : World) → IsKept world → world.up ≡ true → is_precopy world.source.phase ≡ true → IsPrecopying world.source world.destination.kept world.forward
+is_precopying world kept up precopy = precopying_in world.source.phase world.destination.phase world precopy up kept
+
+switching_in : (from : SourcePhase) (to : DestinationPhase) (world : World) → is_stopped from ≡ true → world.up ≡ true → world.destination.has_run ≡ false → IsKept (in_phases from to world) → IsSwitching (in_phases from to world).source world.destination.kept world.forward
+switching_in Stopped NotAdvised world stopped up ran kept = (kept.wires up).2
+switching_in Stopped Advised world stopped up ran kept = (kept.wires up).2
+switching_in Stopped Discarding world stopped up ran kept = (kept.wires up).2
+switching_in Stopped Runs world stopped up ran kept = absurd (false≢true (sym ran ∙ kept.destination_phase.0))
+switching_in Stopped Interrupted world stopped up ran kept = absurd (kept.wires up)
+switching_in Stopped HasEnded world stopped up ran kept = absurd (false≢true (sym ran ∙ kept.ended_after_run kept.destination_phase))
+switching_in Idle to world stopped up ran kept = none_absurd stopped
+switching_in Precopy to world stopped up ran kept = none_absurd stopped
+switching_in Paused to world stopped up ran kept = none_absurd stopped
+switching_in Released to world stopped up ran kept = none_absurd stopped
+
+pub is_switching : (world : World) → IsKept world → world.up ≡ true → is_stopped world.source.phase ≡ true → world.destination.has_run ≡ false → IsSwitching world.source world.destination.kept world.forward
+is_switching world kept up stopped ran = switching_in world.source.phase world.destination.phase world stopped up ran kept
+
+receiving_in : (from : SourcePhase) (to : DestinationPhase) (world : World) → is_source_paused from ≡ true → is_running to ≡ true → world.up ≡ true → IsKept (in_phases from to world) →
+    IsReceiving (in_phases from to world).source (in_phases from to world).destination Running world.back
+receiving_in Paused Runs world paused runs up kept = (kept.wires up).1
+receiving_in Paused NotAdvised world paused runs up kept = none_absurd runs
+receiving_in Paused Advised world paused runs up kept = none_absurd runs
+receiving_in Paused Discarding world paused runs up kept = none_absurd runs
+receiving_in Paused Interrupted world paused runs up kept = none_absurd runs
+receiving_in Paused HasEnded world paused runs up kept = none_absurd runs
+receiving_in Idle to world paused runs up kept = none_absurd paused
+receiving_in Precopy to world paused runs up kept = none_absurd paused
+receiving_in Stopped to world paused runs up kept = none_absurd paused
+receiving_in Released to world paused runs up kept = none_absurd paused
+
+pub is_receiving : (world : World) → IsKept world → world.up ≡ true → is_source_paused world.source.phase ≡ true → is_running world.destination.phase ≡ true → IsReceiving world.source world.destination Running world.back
+is_receiving world kept up paused runs = receiving_in world.source.phase world.destination.phase world paused runs up kept
+
+-- The zero pages of the handlers
+
+source_zero_by : (forgotten present protected : Bool) → source_act_by forgotten present protected ≡ Zeroed → present ≡ false
+source_zero_by true present protected h = absurd (cc)
+source_zero_by false false protected h = refl
+source_zero_by false true true h = absurd (cc)
+source_zero_by false true false h = absurd (cc)
+
+pub source_zero : (world : World) (fault : Fault) → source_act world.source fault ≡ Zeroed → is_present (space_of world.source) fault.page ≡ false
+source_zero world fault h = source_zero_by _ (is_present (space_of world.source) fault.page) _ h
+
+destination_zero_by : (forgotten present : Bool) (owed : Option ℕ) → destination_act_by forgotten present owed ≡ Zeroed → present ≡ false
+destination_zero_by true present owed h = absurd (cc)
+destination_zero_by false true owed h = absurd (cc)
+destination_zero_by false false owed h = refl
+
+pub destination_zero : (world : World) (fault : Fault) → destination_act world.destination fault ≡ Zeroed → is_present world.destination.guest.space fault.page ≡ false
+destination_zero world fault h = destination_zero_by _ (is_present world.destination.guest.space fault.page) _ h

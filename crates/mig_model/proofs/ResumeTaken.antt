@@ -1,0 +1,193 @@
+-- The destination takes Resume: it goes on where it was, and tells how far that is.
+use Rattle.std.proofs.Common.{◌≡◌, ◌≢◌, ℕ, zero, suc, ◌<◌, ◌≤◌, ◌&&◌, Bool, true, false, cond, eqb, ltb, Option, Some, None, is_some, List, [], ◌∷◌, map, refl, sym, ap, ◌∙◌, ◌⊎◌, inl, inr, ⊎_elim, subst, arith, length}
+use Rattle.std.specs.Ordering.{nat_cmp}
+use Rattle.std.specs.FinMap as finmap
+use Rattle.std.specs.FinMap.{FinMap, get, contains_key, get-empty}
+use Rattle.std.specs.FinSet.{contains, contains-empty}
+use Rattle.std.proofs.lemmas.Bool.{false≢true}
+use Rattle.std.proofs.lemmas.Bool.Decides.{nat_tests}
+use Rattle.mig_base.specs.declared.TheConstants.{HIGH_PAGE}
+use Rattle.mig_base.specs.Ranges.{least_below}
+use Rattle.mig_base.proofs.RangeLemmas.{least_below_tells}
+use Rattle.mig_base.proofs.SetLemmas.{member_below}
+use Rattle.mig_model.specs.Host.{Host, IsSound}
+use Rattle.mig_model.specs.Wire.{Frame, Sent, sending}
+use Rattle.mig_model.specs.Wire.Received.{NotRun, Running, Ended}
+use Rattle.mig_model.specs.Wire.Frame.{Resume, Request, Recv}
+use Rattle.mig_model.specs.Nodes.{no_pages, owes_to, home, origins}
+use Rattle.mig_model.specs.Nodes.SourcePhase.{Idle, Paused, Released}
+use Rattle.mig_model.specs.Nodes.DestinationPhase.{NotAdvised, Interrupted}
+use Rattle.mig_model.specs.Migration.{World, delivered}
+use Rattle.mig_model.specs.Invariant.{Wires, IsKept, IsReceiving, AreOf, RanAt, EpochAt}
+use Rattle.mig_model.proofs.WireLemmas.{sending-behind, AreOf-sending, are_requests-sending}
+use Rattle.mig_model.proofs.FirstFrame.{at_state, none_some}
+
+-- The pages that are still needed
+
+at_or_below : (k bound : ℕ) → k < suc bound → (k ≡ bound) ⊎ (k < bound)
+at_or_below k bound l = grind (arith, nat_tests)
+
+least_or : (o : Option ℕ) (test : Bool) (bound : ℕ) → (test ≡ true) ⊎ (is_some o ≡ true) → is_some (elim o [ Some least ↦ Some least | None ↦ cond test (Some bound) None ]) ≡ true
+least_or (Some least) test bound h = refl
+least_or None true bound h = refl
+least_or None false bound h = ⊎_elim (λ e. absurd (false≢true e)) (λ e. absurd (false≢true e)) h
+
+-- a number that passes is found, or a lesser one
+pub least_below-some : (test : ℕ → Bool) (bound k : ℕ) → k < bound → test k ≡ true → is_some (least_below test bound) ≡ true
+unfolding least_below
+least_below-some test zero k l h = absurd (omega arith)
+least_below-some test (suc bound) k l h =
+    least_or (least_below test bound) (test bound) bound
+    (⊎_elim (λ (e : k ≡ bound). inl (ap test (sym e) ∙ h)) (λ (m : k < bound). inr (least_below-some test bound k m h)) (at_or_below k bound l))
+
+eqb-refl : (n : ℕ) → eqb n n ≡ true
+eqb-refl n = grind (arith, nat_tests)
+
+eqb_true : (a b : ℕ) → eqb a b ≡ true → a ≡ b
+eqb_true a b h = grind (arith, nat_tests)
+
+pub owes_to-pair : (owed : FinMap nat_cmp ℕ) (page origin : ℕ) → get owed page ≡ Some origin → owes_to owed origin page ≡ true
+owes_to-pair owed page origin h = ap (λ o. elim o [ None ↦ false | Some x ↦ eqb x origin ]) h ∙ eqb-refl origin
+
+pair_by : (o : Option ℕ) (origin : ℕ) → elim o [ None ↦ false | Some x ↦ eqb x origin ] ≡ true → o ≡ Some origin
+pair_by None origin h = absurd (false≢true h)
+pair_by (Some x) origin h = ap (λ n. Some n) (eqb_true x origin h)
+
+pub pair-owes_to : (owed : FinMap nat_cmp ℕ) (page origin : ℕ) → owes_to owed origin page ≡ true → get owed page ≡ Some origin
+pair-owes_to owed page origin h = pair_by (get owed page) origin h
+
+pub home_tells : (owed : FinMap nat_cmp ℕ) (page origin : ℕ) → home owed origin ≡ Some page → get owed page ≡ Some origin
+home_tells owed page origin h = pair-owes_to owed page origin (least_below_tells (owes_to owed origin) HIGH_PAGE page h)
+
+and_both : (a b : Bool) → a ≡ true → b ≡ true → (a && b) ≡ true
+and_both true b x y = y
+and_both false b x y = absurd (false≢true x)
+
+and_second : (a b : Bool) → (a && b) ≡ true → b ≡ true
+and_second true b h = h
+and_second false b h = absurd (false≢true h)
+
+low_or : (page : ℕ) → (HIGH_PAGE ≤ page → ⊥) → ltb page HIGH_PAGE ≡ true
+low_or page h = grind (arith, nat_tests, h)
+
+present_low : (host : Host) (page : ℕ) → IsSound host → contains_key host.bytes page ≡ true → ltb page HIGH_PAGE ≡ true
+present_low host page sound h = low_or page (λ l. false≢true (sym (ap is_some (sound.mapped page (sound.bound page l))) ∙ h))
+
+-- each origin of the table is among them
+pub origins-pair : (owed : FinMap nat_cmp ℕ) (page origin : ℕ) → get owed page ≡ Some origin → page < HIGH_PAGE → ltb origin HIGH_PAGE ≡ true → contains (origins owed) origin ≡ true
+origins-pair owed page origin h low high =
+    member_below _ HIGH_PAGE origin ∙ and_both (ltb origin HIGH_PAGE) (is_some (home owed origin)) high (least_below-some (owes_to owed origin) HIGH_PAGE page low (owes_to-pair owed page origin h))
+
+-- and each of them is an origin of the table
+pub pair-origins : (owed : FinMap nat_cmp ℕ) (origin : ℕ) → contains (origins owed) origin ≡ true → (page : ℕ) × (get owed page ≡ Some origin)
+pair-origins owed origin h =
+    elim (home owed origin) as (λ o. home owed origin ≡ o → (page : ℕ) × (get owed page ≡ Some origin)) [
+      | None ↦ λ e. absurd (false≢true (sym (ap is_some e) ∙ and_second (ltb origin HIGH_PAGE) (is_some (home owed origin)) (sym (member_below _ HIGH_PAGE origin) ∙ h)))
+      | Some page ↦ λ e. (page, home_tells owed page origin e)
+    ] refl
+
+-- The answer
+
+-- a Recv stands first, and the requests behind it
+answer_first : (back : List Sent) (epoch : ℕ) (frame : Frame) (frames : List Frame) → back ≡ [] → sending back epoch (frame ∷ frames) ≡ record { epoch = epoch; frame = frame } ∷ sending [] epoch frames
+answer_first back epoch frame frames none = ap (λ b. sending b epoch (frame ∷ frames)) none ∙ sending-behind (record { epoch = epoch; frame = frame } ∷ []) epoch frames
+
+resume_alone : (epoch source_epoch : ℕ) (rest : List Sent) (h : record { epoch = epoch; frame = Resume } ∷ rest ≡ record { epoch = source_epoch; frame = Resume } ∷ []) → rest ≡ []
+resume_alone epoch source_epoch rest h = cc
+
+-- it has not run: what it kept is given up
+resume_waiting : (epoch : ℕ) (rest : List Sent) (world : World) →
+    let old : World = at_state Paused Interrupted false true (record { epoch = epoch; frame = Resume } ∷ rest) world in
+    IsKept old → IsKept (delivered old old.forward)
+resume_waiting epoch rest world kept =
+    let old : World = at_state Paused Interrupted false true (record { epoch = epoch; frame = Resume } ∷ rest) world in
+    let new : World = delivered old old.forward in
+    let w = kept.wires refl in
+    let same : epoch ≡ world.source.epoch = kept.forward_epoch.0 in
+    let destination_phase : RanAt new.destination.phase new.destination.has_run new.destination.ended = refl in
+    let kept_none : new.destination.has_run ≡ true → new.destination.kept ≡ finmap.empty = λ h. refl in
+    let kept_advised : new.destination.phase ≡ NotAdvised → new.destination.kept ≡ finmap.empty = λ h. refl in
+    let kept_whole : (page : ℕ) (bytes : List ℕ) → get new.destination.kept page ≡ Some bytes → length bytes ≡ 4096 = λ page bytes h. absurd (none_some bytes (sym (get-empty nat_cmp page) ∙ h)) in
+    let answered : new.back ≡ record { epoch = world.source.epoch; frame = Recv NotRun no_pages } ∷ [] =
+    answer_first world.back epoch (Recv NotRun no_pages) [] w.1 ∙ ap (λ e. record { epoch = e; frame = Recv NotRun no_pages } ∷ []) same in
+    let wires : new.up ≡ true → Wires new.source new.destination new.forward new.back = λ u. (resume_alone epoch world.source.epoch rest w.0, answered, refl, refl) in
+    let down : new.up ≡ false → (new.forward ≡ []) × (new.back ≡ []) × (new.source.phase ≢ Idle) × (new.source.phase ≢ Released) = λ h. absurd (false≢true (sym h)) in
+    let forward_epoch : AreOf new.source.epoch new.forward = kept.forward_epoch.1 in
+    let back_epoch : AreOf new.source.epoch new.back = subst (λ e. AreOf e new.back) same (AreOf-sending epoch world.back (Recv NotRun no_pages ∷ []) (subst (λ e. AreOf e world.back) (sym same) kept.back_epoch)) in
+    let epochs : new.destination.epoch ≤ new.source.epoch = omega (arith, same) in
+    let epoch_at : new.up ≡ true → EpochAt new.destination.phase new.destination.epoch new.source.epoch = λ u. same in
+    assumption
+
+-- it runs: it still needs what it is owed, and asks again for what it has asked
+resume_running : (epoch : ℕ) (rest : List Sent) (world : World) →
+    let old : World = at_state Paused Interrupted true true (record { epoch = epoch; frame = Resume } ∷ rest) (record world { destination = record world.destination { ended = false } }) in
+    IsKept old → IsKept (delivered old old.forward)
+resume_running epoch rest world kept =
+    let old : World = at_state Paused Interrupted true true (record { epoch = epoch; frame = Resume } ∷ rest) (record world { destination = record world.destination { ended = false } }) in
+    let new : World = delivered old old.forward in
+    let owed : FinMap nat_cmp ℕ = world.destination.owed in
+    let w = kept.wires refl in
+    let same : epoch ≡ world.source.epoch = kept.forward_epoch.0 in
+    let frames : List Frame = map Request world.destination.requests in
+    let destination_phase : RanAt new.destination.phase new.destination.has_run new.destination.ended = (refl, refl) in
+    let kept_advised : new.destination.phase ≡ NotAdvised → new.destination.kept ≡ finmap.empty = λ h. cc in
+    let receiving : IsReceiving new.source new.destination Running new.back =
+    record {
+      owed = origins owed;
+      epoch = epoch;
+      rest = sending [] epoch frames;
+      first = answer_first world.back epoch (Recv Running (origins owed)) frames w.1;
+      requests = are_requests-sending epoch [] world.destination.requests refl;
+      alone = λ h. absurd (h refl);
+      needed = λ page origin h. origins-pair owed page origin h (kept.owed_below page origin h) (present_low world.source.guest.space.host origin kept.source_space.host (kept.origins_present page origin h));
+      owed_present = λ origin h. let pair = pair-origins owed origin h in kept.origins_present pair.0 origin pair.1;
+    } in
+    let wires : new.up ≡ true → Wires new.source new.destination new.forward new.back = λ u. (resume_alone epoch world.source.epoch rest w.0, receiving) in
+    let down : new.up ≡ false → (new.forward ≡ []) × (new.back ≡ []) × (new.source.phase ≢ Idle) × (new.source.phase ≢ Released) = λ h. absurd (false≢true (sym h)) in
+    let forward_epoch : AreOf new.source.epoch new.forward = kept.forward_epoch.1 in
+    let back_epoch : AreOf new.source.epoch new.back = subst (λ e. AreOf e new.back) same (AreOf-sending epoch world.back (Recv Running (origins owed) ∷ frames) (subst (λ e. AreOf e world.back) (sym same) kept.back_epoch)) in
+    let epochs : new.destination.epoch ≤ new.source.epoch = omega (arith, same) in
+    let epoch_at : new.up ≡ true → EpochAt new.destination.phase new.destination.epoch new.source.epoch = λ u. same in
+    assumption
+
+-- it has ended: it needs nothing
+resume_ended : (epoch : ℕ) (rest : List Sent) (world : World) →
+    let old : World = at_state Paused Interrupted true true (record { epoch = epoch; frame = Resume } ∷ rest) (record world { destination = record world.destination { ended = true } }) in
+    IsKept old → IsKept (delivered old old.forward)
+resume_ended epoch rest world kept =
+    let old : World = at_state Paused Interrupted true true (record { epoch = epoch; frame = Resume } ∷ rest) (record world { destination = record world.destination { ended = true } }) in
+    let new : World = delivered old old.forward in
+    let w = kept.wires refl in
+    let same : epoch ≡ world.source.epoch = kept.forward_epoch.0 in
+    let destination_phase : RanAt new.destination.phase new.destination.has_run new.destination.ended = refl in
+    let kept_advised : new.destination.phase ≡ NotAdvised → new.destination.kept ≡ finmap.empty = λ h. cc in
+    let receiving : IsReceiving new.source new.destination Ended new.back =
+    record {
+      owed = no_pages;
+      epoch = epoch;
+      rest = [];
+      first = answer_first world.back epoch (Recv Ended no_pages) [] w.1;
+      requests = refl;
+      alone = λ h. refl;
+      needed = λ page origin h. absurd (none_some origin (sym (get-empty nat_cmp page) ∙ sym (ap (λ o. get o page) (kept.ended_empty refl).0) ∙ h));
+      owed_present = λ page h. absurd (false≢true (sym (contains-empty nat_cmp page) ∙ h));
+    } in
+    let wires : new.up ≡ true → Wires new.source new.destination new.forward new.back = λ u. (resume_alone epoch world.source.epoch rest w.0, receiving) in
+    let down : new.up ≡ false → (new.forward ≡ []) × (new.back ≡ []) × (new.source.phase ≢ Idle) × (new.source.phase ≢ Released) = λ h. absurd (false≢true (sym h)) in
+    let forward_epoch : AreOf new.source.epoch new.forward = kept.forward_epoch.1 in
+    let back_epoch : AreOf new.source.epoch new.back = subst (λ e. AreOf e new.back) same (AreOf-sending epoch world.back (Recv Ended no_pages ∷ []) (subst (λ e. AreOf e world.back) (sym same) kept.back_epoch)) in
+    let epochs : new.destination.epoch ≤ new.source.epoch = omega (arith, same) in
+    let epoch_at : new.up ≡ true → EpochAt new.destination.phase new.destination.epoch new.source.epoch = λ u. same in
+    assumption
+
+resume_by : (ran ended : Bool) (epoch : ℕ) (rest : List Sent) (world : World) →
+    let old : World = at_state Paused Interrupted ran true (record { epoch = epoch; frame = Resume } ∷ rest) (record world { destination = record world.destination { ended = ended } }) in
+    IsKept old → IsKept (delivered old old.forward)
+resume_by false ended epoch rest world kept = resume_waiting epoch rest (record world { destination = record world.destination { ended = ended } }) kept
+resume_by true false epoch rest world kept = resume_running epoch rest world kept
+resume_by true true epoch rest world kept = resume_ended epoch rest world kept
+
+pub resume_taken : (ran : Bool) (epoch : ℕ) (rest : List Sent) (world : World) →
+    let old : World = at_state Paused Interrupted ran true (record { epoch = epoch; frame = Resume } ∷ rest) world in
+    IsKept old → IsKept (delivered old old.forward)
+resume_taken ran epoch rest world kept = resume_by ran world.destination.ended epoch rest world kept

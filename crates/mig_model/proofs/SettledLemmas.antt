@@ -1,0 +1,216 @@
+-- The owed table and its look-up once events are applied, and the page to which a page of the source is owed.
+use Rattle.std.proofs.Common.{◌≡◌, ℕ, zero, suc, ◌+◌, ◌-◌, ◌/◌, ◌<◌, ◌≤◌, Bool, true, false, cond, eqb, ltb, Option, Some, None, List, [], ◌∷◌, ◌++◌, refl, sym, ap, ◌∙◌, ◌⊎◌, ⊎_elim, arith, is_some, if◌then◌else◌}
+use Rattle.std.specs.Ordering.{nat_cmp}
+use Rattle.std.specs.FinMap.{FinMap, get}
+use Rattle.std.proofs.lemmas.Bool.Decides.{nat_tests}
+use Rattle.std.proofs.lemmas.Bool.{false≢true}
+use Rattle.mig_base.specs.declared.TheConstants.{HIGH_PAGE}
+use Rattle.mig_base.specs.declared.message.Message.{Message}
+use Rattle.mig_base.specs.declared.message.Message.TheVariants.{PageFault, Remap, Remove, Unmap}
+use Rattle.mig_base.specs.Ranges.{in_range, least_below}
+use Rattle.mig_base.proofs.RangeLemmas.{least_below_tells, least_below-is}
+use Rattle.mig_base.proofs.PageLemmas.{get-remove_range, get-moved_range}
+use Rattle.mig_model.specs.Userfault.{Noted}
+use Rattle.mig_model.specs.Nodes.{owed_after, owed_table_after, settled_by, owes_to, home}
+use Rattle.mig_model.specs.Invariant.{IsRight}
+
+pub none_some : {A : Type 0} (x : A) → None ≡ Some x → ⊥
+none_some x h = cc
+
+pub same_some : {A : Type 0} (x y : A) → Some x ≡ Some y → x ≡ y
+same_some x y h = cc
+
+pub none_absurd : {A : Type 0} → false ≡ true → A
+none_absurd h = absurd (false≢true h)
+
+-- no source page has two pages
+abbrev pub IsOneToOne : (ℕ → Option ℕ) → Type 0
+IsOneToOne owed = (page other origin : ℕ) → owed page ≡ Some origin → owed other ≡ Some origin → page ≡ other
+
+-- The table and its look-up
+
+-- a page of a range of equal length has its page in the other range
+all_carried : {A : Type 0} (to count q : ℕ) (a b rest : A) → (if in_range to count q then (if ltb (q - to) count then a else b) else rest) ≡ (if in_range to count q then a else rest)
+all_carried to count q a b rest = grind (arith, nat_tests)
+
+pub get-owed_table_after : (message : Message) (owed : FinMap nat_cmp ℕ) (page : ℕ) → get (owed_table_after message owed) page ≡ owed_after message (get owed) page
+get-owed_table_after (Remap from to len) owed page =
+    get-moved_range owed (from / 4096) (len / 4096) (to / 4096) (len / 4096) page None
+    ∙ all_carried (to / 4096) (len / 4096) page (get owed (from / 4096 + (page - to / 4096))) None (if in_range (from / 4096) (len / 4096) page then None else get owed page)
+get-owed_table_after (Remove start end) owed page = get-remove_range owed (start / 4096) (end / 4096 - start / 4096) page
+get-owed_table_after (Unmap start end) owed page = get-remove_range owed (start / 4096) (end / 4096 - start / 4096) page
+get-owed_table_after (PageFault addr write wp) owed page = refl
+
+-- the same as functions
+pub owed_table_after-applied : (message : Message) (owed : FinMap nat_cmp ℕ) → get (owed_table_after message owed) ≡ owed_after message (get owed)
+owed_table_after-applied message owed = λ i page. get-owed_table_after message owed page i
+
+-- an event that is read changes the table and not what is settled
+pub settled_by-applied : (noted : Noted) (events : List Noted) (owed : FinMap nat_cmp ℕ) → settled_by events (get (owed_table_after noted.message owed)) ≡ settled_by (noted ∷ events) (get owed)
+settled_by-applied noted events owed = ap (settled_by events) (owed_table_after-applied noted.message owed)
+
+-- one more event at the end
+pub settled_by-push : (events : List Noted) (noted : Noted) (owed : ℕ → Option ℕ) → settled_by (events ++ noted ∷ []) owed ≡ owed_after noted.message (settled_by events owed)
+settled_by-push [] noted owed = refl
+settled_by-push (first ∷ events) noted owed = settled_by-push events noted (owed_after first.message owed)
+
+-- What an event leaves
+
+-- pages that are gone
+gone_value : (gone : Bool) (o : Option ℕ) (origin : ℕ) → (if gone then None else o) ≡ Some origin → o ≡ Some origin
+gone_value true o origin h = absurd (none_some origin h)
+gone_value false o origin h = h
+
+moved_value : (to from : Bool) (there here : ℕ) (a o : Option ℕ) (owed : ℕ → Option ℕ) (origin : ℕ) → owed there ≡ a → owed here ≡ o → (if to then a else if from then None else o) ≡ Some origin → (other : ℕ) × (owed other ≡ Some origin)
+moved_value true from there here a o owed origin p q h = (there, p ∙ h)
+moved_value false true there here a o owed origin p q h = absurd (none_some origin h)
+moved_value false false there here a o owed origin p q h = (here, q ∙ h)
+
+-- each source page that is owed after an event was owed before
+pub values-after : (message : Message) (owed : ℕ → Option ℕ) (page origin : ℕ) → owed_after message owed page ≡ Some origin → (other : ℕ) × (owed other ≡ Some origin)
+values-after (Remap from to len) owed page origin h =
+    moved_value (in_range (to / 4096) (len / 4096) page) (in_range (from / 4096) (len / 4096) page) (from / 4096 + (page - to / 4096)) page _ _ owed origin refl refl h
+values-after (Remove start end) owed page origin h = (page, gone_value (in_range (start / 4096) (end / 4096 - start / 4096) page) (owed page) origin h)
+values-after (Unmap start end) owed page origin h = (page, gone_value (in_range (start / 4096) (end / 4096 - start / 4096) page) (owed page) origin h)
+values-after (PageFault addr write wp) owed page origin h = (page, h)
+
+pub values-settled : (events : List Noted) (owed : ℕ → Option ℕ) (page origin : ℕ) → settled_by events owed page ≡ Some origin → (other : ℕ) × (owed other ≡ Some origin)
+values-settled [] owed page origin h = (page, h)
+values-settled (noted ∷ events) owed page origin h =
+    let later = values-settled events (owed_after noted.message owed) page origin h in values-after noted.message owed later.0 origin later.1
+
+-- where nothing is owed nothing will be
+pub none-after : (message : Message) (owed : ℕ → Option ℕ) → ((page : ℕ) → owed page ≡ None) → (page : ℕ) → owed_after message owed page ≡ None
+none-after message owed none page =
+    elim (owed_after message owed page) as (λ o. owed_after message owed page ≡ o → o ≡ None) [
+      | None ↦ λ e. refl
+      | Some origin ↦ λ e. let value = values-after message owed page origin e in absurd (none_some origin (sym (none value.0) ∙ value.1))
+    ] refl
+
+pub none-settled : (events : List Noted) (owed : ℕ → Option ℕ) → ((page : ℕ) → owed page ≡ None) → (page : ℕ) → settled_by events owed page ≡ None
+none-settled [] owed none page = none page
+none-settled (noted ∷ events) owed none page = none-settled events (owed_after noted.message owed) (none-after noted.message owed none) page
+
+-- One to one
+
+abbrev moved : ℕ → ℕ → ℕ → (ℕ → Option ℕ) → ℕ → Option ℕ
+moved from to count owed page = if in_range to count page then owed (from + (page - to)) else if in_range from count page then None else owed page
+
+-- where a moved look-up finds something: in the target, from the page at the same place in the old range, or outside both
+moved_from : (from to count : ℕ) (owed : ℕ → Option ℕ) (page origin : ℕ) → moved from to count owed page ≡ Some origin →
+    ((to ≤ page) × (page < to + count) × (owed (from + (page - to)) ≡ Some origin)) ⊎ (((page < from) ⊎ (from + count ≤ page)) × (owed page ≡ Some origin))
+moved_from from to count owed page origin h = grind (arith, nat_tests)
+
+moved_one : (from to count : ℕ) (owed : ℕ → Option ℕ) → IsOneToOne owed → IsOneToOne (moved from to count owed)
+moved_one from to count owed one page other origin h k =
+    ⊎_elim
+    (λ (a : (to ≤ page) × (page < to + count) × (owed (from + (page - to)) ≡ Some origin)).
+    let a0 = a.0 in
+    let a1 = a.1 in
+    ⊎_elim
+    (λ (b : (to ≤ other) × (other < to + count) × (owed (from + (other - to)) ≡ Some origin)).
+    let b0 = b.0 in
+    let same = one (from + (page - to)) (from + (other - to)) origin a.2 b.2 in omega arith)
+    (λ (b : ((other < from) ⊎ (from + count ≤ other)) × (owed other ≡ Some origin)).
+    let b0 = b.0 in
+    let same = one (from + (page - to)) other origin a.2 b.1 in
+    ⊎_elim (λ (below : other < from). omega arith) (λ (above : from + count ≤ other). omega arith) b0)
+    (moved_from from to count owed other origin k))
+    (λ (a : ((page < from) ⊎ (from + count ≤ page)) × (owed page ≡ Some origin)).
+    let a0 = a.0 in
+    ⊎_elim
+    (λ (b : (to ≤ other) × (other < to + count) × (owed (from + (other - to)) ≡ Some origin)).
+    let b0 = b.0 in
+    let b1 = b.1 in
+    let same = one page (from + (other - to)) origin a.1 b.2 in
+    ⊎_elim (λ (below : page < from). omega arith) (λ (above : from + count ≤ page). omega arith) a0)
+    (λ (b : ((other < from) ⊎ (from + count ≤ other)) × (owed other ≡ Some origin)). one page other origin a.1 b.1)
+    (moved_from from to count owed other origin k))
+    (moved_from from to count owed page origin h)
+
+pub IsOneToOne-after : (message : Message) (owed : ℕ → Option ℕ) → IsOneToOne owed → IsOneToOne (owed_after message owed)
+IsOneToOne-after (Remap from to len) owed one page other origin h k = moved_one (from / 4096) (to / 4096) (len / 4096) owed one page other origin h k
+IsOneToOne-after (Remove start end) owed one page other origin h k =
+    one page other origin (gone_value (in_range (start / 4096) (end / 4096 - start / 4096) page) (owed page) origin h) (gone_value (in_range (start / 4096) (end / 4096 - start / 4096) other) (owed other) origin k)
+IsOneToOne-after (Unmap start end) owed one page other origin h k =
+    one page other origin (gone_value (in_range (start / 4096) (end / 4096 - start / 4096) page) (owed page) origin h) (gone_value (in_range (start / 4096) (end / 4096 - start / 4096) other) (owed other) origin k)
+IsOneToOne-after (PageFault addr write wp) owed one page other origin h k = one page other origin h k
+
+pub IsOneToOne-settled : (events : List Noted) (owed : ℕ → Option ℕ) → IsOneToOne owed → IsOneToOne (settled_by events owed)
+IsOneToOne-settled [] owed one = one
+IsOneToOne-settled (noted ∷ events) owed one = IsOneToOne-settled events (owed_after noted.message owed) (IsOneToOne-after noted.message owed one)
+
+-- Pages of the address space
+
+moved_below : (from to count high : ℕ) (owed : ℕ → Option ℕ) (page origin : ℕ) → to + count ≤ high → (owed page ≡ Some origin → page < high) → moved from to count owed page ≡ Some origin → page < high
+moved_below from to count high owed page origin inside below h =
+    ⊎_elim
+    (λ (a : (to ≤ page) × (page < to + count) × (owed (from + (page - to)) ≡ Some origin)). let l = a.1 in omega arith)
+    (λ (a : ((page < from) ⊎ (from + count ≤ page)) × (owed page ≡ Some origin)). below a.1)
+    (moved_from from to count owed page origin h)
+
+-- owed pages lie in the address space, and still do after an event that is right
+pub owed_below-after : (message : Message) (owed : ℕ → Option ℕ) → IsRight message → ((page origin : ℕ) → owed page ≡ Some origin → page < HIGH_PAGE) → (page origin : ℕ) → owed_after message owed page ≡ Some origin → page < HIGH_PAGE
+owed_below-after (Remap from to len) owed right below page origin h =
+    moved_below (from / 4096) (to / 4096) (len / 4096) HIGH_PAGE owed page origin right.3 (below page origin) h
+owed_below-after (Remove start end) owed right below page origin h = below page origin (gone_value (in_range (start / 4096) (end / 4096 - start / 4096) page) (owed page) origin h)
+owed_below-after (Unmap start end) owed right below page origin h = below page origin (gone_value (in_range (start / 4096) (end / 4096 - start / 4096) page) (owed page) origin h)
+owed_below-after (PageFault addr write wp) owed right below page origin h = absurd right
+
+-- The page to which a source page is owed
+
+pub eqb_true : (a b : ℕ) → eqb a b ≡ true → a ≡ b
+eqb_true a b h = grind (arith, nat_tests)
+
+pub eqb-refl : (n : ℕ) → eqb n n ≡ true
+eqb-refl n = grind (arith, nat_tests)
+
+owes_told : (o : Option ℕ) (source : ℕ) → (elim o [ None ↦ false | Some origin ↦ eqb origin source ]) ≡ true → o ≡ Some source
+owes_told None source h = none_absurd h
+owes_told (Some origin) source h = ap Some (eqb_true origin source h)
+
+owes_so : (o : Option ℕ) (source : ℕ) → o ≡ Some source → (elim o [ None ↦ false | Some origin ↦ eqb origin source ]) ≡ true
+owes_so None source h = absurd (none_some source h)
+owes_so (Some origin) source h = ap (λ n. eqb n source) (same_some origin source h) ∙ eqb-refl source
+
+pub home_tells : (owed : FinMap nat_cmp ℕ) (source page : ℕ) → home owed source ≡ Some page → get owed page ≡ Some source
+home_tells owed source page h = owes_told (get owed page) source (least_below_tells (owes_to owed source) HIGH_PAGE page h)
+
+below_or_at : (i n : ℕ) → i < suc n → (i < n) ⊎ (i ≡ n)
+below_or_at i n h = grind (arith, nat_tests)
+
+some_left : (o : Option ℕ) (here : Bool) (bound : ℕ) → is_some o ≡ true → is_some (elim o [ Some least ↦ Some least | None ↦ cond here (Some bound) None ]) ≡ true
+some_left (Some least) here bound h = refl
+some_left None here bound h = none_absurd h
+
+some_here : (o : Option ℕ) (here : Bool) (bound : ℕ) → here ≡ true → is_some (elim o [ Some least ↦ Some least | None ↦ cond here (Some bound) None ]) ≡ true
+some_here (Some least) here bound h = refl
+some_here None true bound h = refl
+some_here None false bound h = none_absurd h
+
+-- something is found where something passes
+pub least_below-some : (test : ℕ → Bool) (bound k : ℕ) → k < bound → test k ≡ true → is_some (least_below test bound) ≡ true
+unfolding least_below
+least_below-some test zero k l h = absurd (omega arith)
+least_below-some test (suc bound) k l h =
+    ⊎_elim
+    (λ (below : k < bound). some_left (least_below test bound) (test bound) bound (least_below-some test bound k below h))
+    (λ (at : k ≡ bound). some_here (least_below test bound) (test bound) bound (ap test (sym at) ∙ h))
+    (below_or_at k bound l)
+
+pub home-some : (owed : FinMap nat_cmp ℕ) (source page : ℕ) → page < HIGH_PAGE → get owed page ≡ Some source → is_some (home owed source) ≡ true
+home-some owed source page l h = least_below-some (owes_to owed source) HIGH_PAGE page l (owes_so (get owed page) source h)
+
+-- a source page without a home is owed to no page
+pub home-none : (owed : FinMap nat_cmp ℕ) (source page : ℕ) → home owed source ≡ None → page < HIGH_PAGE → get owed page ≡ Some source → ⊥
+home-none owed source page none l h = false≢true (sym (ap is_some none) ∙ home-some owed source page l h)
+
+not_true : (b : Bool) → (b ≡ true → ⊥) → b ≡ false
+not_true true h = absurd (h refl)
+not_true false h = refl
+
+-- with one to one it is that page
+pub home-is : (owed : FinMap nat_cmp ℕ) (source page : ℕ) → IsOneToOne (get owed) → page < HIGH_PAGE → get owed page ≡ Some source → home owed source ≡ Some page
+home-is owed source page one l h =
+    least_below-is (owes_to owed source) HIGH_PAGE page l (owes_so (get owed page) source h)
+    (λ j below. not_true (owes_to owed source j) (λ passes. let same = one j page source (owes_told (get owed j) source passes) h in absurd (omega arith)))

@@ -1,0 +1,261 @@
+-- A command that is tried at the source, before it has stopped, keeps what every world keeps.
+use Rattle.std.proofs.Common.{◌≡◌, ℕ, zero, suc, ◌/◌, ◌&&◌, ◌||◌, Bool, true, false, cond, not, eqb, if◌then◌else◌, Option, Some, None, List, [], ◌∷◌, ◌++◌, refl, sym, ap, ◌∙◌, subst, is_some}
+use Rattle.std.specs.Ordering.{nat_cmp}
+use Rattle.std.specs.FinMap.{FinMap, get, insert, contains_key}
+use Rattle.std.specs.FinSet.{contains}
+use Rattle.std.proofs.lemmas.Bool.{false≢true}
+use Rattle.mig_base.specs.declared.command.Entry.{Entry}
+use Rattle.mig_base.specs.declared.command.Command.{Command}
+use Rattle.mig_base.specs.declared.command.Command.TheVariants.{Load, Store, Mmap, Munmap, Mremap, DontNeed}
+use Rattle.mig_base.specs.declared.command.Reply.{Reply}
+use Rattle.mig_base.specs.declared.command.Reply.TheVariants.{Done}
+use Rattle.mig_base.specs.declared.command.Access.{Access}
+use Rattle.mig_base.specs.declared.command.Access.TheVariants.{Answered, Missing, Protected}
+use Rattle.mig_base.specs.Flat.{no_memory, reply_of, after, memory_of, IsFlatRun}
+use Rattle.mig_base.proofs.FlatLemmas.{memory_from-push, IsRunFrom-push}
+use Rattle.mig_base.proofs.SetLemmas.{same_members}
+use Rattle.mig_model.specs.Host.{Host, memory, host_changed, host_after, IsSound}
+use Rattle.mig_model.specs.World.{is_access}
+use Rattle.mig_model.specs.Userfault.{Object, fault_queued, waits_fault}
+use Rattle.mig_model.specs.Space.{Space, IsSoundSpace, is_made, access_of, accessed_by, called, queued_by, call_messages, modes_after}
+use Rattle.mig_model.specs.Guest.{Processor, access_took, call_took, took_by, tried, entries_of, outstanding, processor_at}
+use Rattle.mig_model.specs.Nodes.{space_of}
+use Rattle.mig_model.specs.Migration.{World, reasons, refusal_of, accepted, runs, guest_of, retried, command_tried}
+use Rattle.mig_model.specs.Migration.Step.{Issue, Retry}
+use Rattle.mig_model.specs.Invariant.{IsKept, AreRight, is_unread}
+use Rattle.mig_model.proofs.HostLemmas.{get-put}
+use Rattle.mig_model.proofs.CommandLemmas.{memory-changed}
+use Rattle.mig_model.proofs.SpaceLemmas.{IsSoundSpace-accessed, IsSoundSpace-called, access_reply}
+use Rattle.mig_model.proofs.SourceKept.{none_refused, source_holds, IsChanged, changed}
+use Rattle.mig_model.proofs.SourceMessages.{noted_all, events_queued, tells, is_unread-append, AreRight-append}
+use Rattle.mig_model.proofs.SourceCalls.{untouched}
+use Rattle.mig_model.proofs.SourceEvents.{IsUnregistered, right_messages, no_messages, modes_same, none_missing, modes_events, queued_missing, queued_protect}
+use Rattle.mig_model.proofs.SourceTests.{not_false, none_absurd, never_true, and_both, or_second, or_none, some_either, append_nil, eqb_tells}
+
+-- The transcript
+
+abbrev entry_of : Host → ℕ → Command → Entry
+entry_of host cpu command = record { cpu = cpu; command = command; reply = reply_of (memory host) command }
+
+flat_entered : (host : Host) (transcript : List Entry) (cpu : ℕ) (command : Command) → memory host ≡ memory_of transcript → IsFlatRun transcript → IsFlatRun (transcript ++ entry_of host cpu command ∷ [])
+flat_entered host transcript cpu command holds flat = IsRunFrom-push no_memory transcript (entry_of host cpu command) flat (ap (λ m. reply_of m command) holds)
+
+holds_entered : (host : Host) (transcript : List Entry) (cpu : ℕ) (command : Command) → IsSound host → memory host ≡ memory_of transcript → memory (host_after host command) ≡ memory_of (transcript ++ entry_of host cpu command ∷ [])
+holds_entered host transcript cpu command sound holds =
+    memory-changed host command (reply_of (memory host) command) sound refl
+    ∙ ap (λ m. after m command) holds
+    ∙ sym (memory_from-push no_memory transcript (entry_of host cpu command))
+
+-- Loads and stores that are answered
+
+present_after : (host : Host) (command : Command) (reply : Reply) (page : ℕ) → is_access command ≡ true → contains_key host.bytes page ≡ true → contains_key (host_changed host command reply).bytes page ≡ true
+present_after host (Load addr width) reply page access h = h
+present_after host (Store addr width value) Done page access h = ap is_some (get-put host.bytes (addr / 4096) page _) ∙ some_either (eqb page (addr / 4096)) _ (get host.bytes page) h
+present_after host (Store addr width value) _ page access h = h
+present_after host (Mmap len prot place) reply page access h = none_absurd access
+present_after host (Munmap addr len) reply page access h = none_absurd access
+present_after host (Mremap addr old_len new_len may_move fixed) reply page access h = none_absurd access
+present_after host (DontNeed addr len) reply page access h = none_absurd access
+
+never_answered : (missing protect : Bool) (reply other : Reply) → protect ≡ true → cond missing Missing (cond protect Protected (Answered reply)) ≡ Answered other → ⊥
+never_answered true protect reply other p h = cc
+never_answered false true reply other p h = cc
+never_answered false false reply other p h = false≢true p
+
+other_page : (bytes : FinMap nat_cmp (List ℕ)) (page q : ℕ) (held : List ℕ) → eqb q page ≡ false → get (insert bytes page held) q ≡ get bytes q
+other_page bytes page q held other = get-put bytes page q held ∙ ap (λ b. cond b (Some held) (get bytes q)) other
+
+abbrev answer_by : Space → ℕ → Reply → Access
+answer_by space page reply =
+    if not (is_made reply) then Answered reply
+    else if not (contains_key space.host.bytes page) && contains space.object.missing page then Missing
+    else if contains space.object.protect page && contains space.protected page then Protected
+    else Answered reply
+
+-- a store that is made is of another page than a protected one
+stored_elsewhere : (space : Space) (addr width value page : ℕ) (made other : Reply) → made ≡ reply_of (memory space.host) (Store addr width value) → access_of space (Store addr width value) ≡ Answered other →
+    contains space.object.protect page ≡ true → contains space.protected page ≡ true → get (host_changed space.host (Store addr width value) made).bytes page ≡ get space.host.bytes page
+stored_elsewhere space addr width value page Done other is answered watched protected =
+    let there : eqb page (addr / 4096) ≡ false =
+    never_true (eqb page (addr / 4096)) (λ e.
+    let here = eqb_tells page (addr / 4096) e in
+    never_answered (not (contains_key space.host.bytes (addr / 4096)) && contains space.object.missing (addr / 4096)) (contains space.object.protect (addr / 4096) && contains space.protected (addr / 4096)) Done other
+    (and_both _ _ (ap (contains space.object.protect) (sym here) ∙ watched) (ap (contains space.protected) (sym here) ∙ protected))
+    (subst (λ r. answer_by space (addr / 4096) r ≡ Answered other) (sym is) answered)) in
+    other_page space.host.bytes (addr / 4096) page _ there
+stored_elsewhere space addr width value page _ other is answered watched protected = refl
+
+elsewhere : (space : Space) (command : Command) (page : ℕ) (other : Reply) → is_access command ≡ true → access_of space command ≡ Answered other → contains space.object.protect page ≡ true → contains space.protected page ≡ true →
+    get (host_after space.host command).bytes page ≡ get space.host.bytes page
+elsewhere space (Load addr width) page other access answered watched protected = refl
+elsewhere space (Store addr width value) page other access answered watched protected =
+    stored_elsewhere space addr width value page (reply_of (memory space.host) (Store addr width value)) other refl answered watched protected
+elsewhere space (Mmap len prot place) page other access answered watched protected = none_absurd access
+elsewhere space (Munmap addr len) page other access answered watched protected = none_absurd access
+elsewhere space (Mremap addr old_len new_len may_move fixed) page other access answered watched protected = none_absurd access
+elsewhere space (DontNeed addr len) page other access answered watched protected = none_absurd access
+
+answered_changed : (world : World) (cpu : ℕ) (command : Command) (reply : Reply) (processors : List Processor) → IsKept world → world.destination.has_run ≡ false → world.source.switched ≡ false → is_access command ≡ true →
+    access_of (space_of world.source) command ≡ Answered reply →
+    IsChanged world.source (record world.source.guest { space = record (space_of world.source) { host = host_after (space_of world.source).host command }; processors = processors }) world.source.clean world.source.todo
+    (world.transcript ++ record { cpu = cpu; command = command; reply = reply } ∷ [])
+answered_changed world cpu command reply processors kept bare unswitched access answered =
+    let space = space_of world.source in
+    let holds = source_holds world kept bare in
+    let sound = kept.source_space in
+    let same : reply ≡ reply_of (memory space.host) command = access_reply space command reply answered in
+    let entered : (world.transcript ++ entry_of space.host cpu command ∷ []) ≡ (world.transcript ++ record { cpu = cpu; command = command; reply = reply } ∷ []) =
+    ap (λ r. world.transcript ++ record { cpu = cpu; command = command; reply = r } ∷ []) (sym same) in
+    record {
+      flat = subst IsFlatRun entered (flat_entered space.host world.transcript cpu command holds kept.flat);
+      holds = holds_entered space.host world.transcript cpu command sound.host holds ∙ ap memory_of entered;
+      space = subst (λ a. IsSoundSpace (accessed_by a space cpu command)) answered (IsSoundSpace-accessed space cpu command access sound);
+      modes = kept.both_modes;
+      events = kept.source_events;
+      idle = λ h. let was = kept.idle_source h in (was.0, was.1, was.3, was.4);
+      protected = λ page h u. kept.clean_protected unswitched page h u;
+      sendable = λ page h u. let was = kept.todo_sendable unswitched page h u in (present_after space.host command (reply_of (memory space.host) command) page access was.0, was.1);
+      copies = λ page h u.
+          let protected = kept.clean_protected unswitched page h u in
+          (h, u, elsewhere space command page reply access answered (sound.watched page protected) protected);
+    }
+
+-- Loads and stores that sleep
+
+-- an object with other faults alone
+record IsAlike (object new : Object) : Type 0 where
+  events : new.events ≡ object.events
+  missing : new.missing ≡ object.missing
+  protect : new.protect ≡ object.protect
+
+alike_if : (waits : Bool) (object new : Object) → IsAlike object new → IsAlike object (if waits then object else new)
+alike_if true object new alike = record { events = refl; missing = refl; protect = refl }
+alike_if false object new alike = alike
+
+faulted_alike : (object : Object) (addr : ℕ) (write wp : Bool) (cpu : ℕ) → IsAlike object (fault_queued object addr write wp cpu)
+faulted_alike object addr write wp cpu = alike_if (waits_fault object.faults addr wp) object _ (record { events = refl; missing = refl; protect = refl })
+
+slept_changed : (world : World) (processors : List Processor) (object : Object) → IsKept world → world.destination.has_run ≡ false → world.source.switched ≡ false → IsAlike (space_of world.source).object object →
+    IsSoundSpace (record (space_of world.source) { object = object }) →
+    IsChanged world.source (record world.source.guest { space = record (space_of world.source) { object = object }; processors = processors }) world.source.clean world.source.todo (world.transcript ++ [])
+slept_changed world processors object kept bare unswitched alike sound =
+    let space = space_of world.source in
+    let events = alike.events in
+    let unread : (page : ℕ) → is_unread object.events page ≡ false → is_unread space.object.events page ≡ false = λ page u. ap (λ e. is_unread e page) (sym events) ∙ u in
+    record {
+      flat = subst IsFlatRun (append_nil world.transcript) kept.flat;
+      holds = source_holds world kept bare ∙ ap memory_of (append_nil world.transcript);
+      space = sound;
+      modes = λ page. ap (λ s. contains s page) alike.missing ∙ kept.both_modes page ∙ sym (ap (λ s. contains s page) alike.protect);
+      events = subst AreRight (sym events) kept.source_events;
+      idle = λ h. let was = kept.idle_source h in (was.0, was.1, events ∙ was.3, λ page. ap (λ s. contains s page) alike.missing ∙ was.4 page);
+      protected = λ page h u. kept.clean_protected unswitched page h (unread page u);
+      sendable = λ page h u. let was = kept.todo_sendable unswitched page h (unread page u) in (was.0, ap (λ s. contains s page) alike.protect ∙ was.1);
+      copies = λ page h u. (h, unread page u, refl);
+    }
+
+access_changed : (world : World) (cpu : ℕ) (command : Command) (processors : List Processor) (answer : Access) → IsKept world → world.destination.has_run ≡ false → world.source.switched ≡ false → is_access command ≡ true →
+    access_of (space_of world.source) command ≡ answer →
+    IsChanged world.source (record world.source.guest { space = accessed_by answer (space_of world.source) cpu command; processors = processors }) world.source.clean world.source.todo
+    (world.transcript ++ entries_of cpu command (access_took answer))
+access_changed world cpu command processors (Answered reply) kept bare unswitched access is = answered_changed world cpu command reply processors kept bare unswitched access is
+access_changed world cpu command processors Missing kept bare unswitched access is =
+    slept_changed world processors _ kept bare unswitched (faulted_alike (space_of world.source).object _ _ _ cpu)
+    (subst (λ a. IsSoundSpace (accessed_by a (space_of world.source) cpu command)) is (IsSoundSpace-accessed (space_of world.source) cpu command access kept.source_space))
+access_changed world cpu command processors Protected kept bare unswitched access is =
+    slept_changed world processors _ kept bare unswitched (faulted_alike (space_of world.source).object _ _ _ cpu)
+    (subst (λ a. IsSoundSpace (accessed_by a (space_of world.source) cpu command)) is (IsSoundSpace-accessed (space_of world.source) cpu command access kept.source_space))
+
+-- Map calls
+
+entered_once : (cpu : ℕ) (command : Command) (reply : Reply) (count : ℕ) → entries_of cpu command (call_took reply count) ≡ record { cpu = cpu; command = command; reply = reply } ∷ []
+entered_once cpu command reply zero = refl
+entered_once cpu command reply (suc count) = refl
+
+call_changed : (world : World) (cpu : ℕ) (command : Command) (processors : List Processor) → IsKept world → world.destination.has_run ≡ false → world.source.switched ≡ false → is_access command ≡ false →
+    IsChanged world.source (record world.source.guest { space = called (space_of world.source) cpu command; processors = processors }) world.source.clean world.source.todo
+    (world.transcript ++ entries_of cpu command (call_took (reply_of (memory (space_of world.source).host) command) (queued_by (space_of world.source) command)))
+call_changed world cpu command processors kept bare unswitched call =
+    let space = space_of world.source in
+    let holds = source_holds world kept bare in
+    let sound = kept.source_space in
+    let reply = reply_of (memory space.host) command in
+    let messages = call_messages space.object command reply in
+    let modes = modes_after space.object command reply in
+    let new = called space cpu command in
+    let entered = ap (λ entries. world.transcript ++ entries) (sym (entered_once cpu command reply (queued_by space command))) in
+    let missing : new.object.missing ≡ modes.missing = queued_missing modes messages cpu in
+    let protect : new.object.protect ≡ modes.protect = queued_protect modes messages cpu in
+    let events : new.object.events ≡ space.object.events ++ noted_all messages cpu = events_queued modes messages cpu ∙ ap (λ e. e ++ noted_all messages cpu) (modes_events space.object command reply) in
+    let both : space.object.missing ≡ space.object.protect = same_members space.object.missing space.object.protect kept.both_modes in
+    -- an unread event that tells nothing of the page leaves what was known of it
+    let unread = λ (page : ℕ) (u : is_unread new.object.events page ≡ false). or_none (is_unread space.object.events page) (tells messages page) (sym (is_unread-append space.object.events messages cpu page) ∙ ap (λ e. is_unread e page) (sym events) ∙ u) in
+    let registered = λ (page : ℕ) (h : contains space.object.protect page ≡ true). or_second (contains space.object.missing page) (contains space.object.protect page) h in
+    let same = λ (page : ℕ) (h : contains space.object.protect page ≡ true) (u : is_unread new.object.events page ≡ false). untouched space command reply page sound call refl (registered page h) (unread page u).1 in
+    record {
+      flat = subst IsFlatRun entered (flat_entered space.host world.transcript cpu command holds kept.flat);
+      holds = holds_entered space.host world.transcript cpu command sound.host holds ∙ ap memory_of entered;
+      space = IsSoundSpace-called space cpu command call sound;
+      modes = λ page. ap (λ s. contains s page) (missing ∙ modes_same space.object command reply both ∙ sym protect);
+      events = subst AreRight (sym events) (AreRight-append space.object.events messages cpu kept.source_events (right_messages space.host space.object command reply sound.host refl));
+      idle = λ h.
+          let was = kept.idle_source h in
+          let none : IsUnregistered space.object = λ page. ap (λ b. b || contains space.object.protect page) (was.4 page) ∙ sym (kept.both_modes page) ∙ was.4 page in
+          let nothing : messages ≡ [] = no_messages space.object command reply none in
+          (was.0, was.1, events ∙ ap (λ m. space.object.events ++ noted_all m cpu) nothing ∙ ap (λ e. e ++ []) was.3, λ page. ap (λ s. contains s page) missing ∙ none_missing space.object command reply was.4 page);
+      protected = λ page h u.
+          let was = kept.clean_protected unswitched page h (unread page u).0 in
+          (same page (sound.watched page was) u).protected ∙ was;
+      sendable = λ page h u.
+          let was = kept.todo_sendable unswitched page h (unread page u).0 in
+          let stays = same page was.1 u in
+          (ap is_some stays.bytes ∙ was.0, ap (λ s. contains s page) protect ∙ stays.protect ∙ was.1);
+      copies = λ page h u.
+          let was = kept.clean_protected unswitched page h (unread page u).0 in
+          (h, (unread page u).0, (same page (sound.watched page was) u).bytes);
+    }
+
+-- Every command
+
+tried_changed : (world : World) (cpu : ℕ) (command : Command) (access : Bool) → IsKept world → world.destination.has_run ≡ false → world.source.switched ≡ false → is_access command ≡ access →
+    IsChanged world.source (tried access world.source.guest cpu command) world.source.clean world.source.todo (world.transcript ++ entries_of cpu command (took_by access (space_of world.source) command))
+tried_changed world cpu command true kept bare unswitched is = access_changed world cpu command _ (access_of (space_of world.source) command) kept bare unswitched is refl
+tried_changed world cpu command false kept bare unswitched is = call_changed world cpu command _ kept bare unswitched is
+
+abbrev tried_at_source : World → ℕ → Command → World
+tried_at_source world cpu command =
+    record world {
+      source = record world.source { guest = tried (is_access command) world.source.guest cpu command };
+      transcript = world.transcript ++ entries_of cpu command (took_by (is_access command) (space_of world.source) command);
+    }
+
+command_at_source : (world : World) (cpu : ℕ) (command : Command) → world.destination.has_run ≡ false → tried_at_source world cpu command ≡ command_tried world cpu command
+command_at_source world cpu command bare = rw bare refl
+
+pub kept-command_at_source : (world : World) (cpu : ℕ) (command : Command) → world.destination.has_run ≡ false → world.source.switched ≡ false → IsKept world → IsKept (command_tried world cpu command)
+kept-command_at_source world cpu command bare unswitched kept =
+    subst IsKept (command_at_source world cpu command bare)
+    (changed world (tried (is_access command) world.source.guest cpu command) world.source.clean world.source.todo world.source.rounds world.source.faults
+    (world.transcript ++ entries_of cpu command (took_by (is_access command) (space_of world.source) command)) kept bare unswitched
+    (tried_changed world cpu command (is_access command) kept bare unswitched refl))
+
+-- Issue and Retry
+
+runs_not_switched : (switched ran : Bool) → ran ≡ false → (not switched || ran) ≡ true → switched ≡ false
+runs_not_switched true true bare h = bare
+runs_not_switched true false bare h = none_absurd h
+runs_not_switched false ran bare h = refl
+
+retried_at_source : (world : World) (cpu : ℕ) (o : Option Command) → world.destination.has_run ≡ false → world.source.switched ≡ false → IsKept world → IsKept (retried world cpu o)
+retried_at_source world cpu None bare unswitched kept = kept
+retried_at_source world cpu (Some command) bare unswitched kept = kept-command_at_source world cpu command bare unswitched kept
+
+pub kept-issue_at_source : (world : World) (cpu : ℕ) (command : Command) → world.destination.has_run ≡ false → IsKept world → refusal_of world (Issue cpu command) ≡ None → IsKept (accepted world (Issue cpu command))
+kept-issue_at_source world cpu command bare kept allowed =
+    let tests = none_refused (reasons world (Issue cpu command)) allowed in
+    kept-command_at_source world cpu command bare (runs_not_switched world.source.switched world.destination.has_run bare (not_false (runs world) tests.1.1.0)) kept
+
+pub kept-retry_at_source : (world : World) (cpu : ℕ) → world.destination.has_run ≡ false → IsKept world → refusal_of world (Retry cpu) ≡ None → IsKept (accepted world (Retry cpu))
+kept-retry_at_source world cpu bare kept allowed =
+    let tests = none_refused (reasons world (Retry cpu)) allowed in
+    retried_at_source world cpu (outstanding (processor_at (guest_of world).processors cpu)) bare (runs_not_switched world.source.switched world.destination.has_run bare (not_false (runs world) tests.1.1.1.0)) kept

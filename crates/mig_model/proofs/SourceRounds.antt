@@ -1,0 +1,198 @@
+-- The source begins a migration, or a round of pre-copy, and keeps what every world keeps.
+use Rattle.std.proofs.Common.{◌≡◌, ℕ, ◌+◌, ◌<◌, ◌≤◌, ◌&&◌, Bool, true, false, cond, not, ltb, if◌then◌else◌, Some, None, List, [], ◌∷◌, ◌++◌, refl, sym, ap, ◌∙◌, subst, inl, arith, is_some}
+use Rattle.std.specs.Ordering.{nat_cmp}
+use Rattle.std.specs.FinMap as finmap
+use Rattle.std.specs.FinMap.{FinMap, get, contains_key, get-empty}
+use Rattle.std.specs.FinSet.{contains, contains-retain, nat_cmp-IsAntisymmetric}
+use Rattle.std.proofs.lemmas.Bool.Decides.{nat_tests}
+use Rattle.std.proofs.lemmas.Bool.{false≢true}
+use Rattle.mig_base.specs.declared.TheConstants.{HIGH_PAGE}
+use Rattle.mig_base.specs.Ranges.{in_range}
+use Rattle.mig_base.specs.Sets.{pages_where}
+use Rattle.mig_base.proofs.SetLemmas.{member_below, same_members}
+use Rattle.mig_model.specs.Userfault.{has_modes}
+use Rattle.mig_model.specs.Space.{Space, IsSoundSpace}
+use Rattle.mig_model.specs.Ioctls.{is_mapped_in}
+use Rattle.mig_model.specs.Guest.{is_present}
+use Rattle.mig_model.specs.Wire.{Sent}
+use Rattle.mig_model.specs.Wire.Frame.{Advise}
+use Rattle.mig_model.specs.Nodes.{Source, SourcePhase, Destination, DestinationPhase, space_of, no_pages, is_precopy, is_source_idle, present, not_clean, all_registered, for_both, source_started}
+use Rattle.mig_model.specs.Nodes.SourcePhase.{Idle, Precopy, Stopped, Paused, Released}
+use Rattle.mig_model.specs.Nodes.DestinationPhase.{NotAdvised}
+use Rattle.mig_model.specs.Migration.{World, reasons, refusal_of, accepted}
+use Rattle.mig_model.specs.Migration.Step.{Start, Round}
+use Rattle.mig_model.specs.Invariant.{IsKept, Wires, PrecopyWires, SwitchedAt, EpochAt, AreOf, AreWhole, flow_after, copies_of, kept_by}
+use Rattle.mig_model.specs.Invariant.Flow.{BeforeAdvise}
+use Rattle.mig_model.proofs.IoctlLemmas.{IsSoundSpace-registered}
+use Rattle.mig_model.proofs.SourceKept.{no_page_absurd, none_refused, source_holds, IsNext, renewed, IsChanged, changed}
+use Rattle.mig_model.proofs.SourceCalls.{registered_below}
+use Rattle.mig_model.proofs.SourceHandler.{has_not_run}
+use Rattle.mig_model.proofs.SourceTests.{none_absurd, not_false, and_parts, and_both, and_true, or_second, ltb_true, never_false}
+
+-- The source makes rounds of pre-copy
+
+pub precopy_unswitched : (phase : SourcePhase) (switched : Bool) → is_precopy phase ≡ true → SwitchedAt phase switched → switched ≡ false
+precopy_unswitched Precopy switched h at = at
+precopy_unswitched _ switched h at = none_absurd h
+
+pub never_idle : {A : Type 0} (phase : SourcePhase) → is_precopy phase ≡ true → phase ≡ Idle → A
+never_idle phase h idle = none_absurd (sym (ap is_precopy idle) ∙ h)
+
+pub watched_below : (space : Space) (page : ℕ) → IsSoundSpace space → contains space.object.protect page ≡ true → ltb page HIGH_PAGE ≡ true
+watched_below space page sound h = ltb_true page HIGH_PAGE (registered_below space page sound (or_second (contains space.object.missing page) (contains space.object.protect page) h))
+
+-- Every mapped page is registered
+
+registered_modes : (space : Space) → ((page : ℕ) → contains space.object.missing page ≡ contains space.object.protect page) → (all_registered space).object.missing ≡ (all_registered space).object.protect
+registered_modes space both =
+    ap (λ s. pages_where (λ page. if is_mapped_in space 0 HIGH_PAGE page && not (has_modes space.object page for_both) then true else contains s page)) (same_members space.object.missing space.object.protect both)
+
+registered_now : (low test missing protect : Bool) → low ≡ true → test ≡ true → (low && cond (test && not (missing && protect)) true protect) ≡ true
+registered_now false test missing protect low is = none_absurd low
+registered_now true false missing protect low is = none_absurd is
+registered_now true true true true low is = refl
+registered_now true true true false low is = refl
+registered_now true true false true low is = refl
+registered_now true true false false low is = refl
+
+low_or : {page : ℕ} → (HIGH_PAGE ≤ page → ⊥) → page < HIGH_PAGE
+low_or h = grind (arith, nat_tests, h)
+
+whole_range : (page : ℕ) → page < HIGH_PAGE → in_range 0 HIGH_PAGE page ≡ true
+whole_range page h = grind (arith, nat_tests)
+
+mapped_registered : (space : Space) (page : ℕ) → IsSoundSpace space → contains_key space.host.areas page ≡ true → contains (all_registered space).object.protect page ≡ true
+mapped_registered space page sound mapped =
+    let low = low_or (λ h. false≢true (sym (ap is_some (sound.host.bound page h)) ∙ mapped)) in
+    member_below _ HIGH_PAGE page
+    ∙ registered_now (ltb page HIGH_PAGE) (is_mapped_in space 0 HIGH_PAGE page) (contains space.object.missing page) (contains space.object.protect page) (ltb_true page HIGH_PAGE low)
+    (and_both (in_range 0 HIGH_PAGE page) (contains_key space.host.areas page) (whole_range page low) mapped)
+
+present_mapped : (space : Space) (page : ℕ) → IsSoundSpace space → is_present space page ≡ true → contains_key space.host.areas page ≡ true
+present_mapped space page sound h =
+    elim (get space.host.areas page) as (λ o. get space.host.areas page ≡ o → is_some o ≡ true) [
+      | None ↦ λ e. none_absurd (sym (ap is_some (sound.host.mapped page e)) ∙ h)
+      | Some prot ↦ λ e. refl
+    ] refl
+
+still_protected : (space : Space) (page : ℕ) → IsSoundSpace space → contains space.protected page ≡ true → contains (all_registered space).protected page ≡ true
+still_protected space page sound h = member_below _ HIGH_PAGE page ∙ rw (watched_below space page sound (sound.watched page h)) (and_true (contains space.protected page) ∙ h)
+
+-- Round
+
+member_not_clean : (source : Source) (page : ℕ) → contains (not_clean source) page ≡ true → is_present (space_of source) page ≡ true
+member_not_clean source page h =
+    let both = and_parts (contains (present (space_of source)) page) (not (contains source.clean page))
+    (sym (contains-retain (present (space_of source)) (λ q. not (contains source.clean q)) page (λ x e. ap (λ q. not (contains source.clean q)) (sym (nat_cmp-IsAntisymmetric page x e)))) ∙ h) in
+    (and_parts (ltb page HIGH_PAGE) (is_present (space_of source) page) (sym (member_below _ HIGH_PAGE page) ∙ both.0)).1
+
+round_changed : (world : World) → IsKept world → is_precopy world.source.phase ≡ true → world.source.switched ≡ false →
+    IsChanged world.source (record world.source.guest { space = all_registered (space_of world.source) }) world.source.clean (not_clean world.source) world.transcript
+round_changed world kept precopy unswitched =
+    let space = space_of world.source in
+    let sound = kept.source_space in
+    record {
+      flat = kept.flat;
+      holds = source_holds world kept (has_not_run world kept unswitched);
+      space = IsSoundSpace-registered space 0 HIGH_PAGE for_both sound;
+      modes = λ page. ap (λ s. contains s page) (registered_modes space kept.both_modes);
+      events = kept.source_events;
+      idle = λ h. never_idle world.source.phase precopy h;
+      protected = λ page h u. still_protected space page sound (kept.clean_protected unswitched page h u);
+      sendable = λ page h u.
+          let here = member_not_clean world.source page h in
+          (here, mapped_registered space page sound (present_mapped space page sound here));
+      copies = λ page h u. (h, u, refl);
+    }
+
+pub kept-round : (world : World) → IsKept world → refusal_of world Round ≡ None → IsKept (accepted world Round)
+kept-round world kept allowed =
+    let tests = none_refused (reasons world Round) allowed in
+    let precopy = not_false (is_precopy world.source.phase) tests.0 in
+    let unswitched = precopy_unswitched world.source.phase world.source.switched precopy kept.source_phase in
+    changed world (record world.source.guest { space = all_registered (space_of world.source) }) world.source.clean (not_clean world.source) (world.source.rounds + 1) world.source.faults world.transcript kept
+    (has_not_run world kept unswitched) unswitched (round_changed world kept precopy unswitched)
+
+-- Start
+
+idle_is : (phase : SourcePhase) → not (is_source_idle phase) ≡ false → phase ≡ Idle
+idle_is Idle h = refl
+idle_is Precopy h = none_absurd (sym h)
+idle_is Stopped h = none_absurd (sym h)
+idle_is Paused h = none_absurd (sym h)
+idle_is Released h = none_absurd (sym h)
+
+idle_unswitched : (phase : SourcePhase) (switched : Bool) → phase ≡ Idle → SwitchedAt phase switched → switched ≡ false
+idle_unswitched phase switched idle at = subst (λ p. SwitchedAt p switched) idle at
+
+-- nothing is in flight before a migration
+record IsQuiet (to : DestinationPhase) (forward back : List Sent) : Type 0 where
+  not_advised : to ≡ NotAdvised
+  forward_none : forward ≡ []
+  back_none : back ≡ []
+
+idle_wires : (from : SourcePhase) (source : Source) (destination : Destination) (forward back : List Sent) → from ≡ Idle → Wires (record source { phase = from }) destination forward back → IsQuiet destination.phase forward back
+idle_wires from source destination forward back idle wires =
+    let now = subst (λ p. Wires (record source { phase = p }) destination forward back) idle wires in
+    record { not_advised = now.0; forward_none = now.1; back_none = now.2 }
+
+no_copy : {A : Type 0} (kept : FinMap nat_cmp (List ℕ)) (page : ℕ) → kept ≡ finmap.empty → contains_key kept page ≡ true → A
+no_copy kept page none h = none_absurd (sym (ap is_some (ap (λ m. get m page) none ∙ get-empty nat_cmp page)) ∙ h)
+
+abbrev start_wire : World → List Sent
+start_wire world = world.forward ++ record { epoch = world.source.epoch + 1; frame = Advise } ∷ []
+
+start_wires : (to : DestinationPhase) (source : Source) (destination : Destination) (wire back : List Sent) (epoch : ℕ) → to ≡ NotAdvised → wire ≡ record { epoch = epoch; frame = Advise } ∷ [] → back ≡ [] → source.clean ≡ no_pages →
+    destination.kept ≡ finmap.empty → PrecopyWires source (record destination { phase = to }) wire back
+start_wires to source destination wire back epoch not_advised one none clean kept =
+    subst (λ p. PrecopyWires source (record destination { phase = p }) wire back) (sym not_advised) (
+      ap (flow_after BeforeAdvise) one,
+      none,
+      record {
+        clean_copy = λ page h u. no_page_absurd source.clean page clean h;
+        copies_sent = λ page h. no_copy destination.kept page kept (sym (ap (λ w. contains_key (kept_by destination.kept w) page) one) ∙ h);
+      },
+    )
+
+started_next : (world : World) → IsKept world → world.source.phase ≡ Idle → world.source.switched ≡ false → world.up ≡ true → IsQuiet world.destination.phase world.forward world.back →
+    IsNext world (source_started world.source) (start_wire world) world.transcript
+started_next world kept idle unswitched up quiet =
+    let source = world.source in
+    let space = space_of source in
+    let before = kept.before_switch unswitched in
+    let empty = kept.idle_source idle in
+    let ended = kept.ended_before in
+    let epochs = kept.epochs in
+    let one : start_wire world ≡ record { epoch = source.epoch + 1; frame = Advise } ∷ [] = ap (λ w. w ++ record { epoch = source.epoch + 1; frame = Advise } ∷ []) quiet.forward_none in
+    record {
+      flat = kept.flat;
+      holds = source_holds world kept (has_not_run world kept unswitched);
+      space = IsSoundSpace-registered space 0 HIGH_PAGE for_both kept.source_space;
+      modes = λ page. ap (λ s. contains s page) (registered_modes space kept.both_modes);
+      events = kept.source_events;
+      phase = unswitched;
+      unswitched = unswitched;
+      remaining = before.0;
+      unended = inl (λ e. absurd (omega (arith, ended, e)));
+      before = omega (arith, ended);
+      fresh = λ u paused. absurd (cc);
+      idle = λ h. absurd (cc);
+      whole = subst (λ w. AreWhole (copies_of w)) (sym one) tt;
+      protected = λ page h u. no_page_absurd source.clean page empty.0 h;
+      sendable = λ page h u. no_page_absurd source.todo page empty.1 h;
+      down = λ h. none_absurd (sym h ∙ up);
+      wires = λ h. start_wires world.destination.phase (source_started source) world.destination (start_wire world) world.back (source.epoch + 1) quiet.not_advised one quiet.back_none empty.0 (kept.kept_advised quiet.not_advised);
+      forward_epoch = subst (AreOf (source.epoch + 1)) (sym one) (refl, tt);
+      back_epoch = subst (AreOf (source.epoch + 1)) (sym quiet.back_none) tt;
+      epochs = omega (arith, epochs);
+      epoch_at = λ h. subst (λ p. EpochAt p world.destination.epoch (source.epoch + 1)) (sym quiet.not_advised) tt;
+    }
+
+pub kept-start : (world : World) → IsKept world → refusal_of world Start ≡ None → IsKept (accepted world Start)
+kept-start world kept allowed =
+    let tests = none_refused (reasons world Start) allowed in
+    let idle = idle_is world.source.phase tests.0 in
+    let unswitched = idle_unswitched world.source.phase world.source.switched idle kept.source_phase in
+    let up = never_false world.up (λ down. (kept.down down).2 idle) in
+    renewed world (source_started world.source) (start_wire world) world.transcript kept (has_not_run world kept unswitched)
+    (started_next world kept idle unswitched up (idle_wires world.source.phase world.source world.destination world.forward world.back idle (kept.wires up)))

@@ -1,0 +1,305 @@
+-- What a space keeps over each load, store and map call.
+use Rattle.std.proofs.Common.{◌≡◌, ℕ, ◌+◌, ◌-◌, ◌/◌, ◌&&◌, ◌||◌, Bool, true, false, cond, not, eqb, ltb, Option, Some, None, List, [], ◌∷◌, refl, sym, ap, ◌∙◌, subst, arith, is_some}
+use Rattle.std.specs.Ordering.{nat_cmp}
+use Rattle.std.specs.FinMap.{FinMap, get, insert, contains_key}
+use Rattle.std.specs.FinSet.{FinSet, empty, contains, contains-empty}
+use Rattle.std.proofs.lemmas.Bool.{false≢true}
+use Rattle.mig_base.specs.declared.TheConstants.{HIGH_PAGE}
+use Rattle.mig_base.specs.declared.Prot.{Prot}
+use Rattle.mig_base.specs.declared.command.Errno.TheVariants.{Enomem}
+use Rattle.mig_base.specs.declared.command.Command.{Command}
+use Rattle.mig_base.specs.declared.command.Command.TheVariants.{Load, Store, Mmap, Munmap, Mremap, DontNeed}
+use Rattle.mig_base.specs.declared.command.Reply.{Reply}
+use Rattle.mig_base.specs.declared.command.Reply.TheVariants.{Done, At, Refused}
+use Rattle.mig_base.specs.declared.command.Access.{Access}
+use Rattle.mig_base.specs.declared.command.Access.TheVariants.{Answered, Missing, Protected}
+use Rattle.mig_base.specs.declared.message.Message.{Message}
+use Rattle.mig_base.specs.Ranges.{in_range, pages_of, rounded}
+use Rattle.mig_base.specs.Pages.{set_range, remove_range, moved_range}
+use Rattle.mig_base.specs.Sets.{without, moved_set}
+use Rattle.mig_base.specs.Flat.{reply_of}
+use Rattle.mig_base.proofs.PageLemmas.{get-set_range, get-remove_range, get-moved_range}
+use Rattle.mig_base.proofs.SetLemmas.{member_without, member_below}
+use Rattle.mig_base.proofs.ReplyLemmas.{IsRemapped, mremap_told}
+use Rattle.mig_model.specs.Host.{Host, memory, host_changed, host_after, IsSound}
+use Rattle.mig_model.specs.World.{is_access}
+use Rattle.mig_model.specs.Userfault.{Object, Mode, mode_at, fault_queued, event_queued, waits_fault}
+use Rattle.mig_model.specs.Space.{Space, fresh_space, IsSoundSpace, access_of, accessed_by, accessed, called, modes_after, protected_after, call_messages, all_queued}
+use Rattle.mig_model.proofs.HostLemmas.{IsSound-empty, memory-none, get-put}
+use Rattle.mig_model.proofs.CommandLemmas.{IsSound-changed, one_prot_some}
+
+abbrev PageMap : Type 0 → Type 0
+PageMap X = FinMap nat_cmp X
+
+abbrev Set : Type 0
+Set = FinSet nat_cmp
+
+-- the parts of a space that its soundness is about, but for the host's own
+record IsWatched (areas : PageMap Prot) (bytes : PageMap (List ℕ)) (missing protect protected : Set) : Type 0 where
+  mapped : (page : ℕ) → (contains missing page || contains protect page) ≡ true → contains_key areas page ≡ true
+  present : (page : ℕ) → contains protected page ≡ true → contains_key bytes page ≡ true
+  watched : (page : ℕ) → contains protected page ≡ true → contains protect page ≡ true
+
+watched_of : (space : Space) → IsSoundSpace space → IsWatched space.host.areas space.host.bytes space.object.missing space.object.protect space.protected
+watched_of space sound = record { mapped = sound.mapped; present = sound.present; watched = sound.watched }
+
+sound_of : (space : Space) → IsSound space.host → IsWatched space.host.areas space.host.bytes space.object.missing space.object.protect space.protected → IsSoundSpace space
+sound_of space host parts = record { host = host; mapped = parts.mapped; present = parts.present; watched = parts.watched }
+
+none_absurd : {A : Type 0} → false ≡ true → A
+none_absurd h = absurd (false≢true h)
+
+-- Ranges taken out
+
+both_left : (a b gone : Bool) → ((a && not gone) || (b && not gone)) ≡ true → (gone ≡ false) × ((a || b) ≡ true)
+both_left true true true h = none_absurd h
+both_left true false true h = none_absurd h
+both_left false true true h = none_absurd h
+both_left false false true h = none_absurd h
+both_left true b false h = (refl, refl)
+both_left false true false h = (refl, refl)
+both_left false false false h = none_absurd h
+
+one_left : (a gone : Bool) → (a && not gone) ≡ true → (gone ≡ false) × (a ≡ true)
+one_left true true h = none_absurd h
+one_left true false h = (refl, refl)
+one_left false true h = none_absurd h
+one_left false false h = none_absurd h
+
+left_of : (s : Set) (first count page : ℕ) → contains (without s first count) page ≡ true → (in_range first count page ≡ false) × (contains s page ≡ true)
+left_of s first count page h = one_left (contains s page) (in_range first count page) (sym (member_without s first count page) ∙ h)
+
+stays : {X : Type 0} (pages : PageMap X) (first count page : ℕ) → in_range first count page ≡ false → contains_key pages page ≡ true → contains_key (remove_range pages first count) page ≡ true
+stays pages first count page out h = ap is_some (get-remove_range pages first count page ∙ ap (λ b. cond b None (get pages page)) out) ∙ h
+
+-- what is registered or protected, without a range: only the other pages are looked at
+taken_out : (areas new_areas : PageMap Prot) (bytes : PageMap (List ℕ)) (missing protect protected : Set) (first count : ℕ) → IsWatched areas bytes missing protect protected →
+    ((page : ℕ) → in_range first count page ≡ false → contains_key areas page ≡ true → contains_key new_areas page ≡ true) →
+    IsWatched new_areas (remove_range bytes first count) (without missing first count) (without protect first count) (without protected first count)
+taken_out areas new_areas bytes missing protect protected first count old areas_stay =
+    record {
+      mapped = λ page h.
+          let left = both_left (contains missing page) (contains protect page) (in_range first count page)
+          (sym (ap (λ a. a || (contains protect page && not (in_range first count page))) (member_without missing first count page))
+          ∙ sym (ap (λ b. contains (without missing first count) page || b) (member_without protect first count page)) ∙ h) in
+          areas_stay page left.0 (old.mapped page left.1);
+      present = λ page h. let left = left_of protected first count page h in stays bytes first count page left.0 (old.present page left.1);
+      watched = λ page h.
+          let left = left_of protected first count page h in
+          member_without protect first count page ∙ ap (λ a. a && not (in_range first count page)) (old.watched page left.1) ∙ ap not left.0;
+    }
+
+given : (areas : PageMap Prot) (first count page : ℕ) (prot : Prot) → in_range first count page ≡ false → contains_key areas page ≡ true → contains_key (set_range areas first count prot) page ≡ true
+given areas first count page prot out h = ap is_some (get-set_range areas first count prot page ∙ ap (λ b. cond b (Some prot) (get areas page)) out) ∙ h
+
+-- Pages made missing: what is registered stays
+dropped : (areas : PageMap Prot) (bytes : PageMap (List ℕ)) (missing protect protected : Set) (first count : ℕ) → IsWatched areas bytes missing protect protected →
+    IsWatched areas (remove_range bytes first count) missing protect (without protected first count)
+dropped areas bytes missing protect protected first count old =
+    record {
+      mapped = old.mapped;
+      present = λ page h. let left = left_of protected first count page h in stays bytes first count page left.0 (old.present page left.1);
+      watched = λ page h. old.watched page (left_of protected first count page h).1;
+    }
+
+-- Pages moved
+
+abbrev in_moved : (ℕ → Bool) → ℕ → ℕ → ℕ → ℕ → Bool → ℕ → Bool
+in_moved test from count to new_count growth page =
+    ltb page HIGH_PAGE && cond (in_range to new_count page) (cond (ltb (page - to) count) (test (from + (page - to))) growth) (not (in_range from count page) && test page)
+
+member_moved : (s : Set) (from count to new_count page : ℕ) (growth : Bool) → contains (moved_set s from count to new_count growth) page ≡ in_moved (contains s) from count to new_count growth page
+member_moved s from count to new_count page growth = member_below _ HIGH_PAGE page
+
+moved_mapped : (low new old from : Bool) (m1 m2 p1 p2 mg pg : Bool) (a1 ag a2 : Option Prot) → ((m1 || p1) ≡ true → is_some a1 ≡ true) → is_some ag ≡ true → ((m2 || p2) ≡ true → is_some a2 ≡ true) →
+    ((low && cond new (cond old m1 mg) (not from && m2)) || (low && cond new (cond old p1 pg) (not from && p2))) ≡ true → is_some (cond new (cond old a1 ag) (cond from None a2)) ≡ true
+moved_mapped false new old from m1 m2 p1 p2 mg pg a1 ag a2 one growth two h = none_absurd h
+moved_mapped true true true from m1 m2 p1 p2 mg pg a1 ag a2 one growth two h = one h
+moved_mapped true true false from m1 m2 p1 p2 mg pg a1 ag a2 one growth two h = growth
+moved_mapped true false old true m1 m2 p1 p2 mg pg a1 ag a2 one growth two h = none_absurd h
+moved_mapped true false old false m1 m2 p1 p2 mg pg a1 ag a2 one growth two h = two h
+
+moved_present : {X : Type 0} (low new old from p1 p2 : Bool) (b1 b2 : Option X) → (p1 ≡ true → is_some b1 ≡ true) → (p2 ≡ true → is_some b2 ≡ true) →
+    (low && cond new (cond old p1 false) (not from && p2)) ≡ true → is_some (cond new (cond old b1 None) (cond from None b2)) ≡ true
+moved_present false new old from p1 p2 b1 b2 one two h = none_absurd h
+moved_present true true true from p1 p2 b1 b2 one two h = one h
+moved_present true true false from p1 p2 b1 b2 one two h = none_absurd h
+moved_present true false old true p1 p2 b1 b2 one two h = none_absurd h
+moved_present true false old false p1 p2 b1 b2 one two h = two h
+
+moved_watched : (low new old from p1 p2 w1 w2 wg : Bool) → (p1 ≡ true → w1 ≡ true) → (p2 ≡ true → w2 ≡ true) →
+    (low && cond new (cond old p1 false) (not from && p2)) ≡ true → (low && cond new (cond old w1 wg) (not from && w2)) ≡ true
+moved_watched false new old from p1 p2 w1 w2 wg one two h = h
+moved_watched true true true from p1 p2 w1 w2 wg one two h = one h
+moved_watched true true false from p1 p2 w1 w2 wg one two h = none_absurd h
+moved_watched true false old true p1 p2 w1 w2 wg one two h = h
+moved_watched true false old false p1 p2 w1 w2 wg one two h = two h
+
+moved_parts : (areas : PageMap Prot) (bytes : PageMap (List ℕ)) (missing protect protected : Set) (from count to new_count : ℕ) (mode : Mode) → contains_key areas from ≡ true → IsWatched areas bytes missing protect protected →
+    IsWatched (moved_range areas from count to new_count (get areas from)) (moved_range bytes from count to new_count None) (moved_set missing from count to new_count mode.missing) (moved_set protect from count to new_count mode.protect) (moved_set protected from count to new_count false)
+moved_parts areas bytes missing protect protected from count to new_count mode some old =
+    record {
+      mapped = λ page h.
+          ap is_some (get-moved_range areas from count to new_count page (get areas from))
+          ∙ moved_mapped (ltb page HIGH_PAGE) (in_range to new_count page) (ltb (page - to) count) (in_range from count page)
+          (contains missing (from + (page - to))) (contains missing page) (contains protect (from + (page - to))) (contains protect page) mode.missing mode.protect
+          (get areas (from + (page - to))) (get areas from) (get areas page) (old.mapped (from + (page - to))) some (old.mapped page)
+          (sym (ap (λ a. a || in_moved (contains protect) from count to new_count mode.protect page) (member_moved missing from count to new_count page mode.missing))
+          ∙ sym (ap (λ b. contains (moved_set missing from count to new_count mode.missing) page || b) (member_moved protect from count to new_count page mode.protect)) ∙ h);
+      present = λ page h.
+          ap is_some (get-moved_range bytes from count to new_count page None)
+          ∙ moved_present (ltb page HIGH_PAGE) (in_range to new_count page) (ltb (page - to) count) (in_range from count page)
+          (contains protected (from + (page - to))) (contains protected page) (get bytes (from + (page - to))) (get bytes page) (old.present (from + (page - to))) (old.present page)
+          (sym (member_moved protected from count to new_count page false) ∙ h);
+      watched = λ page h.
+          member_moved protect from count to new_count page mode.protect
+          ∙ moved_watched (ltb page HIGH_PAGE) (in_range to new_count page) (ltb (page - to) count) (in_range from count page)
+          (contains protected (from + (page - to))) (contains protected page) (contains protect (from + (page - to))) (contains protect page) mode.protect (old.watched (from + (page - to))) (old.watched page)
+          (sym (member_moved protected from count to new_count page false) ∙ h);
+    }
+
+-- Messages leave the modes
+
+queued_missing : (object : Object) (messages : List Message) (cpu : ℕ) → (all_queued object messages cpu).missing ≡ object.missing
+queued_missing object [] cpu = refl
+queued_missing object (message ∷ messages) cpu = queued_missing (event_queued object message cpu) messages cpu
+
+queued_protect : (object : Object) (messages : List Message) (cpu : ℕ) → (all_queued object messages cpu).protect ≡ object.protect
+queued_protect object [] cpu = refl
+queued_protect object (message ∷ messages) cpu = queued_protect (event_queued object message cpu) messages cpu
+
+fault_missing : (waits : Bool) (object other : Object) → other.missing ≡ object.missing → (cond waits object other).missing ≡ object.missing
+fault_missing true object other h = refl
+fault_missing false object other h = h
+
+fault_protect : (waits : Bool) (object other : Object) → other.protect ≡ object.protect → (cond waits object other).protect ≡ object.protect
+fault_protect true object other h = refl
+fault_protect false object other h = h
+
+-- Map calls
+
+first_mapped : (space : Space) (addr old_len new_len target : ℕ) → IsRemapped (memory space.host) addr old_len new_len target → contains_key space.host.areas (addr / 4096) ≡ true
+first_mapped space addr old_len new_len target told =
+    let some = told.old_some in
+    elim (get space.host.areas (addr / 4096)) as (λ o. get space.host.areas (addr / 4096) ≡ o → is_some o ≡ true) [
+      | None ↦ λ e. absurd (one_prot_some (memory space.host) addr (rounded old_len) 0 told.one_prot (omega (arith, some)) (ap (memory space.host) (omega arith) ∙ memory-none space.host addr e))
+      | Some prot ↦ λ e. refl
+    ] refl
+
+-- the parts after a map call that is answered so
+parts_called : (space : Space) (command : Command) (reply : Reply) → is_access command ≡ false → reply ≡ reply_of (memory space.host) command → IsWatched space.host.areas space.host.bytes space.object.missing space.object.protect space.protected →
+    IsWatched (host_changed space.host command reply).areas (host_changed space.host command reply).bytes (modes_after space.object command reply).missing (modes_after space.object command reply).protect (protected_after space.protected command reply)
+parts_called space (Load addr width) reply call is old = none_absurd (sym call)
+parts_called space (Store addr width value) reply call is old = none_absurd (sym call)
+parts_called space (Mmap len prot place) (At start) call is old =
+    taken_out space.host.areas (set_range space.host.areas (start / 4096) (pages_of len) prot) space.host.bytes space.object.missing space.object.protect space.protected (start / 4096) (pages_of len) old
+    (λ page out h. given space.host.areas (start / 4096) (pages_of len) page prot out h)
+parts_called space (Munmap addr len) Done call is old =
+    taken_out space.host.areas (remove_range space.host.areas (addr / 4096) (pages_of len)) space.host.bytes space.object.missing space.object.protect space.protected (addr / 4096) (pages_of len) old
+    (λ page out h. stays space.host.areas (addr / 4096) (pages_of len) page out h)
+parts_called space (Mremap addr old_len new_len may_move fixed) (At target) call is old =
+    moved_parts space.host.areas space.host.bytes space.object.missing space.object.protect space.protected (addr / 4096) (pages_of old_len) (target / 4096) (pages_of new_len) (mode_at space.object (addr / 4096 + (pages_of old_len - 1)))
+    (first_mapped space addr old_len new_len target (mremap_told (memory space.host) addr old_len new_len may_move fixed target is)) old
+parts_called space (DontNeed addr len) Done call is old = dropped space.host.areas space.host.bytes space.object.missing space.object.protect space.protected (addr / 4096) (pages_of len) old
+parts_called space (DontNeed addr len) (Refused Enomem) call is old = dropped space.host.areas space.host.bytes space.object.missing space.object.protect space.protected (addr / 4096) (pages_of len) old
+parts_called space _ _ call is old = old
+
+pub IsSoundSpace-called : (space : Space) (cpu : ℕ) (command : Command) → is_access command ≡ false → IsSoundSpace space → IsSoundSpace (called space cpu command)
+IsSoundSpace-called space cpu command call sound =
+    let reply = reply_of (memory space.host) command in
+    let new = called space cpu command in
+    let parts = parts_called space command reply call refl (watched_of space sound) in
+    let modes = modes_after space.object command reply in
+    let messages = call_messages space.object command reply in
+    sound_of new (IsSound-changed space.host command reply sound.host refl)
+    (subst (λ s. IsWatched new.host.areas new.host.bytes s new.object.protect new.protected) (sym (queued_missing modes messages cpu))
+    (subst (λ s. IsWatched new.host.areas new.host.bytes modes.missing s new.protected) (sym (queued_protect modes messages cpu)) parts))
+
+-- Loads and stores
+
+some_either : {X : Type 0} (here : Bool) (value : X) (o : Option X) → is_some o ≡ true → is_some (cond here (Some value) o) ≡ true
+some_either true value o h = refl
+some_either false value o h = h
+
+more_present : (bytes : PageMap (List ℕ)) (page q : ℕ) (held : List ℕ) → contains_key bytes q ≡ true → contains_key (insert bytes page held) q ≡ true
+more_present bytes page q held h = ap is_some (get-put bytes page q held) ∙ some_either (eqb q page) held (get bytes q) h
+
+-- a load or store leaves the areas, and leaves present what is present
+pub record Keeps (old new : Host) : Type 0 where
+  areas : new.areas ≡ old.areas
+  present : (page : ℕ) → contains_key old.bytes page ≡ true → contains_key new.bytes page ≡ true
+
+keeps_itself : (host : Host) → Keeps host host
+keeps_itself host = record { areas = refl; present = λ page h. h }
+
+accessed_host : (host : Host) (command : Command) (reply : Reply) → is_access command ≡ true → Keeps host (host_changed host command reply)
+accessed_host host (Load addr width) reply access = keeps_itself host
+accessed_host host (Store addr width value) Done access = record { areas = refl; present = λ page h. more_present host.bytes (addr / 4096) page _ h }
+accessed_host host (Store addr width value) _ access = keeps_itself host
+accessed_host host (Mmap len prot place) reply access = none_absurd access
+accessed_host host (Munmap addr len) reply access = none_absurd access
+accessed_host host (Mremap addr old_len new_len may_move fixed) reply access = none_absurd access
+accessed_host host (DontNeed addr len) reply access = none_absurd access
+
+answered_sound : (space : Space) (command : Command) → is_access command ≡ true → IsSoundSpace space → IsSoundSpace (record space { host = host_after space.host command })
+answered_sound space command access sound =
+    let reply = reply_of (memory space.host) command in
+    let keeps = accessed_host space.host command reply access in
+    record {
+      host = IsSound-changed space.host command reply sound.host refl;
+      mapped = λ page h. ap (λ areas. contains_key areas page) keeps.areas ∙ sound.mapped page h;
+      present = λ page h. keeps.present page (sound.present page h);
+      watched = sound.watched;
+    }
+
+faulted_sound : (space : Space) (addr : ℕ) (write wp : Bool) (cpu : ℕ) → IsSoundSpace space → IsSoundSpace (record space { object = fault_queued space.object addr write wp cpu })
+faulted_sound space addr write wp cpu sound =
+    let new = fault_queued space.object addr write wp cpu in
+    let missing : new.missing ≡ space.object.missing = fault_missing (waits_fault space.object.faults addr wp) space.object _ refl in
+    let protect : new.protect ≡ space.object.protect = fault_protect (waits_fault space.object.faults addr wp) space.object _ refl in
+    record {
+      host = sound.host;
+      mapped = λ page h. sound.mapped page (ap (λ s. contains s page || contains space.object.protect page) (sym missing) ∙ ap (λ s. contains new.missing page || contains s page) (sym protect) ∙ h);
+      present = sound.present;
+      watched = λ page h. ap (λ s. contains s page) protect ∙ sound.watched page h;
+    }
+
+accessed_sound : (access : Access) (space : Space) (cpu : ℕ) (command : Command) → is_access command ≡ true → IsSoundSpace space → IsSoundSpace (accessed_by access space cpu command)
+accessed_sound (Answered reply) space cpu command is sound = answered_sound space command is sound
+accessed_sound Missing space cpu command is sound = faulted_sound space _ _ _ cpu sound
+accessed_sound Protected space cpu command is sound = faulted_sound space _ _ _ cpu sound
+
+pub IsSoundSpace-accessed : (space : Space) (cpu : ℕ) (command : Command) → is_access command ≡ true → IsSoundSpace space → IsSoundSpace (accessed space cpu command)
+IsSoundSpace-accessed space cpu command is sound = accessed_sound (access_of space command) space cpu command is sound
+
+no_member : (page : ℕ) → contains {R = nat_cmp} empty page ≡ false
+no_member page = contains-empty nat_cmp page
+
+none_registered : (a b : Bool) → a ≡ false → b ≡ false → (a || b) ≡ true → ⊥
+none_registered true b ha hb h = false≢true (sym ha)
+none_registered false true ha hb h = false≢true (sym hb)
+none_registered false false ha hb h = false≢true h
+
+pub IsSoundSpace-fresh : IsSoundSpace fresh_space
+IsSoundSpace-fresh =
+    record {
+      host = IsSound-empty;
+      mapped = λ page h. absurd (none_registered (contains {R = nat_cmp} empty page) (contains {R = nat_cmp} empty page) (no_member page) (no_member page) h);
+      present = λ page h. none_absurd (sym (no_member page) ∙ h);
+      watched = λ page h. none_absurd (sym (no_member page) ∙ h);
+    }
+
+-- What an access answers
+
+-- an access that is answered is answered as the flat memory answers it, and a page fault changes no memory
+same_answer : (reply other : Reply) → Answered reply ≡ Answered other → other ≡ reply
+same_answer reply other h = cc
+
+answered_reply : (made missing protect : Bool) (reply other : Reply) → cond (not made) (Answered reply) (cond missing Missing (cond protect Protected (Answered reply))) ≡ Answered other → other ≡ reply
+answered_reply false missing protect reply other h = same_answer reply other h
+answered_reply true true protect reply other h = absurd (cc)
+answered_reply true false true reply other h = absurd (cc)
+answered_reply true false false reply other h = same_answer reply other h
+
+pub access_reply : (space : Space) (command : Command) (reply : Reply) → access_of space command ≡ Answered reply → reply ≡ reply_of (memory space.host) command
+access_reply space command reply h = answered_reply _ _ _ (reply_of (memory space.host) command) reply h

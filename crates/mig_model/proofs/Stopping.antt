@@ -1,0 +1,446 @@
+-- Push, Serve and SendEnd keep what every world of the whole migration keeps: a stopped source sends.
+use Rattle.std.proofs.Common.{◌≡◌, ◌≢◌, ℕ, zero, suc, ◌<◌, ◌≤◌, ◌&&◌, ◌||◌, Bool, true, false, cond, not, eqb, Option, Some, None, List, [], ◌∷◌, ◌++◌, refl, sym, ap, ◌∙◌, subst, ◌⊎◌, inl, inr, ⊎_elim, arith, length, is_some, unwrap_or}
+use Rattle.std.specs.Ordering.{nat_cmp}
+use Rattle.std.specs.FinMap.{FinMap, get}
+use Rattle.std.specs.FinSet as finset
+use Rattle.std.specs.FinSet.{FinSet, contains, contains-empty}
+use Rattle.std.proofs.lemmas.Bool.Decides.{nat_tests}
+use Rattle.std.proofs.lemmas.Bool.{false≢true}
+use Rattle.mig_base.specs.declared.TheConstants.{HIGH_PAGE}
+use Rattle.mig_base.specs.Bytes.{zero_page}
+use Rattle.mig_base.specs.Ranges.{least_below}
+use Rattle.mig_base.proofs.SetLemmas.{member_removed, same_members}
+use Rattle.mig_model.specs.Host.{IsSound}
+use Rattle.mig_model.specs.Space.{Space}
+use Rattle.mig_model.specs.Wire.{Sent, Copy, page_frame}
+use Rattle.mig_model.specs.Wire.Frame.{End}
+use Rattle.mig_model.specs.Guest.{is_present}
+use Rattle.mig_model.specs.Nodes.{Source, SourcePhase, DestinationPhase, is_stopped, space_of, bytes_of, page_pushed, request_served, no_pages, least_of}
+use Rattle.mig_model.specs.Nodes.SourcePhase.{Idle, Precopy, Stopped, Paused, Released}
+use Rattle.mig_model.specs.Nodes.DestinationPhase.{NotAdvised, Advised, Discarding, Runs, Interrupted, HasEnded}
+use Rattle.mig_model.specs.Migration.{World, reasons, refusal_of, accepted}
+use Rattle.mig_model.specs.Migration.Step.{Push, Serve, SendEnd}
+use Rattle.mig_model.specs.Invariant.{IsKept, StoppedWires, IsSwitching, Flow, flow_after, flow_of, copies_of, has_copy, AreFaithful, AreWhole, behind}
+use Rattle.mig_model.specs.Invariant.Flow.{BeforeAdvise, Copies, BeforePackage, Pushed, AfterEnd}
+use Rattle.mig_model.proofs.Breaking.{none_applies}
+use Rattle.mig_model.proofs.SendingLemmas.{flow_sent, copies_of-append, AreWhole-append, AreFaithful-append, has_copy-append, AreOf-one, has_package, copies_of-page, page_flow}
+
+-- a world in these phases
+abbrev pub in_phases : SourcePhase → DestinationPhase → World → World
+in_phases from to world = record world { source = record world.source { phase = from }; destination = record world.destination { phase = to } }
+
+pub none_absurd : {A : Type 0} → false ≡ true → A
+none_absurd h = absurd (false≢true h)
+
+pub no_member : (page : ℕ) → contains no_pages page ≡ false
+no_member page = contains-empty nat_cmp page
+
+-- as long as a page remains End was not sent
+not_ended : (source : Source) (page : ℕ) → (source.ended ≡ source.epoch → source.remaining ≡ no_pages) → contains source.remaining page ≡ true → source.ended ≢ source.epoch
+not_ended source page rest remains ended = false≢true (sym (ap (λ s. contains s page) (rest ended) ∙ no_member page) ∙ remains)
+
+eqb-other : (a b : ℕ) → a ≢ b → eqb a b ≡ false
+eqb-other a b h = grind (arith, nat_tests)
+
+pub flow_open : (source : Source) → source.ended ≢ source.epoch → flow_of source ≡ Pushed
+flow_open source other = ap (λ b. cond b AfterEnd Pushed) (eqb-other source.ended source.epoch other)
+
+present_bytes : (o : Option (List ℕ)) → is_some o ≡ true → o ≡ Some (unwrap_or o zero_page)
+present_bytes None h = none_absurd h
+present_bytes (Some bytes) h = refl
+
+-- One copy more
+
+same_or_other : (a b : ℕ) → (a ≡ b) ⊎ (eqb a b ≡ false)
+same_or_other a b = grind (arith, nat_tests)
+
+eqb-refl : (a : ℕ) → eqb a a ≡ true
+eqb-refl a = grind (arith, nat_tests)
+
+or_true : (a : Bool) → (a || true) ≡ true
+or_true true = refl
+or_true false = refl
+
+still_there : (remains in_flight more : Bool) → (remains || in_flight) ≡ true → (remains || (in_flight || more)) ≡ true
+still_there true in_flight more h = refl
+still_there false true more h = refl
+still_there false false more h = none_absurd h
+
+-- a page that was pushed is in flight where it remained
+pushed_whereabouts : (remaining : FinSet nat_cmp) (copies : List Copy) (page q : ℕ) (bytes : List ℕ) → (contains remaining q || has_copy copies q) ≡ true →
+    (contains (finset.remove remaining page) q || has_copy (copies ++ record { page = page; bytes = bytes } ∷ []) q) ≡ true
+pushed_whereabouts remaining copies page q bytes h =
+    ap (λ b. b || has_copy (copies ++ record { page = page; bytes = bytes } ∷ []) q) (member_removed remaining page q)
+    ∙ ap (λ b. (not (eqb q page) && contains remaining q) || b) (has_copy-append copies (record { page = page; bytes = bytes } ∷ []) q)
+    ∙ ⊎_elim
+    (λ (same : q ≡ page). rw (same, eqb-refl page) (or_true (has_copy copies page)))
+    (λ (other : eqb q page ≡ false). rw other (still_there (contains remaining q) (has_copy copies q) (eqb page q || false) h))
+    (same_or_other q page)
+
+three_there : (remains in_flight here more : Bool) → (remains || in_flight || here) ≡ true → ((remains || (in_flight || more)) || here) ≡ true
+three_there true in_flight here more h = refl
+three_there false true here more h = refl
+three_there false false here true h = refl
+three_there false false here false h = h
+
+pushed_flowing : (remaining : FinSet nat_cmp) (copies arrivals : List Copy) (page q : ℕ) (bytes : List ℕ) → (contains remaining q || has_copy copies q || has_copy arrivals q) ≡ true →
+    (contains (finset.remove remaining page) q || has_copy (copies ++ record { page = page; bytes = bytes } ∷ []) q || has_copy arrivals q) ≡ true
+pushed_flowing remaining copies arrivals page q bytes h =
+    ap (λ b. b || has_copy (copies ++ record { page = page; bytes = bytes } ∷ []) q || has_copy arrivals q) (member_removed remaining page q)
+    ∙ ap (λ b. (not (eqb q page) && contains remaining q) || b || has_copy arrivals q) (has_copy-append copies (record { page = page; bytes = bytes } ∷ []) q)
+    ∙ ⊎_elim
+    (λ (same : q ≡ page). rw (same, eqb-refl page) (ap (λ b. b || has_copy arrivals page) (or_true (has_copy copies page))))
+    (λ (other : eqb q page ≡ false). rw other (three_there (contains remaining q) (has_copy copies q) (has_copy arrivals q) (eqb page q || false) h))
+    (same_or_other q page)
+
+-- Push
+
+abbrev pushed_frame : Source → ℕ → Sent
+pushed_frame source page = record { epoch = source.epoch; frame = page_frame page (bytes_of source page) }
+
+pushed_switching : (source : Source) (kept : FinMap nat_cmp (List ℕ)) (forward : List Sent) (page : ℕ) → get (space_of source).host.bytes page ≡ Some (bytes_of source page) → length (bytes_of source page) ≡ 4096 →
+    IsSwitching source kept forward → IsSwitching (page_pushed source page) kept (forward ++ pushed_frame source page ∷ [])
+pushed_switching source kept forward page held whole old =
+    let more = pushed_frame source page ∷ [] in
+    let there = has_package kept forward more _ old.plan in
+    let copies : copies_of (behind (forward ++ more)) ≡ copies_of (behind forward) ++ record { page = page; bytes = bytes_of source page } ∷ [] =
+    ap copies_of there.behind_more ∙ copies_of-append (behind forward) more ∙ ap (λ c. copies_of (behind forward) ++ c) (copies_of-page source.epoch page (bytes_of source page) whole) in
+    record {
+      owed = old.owed;
+      plan = there.same ∙ old.plan;
+      owed_present = old.owed_present;
+      kept_rest = λ q. ap (λ k. get k q) there.kept_same ∙ old.kept_rest q;
+      whereabouts = λ q owes.
+          ap (λ c. contains (finset.remove source.remaining page) q || has_copy c q) copies
+          ∙ pushed_whereabouts source.remaining (copies_of (behind forward)) page q (bytes_of source page) (old.whereabouts q owes);
+      faithful = subst (λ c. AreFaithful (space_of source).host.bytes c) (sym copies) (AreFaithful-append (space_of source).host.bytes (copies_of (behind forward)) _ old.faithful (held, tt));
+    }
+
+-- a world whose source is stopped
+abbrev pub stopped_at : DestinationPhase → World → World
+stopped_at to world = in_phases Stopped to world
+
+pushed_wires : (to : DestinationPhase) (world : World) (page : ℕ) → get (space_of world.source).host.bytes page ≡ Some (bytes_of world.source page) → length (bytes_of world.source page) ≡ 4096 → world.source.ended ≢ world.source.epoch →
+    ((flow : Flow) → flow_after flow world.forward ≡ Some (flow_of world.source) → flow_after flow (world.forward ++ pushed_frame world.source page ∷ []) ≡ Some (flow_of world.source)) →
+    StoppedWires (stopped_at to world).source (stopped_at to world).destination world.forward world.back → StoppedWires (page_pushed (stopped_at to world).source page) (stopped_at to world).destination (world.forward ++ pushed_frame world.source page ∷ []) world.back
+pushed_wires NotAdvised world page held whole other flows old = (flows BeforeAdvise old.0, old.1, pushed_switching (stopped_at NotAdvised world).source world.destination.kept world.forward page held whole old.2)
+pushed_wires Advised world page held whole other flows old = (flows Copies old.0, old.1, pushed_switching (stopped_at Advised world).source world.destination.kept world.forward page held whole old.2)
+pushed_wires Discarding world page held whole other flows old = (flows BeforePackage old.0, old.1, pushed_switching (stopped_at Discarding world).source world.destination.kept world.forward page held whole old.2)
+pushed_wires Runs world page held whole other flows old =
+    let more = pushed_frame world.source page ∷ [] in
+    let copies : copies_of (world.forward ++ more) ≡ copies_of world.forward ++ record { page = page; bytes = bytes_of world.source page } ∷ [] =
+    copies_of-append world.forward more ∙ ap (λ c. copies_of world.forward ++ c) (copies_of-page world.source.epoch page (bytes_of world.source page) whole) in (
+      flows Pushed old.0,
+      old.1,
+      record {
+        whereabouts = λ q origin owed.
+            ap (λ c. contains (finset.remove world.source.remaining page) origin || has_copy c origin || has_copy world.destination.arrivals origin) copies
+            ∙ pushed_flowing world.source.remaining (copies_of world.forward) world.destination.arrivals page origin (bytes_of world.source page) (old.2.whereabouts q origin owed);
+      },
+    )
+pushed_wires Interrupted world page held whole other flows old = absurd old
+pushed_wires HasEnded world page held whole other flows old = absurd (other old.2)
+
+pub stopped_not_released : Stopped ≢ Released
+stopped_not_released h = cc
+
+both_true : (a b : Bool) → (not a && b) ≡ true → b ≡ true
+both_true true b h = none_absurd h
+both_true false b h = h
+
+was_there : (remaining : FinSet nat_cmp) (page q : ℕ) → contains (finset.remove remaining page) q ≡ true → contains remaining q ≡ true
+was_there remaining page q h = both_true (eqb q page) (contains remaining q) (sym (member_removed remaining page q) ∙ h)
+
+pushed_in : (from : SourcePhase) (to : DestinationPhase) (world : World) (epoch page : ℕ) → is_stopped from ≡ true → world.up ≡ true → is_present (space_of world.source) page ≡ true → contains world.source.remaining page ≡ true →
+    IsKept (in_phases from to world) → IsKept (accepted (in_phases from to world) (Push epoch page))
+pushed_in Stopped to world epoch page stopped up present remains kept =
+    let source = world.source in
+    let bytes = (space_of source).host.bytes in
+    let more = pushed_frame source page ∷ [] in
+    let held : get bytes page ≡ Some (bytes_of source page) = present_bytes (get bytes page) present in
+    let whole : length (bytes_of source page) ≡ 4096 = kept.source_space.host.whole page (bytes_of source page) held in
+    let other = not_ended source page kept.end_sent remains in
+    let still = flow_open source other in
+    let copies : copies_of (world.forward ++ more) ≡ copies_of world.forward ++ record { page = page; bytes = bytes_of source page } ∷ [] =
+    copies_of-append world.forward more ∙ ap (λ c. copies_of world.forward ++ c) (copies_of-page source.epoch page (bytes_of source page) whole) in
+    let flows = λ (flow : Flow) (h : flow_after flow world.forward ≡ Some (flow_of source)). flow_sent flow Pushed Pushed world.forward (pushed_frame source page) (h ∙ ap (λ f. Some f) still) (page_flow page (bytes_of source page)).1 ∙ ap (λ f. Some f) (sym still) in
+    record {
+      flat = kept.flat;
+      holds = kept.holds;
+      source_space = kept.source_space;
+      destination_space = kept.destination_space;
+      both_modes = kept.both_modes;
+      unprotected = kept.unprotected;
+      only_missing = kept.only_missing;
+      source_events = kept.source_events;
+      destination_events = kept.destination_events;
+      destination_faults = kept.destination_faults;
+      source_phase = kept.source_phase;
+      destination_phase = kept.destination_phase;
+      ran_after_switch = kept.ran_after_switch;
+      ended_after_run = kept.ended_after_run;
+      source_quiet = kept.source_quiet;
+      before_switch = λ h. absurd (false≢true (sym h ∙ kept.source_phase));
+      end_sent = λ h. absurd (other h);
+      remaining_present = λ q h. kept.remaining_present q (was_there source.remaining page q h);
+      ended_before = kept.ended_before;
+      paused_fresh = kept.paused_fresh;
+      idle_source = kept.idle_source;
+      not_run = kept.not_run;
+      kept_none = kept.kept_none;
+      kept_advised = kept.kept_advised;
+      kept_whole = kept.kept_whole;
+      copies_whole = subst AreWhole (sym copies) (AreWhole-append (copies_of world.forward) _ kept.copies_whole (whole, tt));
+      clean_protected = kept.clean_protected;
+      todo_sendable = kept.todo_sendable;
+      one_to_one = kept.one_to_one;
+      owed_below = kept.owed_below;
+      origins_present = kept.origins_present;
+      pairs_missing = kept.pairs_missing;
+      arrivals_faithful = kept.arrivals_faithful;
+      flight_faithful = λ ran. subst (λ c. AreFaithful bytes c) (sym copies) (AreFaithful-append bytes (copies_of world.forward) _ (kept.flight_faithful ran) (held, tt));
+      ended_empty = kept.ended_empty;
+      released_empty = λ h. absurd (stopped_not_released h);
+      down = λ h. absurd (false≢true (sym h ∙ up));
+      wires = λ h. pushed_wires to world page held whole other flows (kept.wires h);
+      forward_epoch = AreOf-one source.epoch world.forward (page_frame page (bytes_of source page)) kept.forward_epoch;
+      back_epoch = kept.back_epoch;
+      epochs = kept.epochs;
+      epoch_at = kept.epoch_at;
+    }
+pushed_in Idle to world epoch page stopped up present remains kept = none_absurd stopped
+pushed_in Precopy to world epoch page stopped up present remains kept = none_absurd stopped
+pushed_in Paused to world epoch page stopped up present remains kept = none_absurd stopped
+pushed_in Released to world epoch page stopped up present remains kept = none_absurd stopped
+
+pub not_none : (b : Bool) → not b ≡ false → b ≡ true
+not_none true h = refl
+not_none false h = none_absurd (sym h)
+
+pub kept-push : (world : World) (epoch page : ℕ) → IsKept world → refusal_of world (Push epoch page) ≡ None → IsKept (accepted world (Push epoch page))
+kept-push world epoch page kept free =
+    let told = none_applies (reasons world (Push epoch page)) free in
+    pushed_in world.source.phase world.destination.phase world epoch page (not_none _ told.0) (not_none _ told.1.0) (not_none _ told.1.1.1.0) (not_none _ told.1.1.1.1.0) kept
+
+-- Serve
+
+served_wires : (to : DestinationPhase) (world : World) → StoppedWires (stopped_at to world).source (stopped_at to world).destination world.forward world.back →
+    StoppedWires (request_served (stopped_at to world).source) (stopped_at to world).destination world.forward world.back
+served_wires NotAdvised world old = (old.0, old.1, record { owed = old.2.owed; plan = old.2.plan; owed_present = old.2.owed_present; kept_rest = old.2.kept_rest; whereabouts = old.2.whereabouts; faithful = old.2.faithful })
+served_wires Advised world old = (old.0, old.1, record { owed = old.2.owed; plan = old.2.plan; owed_present = old.2.owed_present; kept_rest = old.2.kept_rest; whereabouts = old.2.whereabouts; faithful = old.2.faithful })
+served_wires Discarding world old = (old.0, old.1, record { owed = old.2.owed; plan = old.2.plan; owed_present = old.2.owed_present; kept_rest = old.2.kept_rest; whereabouts = old.2.whereabouts; faithful = old.2.faithful })
+served_wires Runs world old = (old.0, old.1, record { whereabouts = old.2.whereabouts })
+served_wires Interrupted world old = absurd old
+served_wires HasEnded world old = old
+
+served_in : (from : SourcePhase) (to : DestinationPhase) (world : World) → is_stopped from ≡ true → IsKept (in_phases from to world) → IsKept (accepted (in_phases from to world) Serve)
+served_in Stopped to world stopped kept =
+    record {
+      flat = kept.flat;
+      holds = kept.holds;
+      source_space = kept.source_space;
+      destination_space = kept.destination_space;
+      both_modes = kept.both_modes;
+      unprotected = kept.unprotected;
+      only_missing = kept.only_missing;
+      source_events = kept.source_events;
+      destination_events = kept.destination_events;
+      destination_faults = kept.destination_faults;
+      source_phase = kept.source_phase;
+      destination_phase = kept.destination_phase;
+      ran_after_switch = kept.ran_after_switch;
+      ended_after_run = kept.ended_after_run;
+      source_quiet = kept.source_quiet;
+      before_switch = kept.before_switch;
+      end_sent = kept.end_sent;
+      remaining_present = kept.remaining_present;
+      ended_before = kept.ended_before;
+      paused_fresh = kept.paused_fresh;
+      idle_source = kept.idle_source;
+      not_run = kept.not_run;
+      kept_none = kept.kept_none;
+      kept_advised = kept.kept_advised;
+      kept_whole = kept.kept_whole;
+      copies_whole = kept.copies_whole;
+      clean_protected = kept.clean_protected;
+      todo_sendable = kept.todo_sendable;
+      one_to_one = kept.one_to_one;
+      owed_below = kept.owed_below;
+      origins_present = kept.origins_present;
+      pairs_missing = kept.pairs_missing;
+      arrivals_faithful = kept.arrivals_faithful;
+      flight_faithful = kept.flight_faithful;
+      ended_empty = kept.ended_empty;
+      released_empty = kept.released_empty;
+      down = kept.down;
+      wires = λ up. served_wires to world (kept.wires up);
+      forward_epoch = kept.forward_epoch;
+      back_epoch = kept.back_epoch;
+      epochs = kept.epochs;
+      epoch_at = kept.epoch_at;
+    }
+served_in Idle to world stopped kept = none_absurd stopped
+served_in Precopy to world stopped kept = none_absurd stopped
+served_in Paused to world stopped kept = none_absurd stopped
+served_in Released to world stopped kept = none_absurd stopped
+
+pub kept-serve : (world : World) → IsKept world → refusal_of world Serve ≡ None → IsKept (accepted world Serve)
+kept-serve world kept free =
+    let told = none_applies (reasons world Serve) free in
+    served_in world.source.phase world.destination.phase world (not_none _ told.0) kept
+
+-- SendEnd
+
+abbrev end_frame : Source → Sent
+end_frame source = record { epoch = source.epoch; frame = End }
+
+abbrev end_sent_by : Source → Source
+end_sent_by source = record source { ended = source.epoch }
+
+eqb-is : (a b : ℕ) → a ≡ b → eqb a b ≡ true
+eqb-is a b h = grind (arith, nat_tests)
+
+pub stopped_not_paused : Stopped ≢ Paused
+stopped_not_paused h = cc
+
+pub append-nil : {A : Type 0} (xs : List A) → xs ++ [] ≡ xs
+append-nil [] = refl
+append-nil (x ∷ xs) = ap (λ l. x ∷ l) (append-nil xs)
+
+not_true : (b : Bool) → (b ≡ true → ⊥) → b ≡ false
+not_true true h = absurd (h refl)
+not_true false h = refl
+
+high_or : {page : ℕ} → (HIGH_PAGE ≤ page → ⊥) → page < HIGH_PAGE
+high_or h = grind (arith, nat_tests, h)
+
+found_step : (o : Option ℕ) (here : Bool) (bound : ℕ) → (is_some o ≡ true) ⊎ (here ≡ true) → is_some (elim o [ Some least ↦ Some least | None ↦ cond here (Some bound) None ]) ≡ true
+found_step (Some least) here bound h = refl
+found_step None true bound h = refl
+found_step None false bound h = ⊎_elim (λ e. none_absurd e) (λ e. none_absurd e) h
+
+at_or_below : (q bound : ℕ) → q < suc bound → (q < bound) ⊎ (q ≡ bound)
+at_or_below q bound h = grind (arith, nat_tests)
+
+least_found : (test : ℕ → Bool) (bound q : ℕ) → q < bound → test q ≡ true → is_some (least_below test bound) ≡ true
+unfolding least_below
+least_found test zero q l h = absurd (omega arith)
+least_found test (suc bound) q l h =
+    found_step (least_below test bound) (test bound) bound (⊎_elim (λ below. inl (least_found test bound q below h)) (λ (at : q ≡ bound). inr (ap test (sym at) ∙ h)) (at_or_below q bound l))
+
+-- where a number below the bound passes, one is found
+some_least : (test : ℕ → Bool) (bound q : ℕ) → q < bound → test q ≡ true → least_below test bound ≡ None → ⊥
+some_least test bound q l h none = false≢true (sym (ap is_some none) ∙ least_found test bound q l h)
+
+pub present_below : (space : Space) (page : ℕ) → IsSound space.host → is_present space page ≡ true → page < HIGH_PAGE
+present_below space page sound present = high_or (λ past. false≢true (sym (ap is_some (sound.mapped page (sound.bound page past))) ∙ present))
+
+found_some : (o : Option ℕ) → is_some o ≡ false → o ≡ None
+found_some None h = refl
+found_some (Some page) h = none_absurd (sym h)
+
+nothing_remains : (world : World) → IsKept world → least_of world.source.remaining ≡ None → world.source.remaining ≡ no_pages
+nothing_remains world kept none =
+    same_members world.source.remaining no_pages (λ q.
+    not_true (contains world.source.remaining q) (λ remains.
+    let low = present_below (space_of world.source) q kept.source_space.host (kept.remaining_present q remains) in
+    some_least (contains world.source.remaining) HIGH_PAGE q low remains none) ∙ sym (no_member q))
+
+ended_switching : (source : Source) (kept : FinMap nat_cmp (List ℕ)) (forward : List Sent) → IsSwitching source kept forward → IsSwitching (end_sent_by source) kept (forward ++ end_frame source ∷ [])
+ended_switching source kept forward old =
+    let more = end_frame source ∷ [] in
+    let there = has_package kept forward more _ old.plan in
+    let copies : copies_of (behind (forward ++ more)) ≡ copies_of (behind forward) = ap copies_of there.behind_more ∙ copies_of-append (behind forward) more ∙ append-nil (copies_of (behind forward)) in
+    record {
+      owed = old.owed;
+      plan = there.same ∙ old.plan;
+      owed_present = old.owed_present;
+      kept_rest = λ q. ap (λ k. get k q) there.kept_same ∙ old.kept_rest q;
+      whereabouts = λ q owes. ap (λ c. contains source.remaining q || has_copy c q) copies ∙ old.whereabouts q owes;
+      faithful = subst (λ c. AreFaithful (space_of source).host.bytes c) (sym copies) old.faithful;
+    }
+
+ended_wires : (to : DestinationPhase) (world : World) → eqb world.source.ended world.source.epoch ≡ false →
+    ((flow : Flow) → flow_after flow world.forward ≡ Some (flow_of world.source) → flow_after flow (world.forward ++ end_frame world.source ∷ []) ≡ Some (flow_of (end_sent_by world.source))) →
+    StoppedWires (stopped_at to world).source (stopped_at to world).destination world.forward world.back → StoppedWires (end_sent_by (stopped_at to world).source) (stopped_at to world).destination (world.forward ++ end_frame world.source ∷ []) world.back
+ended_wires NotAdvised world other flows old = (flows BeforeAdvise old.0, old.1, ended_switching (stopped_at NotAdvised world).source world.destination.kept world.forward old.2)
+ended_wires Advised world other flows old = (flows Copies old.0, old.1, ended_switching (stopped_at Advised world).source world.destination.kept world.forward old.2)
+ended_wires Discarding world other flows old = (flows BeforePackage old.0, old.1, ended_switching (stopped_at Discarding world).source world.destination.kept world.forward old.2)
+ended_wires Runs world other flows old =
+    let copies : copies_of (world.forward ++ end_frame world.source ∷ []) ≡ copies_of world.forward = copies_of-append world.forward (end_frame world.source ∷ []) ∙ append-nil (copies_of world.forward) in (
+      flows Pushed old.0,
+      old.1,
+      record {
+        whereabouts = λ q origin owed. ap (λ c. contains world.source.remaining origin || has_copy c origin || has_copy world.destination.arrivals origin) copies ∙ old.2.whereabouts q origin owed;
+      },
+    )
+ended_wires Interrupted world other flows old = absurd old
+ended_wires HasEnded world other flows old = absurd (false≢true (sym other ∙ eqb-is world.source.ended world.source.epoch old.2))
+
+ended_in : (from : SourcePhase) (to : DestinationPhase) (world : World) → is_stopped from ≡ true → world.up ≡ true → eqb world.source.ended world.source.epoch ≡ false → least_of world.source.remaining ≡ None → IsKept (in_phases from to world) → IsKept (accepted (in_phases from to world) SendEnd)
+ended_in Stopped to world stopped up other none kept =
+    let source = world.source in
+    let bytes = (space_of source).host.bytes in
+    let nothing = nothing_remains (in_phases Stopped to world) kept none in
+    let before : flow_of source ≡ Pushed = ap (λ b. cond b AfterEnd Pushed) other in
+    let after : flow_of (end_sent_by source) ≡ AfterEnd = ap (λ b. cond b AfterEnd Pushed) (eqb-refl source.epoch) in
+    let copies : copies_of (world.forward ++ end_frame source ∷ []) ≡ copies_of world.forward = copies_of-append world.forward (end_frame source ∷ []) ∙ append-nil (copies_of world.forward) in
+    let flows = λ (flow : Flow) (h : flow_after flow world.forward ≡ Some (flow_of source)). flow_sent flow Pushed AfterEnd world.forward (end_frame source) (h ∙ ap (λ f. Some f) before) refl ∙ ap (λ f. Some f) (sym after) in
+    record {
+      flat = kept.flat;
+      holds = kept.holds;
+      source_space = kept.source_space;
+      destination_space = kept.destination_space;
+      both_modes = kept.both_modes;
+      unprotected = kept.unprotected;
+      only_missing = kept.only_missing;
+      source_events = kept.source_events;
+      destination_events = kept.destination_events;
+      destination_faults = kept.destination_faults;
+      source_phase = kept.source_phase;
+      destination_phase = kept.destination_phase;
+      ran_after_switch = kept.ran_after_switch;
+      ended_after_run = kept.ended_after_run;
+      source_quiet = kept.source_quiet;
+      before_switch = λ h. absurd (false≢true (sym h ∙ kept.source_phase));
+      end_sent = λ h. nothing;
+      remaining_present = kept.remaining_present;
+      ended_before = omega arith;
+      paused_fresh = λ h paused. absurd (stopped_not_paused paused);
+      idle_source = kept.idle_source;
+      not_run = kept.not_run;
+      kept_none = kept.kept_none;
+      kept_advised = kept.kept_advised;
+      kept_whole = kept.kept_whole;
+      copies_whole = subst AreWhole (sym copies) kept.copies_whole;
+      clean_protected = kept.clean_protected;
+      todo_sendable = kept.todo_sendable;
+      one_to_one = kept.one_to_one;
+      owed_below = kept.owed_below;
+      origins_present = kept.origins_present;
+      pairs_missing = kept.pairs_missing;
+      arrivals_faithful = kept.arrivals_faithful;
+      flight_faithful = λ ran. subst (λ c. AreFaithful bytes c) (sym copies) (kept.flight_faithful ran);
+      ended_empty = kept.ended_empty;
+      released_empty = λ h. absurd (stopped_not_released h);
+      down = λ h. absurd (false≢true (sym h ∙ up));
+      wires = λ h. ended_wires to world other flows (kept.wires h);
+      forward_epoch = AreOf-one source.epoch world.forward End kept.forward_epoch;
+      back_epoch = kept.back_epoch;
+      epochs = kept.epochs;
+      epoch_at = kept.epoch_at;
+    }
+ended_in Idle to world stopped up other none kept = none_absurd stopped
+ended_in Precopy to world stopped up other none kept = none_absurd stopped
+ended_in Paused to world stopped up other none kept = none_absurd stopped
+ended_in Released to world stopped up other none kept = none_absurd stopped
+
+or_none : (a b : Bool) → (a || b) ≡ false → (a ≡ false) × (b ≡ false)
+or_none true b h = none_absurd (sym h)
+or_none false b h = (refl, h)
+
+pub kept-send_end : (world : World) → IsKept world → refusal_of world SendEnd ≡ None → IsKept (accepted world SendEnd)
+kept-send_end world kept free =
+    let told = none_applies (reasons world SendEnd) free in
+    let phases = or_none (not (is_stopped world.source.phase)) (eqb world.source.ended world.source.epoch) told.0 in
+    ended_in world.source.phase world.destination.phase world (not_none _ phases.0) (not_none _ told.1.0) phases.1 (found_some (least_of world.source.remaining) told.1.1.0) kept

@@ -1,0 +1,215 @@
+-- Switch keeps what every world of the whole migration keeps: what is owed is what is present and not clean, and what was sent and is
+-- not clean is discarded.
+use Rattle.std.proofs.Common.{◌≡◌, ◌≢◌, ℕ, suc, ◌<◌, ◌&&◌, ◌||◌, Bool, true, false, cond, not, ltb, Option, Some, None, List, [], ◌∷◌, ◌++◌, refl, sym, ap, ◌∙◌, subst, ◌⊎◌, ⊎_elim, arith, length, is_some}
+use Rattle.std.specs.Ordering.{nat_cmp}
+use Rattle.std.specs.FinMap.{FinMap, get, get-retain_keys, nat_cmp-IsAntisymmetric}
+use Rattle.std.specs.FinSet.{FinSet, contains, contains-retain}
+use Rattle.std.proofs.lemmas.Bool.Decides.{nat_tests}
+use Rattle.std.proofs.lemmas.Bool.{false≢true}
+use Rattle.std.proofs.lemmas.List.{append_assoc}
+use Rattle.mig_base.specs.declared.TheConstants.{HIGH_PAGE}
+use Rattle.mig_base.proofs.SetLemmas.{member_below}
+use Rattle.mig_model.specs.Userfault.{Noted}
+use Rattle.mig_model.specs.Wire.{Sent, kept_after}
+use Rattle.mig_model.specs.Wire.Frame.{Discard, Package}
+use Rattle.mig_model.specs.Guest.{is_present}
+use Rattle.mig_model.specs.Nodes.{Source, SourcePhase, DestinationPhase, is_precopy, space_of, less, present, not_clean, commands_of, switch_made}
+use Rattle.mig_model.specs.Nodes.SourcePhase.{Idle, Precopy, Stopped, Paused, Released}
+use Rattle.mig_model.specs.Nodes.DestinationPhase.{NotAdvised, Advised, Discarding, Runs, Interrupted, HasEnded}
+use Rattle.mig_model.specs.Migration.{World, reasons, refusal_of, accepted}
+use Rattle.mig_model.specs.Migration.Step.{Switch}
+use Rattle.mig_model.specs.Invariant.{IsKept, PrecopyWires, StoppedWires, IsPrecopying, IsSwitching, Flow, flow_after, flow_of, copies_of, has_copy, AreFaithful, AreWhole, is_unread, kept_by, behind, package_in}
+use Rattle.mig_model.specs.Invariant.Flow.{BeforeAdvise, Copies, BeforePackage, Pushed}
+use Rattle.mig_model.proofs.Breaking.{none_applies}
+use Rattle.mig_model.proofs.SendingLemmas.{flow_sent, copies_of-append, AreOf-one, has_no_package}
+use Rattle.mig_model.proofs.Stopping.{in_phases, none_absurd, flow_open, append-nil, present_below, not_none, stopped_not_paused, stopped_not_released}
+
+pub member_less : (set other : FinSet nat_cmp) (q : ℕ) → contains (less set other) q ≡ (contains set q && not (contains other q))
+member_less set other q = contains-retain set (λ page. not (contains other page)) q (λ x e. ap (λ k. not (contains other k)) (sym (nat_cmp-IsAntisymmetric q x e)))
+
+cond_not : {A : Type 0} (b : Bool) (x y : A) → cond (not b) x y ≡ cond b y x
+cond_not true x y = refl
+cond_not false x y = refl
+
+pub get-discarded : (kept : FinMap nat_cmp (List ℕ)) (pages : FinSet nat_cmp) (q : ℕ) → get (kept_after kept (Discard pages)) q ≡ cond (contains pages q) None (get kept q)
+get-discarded kept pages q =
+    get-retain_keys kept (λ page. not (contains pages page)) q (λ x e. ap (λ k. not (contains pages k)) (sym (nat_cmp-IsAntisymmetric q x e)))
+    ∙ cond_not (contains pages q) (get kept q) None
+
+no_value : (o : Option (List ℕ)) → is_some o ≡ false → o ≡ None
+no_value None h = refl
+no_value (Some bytes) h = none_absurd (sym h)
+
+gone_or_none : (sent : Bool) (k : Option (List ℕ)) → (is_some k ≡ true → sent ≡ true) → cond sent None k ≡ None
+gone_or_none true k h = refl
+gone_or_none false None h = refl
+gone_or_none false (Some bytes) h = none_absurd (h refl)
+
+owed_or_none : (low present : Bool) (bytes : Option (List ℕ)) → present ≡ is_some bytes → (present ≡ true → low ≡ true) → None ≡ cond (low && present) None bytes
+owed_or_none true true bytes is low = refl
+owed_or_none false true bytes is low = none_absurd (low refl)
+owed_or_none true false bytes is low = sym (no_value bytes (sym is))
+owed_or_none false false bytes is low = sym (no_value bytes (sym is))
+
+and_false : (a : Bool) → (a && false) ≡ false
+and_false true = refl
+and_false false = refl
+
+and_true : (a : Bool) → (a && true) ≡ a
+and_true true = refl
+and_true false = refl
+
+-- one page: what is kept of it once it was discarded or not is its bytes, unless it is owed
+rest_of : (clean sent low present : Bool) (k bytes : Option (List ℕ)) → (clean ≡ true → k ≡ bytes) → (is_some k ≡ true → sent ≡ true) → present ≡ is_some bytes → (present ≡ true → low ≡ true) →
+    cond (sent && not clean) None k ≡ cond ((low && present) && not clean) None bytes
+rest_of true sent low present k bytes same was is below =
+    ap (λ b. cond b None k) (and_false sent) ∙ same refl ∙ sym (ap (λ b. cond b None bytes) (and_false (low && present)))
+rest_of false sent low present k bytes same was is below =
+    ap (λ b. cond b None k) (and_true sent) ∙ gone_or_none sent k was ∙ owed_or_none low present bytes is below ∙ sym (ap (λ b. cond b None bytes) (and_true (low && present)))
+
+some_above : (n : ℕ) → ltb 0 (suc n) ≡ true
+some_above n = grind (arith, nat_tests)
+
+no_events : (events : List Noted) → ltb 0 (length events) ≡ false → events ≡ []
+no_events [] h = refl
+no_events (noted ∷ events) h = none_absurd (sym h ∙ some_above (length events))
+
+-- the two frames of a switch
+abbrev discard_frame : Source → Sent
+discard_frame source = record { epoch = source.epoch; frame = Discard (less source.sent source.clean) }
+
+abbrev package_frame : Source → Sent
+package_frame source = record { epoch = source.epoch; frame = Package (space_of source).host.areas (not_clean source) (commands_of source.guest.processors) }
+
+abbrev switched_wire : Source → List Sent → List Sent
+switched_wire source forward = (forward ++ discard_frame source ∷ []) ++ package_frame source ∷ []
+
+low_true : (page : ℕ) → page < HIGH_PAGE → ltb page HIGH_PAGE ≡ true
+low_true page l = grind (arith, nat_tests)
+
+and_left : (a b : Bool) → (a && b) ≡ true → a ≡ true
+and_left true b h = refl
+and_left false b h = none_absurd h
+
+and_right : (a b : Bool) → (a && b) ≡ true → b ≡ true
+and_right true b h = h
+and_right false b h = none_absurd h
+
+member_not_clean : (source : Source) (page : ℕ) → contains (not_clean source) page ≡ ((ltb page HIGH_PAGE && is_present (space_of source) page) && not (contains source.clean page))
+member_not_clean source page = member_less (present (space_of source)) source.clean page ∙ ap (λ b. b && not (contains source.clean page)) (member_below (λ q. is_present (space_of source) q) HIGH_PAGE page)
+
+owed_is_present : (source : Source) (page : ℕ) → contains (not_clean source) page ≡ true → is_present (space_of source) page ≡ true
+owed_is_present source page h = and_right (ltb page HIGH_PAGE) _ (and_left (ltb page HIGH_PAGE && is_present (space_of source) page) _ (sym (member_not_clean source page) ∙ h))
+
+switching : (flow : Flow) (world : World) → IsKept world → (space_of world.source).object.events ≡ [] → flow_after flow world.forward ≡ Some Copies → IsPrecopying world.source world.destination.kept world.forward →
+    IsSwitching (switch_made world.source) world.destination.kept (switched_wire world.source world.forward)
+switching flow world kept quiet flows old =
+    let source = world.source in
+    let more = discard_frame source ∷ package_frame source ∷ [] in
+    let joined : switched_wire source world.forward ≡ world.forward ++ more = append_assoc world.forward (discard_frame source ∷ []) (package_frame source ∷ []) in
+    let there = has_no_package flow world.destination.kept world.forward more flows in
+    let nothing_behind : copies_of (behind (switched_wire source world.forward)) ≡ [] = ap (λ w. copies_of (behind w)) joined ∙ ap copies_of there.behind_then in
+    record {
+      owed = not_clean source;
+      plan = ap package_in joined ∙ there.plan;
+      owed_present = λ page h. owed_is_present source page h;
+      kept_rest = λ page.
+          ap (λ w. get (kept_by world.destination.kept w) page) joined
+          ∙ ap (λ k. get k page) there.kept_then
+          ∙ get-discarded (kept_by world.destination.kept world.forward) (less source.sent source.clean) page
+          ∙ ap (λ b. cond b None (get (kept_by world.destination.kept world.forward) page)) (member_less source.sent source.clean page)
+          ∙ rest_of (contains source.clean page) (contains source.sent page) (ltb page HIGH_PAGE) (is_present (space_of source) page) (get (kept_by world.destination.kept world.forward) page) (get (space_of source).host.bytes page)
+          (λ clean. old.clean_copy page clean (ap (λ e. is_unread e page) quiet)) (old.copies_sent page) refl
+          (λ is. low_true page (present_below (space_of source) page kept.source_space.host is))
+          ∙ sym (ap (λ b. cond b None (get (space_of source).host.bytes page)) (member_not_clean source page));
+      whereabouts = λ page h. ap (λ b. b || has_copy (copies_of (behind (switched_wire source world.forward))) page) h;
+      faithful = subst (λ c. AreFaithful (space_of source).host.bytes c) (sym nothing_behind) tt;
+    }
+
+flows_on : (flow : Flow) (world : World) → flow_after flow world.forward ≡ Some Copies → world.source.ended ≢ world.source.epoch → flow_after flow (switched_wire world.source world.forward) ≡ Some (flow_of world.source)
+flows_on flow world h other =
+    flow_sent flow BeforePackage Pushed (world.forward ++ discard_frame world.source ∷ []) (package_frame world.source) (flow_sent flow Copies BeforePackage world.forward (discard_frame world.source) h refl) refl
+    ∙ ap (λ f. Some f) (sym (flow_open world.source other))
+
+switched_wires : (to : DestinationPhase) (world : World) → IsKept (in_phases Precopy to world) → (space_of world.source).object.events ≡ [] → world.source.ended ≢ world.source.epoch →
+    PrecopyWires (in_phases Precopy to world).source (in_phases Precopy to world).destination world.forward world.back →
+    StoppedWires (switch_made (in_phases Precopy to world).source) (in_phases Precopy to world).destination (switched_wire world.source world.forward) world.back
+switched_wires NotAdvised world kept quiet other old =
+    (flows_on BeforeAdvise world old.0 other, old.1, switching BeforeAdvise (in_phases Precopy NotAdvised world) kept quiet old.0 old.2)
+switched_wires Advised world kept quiet other old =
+    (flows_on Copies world old.0 other, old.1, switching Copies (in_phases Precopy Advised world) kept quiet old.0 old.2)
+switched_wires Discarding world kept quiet other old = absurd old
+switched_wires Runs world kept quiet other old = absurd old
+switched_wires Interrupted world kept quiet other old = absurd old
+switched_wires HasEnded world kept quiet other old = absurd old
+
+stopped_not_idle : Stopped ≢ Idle
+stopped_not_idle h = cc
+
+precopy_not_idle : Precopy ≢ Idle
+precopy_not_idle h = cc
+
+was_not_ended : (A : Type 0) → (A ⊎ (Precopy ≡ Idle)) → A
+was_not_ended A told = ⊎_elim (λ a. a) (λ idle. absurd (precopy_not_idle idle)) told
+
+switched_in : (from : SourcePhase) (to : DestinationPhase) (world : World) → is_precopy from ≡ true → world.up ≡ true → (space_of world.source).object.events ≡ [] → IsKept (in_phases from to world) → IsKept (accepted (in_phases from to world) Switch)
+switched_in Precopy to world precopy up quiet kept =
+    let source = world.source in
+    let other : source.ended ≢ source.epoch = was_not_ended _ (kept.before_switch kept.source_phase).1 in
+    let copies : copies_of (switched_wire source world.forward) ≡ copies_of world.forward =
+    copies_of-append (world.forward ++ discard_frame source ∷ []) (package_frame source ∷ []) ∙ append-nil (copies_of (world.forward ++ discard_frame source ∷ []))
+    ∙ copies_of-append world.forward (discard_frame source ∷ []) ∙ append-nil (copies_of world.forward) in
+    let sound = kept.source_space in
+    record {
+      flat = kept.flat;
+      holds = kept.holds;
+      source_space = record { host = sound.host; mapped = sound.mapped; present = sound.present; watched = sound.watched };
+      destination_space = kept.destination_space;
+      both_modes = kept.both_modes;
+      unprotected = kept.unprotected;
+      only_missing = kept.only_missing;
+      source_events = kept.source_events;
+      destination_events = kept.destination_events;
+      destination_faults = kept.destination_faults;
+      source_phase = refl;
+      destination_phase = kept.destination_phase;
+      ran_after_switch = λ ran. refl;
+      ended_after_run = kept.ended_after_run;
+      source_quiet = λ h. quiet;
+      before_switch = λ h. absurd (false≢true (sym h));
+      end_sent = λ h. absurd (other h);
+      remaining_present = λ page h. owed_is_present source page h;
+      ended_before = kept.ended_before;
+      paused_fresh = λ h paused. absurd (stopped_not_paused paused);
+      idle_source = λ h. absurd (stopped_not_idle h);
+      not_run = kept.not_run;
+      kept_none = kept.kept_none;
+      kept_advised = kept.kept_advised;
+      kept_whole = kept.kept_whole;
+      copies_whole = subst AreWhole (sym copies) kept.copies_whole;
+      clean_protected = λ h. absurd (false≢true (sym h));
+      todo_sendable = λ h. absurd (false≢true (sym h));
+      one_to_one = kept.one_to_one;
+      owed_below = kept.owed_below;
+      origins_present = kept.origins_present;
+      pairs_missing = kept.pairs_missing;
+      arrivals_faithful = kept.arrivals_faithful;
+      flight_faithful = λ ran. absurd (false≢true (sym kept.source_phase ∙ kept.ran_after_switch ran));
+      ended_empty = kept.ended_empty;
+      released_empty = λ h. absurd (stopped_not_released h);
+      down = λ h. absurd (false≢true (sym h ∙ up));
+      wires = λ h. switched_wires to world kept quiet other (kept.wires h);
+      forward_epoch = AreOf-one source.epoch (world.forward ++ discard_frame source ∷ []) (package_frame source).frame (AreOf-one source.epoch world.forward (discard_frame source).frame kept.forward_epoch);
+      back_epoch = kept.back_epoch;
+      epochs = kept.epochs;
+      epoch_at = kept.epoch_at;
+    }
+switched_in Idle to world precopy up quiet kept = none_absurd precopy
+switched_in Stopped to world precopy up quiet kept = none_absurd precopy
+switched_in Paused to world precopy up quiet kept = none_absurd precopy
+switched_in Released to world precopy up quiet kept = none_absurd precopy
+
+pub kept-switch : (world : World) → IsKept world → refusal_of world Switch ≡ None → IsKept (accepted world Switch)
+kept-switch world kept free =
+    let told = none_applies (reasons world Switch) free in
+    switched_in world.source.phase world.destination.phase world (not_none _ told.0) (not_none _ told.1.0) (no_events (space_of world.source).object.events told.1.1.0) kept

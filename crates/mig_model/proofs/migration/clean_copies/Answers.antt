@@ -1,0 +1,6 @@
+use Rattle.mig_model.proofs.EveryStep.{kept-reached}
+use Rattle.mig_model.proofs.PromiseLemmas.{is_precopying}
+use Rattle.mig_model.proofs.migration.clean_copies.Goals as goal
+
+pub returns : goal.returns
+returns c world reached up precopy = is_precopying world (kept-reached world reached) up precopy

@@ -1,0 +1,356 @@
+-- What every world of the whole migration keeps, clause by clause: a theorem is one clause or a few, and the others are there so that
+-- each step keeps all of them.
+use Rattle.std.specs.Prelude.{◌≡◌, ◌≢◌, ℕ, ◌+◌, ◌/◌, ◌%◌, ◌<◌, ◌≤◌, ◌==◌, ◌&&◌, ◌||◌, ◌⊎◌, Bool, true, false, if◌then◌else◌, Option, Some, None, List, [], ◌∷◌, length}
+use Rattle.std.specs.Option.{option_and_then}
+use Rattle.std.specs.Ordering.{nat_cmp}
+use Rattle.std.specs.FinMap as finmap
+use Rattle.std.specs.FinMap.{FinMap, get, contains_key}
+use Rattle.std.specs.FinSet.{FinSet, contains}
+use Rattle.mig_base.specs.declared.TheConstants.{PAGE_SIZE, HIGH_PAGE}
+use Rattle.mig_base.specs.declared.message.Message.{Message}
+use Rattle.mig_base.specs.declared.message.Message.TheVariants.{PageFault, Remap, Remove, Unmap}
+use Rattle.mig_base.specs.Pages.{map_below}
+use Rattle.mig_base.specs.Flat.{IsFlatRun, memory_of}
+use Rattle.mig_model.specs.Host.{Host, memory}
+use Rattle.mig_model.specs.Userfault.{Noted}
+use Rattle.mig_model.specs.Space.{fresh_space, IsSoundSpace}
+use Rattle.mig_model.specs.Guest.{is_changed_by, is_present}
+use Rattle.mig_model.specs.Wire.{Frame, Sent, Copy, Received, copy_in, kept_after}
+use Rattle.mig_model.specs.Wire.Frame.{Advise, Page, Zero, Discard, Package, End, Resume, Request, Recv, Done}
+use Rattle.mig_model.specs.Wire.Received.{NotRun, Running, Ended}
+use Rattle.mig_model.specs.Nodes.{Source, SourcePhase, Destination, DestinationPhase, space_of, settled, no_pages, commands_of}
+use Rattle.mig_model.specs.Nodes.SourcePhase.{Idle, Precopy, Stopped, Paused, Released}
+use Rattle.mig_model.specs.Nodes.DestinationPhase.{NotAdvised, Advised, Discarding, Runs, Interrupted, HasEnded}
+use Rattle.mig_model.specs.Migration.{World}
+
+-- The memory that the guest sees
+
+-- the bytes of a page of the destination: its own where it is present, else those of the page at the source from which it is owed
+abbrev pub seen_bytes : Host → Host → (ℕ → Option ℕ) → ℕ → Option (List ℕ)
+seen_bytes here there owed page = elim (get here.bytes page) [ Some bytes ↦ Some bytes | None ↦ option_and_then (get there.bytes) (owed page) ]
+
+-- the destination's host as the guest sees it
+abbrev pub seen_host : Host → Host → (ℕ → Option ℕ) → Host
+seen_host here there owed = record { areas = here.areas; bytes = map_below (seen_bytes here there owed) HIGH_PAGE }
+
+-- the host of the source until the destination has run, and from then on the destination's as the guest sees it
+abbrev pub current_by : Bool → Host → Host → (ℕ → Option ℕ) → Host
+current_by false here there owed = there
+current_by true here there owed = seen_host here there owed
+
+abbrev pub current_host : World → Host
+current_host world = current_by world.destination.has_run world.destination.guest.space.host world.source.guest.space.host (settled world.destination)
+
+-- Unread events
+
+-- whether an unread event has changed a page
+abbrev pub is_unread : List Noted → ℕ → Bool
+is_unread [] page = false
+is_unread (noted ∷ events) page = is_changed_by noted.message page || is_unread events page
+
+-- whether an event is of whole pages, and a move between ranges that lie apart, to one that lies in the address space
+abbrev pub IsRight : Message → Type 0
+IsRight (Remap from to len) =
+    (from % PAGE_SIZE ≡ 0) × (to % PAGE_SIZE ≡ 0) × (len % PAGE_SIZE ≡ 0) × (to / PAGE_SIZE + len / PAGE_SIZE ≤ HIGH_PAGE)
+    × ((from / PAGE_SIZE + len / PAGE_SIZE ≤ to / PAGE_SIZE) ⊎ (to / PAGE_SIZE + len / PAGE_SIZE ≤ from / PAGE_SIZE))
+IsRight (Remove start end) = (start % PAGE_SIZE ≡ 0) × (end % PAGE_SIZE ≡ 0)
+IsRight (Unmap start end) = (start % PAGE_SIZE ≡ 0) × (end % PAGE_SIZE ≡ 0)
+IsRight (PageFault addr write wp) = ⊥
+
+abbrev pub AreRight : List Noted → Type 0
+AreRight [] = Unit {0}
+AreRight (noted ∷ events) = IsRight noted.message × AreRight events
+
+-- whether a message is of a page fault
+abbrev pub IsFault : Message → Type 0
+IsFault (PageFault addr write wp) = Unit {0}
+IsFault (Remap from to len) = ⊥
+IsFault (Remove start end) = ⊥
+IsFault (Unmap start end) = ⊥
+
+abbrev pub AreFaults : List Noted → Type 0
+AreFaults [] = Unit {0}
+AreFaults (noted ∷ rest) = IsFault noted.message × AreFaults rest
+
+-- What is in flight
+
+-- where a wire to the destination is in the order of its frames: Advise, copies, Discard, Package, copies, End
+pub data Flow : Type 0 where
+  BeforeAdvise : Flow
+  Copies : Flow
+  BeforePackage : Flow
+  Pushed : Flow
+  AfterEnd : Flow
+
+-- after one more frame, if it may come there
+abbrev pub flow_next : Flow → Frame → Option Flow
+flow_next BeforeAdvise Advise = Some Copies
+flow_next Copies (Page page bytes) = Some Copies
+flow_next Copies (Zero page) = Some Copies
+flow_next Copies (Discard pages) = Some BeforePackage
+flow_next BeforePackage (Package areas owed commands) = Some Pushed
+flow_next Pushed (Page page bytes) = Some Pushed
+flow_next Pushed (Zero page) = Some Pushed
+flow_next Pushed End = Some AfterEnd
+flow_next flow frame = None
+
+-- after the frames of a wire
+abbrev pub flow_after : Flow → List Sent → Option Flow
+flow_after flow [] = Some flow
+flow_after flow (sent ∷ rest) = option_and_then (λ next. flow_after next rest) (flow_next flow sent.frame)
+
+-- where the destination is in it, if it is
+abbrev pub flow_at : DestinationPhase → Option Flow
+flow_at NotAdvised = Some BeforeAdvise
+flow_at Advised = Some Copies
+flow_at Discarding = Some BeforePackage
+flow_at Runs = Some Pushed
+flow_at Interrupted = None
+flow_at HasEnded = Some AfterEnd
+
+-- the copies that frames carry
+abbrev pub copies_of : List Sent → List Copy
+copies_of [] = []
+copies_of (sent ∷ rest) = elim (copy_in sent.frame) [ None ↦ copies_of rest | Some copy ↦ copy ∷ copies_of rest ]
+
+-- whether there is a copy of a page
+abbrev pub has_copy : List Copy → ℕ → Bool
+has_copy [] page = false
+has_copy (copy ∷ copies) page = copy.page == page || has_copy copies page
+
+-- each copy has the bytes that the page has
+abbrev pub AreFaithful : FinMap nat_cmp (List ℕ) → List Copy → Type 0
+AreFaithful bytes [] = Unit {0}
+AreFaithful bytes (copy ∷ copies) = (get bytes copy.page ≡ Some copy.bytes) × AreFaithful bytes copies
+
+-- each copy is a whole page
+abbrev pub AreWhole : List Copy → Type 0
+AreWhole [] = Unit {0}
+AreWhole (copy ∷ copies) = (length copy.bytes ≡ PAGE_SIZE) × AreWhole copies
+
+-- whether a frame is a Package
+abbrev pub is_package : Frame → Bool
+is_package (Package areas owed commands) = true
+is_package frame = false
+
+-- what is kept once the frames before the Package are taken
+abbrev pub kept_by : FinMap nat_cmp (List ℕ) → List Sent → FinMap nat_cmp (List ℕ)
+kept_by kept [] = kept
+kept_by kept (sent ∷ rest) = if is_package sent.frame then kept else kept_by (kept_after kept sent.frame) rest
+
+-- the frames behind the Package
+abbrev pub behind : List Sent → List Sent
+behind [] = []
+behind (sent ∷ rest) = if is_package sent.frame then rest else behind rest
+
+-- the Package
+abbrev pub package_in : List Sent → Option Frame
+package_in [] = None
+package_in (sent ∷ rest) = if is_package sent.frame then Some sent.frame else package_in rest
+
+-- each frame was sent in the epoch
+abbrev pub AreOf : ℕ → List Sent → Type 0
+AreOf epoch [] = Unit {0}
+AreOf epoch (sent ∷ rest) = (sent.epoch ≡ epoch) × AreOf epoch rest
+
+abbrev pub is_request : Frame → Bool
+is_request (Request page) = true
+is_request frame = false
+
+abbrev pub is_done : Frame → Bool
+is_done Done = true
+is_done frame = false
+
+abbrev pub is_none : List Sent → Bool
+is_none [] = true
+is_none (sent ∷ rest) = false
+
+-- requests alone, and requests with Done behind them
+abbrev pub are_requests : List Sent → Bool
+are_requests [] = true
+are_requests (sent ∷ rest) = is_request sent.frame && are_requests rest
+
+abbrev pub are_requests_and_done : List Sent → Bool
+are_requests_and_done [] = false
+are_requests_and_done (sent ∷ rest) = is_request sent.frame && are_requests_and_done rest || is_done sent.frame && is_none rest
+
+-- What is in flight in each pair of phases, while the link is up
+
+-- how far the wire gets, once Switch was made: End is on it if it was sent in this epoch
+abbrev pub flow_of : Source → Flow
+flow_of source = if source.ended == source.epoch then AfterEnd else Pushed
+
+pub record IsSwitching (source : Source) (kept : FinMap nat_cmp (List ℕ)) (forward : List Sent) : Type 0 where
+  pub owed : FinSet nat_cmp
+  -- the Package tells the source's state
+  pub plan : package_in forward ≡ Some (Package (space_of source).host.areas owed (commands_of source.guest.processors))
+  pub owed_present : (page : ℕ) → contains owed page ≡ true → is_present (space_of source) page ≡ true
+  -- when it is taken the kept table is what it does not owe
+  pub kept_rest : (page : ℕ) → get (kept_by kept forward) page ≡ (if contains owed page then None else get (space_of source).host.bytes page)
+  -- what it owes is still to be pushed, or is behind it
+  pub whereabouts : (page : ℕ) → contains owed page ≡ true → (contains source.remaining page || has_copy (copies_of (behind forward)) page) ≡ true
+  pub faithful : AreFaithful (space_of source).host.bytes (copies_of (behind forward))
+
+pub record IsPrecopying (source : Source) (kept : FinMap nat_cmp (List ℕ)) (forward : List Sent) : Type 0 where
+  -- the newest copy of a clean page is right, unless an unread event has changed the page
+  pub clean_copy : (page : ℕ) → contains source.clean page ≡ true → is_unread (space_of source).object.events page ≡ false → get (kept_by kept forward) page ≡ get (space_of source).host.bytes page
+  -- each page that has a copy was sent in this epoch
+  pub copies_sent : (page : ℕ) → contains_key (kept_by kept forward) page ≡ true → contains source.sent page ≡ true
+
+-- where the destination has run and the source has what it is owed
+pub record IsFlowing (source : Source) (destination : Destination) (forward : List Sent) : Type 0 where
+  -- each owed page is to be pushed, in flight, or arrived
+  pub whereabouts : (page origin : ℕ) → get destination.owed page ≡ Some origin → (contains source.remaining origin || has_copy (copies_of forward) origin || has_copy destination.arrivals origin) ≡ true
+
+-- the wires of a stopped source, by the phase of the destination
+abbrev pub StoppedWires : Source → Destination → List Sent → List Sent → Type 0
+StoppedWires source destination forward back = elim destination.phase [
+  | NotAdvised ↦ (flow_after BeforeAdvise forward ≡ Some (flow_of source)) × (back ≡ []) × IsSwitching source destination.kept forward
+  | Advised ↦ (flow_after Copies forward ≡ Some (flow_of source)) × (back ≡ []) × IsSwitching source destination.kept forward
+  | Discarding ↦ (flow_after BeforePackage forward ≡ Some (flow_of source)) × (back ≡ []) × IsSwitching source destination.kept forward
+  | Runs ↦ (flow_after Pushed forward ≡ Some (flow_of source)) × (are_requests back ≡ true) × IsFlowing source destination forward
+  | Interrupted ↦ ⊥
+  | HasEnded ↦ (forward ≡ []) × (are_requests_and_done back ≡ true) × (source.ended ≡ source.epoch)
+]
+
+-- the first frame of a wire back is a Recv of this state, whose pages are those that the destination still needs at least, all of
+-- them present at the source; requests come behind it
+pub record IsReceiving (source : Source) (destination : Destination) (state : Received) (back : List Sent) : Type 0 where
+  pub owed : FinSet nat_cmp
+  pub epoch : ℕ
+  pub rest : List Sent
+  pub first : back ≡ record { epoch = epoch; frame = Recv state owed } ∷ rest
+  pub requests : are_requests rest ≡ true
+  -- where the destination does not run none come behind it
+  pub alone : state ≢ Running → rest ≡ []
+  pub needed : (page origin : ℕ) → get destination.owed page ≡ Some origin → contains owed origin ≡ true
+  pub owed_present : (page : ℕ) → contains owed page ≡ true → is_present (space_of source) page ≡ true
+
+-- the wires of a paused source
+abbrev pub PausedWires : Source → Destination → List Sent → List Sent → Type 0
+PausedWires source destination forward back = elim destination.phase [
+  | NotAdvised ↦ ⊥
+  | Advised ↦ (forward ≡ []) × (back ≡ record { epoch = source.epoch; frame = Recv NotRun no_pages } ∷ []) × (destination.kept ≡ finmap.empty) × (destination.has_run ≡ false)
+  | Discarding ↦ ⊥
+  | Runs ↦ (forward ≡ []) × IsReceiving source destination Running back
+  | Interrupted ↦ (forward ≡ record { epoch = source.epoch; frame = Resume } ∷ []) × (back ≡ [])
+  | HasEnded ↦ (forward ≡ []) × IsReceiving source destination Ended back
+]
+
+-- the wires of a source that makes rounds of pre-copy
+abbrev pub PrecopyWires : Source → Destination → List Sent → List Sent → Type 0
+PrecopyWires source destination forward back = elim destination.phase [
+  | NotAdvised ↦ (flow_after BeforeAdvise forward ≡ Some Copies) × (back ≡ []) × IsPrecopying source destination.kept forward
+  | Advised ↦ (flow_after Copies forward ≡ Some Copies) × (back ≡ []) × IsPrecopying source destination.kept forward
+  | Discarding ↦ ⊥
+  | Runs ↦ ⊥
+  | Interrupted ↦ ⊥
+  | HasEnded ↦ ⊥
+]
+
+-- every pair of phases that occurs while the link is up, with what is in flight then
+abbrev pub Wires : Source → Destination → List Sent → List Sent → Type 0
+Wires source destination forward back = elim source.phase [
+  | Idle ↦ (destination.phase ≡ NotAdvised) × (forward ≡ []) × (back ≡ [])
+  | Precopy ↦ PrecopyWires source destination forward back
+  | Stopped ↦ StoppedWires source destination forward back
+  | Paused ↦ PausedWires source destination forward back
+  | Released ↦ (destination.phase ≡ HasEnded) × (forward ≡ []) × (back ≡ [])
+]
+
+-- Phases
+
+-- the phases that tell whether Switch was made
+abbrev pub SwitchedAt : SourcePhase → Bool → Type 0
+SwitchedAt Idle switched = switched ≡ false
+SwitchedAt Precopy switched = switched ≡ false
+SwitchedAt Stopped switched = switched ≡ true
+SwitchedAt Paused switched = Unit {0}
+SwitchedAt Released switched = switched ≡ true
+
+-- the phases that tell whether the destination has run and ended
+abbrev pub RanAt : DestinationPhase → Bool → Bool → Type 0
+RanAt NotAdvised ran ended = ran ≡ false
+RanAt Advised ran ended = ran ≡ false
+RanAt Discarding ran ended = ran ≡ false
+RanAt Runs ran ended = (ran ≡ true) × (ended ≡ false)
+RanAt Interrupted ran ended = Unit {0}
+RanAt HasEnded ran ended = ended ≡ true
+
+-- the epoch of a destination, while the link is up
+abbrev pub EpochAt : DestinationPhase → ℕ → ℕ → Type 0
+EpochAt NotAdvised epoch source_epoch = Unit {0}
+EpochAt Advised epoch source_epoch = epoch ≡ source_epoch
+EpochAt Discarding epoch source_epoch = epoch ≡ source_epoch
+EpochAt Runs epoch source_epoch = epoch ≡ source_epoch
+EpochAt Interrupted epoch source_epoch = epoch < source_epoch
+EpochAt HasEnded epoch source_epoch = epoch ≡ source_epoch
+
+-- The invariant
+
+pub record IsKept (world : World) : Type 0 where
+  -- the transcript is a flat run, and the guest's current memory is its last memory
+  pub flat : IsFlatRun world.transcript
+  pub holds : memory (current_host world) ≡ memory_of world.transcript
+  -- the spaces of both nodes are in order
+  pub source_space : IsSoundSpace (space_of world.source)
+  pub destination_space : IsSoundSpace world.destination.guest.space
+  -- a page of the source is registered in both modes or in none; at the destination none is write-protected
+  pub both_modes : (page : ℕ) → contains (space_of world.source).object.missing page ≡ contains (space_of world.source).object.protect page
+  pub unprotected : (page : ℕ) → contains world.destination.guest.space.protected page ≡ false
+  pub only_missing : (page : ℕ) → contains world.destination.guest.space.object.protect page ≡ false
+  -- unread events are of whole pages, and moves are between ranges that lie apart
+  pub source_events : AreRight (space_of world.source).object.events
+  pub destination_events : AreRight world.destination.guest.space.object.events
+  -- where page faults wait nothing else does: an event that was read before its turn would change the owed table
+  pub destination_faults : AreFaults world.destination.guest.space.object.faults
+  -- the phase of the source tells whether Switch was made, and that of the destination whether it has run and ended
+  pub source_phase : SwitchedAt world.source.phase world.source.switched
+  pub destination_phase : RanAt world.destination.phase world.destination.has_run world.destination.ended
+  pub ran_after_switch : world.destination.has_run ≡ true → world.source.switched ≡ true
+  pub ended_after_run : world.destination.ended ≡ true → world.destination.has_run ≡ true
+  -- a source that has stopped has no unread event
+  pub source_quiet : world.source.switched ≡ true → (space_of world.source).object.events ≡ []
+  -- before Switch nothing remains, and End was not sent
+  pub before_switch : world.source.switched ≡ false → (world.source.remaining ≡ no_pages) × (world.source.ended ≢ world.source.epoch ⊎ (world.source.phase ≡ Idle))
+  -- once End is sent nothing remains
+  pub end_sent : world.source.ended ≡ world.source.epoch → world.source.remaining ≡ no_pages
+  -- what remains is present
+  pub remaining_present : (page : ℕ) → contains world.source.remaining page ≡ true → is_present (space_of world.source) page ≡ true
+  pub ended_before : world.source.ended ≤ world.source.epoch
+  -- after a resumption End was not sent again before the source knows what the destination needs
+  pub paused_fresh : world.up ≡ true → world.source.phase ≡ Paused → world.source.ended ≢ world.source.epoch
+  -- a source that has not started watches nothing and has sent nothing
+  pub idle_source : world.source.phase ≡ Idle → (world.source.clean ≡ no_pages) × (world.source.todo ≡ no_pages) × (world.source.sent ≡ no_pages) × ((space_of world.source).object.events ≡ []) × ((page : ℕ) → contains (space_of world.source).object.missing page ≡ false)
+  -- a destination that has not run owes nothing, and holds no event and no arrival
+  pub not_run : world.destination.has_run ≡ false → (world.destination.owed ≡ finmap.empty) × (world.destination.guest.space ≡ fresh_space) × (world.destination.arrivals ≡ [])
+  -- only a destination that was advised and has not run keeps copies
+  pub kept_none : world.destination.has_run ≡ true → world.destination.kept ≡ finmap.empty
+  pub kept_advised : world.destination.phase ≡ NotAdvised → world.destination.kept ≡ finmap.empty
+  pub kept_whole : (page : ℕ) (bytes : List ℕ) → get world.destination.kept page ≡ Some bytes → length bytes ≡ PAGE_SIZE
+  pub copies_whole : AreWhole (copies_of world.forward)
+  -- a clean page is present, registered and protected, and a page to be sent is present and registered, unless an unread event has
+  -- changed it
+  pub clean_protected : world.source.switched ≡ false → (page : ℕ) → contains world.source.clean page ≡ true → is_unread (space_of world.source).object.events page ≡ false → contains (space_of world.source).protected page ≡ true
+  pub todo_sendable : world.source.switched ≡ false → (page : ℕ) → contains world.source.todo page ≡ true → is_unread (space_of world.source).object.events page ≡ false → (is_present (space_of world.source) page ≡ true) × (contains (space_of world.source).object.protect page ≡ true)
+  -- no source page is owed to two pages, and each is present at the source
+  pub one_to_one : (page other origin : ℕ) → get world.destination.owed page ≡ Some origin → get world.destination.owed other ≡ Some origin → page ≡ other
+  pub owed_below : (page origin : ℕ) → get world.destination.owed page ≡ Some origin → page < HIGH_PAGE
+  pub origins_present : (page origin : ℕ) → get world.destination.owed page ≡ Some origin → is_present (space_of world.source) origin ≡ true
+  -- each page that is still owed is mapped, registered and missing
+  pub pairs_missing : (page origin : ℕ) → settled world.destination page ≡ Some origin → (contains world.destination.guest.space.object.missing page ≡ true) × (is_present world.destination.guest.space page ≡ false)
+  -- the copies that came have the source's bytes, and so have those in flight from then on
+  pub arrivals_faithful : world.destination.has_run ≡ true → AreFaithful (space_of world.source).host.bytes world.destination.arrivals
+  pub flight_faithful : world.destination.has_run ≡ true → AreFaithful (space_of world.source).host.bytes (copies_of world.forward)
+  -- a destination that has ended is owed nothing, and no copy waits
+  pub ended_empty : world.destination.ended ≡ true → (world.destination.owed ≡ finmap.empty) × (world.destination.arrivals ≡ [])
+  -- a released source holds nothing
+  pub released_empty : world.source.phase ≡ Released → (space_of world.source ≡ fresh_space) × (world.source.remaining ≡ no_pages)
+  -- the link
+  pub down : world.up ≡ false → (world.forward ≡ []) × (world.back ≡ []) × (world.source.phase ≢ Idle) × (world.source.phase ≢ Released)
+  pub wires : world.up ≡ true → Wires world.source world.destination world.forward world.back
+  -- every frame in flight is of the source's epoch, and the destination's is no later
+  pub forward_epoch : AreOf world.source.epoch world.forward
+  pub back_epoch : AreOf world.source.epoch world.back
+  pub epochs : world.destination.epoch ≤ world.source.epoch
+  pub epoch_at : world.up ≡ true → EpochAt world.destination.phase world.destination.epoch world.source.epoch

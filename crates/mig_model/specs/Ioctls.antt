@@ -1,0 +1,275 @@
+-- The calls of a userfault object as a table: what each answers, and the space afterwards. ioctl_userfaultfd(2) and
+-- userfaultfd(2); where several errors apply, the order is this project's.
+use Rattle.std.specs.Prelude.{ℕ, zero, suc, ◌+◌, ◌*◌, ◌/◌, ◌%◌, ◌==◌, ◌&&◌, ◌||◌, not, nat_lt, Bool, true, false, if◌then◌else◌, Option, Some, None, Result, Ok, Err, is_some, unwrap_or, List, [], ◌∷◌, length, take, drop}
+use Rattle.std.specs.Ordering.{nat_cmp}
+use Rattle.std.specs.FinMap.{FinMap, get, insert, contains_key}
+use Rattle.std.specs.FinSet.{contains}
+use Rattle.mig_base.specs.declared.TheConstants.{PAGE_SIZE, LOW, HIGH}
+use Rattle.mig_base.specs.declared.Prot.{Prot}
+use Rattle.mig_base.specs.declared.command.Errno.{Errno}
+use Rattle.mig_base.specs.declared.command.Errno.TheVariants.{Enoent, Eagain, Eexist, Einval}
+use Rattle.mig_base.specs.Codes.{prot_number}
+use Rattle.mig_base.specs.Bits.{is_one}
+use Rattle.mig_base.specs.Bytes.{zero_page}
+use Rattle.mig_base.specs.Ranges.{in_range, least_below, none_below}
+use Rattle.mig_base.specs.Sets.{without, pages_where}
+use Rattle.mig_model.specs.Userfault.{Object, Mode, enabled_with, has_modes, is_registered, registered_where, unregistered, next_message, message_read, changing}
+use Rattle.mig_model.specs.Space.{Space}
+
+-- whether two pages are mapped with one protection
+abbrev pub same_prot : Option Prot → Option Prot → Bool
+same_prot (Some prot) (Some other) = prot_number prot == prot_number other
+same_prot (Some prot) None = false
+same_prot None other = false
+
+abbrev pub same_bool : Bool → Bool → Bool
+same_bool true other = other
+same_bool false other = not other
+
+-- the first error whose test holds
+abbrev pub first_error : List (Bool × Errno) → Option Errno
+first_error [] = None
+first_error (error ∷ errors) = if error.0 then Some error.1 else first_error errors
+
+-- what is answered: the error, if there is one
+abbrev pub answered_by : {A : Type 0} → Option Errno → A → Result A Errno
+answered_by None answer = Ok answer
+answered_by (Some errno) answer = Err errno
+
+-- the space afterwards: as it was, if there is an error
+abbrev pub left_by : Option Errno → Space → Space → Space
+left_by None old new = new
+left_by (Some errno) old new = old
+
+-- Features and modes are numbers of bits
+
+-- whether a bit of an argument is set that may not be: `known` tells the others
+abbrev pub has_unknown : (ℕ → Bool) → ℕ → Bool
+has_unknown known number = not (none_below (λ i. is_one number i && not (known i)) 64)
+
+-- the features of this object: UFFD_FEATURE_PAGEFAULT_FLAG_WP, UFFD_FEATURE_EVENT_REMAP, _REMOVE and _UNMAP
+abbrev pub is_feature : ℕ → Bool
+is_feature i = i == 0 || i == 2 || i == 3 || i == 6
+
+-- the same as one number
+abbrev pub all_features : ℕ
+all_features = 77
+
+-- whether the three events were asked for
+abbrev pub has_events : Object → Bool
+has_events object = is_one object.features 2 && is_one object.features 3 && is_one object.features 6
+
+-- UFFDIO_REGISTER_MODE_MISSING is bit 0, and UFFDIO_REGISTER_MODE_WP bit 1
+abbrev pub mode_of : ℕ → Mode
+mode_of bits = record { missing = is_one bits 0; protect = is_one bits 1 }
+
+-- Ranges
+
+-- whether a range is wrong: its start or its length is no multiple of the page size, it is empty, or it leaves the address space
+abbrev pub is_bad_range : ℕ → ℕ → Bool
+is_bad_range start len = not (start % PAGE_SIZE == 0) || not (len % PAGE_SIZE == 0) || len == 0 || nat_lt start LOW || nat_lt HIGH (start + len)
+
+-- whether each page of a range passes a test
+abbrev pub is_every : (ℕ → Bool) → ℕ → ℕ → Bool
+is_every test first count = none_below (λ i. not (test (first + i))) count
+
+-- whether no page of it is mapped
+abbrev pub is_bare : Space → ℕ → ℕ → Bool
+is_bare space first count = none_below (λ i. contains_key space.host.areas (first + i)) count
+
+-- whom a call wakes: the processors that sleep on a page of the range, or nobody
+pub data Wake : Type 0 where
+  Nobody : Wake
+  Range : (start len : ℕ) → Wake
+
+-- UFFDIO_API
+
+-- the errors of a handshake: another API, a feature that is not there, or a handshake made before
+abbrev pub handshake_error : Space → ℕ → ℕ → Option Errno
+handshake_error space api features = first_error ((not (api == 170), Einval) ∷ (has_unknown is_feature features, Einval) ∷ (space.object.enabled, Einval) ∷ [])
+
+abbrev pub handshake_answer : Space → ℕ → ℕ → Result ℕ Errno
+handshake_answer space api features = answered_by (handshake_error space api features) all_features
+
+abbrev pub handshaken : Space → ℕ → ℕ → Space
+handshaken space api features = left_by (handshake_error space api features) space (record space { object = enabled_with space.object features })
+
+-- UFFDIO_REGISTER
+
+-- whether a number is no mode in which pages can be registered: 1 to 3 are
+abbrev pub is_bad_mode : ℕ → Bool
+is_bad_mode bits = bits == 0 || nat_lt 3 bits
+
+abbrev pub register_error : Space → ℕ → ℕ → ℕ → Option Errno
+register_error space start len bits =
+    first_error
+    ((not space.object.enabled, Einval) ∷ (not (has_events space.object), Einval) ∷ (is_bad_mode bits, Einval) ∷ (is_bad_range start len, Einval)
+    ∷ (is_bare space (start / PAGE_SIZE) (len / PAGE_SIZE), Einval) ∷ [])
+
+-- the pages of the range that are mapped
+abbrev pub is_mapped_in : Space → ℕ → ℕ → ℕ → Bool
+is_mapped_in space first count page = in_range first count page && contains_key space.host.areas page
+
+-- the mapped pages are registered; one that is registered for write-protect faults no longer loses its protection
+abbrev pub registered_in : Space → ℕ → ℕ → Mode → Space
+registered_in space first count mode =
+    record space {
+      object = registered_where space.object (is_mapped_in space first count) mode;
+      protected = pages_where (λ page. contains space.protected page && (mode.protect || has_modes space.object page mode || not (is_mapped_in space first count page)));
+    }
+
+abbrev pub registered : Space → ℕ → ℕ → ℕ → Space
+registered space start len bits = left_by (register_error space start len bits) space (registered_in space (start / PAGE_SIZE) (len / PAGE_SIZE) (mode_of bits))
+
+-- UFFDIO_UNREGISTER
+
+abbrev pub unregister_error : Space → ℕ → ℕ → Option Errno
+unregister_error space start len =
+    first_error ((not space.object.enabled, Einval) ∷ (is_bad_range start len, Einval) ∷ (is_bare space (start / PAGE_SIZE) (len / PAGE_SIZE), Einval) ∷ [])
+
+abbrev pub unregister_answer : Space → ℕ → ℕ → Result Wake Errno
+unregister_answer space start len = answered_by (unregister_error space start len) (Range start len)
+
+abbrev pub unregistered_in : Space → ℕ → ℕ → Space
+unregistered_in space first count = record space { object = unregistered space.object first count; protected = without space.protected first count }
+
+abbrev pub range_unregistered : Space → ℕ → ℕ → Space
+range_unregistered space start len = left_by (unregister_error space start len) space (unregistered_in space (start / PAGE_SIZE) (len / PAGE_SIZE))
+
+-- UFFDIO_WAKE
+
+abbrev pub wake_answer : Space → ℕ → ℕ → Result Wake Errno
+wake_answer space start len = answered_by (first_error ((not space.object.enabled, Einval) ∷ (is_bad_range start len, Einval) ∷ [])) (Range start len)
+
+-- UFFDIO_COPY and UFFDIO_ZEROPAGE
+
+-- whether two pages have one protection and one mode
+abbrev pub same_area : Space → ℕ → ℕ → Bool
+same_area space page other =
+    same_prot (get space.host.areas page) (get space.host.areas other)
+    && same_bool (contains space.object.missing page) (contains space.object.missing other)
+    && same_bool (contains space.object.protect page) (contains space.object.protect other)
+
+-- whether the pages of a range are registered, all with one protection and one mode
+abbrev pub is_one_area : Space → ℕ → ℕ → Bool
+is_one_area space first count = is_every (λ page. is_registered space.object page && same_area space first page) first count
+
+-- the errors that are looked for before any page is put. UFFDIO_COPY_MODE_DONTWAKE and UFFDIO_ZEROPAGE_MODE_DONTWAKE are bit 0,
+-- UFFDIO_COPY_MODE_WP is bit 1
+abbrev pub copy_errors : Space → ℕ → ℕ → ℕ → List (Bool × Errno)
+copy_errors space start len bits =
+    (not space.object.enabled, Einval) ∷ (nat_lt 3 bits, Einval) ∷ (is_bad_range start len, Einval) ∷ (nat_lt 0 (changing space.object), Eagain)
+    ∷ (not (is_one_area space (start / PAGE_SIZE) (len / PAGE_SIZE)), Enoent)
+    ∷ (is_one bits 1 && not (contains space.object.protect (start / PAGE_SIZE)), Einval) ∷ []
+
+abbrev pub copy_error : Space → ℕ → ℕ → ℕ → Option Errno
+copy_error space start len bits = first_error (copy_errors space start len bits)
+
+abbrev pub zeropage_errors : Space → ℕ → ℕ → ℕ → List (Bool × Errno)
+zeropage_errors space start len bits =
+    (not space.object.enabled, Einval) ∷ (nat_lt 1 bits, Einval) ∷ (is_bad_range start len, Einval) ∷ (nat_lt 0 (changing space.object), Eagain)
+    ∷ (not (is_one_area space (start / PAGE_SIZE) (len / PAGE_SIZE)), Enoent) ∷ []
+
+abbrev pub zeropage_error : Space → ℕ → ℕ → ℕ → Option Errno
+zeropage_error space start len bits = first_error (zeropage_errors space start len bits)
+
+-- how many pages of the range come before the first that is present
+abbrev pub missing_run : Space → ℕ → ℕ → ℕ
+missing_run space first count = unwrap_or (least_below (λ i. contains_key space.host.bytes (first + i)) count) count
+
+-- the pages with bytes put at `count` of them
+unfoldable pub put_pages : FinMap nat_cmp (List ℕ) → ℕ → ℕ → (ℕ → List ℕ) → FinMap nat_cmp (List ℕ)
+put_pages pages first zero bytes = pages
+put_pages pages first (suc count) bytes = insert (put_pages pages first count bytes) (first + count) (bytes count)
+
+-- the bytes of the i-th page of those handed in
+abbrev pub handed : List ℕ → ℕ → List ℕ
+handed bytes i = take PAGE_SIZE (drop (PAGE_SIZE * i) bytes)
+
+-- the space once so many missing pages are present, with these bytes, write-protected or not
+abbrev pub installed : Space → ℕ → ℕ → (ℕ → List ℕ) → Bool → Space
+installed space first count bytes protect =
+    record space {
+      host = record space.host { bytes = put_pages space.host.bytes first count bytes };
+      protected = pages_where (λ page. contains space.protected page || (protect && in_range first count page));
+    }
+
+-- why a call stopped: the page's own error if it is the first, and EAGAIN behind it
+abbrev pub stop_error : ℕ → Errno → Errno
+stop_error zero own = own
+stop_error (suc count) own = Eagain
+
+-- whom it wakes: those that sleep on the pages that were put, unless DONTWAKE was asked for
+abbrev pub wakes : ℕ → ℕ → ℕ → Wake
+wakes start count bits = if count == 0 || is_one bits 0 then Nobody else Range start (PAGE_SIZE * count)
+
+-- what such a call answers: how many bytes it has put, the error at which it stopped if it did, and whom it wakes
+pub record Put : Type 0 where
+  pub bytes : ℕ
+  pub fault : Option Errno
+  pub wake : Wake
+
+-- once so many pages of the range are put: all of them, or as many as come before the page that failed by its own error
+abbrev pub put_answer : ℕ → ℕ → ℕ → ℕ → Errno → Put
+put_answer start count done bits own =
+    record { bytes = PAGE_SIZE * done; fault = if done == count then None else Some (stop_error done own); wake = wakes start done bits }
+
+-- an error that is found before any page is put
+abbrev pub refused_put : Errno → Put
+refused_put errno = record { bytes = 0; fault = Some errno; wake = Nobody }
+
+-- the answer of a call, by the error found before, else by the first page of the range that is present
+abbrev pub put_by : Option Errno → Put → Put
+put_by None put = put
+put_by (Some errno) put = refused_put errno
+
+abbrev pub copy_answer : Space → ℕ → List ℕ → ℕ → Put
+copy_answer space start bytes bits =
+    put_by (copy_error space start (length bytes) bits)
+    (put_answer start (length bytes / PAGE_SIZE) (missing_run space (start / PAGE_SIZE) (length bytes / PAGE_SIZE)) bits Eexist)
+
+abbrev pub copied : Space → ℕ → List ℕ → ℕ → Space
+copied space start bytes bits =
+    left_by (copy_error space start (length bytes) bits) space
+    (installed space (start / PAGE_SIZE) (missing_run space (start / PAGE_SIZE) (length bytes / PAGE_SIZE)) (handed bytes) (is_one bits 1))
+
+abbrev pub zeropage_answer : Space → ℕ → ℕ → ℕ → Put
+zeropage_answer space start len bits =
+    put_by (zeropage_error space start len bits)
+    (put_answer start (len / PAGE_SIZE) (missing_run space (start / PAGE_SIZE) (len / PAGE_SIZE)) bits Eexist)
+
+abbrev pub zeropaged : Space → ℕ → ℕ → ℕ → Space
+zeropaged space start len bits =
+    left_by (zeropage_error space start len bits) space
+    (installed space (start / PAGE_SIZE) (missing_run space (start / PAGE_SIZE) (len / PAGE_SIZE)) (λ i. zero_page) false)
+
+-- UFFDIO_WRITEPROTECT: UFFDIO_WRITEPROTECT_MODE_WP is bit 0, UFFDIO_WRITEPROTECT_MODE_DONTWAKE bit 1
+
+abbrev pub writeprotect_errors : Space → ℕ → ℕ → ℕ → List (Bool × Errno)
+writeprotect_errors space start len bits =
+    (not space.object.enabled, Einval) ∷ (nat_lt 2 bits, Einval) ∷ (is_bad_range start len, Einval) ∷ (nat_lt 0 (changing space.object), Eagain)
+    ∷ (not (is_every (λ page. contains space.object.protect page) (start / PAGE_SIZE) (len / PAGE_SIZE)), Enoent) ∷ []
+
+abbrev pub writeprotect_error : Space → ℕ → ℕ → ℕ → Option Errno
+writeprotect_error space start len bits = first_error (writeprotect_errors space start len bits)
+
+abbrev pub writeprotect_answer : Space → ℕ → ℕ → ℕ → Result Wake Errno
+writeprotect_answer space start len bits = answered_by (writeprotect_error space start len bits) (if bits == 0 then Range start len else Nobody)
+
+-- present pages are protected, or no longer; missing pages are passed over
+abbrev pub protected_in : Space → ℕ → ℕ → Bool → Space
+protected_in space first count protect =
+    record space {
+      protected = pages_where (λ page. if in_range first count page then protect && contains_key space.host.bytes page else contains space.protected page);
+    }
+
+abbrev pub write_protected : Space → ℕ → ℕ → ℕ → Space
+write_protected space start len bits = left_by (writeprotect_error space start len bits) space (protected_in space (start / PAGE_SIZE) (len / PAGE_SIZE) (is_one bits 0))
+
+-- read(2) of the object
+
+abbrev pub read_error : Space → Option Errno
+read_error space = first_error ((not space.object.enabled, Einval) ∷ (not (is_some (next_message space.object)), Eagain) ∷ [])
+
+abbrev pub read_space : Space → Space
+read_space space = left_by (read_error space) space (record space { object = message_read space.object })

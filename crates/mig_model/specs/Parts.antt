@@ -1,0 +1,104 @@
+-- Which parts of a world each step of the whole migration may change. Every other part stays as it was: no step of the source puts
+-- anything at the destination but by the wire.
+use Rattle.std.specs.Prelude.{◌≡◌, true, false, List, ◌++◌}
+use Rattle.mig_model.specs.Wire.{Sent}
+use Rattle.mig_model.specs.Nodes.{SourcePhase, DestinationPhase}
+use Rattle.mig_model.specs.Migration.{World, Step}
+use Rattle.mig_model.specs.Migration.Step.{Issue, Retry, Start, Round, Send, SourceRead, SourceAct, Switch, Deliver, DeliverBack, DestRead, DestAct, Install, Push, Serve, SendEnd, Break, Notice, Reconnect}
+use Rattle.mig_model.specs.Migration.Side.{AtSource, AtDestination}
+
+-- something was put at the end of a wire, or nothing
+pub record Grows (old new : List Sent) : Type 0 where
+  pub more : List Sent
+  pub is : new ≡ old ++ more
+
+-- frames were taken from the front of a wire, or none
+pub record Shrinks (old new : List Sent) : Type 0 where
+  pub taken : List Sent
+  pub is : old ≡ taken ++ new
+
+-- the node that runs the guest, and the transcript
+pub record GuestAlone (old new : World) : Type 0 where
+  pub forward : new.forward ≡ old.forward
+  pub back : new.back ≡ old.back
+  pub up : new.up ≡ old.up
+  pub source : old.destination.has_run ≡ true → new.source ≡ old.source
+  pub destination : old.destination.has_run ≡ false → new.destination ≡ old.destination
+
+-- the source, and the end of the wire to the destination
+pub record SourceAlone (old new : World) : Type 0 where
+  pub destination : new.destination ≡ old.destination
+  pub forward : Grows old.forward new.forward
+  pub back : new.back ≡ old.back
+  pub up : new.up ≡ old.up
+  pub transcript : new.transcript ≡ old.transcript
+
+-- the destination, and the end of the wire back
+pub record DestinationAlone (old new : World) : Type 0 where
+  pub source : new.source ≡ old.source
+  pub forward : new.forward ≡ old.forward
+  pub back : Grows old.back new.back
+  pub up : new.up ≡ old.up
+  pub transcript : new.transcript ≡ old.transcript
+
+-- the front of the wire to the destination, the destination, and the end of the wire back
+pub record Delivers (old new : World) : Type 0 where
+  pub source : new.source ≡ old.source
+  pub forward : Shrinks old.forward new.forward
+  pub back : Grows old.back new.back
+  pub up : new.up ≡ old.up
+  pub transcript : new.transcript ≡ old.transcript
+
+-- the front of the wire back, the source, and the end of the wire to the destination
+pub record DeliversBack (old new : World) : Type 0 where
+  pub destination : new.destination ≡ old.destination
+  pub forward : Grows old.forward new.forward
+  pub back : Shrinks old.back new.back
+  pub up : new.up ≡ old.up
+  pub transcript : new.transcript ≡ old.transcript
+
+-- both wires, and the link
+pub record WiresAlone (old new : World) : Type 0 where
+  pub source : new.source ≡ old.source
+  pub destination : new.destination ≡ old.destination
+  pub transcript : new.transcript ≡ old.transcript
+
+-- the phase of one side
+pub record SourcePhaseAlone (old new : World) : Type 0 where
+  pub phase : SourcePhase
+  pub is : new ≡ record old { source = record old.source { phase = phase } }
+
+pub record DestinationPhaseAlone (old new : World) : Type 0 where
+  pub phase : DestinationPhase
+  pub is : new ≡ record old { destination = record old.destination { phase = phase } }
+
+-- the link, the source's epoch, and the end of the wire to the destination
+pub record LinkAlone (old new : World) : Type 0 where
+  pub source : new.source ≡ record old.source { epoch = new.source.epoch }
+  pub destination : new.destination ≡ old.destination
+  pub forward : Grows old.forward new.forward
+  pub back : new.back ≡ old.back
+  pub transcript : new.transcript ≡ old.transcript
+
+-- the parts that a step may change
+abbrev pub ChangesParts : World → Step → World → Type 0
+ChangesParts old (Issue cpu command) new = GuestAlone old new
+ChangesParts old (Retry cpu) new = GuestAlone old new
+ChangesParts old Start new = SourceAlone old new
+ChangesParts old Round new = SourceAlone old new
+ChangesParts old Send new = SourceAlone old new
+ChangesParts old SourceRead new = SourceAlone old new
+ChangesParts old SourceAct new = SourceAlone old new
+ChangesParts old Switch new = SourceAlone old new
+ChangesParts old Deliver new = Delivers old new
+ChangesParts old DeliverBack new = DeliversBack old new
+ChangesParts old DestRead new = DestinationAlone old new
+ChangesParts old DestAct new = DestinationAlone old new
+ChangesParts old Install new = DestinationAlone old new
+ChangesParts old (Push epoch page) new = SourceAlone old new
+ChangesParts old Serve new = SourceAlone old new
+ChangesParts old SendEnd new = SourceAlone old new
+ChangesParts old Break new = WiresAlone old new
+ChangesParts old (Notice AtSource) new = SourcePhaseAlone old new
+ChangesParts old (Notice AtDestination) new = DestinationPhaseAlone old new
+ChangesParts old Reconnect new = LinkAlone old new

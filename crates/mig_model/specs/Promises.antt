@@ -1,0 +1,142 @@
+-- The promises of the whole migration, as words for its laws.
+use Rattle.std.specs.Prelude.{◌≡◌, ℕ, ◌+◌, ◌-◌, ◌/◌, ◌<◌, ◌||◌, nat_lt, ◌==◌, if◌then◌else◌, Bool, true, false, Some, None, List, [], Option}
+use Rattle.std.specs.FinMap as finmap
+use Rattle.std.specs.FinMap.{get, contains_key}
+use Rattle.std.specs.FinSet.{contains}
+use Rattle.mig_base.specs.declared.TheConstants.{PAGE_SIZE}
+use Rattle.mig_base.specs.declared.command.Errno.TheVariants.{Enomem}
+use Rattle.mig_base.specs.declared.command.Command.{Command}
+use Rattle.mig_base.specs.declared.command.Command.TheVariants.{Mmap, Munmap, Mremap, DontNeed}
+use Rattle.mig_base.specs.declared.command.Reply.{Reply}
+use Rattle.mig_base.specs.declared.command.Reply.TheVariants.{Done, At, Refused}
+use Rattle.mig_base.specs.Ranges.{in_range, pages_of}
+use Rattle.mig_base.specs.Flat.{memory_of}
+use Rattle.mig_model.specs.Host.{memory}
+use Rattle.mig_model.specs.Space.{fresh_space}
+use Rattle.mig_model.specs.Guest.{is_present}
+use Rattle.mig_model.specs.Wire.{Frame, Sent}
+use Rattle.mig_model.specs.Wire.Frame.{Advise, Page, Zero, Discard, Package, End, Resume, Request, Recv, Done}
+use Rattle.mig_model.specs.Nodes.{Source, Destination, DestinationPhase, space_of, settled, is_released, is_stopped, is_source_paused}
+use Rattle.mig_model.specs.Nodes.DestinationPhase.{NotAdvised, Advised, Discarding, Runs, Interrupted}
+use Rattle.mig_model.specs.Migration.{World, Step, first_world_with, after_steps}
+use Rattle.mig_model.specs.Migration.Step.{Retry}
+use Rattle.mig_model.specs.Invariant.{copies_of, has_copy, AreFaithful}
+
+-- a world that some list of steps leads to, from a first world with some counts
+pub record IsReached (world : World) : Type 0 where
+  pub cpus : ℕ
+  pub epoch : ℕ
+  pub rounds : ℕ
+  pub steps : List Step
+  pub is : world ≡ after_steps (first_world_with cpus epoch rounds) steps
+
+-- a migration is complete: the source has been told that nothing more is needed
+abbrev pub IsComplete : World → Type 0
+IsComplete world = is_released world.source.phase ≡ true
+
+-- the destination alone holds the flat memory, and no page is owed
+pub record IsAlone (world : World) : Type 0 where
+  pub holds : memory world.destination.guest.space.host ≡ memory_of world.transcript
+  pub alone : space_of world.source ≡ fresh_space
+  pub none_owed : world.destination.owed ≡ finmap.empty
+  pub none_settled : (page : ℕ) → settled world.destination page ≡ None
+  pub none_arrived : world.destination.arrivals ≡ []
+
+-- the pairs of pages that are owed: one to one, each source page is present at the source, and each page that is still owed is mapped,
+-- registered for missing faults, and missing
+pub record ArePaired (world : World) : Type 0 where
+  pub one_to_one : (page other origin : ℕ) → get world.destination.owed page ≡ Some origin → get world.destination.owed other ≡ Some origin → page ≡ other
+  pub present : (page origin : ℕ) → get world.destination.owed page ≡ Some origin → is_present (space_of world.source) origin ≡ true
+  pub registered : (page origin : ℕ) → settled world.destination page ≡ Some origin → contains world.destination.guest.space.object.missing page ≡ true
+  pub missing : (page origin : ℕ) → settled world.destination page ≡ Some origin → is_present world.destination.guest.space page ≡ false
+
+-- where the destination has run: while the link is up and the source is stopped, each owed page is to be pushed, in flight, or
+-- arrived; and each copy in flight or arrived has the bytes that the source holds for its page
+pub record AreUnderWay (world : World) : Type 0 where
+  pub whereabouts : world.up ≡ true → is_stopped world.source.phase ≡ true → (page origin : ℕ) → get world.destination.owed page ≡ Some origin →
+      (contains world.source.remaining origin || has_copy (copies_of world.forward) origin || has_copy world.destination.arrivals origin) ≡ true
+  pub in_flight : AreFaithful (space_of world.source).host.bytes (copies_of world.forward)
+  pub arrived : AreFaithful (space_of world.source).host.bytes world.destination.arrivals
+
+-- a copy was installed: the page was missing, mapped and registered, it was owed from a page of the source, and it is present with
+-- that page's bytes
+pub record IsPut (old new : World) (page origin : ℕ) : Type 0 where
+  pub missing : is_present old.destination.guest.space page ≡ false
+  pub mapped : contains_key old.destination.guest.space.host.areas page ≡ true
+  pub registered : contains old.destination.guest.space.object.missing page ≡ true
+  pub owed : get old.destination.owed page ≡ Some origin
+  pub source : get (space_of old.source).host.bytes origin ≡ get new.destination.guest.space.host.bytes page
+  pub present : is_present new.destination.guest.space page ≡ true
+
+-- Frames
+
+-- the frames that a destination takes in a phase; any other is out of place
+abbrev pub is_in_place : DestinationPhase → Frame → Bool
+is_in_place NotAdvised Advise = true
+is_in_place Advised (Page page bytes) = true
+is_in_place Advised (Zero page) = true
+is_in_place Advised (Discard pages) = true
+is_in_place Discarding (Package areas owed commands) = true
+is_in_place Runs (Page page bytes) = true
+is_in_place Runs (Zero page) = true
+is_in_place Runs End = true
+is_in_place Interrupted Resume = true
+is_in_place phase frame = false
+
+-- the epoch that a frame has to be of: Advise may be of any, Resume of a later one than the destination's, and any other of its own
+abbrev pub IsOwnEpoch : Destination → ℕ → Frame → Type 0
+IsOwnEpoch node epoch Advise = Unit {0}
+IsOwnEpoch node epoch Resume = node.epoch < epoch
+IsOwnEpoch node epoch frame = epoch ≡ node.epoch
+
+-- what a frame carries is right. Of a Package: no page that it owes is kept, and all of both are mapped. End does not come while a
+-- page is owed and no copy waits
+abbrev pub IsGood : Destination → Frame → Type 0
+IsGood node (Package areas owed commands) =
+    ((page : ℕ) → contains owed page ≡ true → contains_key node.kept page ≡ false)
+    × ((page : ℕ) → contains owed page ≡ true → contains_key areas page ≡ true)
+    × ((page : ℕ) → contains_key node.kept page ≡ true → contains_key areas page ≡ true)
+IsGood node End = node.arrivals ≡ [] → node.owed ≡ finmap.empty
+IsGood node frame = Unit {0}
+
+-- a destination takes a frame
+pub record IsTaken (node : Destination) (sent : Sent) : Type 0 where
+  pub in_place : is_in_place node.phase sent.frame ≡ true
+  pub own_epoch : IsOwnEpoch node sent.epoch sent.frame
+  pub good : IsGood node sent.frame
+
+-- the frames that a source takes: a request while it is stopped, Done then once it has sent End, and while it is paused a Recv whose
+-- pages it has
+abbrev pub IsInPlaceBack : Source → Frame → Type 0
+IsInPlaceBack node (Request page) = is_stopped node.phase ≡ true
+IsInPlaceBack node Done = (is_stopped node.phase ≡ true) × (node.ended ≡ node.epoch)
+IsInPlaceBack node (Recv state owed) = (is_source_paused node.phase ≡ true) × ((page : ℕ) → contains owed page ≡ true → is_present (space_of node) page ≡ true)
+IsInPlaceBack node frame = ⊥
+
+-- The settled relation
+
+-- the pairs of a range of pages end
+abbrev pub gone : (ℕ → Option ℕ) → ℕ → ℕ → ℕ → Option ℕ
+gone owed first count = λ page. if in_range first count page then None else owed page
+
+-- the pairs of pages that move move with them, as far as both ranges go, and those of what is replaced or cut off end
+abbrev pub moved_owed : (ℕ → Option ℕ) → ℕ → ℕ → ℕ → ℕ → ℕ → Option ℕ
+moved_owed owed from count to new_count =
+    λ page. if in_range to new_count page then (if nat_lt (page - to) count then owed (from + (page - to)) else None) else if in_range from count page then None else owed page
+
+-- what a map call does to the relation: pairs of pages that it unmaps, replaces or makes zeros end, and pairs of pages that it
+-- moves move
+abbrev pub owed_changed : (ℕ → Option ℕ) → Command → Reply → ℕ → Option ℕ
+owed_changed owed (Mmap len prot place) (At start) = gone owed (start / PAGE_SIZE) (pages_of len)
+owed_changed owed (Munmap addr len) Done = gone owed (addr / PAGE_SIZE) (pages_of len)
+owed_changed owed (Mremap addr old_len new_len may_move fixed) (At target) = moved_owed owed (addr / PAGE_SIZE) (pages_of old_len) (target / PAGE_SIZE) (pages_of new_len)
+owed_changed owed (DontNeed addr len) Done = gone owed (addr / PAGE_SIZE) (pages_of len)
+owed_changed owed (DontNeed addr len) (Refused Enomem) = gone owed (addr / PAGE_SIZE) (pages_of len)
+owed_changed owed _ _ = owed
+
+-- Waiting commands
+
+-- whether a step is the Retry of a processor
+abbrev pub is_retry_of : Step → ℕ → Bool
+is_retry_of (Retry cpu) k = cpu == k
+is_retry_of step k = false

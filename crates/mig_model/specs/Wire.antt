@@ -1,0 +1,76 @@
+-- What the two nodes of a whole migration tell each other, after the messages of QEMU's postcopy document
+-- (docs/devel/migration/postcopy.rst), and the copies of pages that are under way.
+use Rattle.std.specs.Prelude.{ℕ, ◌==◌, not, Bool, true, false, Option, Some, None, if◌then◌else◌, List, [], ◌∷◌, ◌++◌}
+use Rattle.std.specs.List.{list_all}
+use Rattle.std.specs.Ordering.{nat_cmp}
+use Rattle.std.specs.FinMap.{FinMap, insert, retain_keys}
+use Rattle.std.specs.FinSet.{FinSet, contains}
+use Rattle.mig_base.specs.declared.Prot.{Prot}
+use Rattle.mig_base.specs.declared.command.Command.{Command}
+use Rattle.mig_base.specs.Bytes.{zero_page}
+
+-- how far a destination came before a break: it has not run, it runs, or it has ended
+pub data Received : Type 0 where
+  NotRun : Received
+  Running : Received
+  Ended : Received
+
+-- a message of one node to the other
+pub data Frame : Type 0 where
+  -- a migration begins
+  Advise : Frame
+  -- the bytes of a page
+  Page : (page : ℕ) → (bytes : List ℕ) → Frame
+  -- a page of zeros
+  Zero : (page : ℕ) → Frame
+  -- pages whose copies are out of date
+  Discard : (pages : FinSet nat_cmp) → Frame
+  -- the mapped pages, which of the present ones are still to come, and each processor's outstanding command: the destination runs
+  Package : (areas : FinMap nat_cmp Prot) → (owed : FinSet nat_cmp) → (commands : List (Option Command)) → Frame
+  -- nothing more is sent
+  End : Frame
+  -- the channel is up again
+  Resume : Frame
+  -- back to the source: a page is asked for
+  Request : (page : ℕ) → Frame
+  -- back to the source, once the channel is up again: how far the destination has come, and the pages that it still needs
+  Recv : (state : Received) → (owed : FinSet nat_cmp) → Frame
+  -- back to the source: nothing more is needed
+  Done : Frame
+
+-- a frame on a wire, with the epoch in which it was sent
+pub record Sent : Type 0 where
+  pub epoch : ℕ
+  pub frame : Frame
+
+-- the frame of a page that is sent: bytes that are all zeros are not sent one by one
+abbrev pub page_frame : ℕ → List ℕ → Frame
+page_frame page bytes = if list_all (λ byte. byte == 0) bytes then Zero page else Page page bytes
+
+-- a copy of a page
+pub record Copy : Type 0 where
+  pub page : ℕ
+  pub bytes : List ℕ
+
+-- the copy that a frame carries
+abbrev pub copy_in : Frame → Option Copy
+copy_in (Page page bytes) = Some (record { page = page; bytes = bytes })
+copy_in (Zero page) = Some (record { page = page; bytes = zero_page })
+copy_in _ = None
+
+-- the pages that a destination keeps once it has taken a frame: the newest copy of a page replaces an older one
+abbrev pub kept_after : FinMap nat_cmp (List ℕ) → Frame → FinMap nat_cmp (List ℕ)
+kept_after kept (Page page bytes) = insert kept page bytes
+kept_after kept (Zero page) = insert kept page zero_page
+kept_after kept (Discard pages) = retain_keys kept (λ page. not (contains pages page))
+kept_after kept _ = kept
+
+-- the wire once a node has sent frames in its epoch
+abbrev pub sending : List Sent → ℕ → List Frame → List Sent
+sending wire epoch [] = wire
+sending wire epoch (frame ∷ frames) = sending (wire ++ record { epoch = epoch; frame = frame } ∷ []) epoch frames
+
+-- the same, unless the link is down
+abbrev pub sending_if : (up : Bool) → List Sent → ℕ → List Frame → List Sent
+sending_if true wire epoch frames = sending wire epoch frames
+sending_if false wire epoch frames = wire

@@ -1,0 +1,105 @@
+//! What holds of the whole migration after every list of steps: by processors, fault handlers, pushers and deliveries, lost channels
+//! and resumptions, in any order, those that are refused among them. Each law is a function with an empty body, whose contract is
+//! the law.
+
+ghost use Rattle.std.specs.Prelude.{◌≡◌, ℕ, ◌*◌, ◌/◌, ◌∷◌, true, false, None, Some, Ok, List};
+ghost use Rattle.mig_base.specs.declared.command.Command.{Command};
+ghost use Rattle.mig_base.specs.Flat.{IsFlatRun, memory_of, reply_of};
+ghost use Rattle.mig_model.specs.Host.{memory};
+ghost use Rattle.mig_model.specs.World.{is_access};
+ghost use Rattle.mig_model.specs.Guest.{Fault, is_present, outstanding, processor_at};
+ghost use Rattle.mig_model.specs.Wire.{Sent};
+ghost use Rattle.mig_model.specs.Wire.Received.{Running};
+ghost use Rattle.mig_model.specs.Nodes.{space_of, settled, is_precopy, is_stopped, is_source_paused, is_running, source_act, destination_act};
+ghost use Rattle.mig_model.specs.Nodes.Act.{Zeroed};
+ghost use Rattle.mig_model.specs.Migration.{World, Step, guest_of, outcome, accepted, next, first_world_with, after_steps};
+ghost use Rattle.mig_model.specs.Migration.Step.{Issue, DestRead, Install};
+ghost use Rattle.mig_model.specs.Migration.Effect.{Installed};
+ghost use Rattle.mig_model.specs.Invariant.{IsKept, IsPrecopying, IsSwitching, IsReceiving, current_host};
+ghost use Rattle.mig_model.specs.Parts.{ChangesParts};
+ghost use Rattle.mig_model.specs.Promises.{IsReached, IsComplete, IsAlone, ArePaired, AreUnderWay, IsPut, IsTaken, IsInPlaceBack, owed_changed, is_retry_of};
+
+/// The transcript is the run of one flat memory on the same commands in the order in which they took effect, and the guest sees the
+/// last memory of that run. Before the destination runs it is the source's; from then on each page is the destination's own, or that
+/// of the source from which it is still owed, or zeros.
+pub fn every_schedule()
+    ensures transcript { (world : World) → IsReached world → IsFlatRun world.transcript }
+    ensures current { (world : World) → IsReached world → memory (current_host world) ≡ memory_of world.transcript }
+{}
+
+/// When a migration is complete the destination alone holds the flat memory and no page is owed, and it stays complete.
+pub fn completion()
+    ensures alone { (world : World) → IsReached world → IsComplete world → IsAlone world }
+    ensures stays { (world : World) (steps : List Step) → IsReached world → IsComplete world → IsComplete (after_steps world steps) }
+{}
+
+/// While the source makes rounds of pre-copy and the link is up, the newest copy of a clean page is the source's page, unless an
+/// unread event has changed the page, and each page that has a copy was sent in this epoch.
+pub fn clean_copies()
+    ensures { (world : World) → IsReached world → world.up ≡ true → is_precopy world.source.phase ≡ true → IsPrecopying world.source world.destination.kept world.forward }
+{}
+
+/// Between Switch and the run of the destination, while the link is up: what will be kept when the Package is taken is what the
+/// source has and does not owe, and each page that it owes is still to be pushed, or is behind it with the source's bytes.
+pub fn a_package_tells_the_source()
+    ensures { (world : World) → IsReached world → world.up ≡ true → is_stopped world.source.phase ≡ true → world.destination.has_run ≡ false → IsSwitching world.source world.destination.kept world.forward }
+{}
+
+/// After a resumption, until the source has taken Recv: its list has each page that the destination still needs, and the source has
+/// all of them.
+pub fn a_recv_lists_what_is_needed()
+    ensures { (world : World) → IsReached world → world.up ≡ true → is_source_paused world.source.phase ≡ true → is_running world.destination.phase ≡ true → IsReceiving world.source world.destination Running world.back }
+{}
+
+/// The pairs of pages that are owed are one to one, and what they need is there: the source page is present at the source, and the
+/// page that is still owed is registered and missing.
+pub fn owed_pairs()
+    ensures { (world : World) → IsReached world → ArePaired world }
+{}
+
+/// Once the destination has run, each owed page is to be pushed, in flight, or arrived, and each copy of it has the bytes that the
+/// source holds.
+pub fn owed_pages_are_under_way()
+    ensures { (world : World) → IsReached world → world.destination.has_run ≡ true → AreUnderWay world }
+{}
+
+/// A map call at the destination changes the settled relation as it changes the pages: the pairs of pages that it unmaps, replaces or
+/// makes zeros end, and the pairs of pages that it moves move. Reading a message leaves the relation as it is.
+pub fn the_settled_relation()
+    ensures call { (world : World) (cpu : ℕ) (command : Command) (page : ℕ) → IsReached world → world.destination.has_run ≡ true → is_access command ≡ false →
+        settled (accepted world (Issue cpu command)).destination page ≡ owed_changed (settled world.destination) command (reply_of (memory world.destination.guest.space.host) command) page }
+    ensures read { (world : World) (page : ℕ) → IsReached world → settled (next world DestRead).destination page ≡ settled world.destination page }
+{}
+
+/// No page is installed over one that is present: a copy that is installed, and a page of zeros that either handler puts, find the
+/// page missing. A copy that is installed is that of the page from which it was owed.
+pub fn no_page_is_installed_over_another()
+    ensures install { (world : World) (addr source : ℕ) → IsReached world → outcome world Install ≡ Ok (Installed addr source) → IsPut world (next world Install) (addr / 4096) (source / 4096) }
+    ensures source_zero { (world : World) (fault : Fault) → source_act world.source fault ≡ Zeroed → is_present (space_of world.source) fault.page ≡ false }
+    ensures destination_zero { (world : World) (fault : Fault) → destination_act world.destination fault ≡ Zeroed → is_present world.destination.guest.space fault.page ≡ false }
+{}
+
+/// No frame is refused, after any number of resumptions: while the link is up the first frame of each wire is in place, of the right
+/// epoch, and right.
+pub fn no_frame_is_refused()
+    ensures forward { (world : World) (sent : Sent) (rest : List Sent) → IsReached world → world.up ≡ true → world.forward ≡ sent ∷ rest → IsTaken world.destination sent }
+    ensures back { (world : World) (sent : Sent) (rest : List Sent) → IsReached world → world.up ≡ true → world.back ≡ sent ∷ rest → IsInPlaceBack world.source sent.frame }
+    ensures back_epoch { (world : World) (sent : Sent) (rest : List Sent) → IsReached world → world.back ≡ sent ∷ rest → sent.epoch ≡ world.source.epoch }
+{}
+
+/// A command that waits is changed by no step but the Retry of its processor: the processor still has to make it, on whichever node it
+/// then is.
+pub fn a_waiting_command()
+    ensures { (world : World) (step : Step) (cpu : ℕ) (command : Command) → IsReached world → is_retry_of step cpu ≡ false →
+        outstanding (processor_at (guest_of world).processors cpu) ≡ Some command → outstanding (processor_at (guest_of (next world step)).processors cpu) ≡ Some command }
+{}
+
+/// Each step changes only its own parts. No step of the source puts anything at the destination but by the wire.
+pub fn each_step_changes_its_parts()
+    ensures { (world : World) (step : Step) → ChangesParts world step (next world step) }
+{}
+
+/// What every world keeps, clause by clause.
+pub fn the_invariant()
+    ensures { (world : World) → IsReached world → IsKept world }
+{}

@@ -1,0 +1,40 @@
+//! Whether entries are a run of one flat memory.
+
+ghost use Rattle.std.specs.Prelude.{OnOk, IfErr};
+ghost use Rattle.mig_base.specs.Flat.{IsFlatRun};
+ghost use Rattle.report.specs.Checks.{IsFaultOf};
+
+use hosts::Host;
+use mig_base::{Entry, Reply};
+use std::alloc::Global;
+use thiserror::Error;
+
+/// Why entries are no flat run.
+#[derive(Clone, Copy, Debug, PartialEq, Eq, Error)]
+pub enum CheckFault {
+    /// The entry at this index, counted from 0, is the first whose reply is not that of the flat memory, which answers
+    /// `expected`.
+    #[error("entry {index}: one flat memory answers otherwise")]
+    Wrong { index: usize, expected: Reply },
+    /// A growth was refused, and nothing is known of the entries.
+    #[error("no memory")]
+    NoMemory,
+}
+
+/// Replays entries on one flat memory, kept in pages: no more memory is taken than for the pages that are stored to and the
+/// areas. The processors of the entries play no part.
+pub fn check(alloc: Global, entries: &[Entry]) -> Result<(), CheckFault>
+    ensures ok { OnOk result (IsFlatRun entries.now) }
+    ensures wrong { IfErr result (λ fault. IsFaultOf entries.now fault) }
+{
+    let mut host = Host::new(alloc);
+    for (index, entry) in entries.iter().enumerate() {
+        let Ok(expected) = host.perform(entry.command) else {
+            return Err(CheckFault::NoMemory);
+        };
+        if entry.reply != expected {
+            return Err(CheckFault::Wrong { index, expected });
+        }
+    }
+    Ok(())
+}

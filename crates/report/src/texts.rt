@@ -1,0 +1,176 @@
+//! How commands, replies and entries are printed.
+
+ghost use Rattle.std.specs.Prelude.{◌≡◌, ◌++◌, OnOk, Some, string_bytes};
+ghost use Rattle.report.specs.Texts.{errno_name, reply_text, prot_text, place_text, may_move_text, target_text, command_text, entry_text, entry_line};
+
+use mig_base::{Addr, Command, Entry, Errno, Place, Prot, Reply};
+use std::alloc::AllocError;
+use std::fmt;
+
+/// The name of an error number.
+#[derive(Clone, Copy)]
+struct ErrnoName(Errno);
+
+impl fmt::Display for ErrnoName {
+    ghost output = { λ x. Some (errno_name x.0) };
+
+    fn fmt<W: fmt::Write>(&self, f: &mut fmt::Formatter<W>) -> fmt::Result {
+        match self.0 {
+            Errno::Eperm => write!(f, "EPERM"),
+            Errno::Enoent => write!(f, "ENOENT"),
+            Errno::Eagain => write!(f, "EAGAIN"),
+            Errno::Enomem => write!(f, "ENOMEM"),
+            Errno::Efault => write!(f, "EFAULT"),
+            Errno::Eexist => write!(f, "EEXIST"),
+            Errno::Einval => write!(f, "EINVAL"),
+        }
+    }
+}
+
+/// A reply to a command, as it is printed.
+#[derive(Clone, Copy)]
+pub struct ReplyText(pub Reply);
+
+impl fmt::Display for ReplyText {
+    ghost output = { λ x. Some (reply_text x.0) };
+
+    fn fmt<W: fmt::Write>(&self, f: &mut fmt::Formatter<W>) -> fmt::Result {
+        match self.0 {
+            Reply::Value(value) => write!(f, "value 0x{value:x}"),
+            Reply::Done => write!(f, "done"),
+            Reply::At(addr) => write!(f, "at 0x{addr:x}"),
+            Reply::Segv { mapped: false } => write!(f, "segv unmapped"),
+            Reply::Segv { mapped: true } => write!(f, "segv protected"),
+            Reply::BadAccess => write!(f, "bad access"),
+            Reply::Refused(errno) => {
+                let name = ErrnoName(errno);
+                write!(f, "refused {name}")
+            }
+        }
+    }
+}
+
+/// The word of a protection.
+#[derive(Clone, Copy)]
+struct ProtText(Prot);
+
+impl fmt::Display for ProtText {
+    ghost output = { λ x. Some (prot_text x.0) };
+
+    fn fmt<W: fmt::Write>(&self, f: &mut fmt::Formatter<W>) -> fmt::Result {
+        match self.0 {
+            Prot::NoAccess => write!(f, "none"),
+            Prot::Read => write!(f, "r"),
+            Prot::ReadWrite => write!(f, "rw"),
+        }
+    }
+}
+
+/// The words of a place, with a space before each.
+#[derive(Clone, Copy)]
+struct PlaceText(Place);
+
+impl fmt::Display for PlaceText {
+    ghost output = { λ x. Some (place_text x.0) };
+
+    fn fmt<W: fmt::Write>(&self, f: &mut fmt::Formatter<W>) -> fmt::Result {
+        match self.0 {
+            Place::Anywhere => write!(f, ""),
+            Place::Fixed(addr) => write!(f, " fixed 0x{addr:x}"),
+            Place::NoReplace(addr) => write!(f, " noreplace 0x{addr:x}"),
+        }
+    }
+}
+
+/// The word that lets a range move, with a space before it: no word where it may not.
+#[derive(Clone, Copy)]
+struct MayMoveText(bool);
+
+impl fmt::Display for MayMoveText {
+    ghost output = { λ x. Some (may_move_text x.0) };
+
+    fn fmt<W: fmt::Write>(&self, f: &mut fmt::Formatter<W>) -> fmt::Result {
+        match self.0 {
+            false => write!(f, ""),
+            true => write!(f, " maymove"),
+        }
+    }
+}
+
+/// The words of a fixed target, with a space before each: no word where none is fixed.
+#[derive(Clone, Copy)]
+struct TargetText(Option<Addr>);
+
+impl fmt::Display for TargetText {
+    ghost output = { λ x. Some (target_text x.0) };
+
+    fn fmt<W: fmt::Write>(&self, f: &mut fmt::Formatter<W>) -> fmt::Result {
+        match self.0 {
+            None => write!(f, ""),
+            Some(addr) => write!(f, " fixed 0x{addr:x}"),
+        }
+    }
+}
+
+/// The words of a command, as a script has them.
+#[derive(Clone, Copy)]
+struct CommandText(Command);
+
+impl fmt::Display for CommandText {
+    ghost output = { λ x. Some (command_text x.0) };
+
+    fn fmt<W: fmt::Write>(&self, f: &mut fmt::Formatter<W>) -> fmt::Result {
+        match self.0 {
+            Command::Load { addr, width } => write!(f, "load 0x{addr:x} {width}"),
+            Command::Store { addr, width, value } => {
+                write!(f, "store 0x{addr:x} {width} 0x{value:x}")
+            }
+            Command::Mmap {
+                addr_len,
+                prot,
+                place,
+            } => {
+                let prot = ProtText(prot);
+                let place = PlaceText(place);
+                write!(f, "mmap {addr_len} {prot}{place}")
+            }
+            Command::Munmap { addr, len } => write!(f, "munmap 0x{addr:x} {len}"),
+            Command::Mremap {
+                addr,
+                old_len,
+                new_len,
+                may_move,
+                fixed,
+            } => {
+                let may_move = MayMoveText(may_move);
+                let target = TargetText(fixed);
+                write!(f, "mremap 0x{addr:x} {old_len} {new_len}{may_move}{target}")
+            }
+            Command::DontNeed { addr, len } => write!(f, "dontneed 0x{addr:x} {len}"),
+        }
+    }
+}
+
+/// An entry of a transcript, as it is printed: its processor, its command and its reply.
+#[derive(Clone, Copy)]
+pub struct EntryText(pub Entry);
+
+impl fmt::Display for EntryText {
+    ghost output = { λ x. Some (entry_text x.0) };
+
+    fn fmt<W: fmt::Write>(&self, f: &mut fmt::Formatter<W>) -> fmt::Result {
+        let cpu = self.0.cpu;
+        let command = CommandText(self.0.command);
+        let reply = ReplyText(self.0.reply);
+        write!(f, "{cpu} {command} => {reply}")
+    }
+}
+
+/// Prints the transcript line of an entry, with its line feed, behind a text.
+#[tactic(auto, unfolding(crate::specs::Texts::entry_line))]
+pub fn print_entry(text: &mut String, entry: Entry) -> Result<(), AllocError>
+    ensures { OnOk result (string_bytes text.new ≡ string_bytes text.old ++ entry_line entry) }
+{
+    let entry = EntryText(entry);
+    write!(text, "{entry}\n")
+}

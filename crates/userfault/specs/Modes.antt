@@ -1,0 +1,27 @@
+-- The modes of pages, as the crate's code has them.
+use Rattle.std.specs.Prelude.{ℕ, ◌+◌, ◌&&◌, ◌||◌, Bool, not, if◌then◌else◌}
+use Rattle.std.specs.Ordering.{nat_cmp}
+use Rattle.std.specs.FinSet.{FinSet, contains}
+use Rattle.mig_base.specs.Ranges.{in_range, none_below}
+use Rattle.mig_base.specs.Sets.{pages_where}
+use Rattle.mig_model.specs.Userfault as machine
+use Rattle.mig_model.specs.Userfault.{Object, is_registered}
+use Rattle.userfault.specs.declared.modes.Mode.{Mode}
+
+-- the machine's word for a mode
+abbrev pub mode_of : Mode → machine.Mode
+mode_of mode = record { missing = mode.missing; protect = mode.protect }
+
+-- whether some page of a range is registered in any mode
+abbrev pub is_any_registered : Object → ℕ → ℕ → Bool
+is_any_registered object first count = not (none_below (λ i. is_registered object (first + i)) count)
+
+-- whether a page is in each of the two sets that is asked for
+abbrev pub has_asked : FinSet nat_cmp → FinSet nat_cmp → Bool → Bool → ℕ → Bool
+has_asked own other asked other_asked page = (not asked || contains own page) && (not other_asked || contains other page)
+
+-- the pages of one mode once a range is registered, where it is told which of the two modes are asked for: a page of the range that
+-- has all of them keeps its own, and any other is in where this mode is asked for
+abbrev pub registered_set : FinSet nat_cmp → FinSet nat_cmp → ℕ → ℕ → Bool → Bool → FinSet nat_cmp
+registered_set own other first count asked other_asked =
+    pages_where (λ page. if in_range first count page && not (has_asked own other asked other_asked page) then asked else contains own page)

@@ -1,0 +1,88 @@
+//! The modes of pages, and sets of pages once a range was registered or moved.
+
+ghost use Rattle.std.specs.Prelude.{◌≡◌, ℕ, ◌+◌, ◌<◌, ◌≤◌, ◌⊎◌, ◌&&◌, not, false, IfOk};
+ghost use Rattle.std.specs.FinSet.{contains};
+ghost use Rattle.mig_base.specs.Ranges.{in_range};
+ghost use Rattle.mig_base.specs.Sets.{moved_set};
+ghost use Rattle.mig_base.specs.declared.TheConstants.{HIGH_PAGE};
+ghost use Rattle.userfault.specs.Modes.{registered_set};
+
+use mig_base::{NoMemory, PageNo, PageSet};
+
+/// The mode in which a page is registered. With both false it is not registered.
+#[derive(Clone, Copy, Debug, PartialEq, Eq)]
+pub struct Mode {
+    /// UFFDIO_REGISTER_MODE_MISSING: a touch of the page where it is missing is a fault.
+    pub missing: bool,
+    /// UFFDIO_REGISTER_MODE_WP: a store to the page where it is write-protected is a fault.
+    pub protect: bool,
+}
+
+/// The pages of one mode once a range is registered: `own` are those of this mode and `other` those of the other one, and
+/// `asked` and `other_asked` say which of the two are asked for. `NoMemory` is for the room of the new set.
+pub fn registered(
+    own: &PageSet,
+    other: &PageSet,
+    first: PageNo,
+    count: u32,
+    asked: bool,
+    other_asked: bool,
+) -> Result<PageSet, NoMemory>
+    requires { first + count ≤ HIGH_PAGE }
+    ensures { IfOk result (λ set. set ≡ registered_set own.now other.now first count asked other_asked) }
+{
+    let mut set = own.copy()?;
+    if asked {
+        set.insert_range(first, count)?;
+    } else if other_asked {
+        remove_unless_in(&mut set, other, first, count);
+    }
+    Ok(set)
+}
+
+/// Takes those pages of a range out that another set has not.
+fn remove_unless_in(set: &mut PageSet, other: &PageSet, first: PageNo, count: u32)
+    requires { first + count ≤ HIGH_PAGE }
+    ensures { (q : ℕ) → contains set.new q ≡ (contains set.old q && not (in_range first count q && not (contains other.now q))) }
+{
+    let end = first + count;
+    let mut at = first;
+    while at < end {
+        let (start, stop) = run_of(other, at, end, false);
+        set.remove_range(start, stop - start);
+        at = stop;
+    }
+}
+
+/// The set once a range of pages has gone to another that it does not meet. `NoMemory` is for the room of the new set.
+pub fn moved(set: &PageSet, from: PageNo, to: PageNo, count: u32) -> Result<PageSet, NoMemory>
+    requires inside { (from + count ≤ HIGH_PAGE) × (to + count ≤ HIGH_PAGE) }
+    requires apart { (from + count ≤ to) ⊎ (to + count ≤ from) }
+    ensures { IfOk result (λ moved. moved ≡ moved_set set.now from count to count false) }
+{
+    let mut moved = set.copy()?;
+    moved.remove_range(to, count);
+    moved.remove_range(from, count);
+    let end = from + count;
+    let mut at = from;
+    while at < end {
+        let (start, stop) = run_of(set, at, end, true);
+        moved.insert_range(to + (start - from), stop - start)?;
+        at = stop;
+    }
+    Ok(moved)
+}
+
+/// The first run from `from` on, before `end`, of pages that the set has, or with `want` false has not: where it starts and
+/// where it stops. Both are `end` where there is none.
+fn run_of(set: &PageSet, from: PageNo, end: PageNo, want: bool) -> (PageNo, PageNo)
+    requires { (from < end) × (end ≤ HIGH_PAGE) }
+    ensures range { (from ≤ result.0) × (result.0 ≤ result.1) × (result.1 ≤ end) }
+    ensures further { from < result.1 }
+    ensures before { (q : ℕ) → from ≤ q → q < result.0 → contains set.now q ≡ not want }
+    ensures inside { (q : ℕ) → result.0 ≤ q → q < result.1 → contains set.now q ≡ want }
+{
+    let start = set.next(from, want).min(end);
+    let stop = set.next(start, !want).min(end);
+    (start, stop)
+}

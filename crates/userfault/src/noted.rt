@@ -1,0 +1,93 @@
+//! One message that waits, and a queue of them.
+
+ghost use Rattle.std.specs.Prelude.{◌≡◌, IfOk};
+ghost use Rattle.mig_model.specs.Userfault.{is_fault_at, waits_fault};
+
+use mig_base::{Addr, Message, NoMemory};
+use std::alloc::Global;
+use std::collections::VecDeque;
+use std::marker::Model;
+
+/// A message that waits, and the processor that caused it.
+#[derive(Clone, Copy)]
+pub struct Noted {
+    message: Message,
+    cpu: u8,
+}
+
+impl Model for Noted {
+    ghost use Rattle.mig_model.specs.Userfault as machine;
+    ghost use Rattle.userfault.specs.Codes.{coded_noted};
+
+    ghost Value = { machine.Noted };
+
+    ghost coded = { coded_noted };
+
+    ghost view = { λ n. record { message = n.message; cpu = n.cpu } };
+
+    ghost inverse = { λ v. record { message = v.message; cpu = v.cpu } };
+}
+
+impl Noted {
+    /// A message with its processor.
+    pub fn new(message: Message, cpu: u8) -> Self
+        ensures message { result.message ≡ message }
+        ensures cpu { result.cpu ≡ cpu }
+    {
+        Noted { message, cpu }
+    }
+
+    /// The message.
+    pub fn message(&self) -> Message
+        ensures { result ≡ self.now.message }
+    {
+        self.message
+    }
+
+    /// The processor that caused it.
+    pub fn cpu(&self) -> u8
+        ensures { result ≡ self.now.cpu }
+    {
+        self.cpu
+    }
+
+    /// Whether it is a page fault of this kind at the address: of a page that is write-protected where `wp`, else of one that
+    /// is missing.
+    fn is_fault_at(&self, addr: Addr, wp: bool) -> bool
+        ensures { result ≡ is_fault_at self.now.message addr wp }
+    {
+        match self.message {
+            Message::PageFault {
+                addr: other,
+                wp: kind,
+                ..
+            } => other == addr && kind == wp,
+            _ => false,
+        }
+    }
+}
+
+/// Whether a page fault of this kind at the address waits in a queue.
+pub fn waits(faults: &VecDeque<Noted>, addr: Addr, wp: bool) -> bool
+    ensures { result ≡ waits_fault faults.now.items addr wp }
+{
+    for i in 0..faults.len() {
+        if faults[i].is_fault_at(addr, wp) {
+            return true;
+        }
+    }
+    false
+}
+
+/// The same queue again.
+pub fn copy_queue(alloc: Global, queue: &VecDeque<Noted>) -> Result<VecDeque<Noted>, NoMemory>
+    ensures { IfOk result (λ copy. copy.items ≡ queue.now.items) }
+{
+    let mut copy = VecDeque::with_capacity(alloc, queue.len())?;
+    for i in 0..queue.len() {
+        let Ok(()) = copy.push_back(queue[i]) else {
+            return Err(NoMemory);
+        };
+    }
+    Ok(copy)
+}

@@ -1,0 +1,231 @@
+//! The type that callers see: one userfault object.
+
+ghost use Rattle.std.specs.Prelude.{◌≡◌, ℕ, ◌+◌, ◌≤◌, ◌⊎◌, false, if◌then◌else◌, Some, None, OnOk, OnErr, IfOk};
+ghost use Rattle.std.specs.Option.{option_map};
+ghost use Rattle.mig_base.specs.Ranges.{in_range};
+ghost use Rattle.mig_base.specs.declared.TheConstants.{HIGH_PAGE};
+ghost use Rattle.mig_model.specs.Userfault as machine;
+ghost use Rattle.userfault.specs.Modes.{mode_of, is_any_registered};
+
+use crate::modes::{Mode, moved, registered};
+use crate::noted::{Noted, copy_queue, waits};
+use mig_base::{Addr, Message, NoMemory, PageNo, PageSet};
+use std::alloc::Global;
+use std::collections::VecDeque;
+use std::marker::Model;
+
+/// A userfault object. Pages lie below `HIGH_PAGE`, and a processor goes by its number.
+///
+/// Those calls that may answer `NoMemory` leave the object as it was, and may succeed when they are called again. The others
+/// take no memory.
+#[derive(Drop)]
+pub struct Userfault {
+    alloc: Global,
+    enabled: bool,
+    features: u64,
+    missing: PageSet,
+    protect: PageSet,
+    faults: VecDeque<Noted>,
+    events: VecDeque<Noted>,
+}
+
+impl Model for Userfault {
+    ghost use Rattle.mig_model.specs.Userfault.{Object};
+    ghost use Rattle.userfault.specs.Codes.{coded_object};
+
+    ghost Value = { Object };
+
+    ghost coded = { coded_object };
+
+    ghost view = { λ a. record { enabled = a.enabled; features = a.features; missing = a.missing; protect = a.protect; faults = a.faults.items; events = a.events.items } };
+}
+
+impl Userfault {
+    /// An object that is not enabled, watches no page and has no message. It takes no memory.
+    pub fn new(alloc: Global) -> Self
+        ensures { result ≡ machine.fresh_object }
+    {
+        Userfault {
+            alloc,
+            enabled: false,
+            features: 0,
+            missing: PageSet::new(alloc),
+            protect: PageSet::new(alloc),
+            faults: VecDeque::new(alloc),
+            events: VecDeque::new(alloc),
+        }
+    }
+
+    /// Makes the handshake, for the features of UFFDIO_API as one word of flags.
+    pub fn enable(&mut self, features: u64)
+        ensures { self.new ≡ machine.enabled_with self.old features }
+    {
+        self.enabled = true;
+        self.features = features;
+    }
+
+    /// The features that were asked for in the handshake, if it was made.
+    pub fn features(&self) -> Option<u64>
+        ensures { result ≡ (if self.now.enabled then Some self.now.features else None) }
+    {
+        self.enabled.then_some(self.features)
+    }
+
+    /// Registers the `count` pages from `first` on: a page that has all modes asked for keeps its own, and any other has
+    /// exactly these. With no mode asked for nothing changes. `NoMemory` changes nothing.
+    pub fn register(&mut self, first: PageNo, count: u32, mode: Mode) -> Result<(), NoMemory>
+        requires { first + count ≤ HIGH_PAGE }
+        ensures ok { OnOk result (self.new ≡ machine.registered_where self.old (in_range first count) (mode_of mode)) }
+        ensures err { OnErr result (self.new ≡ self.old) }
+    {
+        let missing = registered(
+            &self.missing,
+            &self.protect,
+            first,
+            count,
+            mode.missing,
+            mode.protect,
+        )?;
+        let protect = registered(
+            &self.protect,
+            &self.missing,
+            first,
+            count,
+            mode.protect,
+            mode.missing,
+        )?;
+        self.missing = missing;
+        self.protect = protect;
+        Ok(())
+    }
+
+    /// Ends the registration of the `count` pages from `first` on, as UFFDIO_UNREGISTER.
+    pub fn unregister(&mut self, first: PageNo, count: u32)
+        requires { first + count ≤ HIGH_PAGE }
+        ensures { self.new ≡ machine.unregistered self.old first count }
+    {
+        self.missing.remove_range(first, count);
+        self.protect.remove_range(first, count);
+    }
+
+    /// Forgets the `count` pages from `first` on, which are no longer mapped or were replaced: they are not registered.
+    pub fn forget_range(&mut self, first: PageNo, count: u32)
+        requires { first + count ≤ HIGH_PAGE }
+        ensures { self.new ≡ machine.unregistered self.old first count }
+    {
+        self.unregister(first, count);
+    }
+
+    /// The mode of a page. Any page number may be asked for.
+    pub fn mode_at(&self, page: PageNo) -> Mode
+        ensures { mode_of result ≡ machine.mode_at self.now page }
+    {
+        Mode {
+            missing: self.missing.contains(page),
+            protect: self.protect.contains(page),
+        }
+    }
+
+    /// Whether some of the `count` pages from `first` on is registered.
+    pub fn is_any_registered(&self, first: PageNo, count: u32) -> bool
+        requires { first + count ≤ HIGH_PAGE }
+        ensures { result ≡ is_any_registered self.now first count }
+    {
+        let end = first + count;
+        self.missing.next(first, true) < end || self.protect.next(first, true) < end
+    }
+
+    /// Notes that a processor sleeps on the page at an address: by a store where `write`, on a page that is write-protected
+    /// where `wp` and else on one that is missing. An unread fault of this kind at this address stays the only one, whoever
+    /// caused it; to find it all unread faults are looked through. `NoMemory` changes nothing.
+    pub fn queue_fault(
+        &mut self,
+        addr: Addr,
+        write: bool,
+        wp: bool,
+        cpu: u8,
+    ) -> Result<(), NoMemory>
+        ensures ok { OnOk result (self.new ≡ machine.fault_queued self.old addr write wp cpu) }
+        ensures err { OnErr result (self.new ≡ self.old) }
+    {
+        if waits(&self.faults, addr, wp) {
+            return Ok(());
+        }
+        let noted = Noted::new(Message::PageFault { addr, write, wp }, cpu);
+        let Ok(()) = self.faults.push_back(noted) else {
+            return Err(NoMemory);
+        };
+        Ok(())
+    }
+
+    /// Notes an event that a processor caused. `NoMemory` changes nothing.
+    pub fn queue_event(&mut self, message: Message, cpu: u8) -> Result<(), NoMemory>
+        ensures ok { OnOk result (self.new ≡ machine.event_queued self.old message cpu) }
+        ensures err { OnErr result (self.new ≡ self.old) }
+    {
+        let Ok(()) = self.events.push_back(Noted::new(message, cpu)) else {
+            return Err(NoMemory);
+        };
+        Ok(())
+    }
+
+    /// The message that is read next, if there is one. It stays unread.
+    pub fn next_message(&self) -> Option<Message>
+        ensures { result ≡ option_map (λ noted. noted.message) (machine.next_message self.now) }
+    {
+        match self.faults.front() {
+            Some(noted) => Some(noted.message()),
+            None => Some(self.events.front()?.message()),
+        }
+    }
+
+    /// Reads a message: page faults before events, each in the order in which they were queued. It comes with the processor
+    /// that caused it. With no message nothing changes.
+    pub fn read_message(&mut self) -> Option<(Message, u8)>
+        ensures message { result ≡ option_map (λ noted. (noted.message, noted.cpu)) (machine.next_message self.old) }
+        ensures rest { self.new ≡ machine.message_read self.old }
+    {
+        let noted = match self.faults.pop_front() {
+            Some(noted) => noted,
+            None => self.events.pop_front()?,
+        };
+        Some((noted.message(), noted.cpu()))
+    }
+
+    /// How many events are unread. While there are any, the address space is changing.
+    pub fn changing(&self) -> usize
+        ensures { result ≡ machine.changing self.now }
+    {
+        self.events.len()
+    }
+
+    /// Moves the modes of the `count` pages from `from` on to those from `to` on, in place of theirs. The pages from `from` on
+    /// are not registered afterwards. `NoMemory` changes nothing.
+    pub fn move_range(&mut self, from: PageNo, to: PageNo, count: u32) -> Result<(), NoMemory>
+        requires inside { (from + count ≤ HIGH_PAGE) × (to + count ≤ HIGH_PAGE) }
+        requires apart { (from + count ≤ to) ⊎ (to + count ≤ from) }
+        ensures ok { OnOk result (self.new ≡ machine.moved_modes self.old from count to count (record { missing = false; protect = false })) }
+        ensures err { OnErr result (self.new ≡ self.old) }
+    {
+        let missing = moved(&self.missing, from, to, count)?;
+        let protect = moved(&self.protect, from, to, count)?;
+        self.missing = missing;
+        self.protect = protect;
+        Ok(())
+    }
+
+    /// An equal object, of memory of its own.
+    pub fn copy(&self) -> Result<Self, NoMemory>
+        ensures { IfOk result (λ copy. copy ≡ self.now) }
+    {
+        Ok(Userfault {
+            alloc: self.alloc,
+            enabled: self.enabled,
+            features: self.features,
+            missing: self.missing.copy()?,
+            protect: self.protect.copy()?,
+            faults: copy_queue(self.alloc, &self.faults)?,
+            events: copy_queue(self.alloc, &self.events)?,
+        })
+    }
+}
