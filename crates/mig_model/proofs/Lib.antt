@@ -56,3 +56,4 @@ pub mod EveryStep
 pub mod FramesTaken
 pub mod SettledPromises
 pub mod WaitingCommands
+pub mod Story

@@ -95,7 +95,7 @@ and_right : (a b : Bool) → (a && b) ≡ true → b ≡ true
 and_right true b h = h
 and_right false b h = none_absurd h
 
-member_not_clean : (source : Source) (page : ℕ) → contains (not_clean source) page ≡ ((ltb page HIGH_PAGE && is_present (space_of source) page) && not (contains source.clean page))
+pub member_not_clean : (source : Source) (page : ℕ) → contains (not_clean source) page ≡ ((ltb page HIGH_PAGE && is_present (space_of source) page) && not (contains source.clean page))
 member_not_clean source page = member_less (present (space_of source)) source.clean page ∙ ap (λ b. b && not (contains source.clean page)) (member_below (λ q. is_present (space_of source) q) HIGH_PAGE page)
 
 owed_is_present : (source : Source) (page : ℕ) → contains (not_clean source) page ≡ true → is_present (space_of source) page ≡ true

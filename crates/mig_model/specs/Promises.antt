@@ -1,5 +1,5 @@
 -- The promises of the whole migration, as words for its laws.
-use Rattle.std.specs.Prelude.{◌≡◌, ℕ, ◌+◌, ◌-◌, ◌/◌, ◌<◌, ◌||◌, nat_lt, ◌==◌, if◌then◌else◌, Bool, true, false, Some, None, List, [], Option}
+use Rattle.std.specs.Prelude.{◌≡◌, ℕ, ◌+◌, ◌-◌, ◌/◌, ◌<◌, ◌||◌, nat_lt, ◌==◌, if◌then◌else◌, Bool, true, false, Some, None, List, [], Option, ◌∷◌}
 use Rattle.std.specs.FinMap as finmap
 use Rattle.std.specs.FinMap.{get, contains_key}
 use Rattle.std.specs.FinSet.{contains}
@@ -19,7 +19,7 @@ use Rattle.mig_model.specs.Wire.Frame.{Advise, Page, Zero, Discard, Package, End
 use Rattle.mig_model.specs.Nodes.{Source, Destination, DestinationPhase, space_of, settled, is_released, is_stopped, is_source_paused}
 use Rattle.mig_model.specs.Nodes.DestinationPhase.{NotAdvised, Advised, Discarding, Runs, Interrupted}
 use Rattle.mig_model.specs.Migration.{World, Step, first_world_with, after_steps}
-use Rattle.mig_model.specs.Migration.Step.{Retry}
+use Rattle.mig_model.specs.Migration.Step.{Retry, Start, Switch, Deliver, DeliverBack, SendEnd}
 use Rattle.mig_model.specs.Invariant.{copies_of, has_copy, AreFaithful}
 
 -- a world that some list of steps leads to, from a first world with some counts
@@ -140,3 +140,9 @@ owed_changed owed _ _ = owed
 abbrev pub is_retry_of : Step → ℕ → Bool
 is_retry_of (Retry cpu) k = cpu == k
 is_retry_of step k = false
+
+-- Completion can be reached
+
+-- the steps of a migration in which nothing is owed
+abbrev pub story : List Step
+story = Start ∷ Switch ∷ Deliver ∷ Deliver ∷ Deliver ∷ SendEnd ∷ Deliver ∷ DeliverBack ∷ []

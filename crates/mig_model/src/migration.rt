@@ -12,12 +12,12 @@ ghost use Rattle.mig_model.specs.Wire.{Sent};
 ghost use Rattle.mig_model.specs.Wire.Received.{Running};
 ghost use Rattle.mig_model.specs.Nodes.{space_of, settled, is_precopy, is_stopped, is_source_paused, is_running, source_act, destination_act};
 ghost use Rattle.mig_model.specs.Nodes.Act.{Zeroed};
-ghost use Rattle.mig_model.specs.Migration.{World, Step, guest_of, outcome, accepted, next, first_world_with, after_steps};
+ghost use Rattle.mig_model.specs.Migration.{World, Step, guest_of, outcome, accepted, next, first_world, after_steps};
 ghost use Rattle.mig_model.specs.Migration.Step.{Issue, DestRead, Install};
 ghost use Rattle.mig_model.specs.Migration.Effect.{Installed};
 ghost use Rattle.mig_model.specs.Invariant.{IsKept, IsPrecopying, IsSwitching, IsReceiving, current_host};
 ghost use Rattle.mig_model.specs.Parts.{ChangesParts};
-ghost use Rattle.mig_model.specs.Promises.{IsReached, IsComplete, IsAlone, ArePaired, AreUnderWay, IsPut, IsTaken, IsInPlaceBack, owed_changed, is_retry_of};
+ghost use Rattle.mig_model.specs.Promises.{IsReached, IsComplete, IsAlone, ArePaired, AreUnderWay, IsPut, IsTaken, IsInPlaceBack, owed_changed, is_retry_of, story};
 
 /// The transcript is the run of one flat memory on the same commands in the order in which they took effect, and the guest sees the
 /// last memory of that run. Before the destination runs it is the source's; from then on each page is the destination's own, or that
@@ -31,6 +31,11 @@ pub fn every_schedule()
 pub fn completion()
     ensures alone { (world : World) → IsReached world → IsComplete world → IsAlone world }
     ensures stays { (world : World) (steps : List Step) → IsReached world → IsComplete world → IsComplete (after_steps world steps) }
+{}
+
+/// A migration can be completed: these steps lead there, with nothing to move. So the laws of completion are not about nothing.
+pub fn a_migration_can_complete()
+    ensures { (cpus : ℕ) → IsComplete (after_steps (first_world cpus) story) }
 {}
 
 /// While the source makes rounds of pre-copy and the link is up, the newest copy of a clean page is the source's page, unless an
