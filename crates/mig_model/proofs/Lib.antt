@@ -54,6 +54,6 @@ pub mod Taking
 pub mod Completing
 pub mod EveryStep
 pub mod FramesTaken
-pub mod SettledPromises
 pub mod WaitingCommands
+pub mod SettledPromises
 pub mod Story

@@ -23,6 +23,7 @@ use Rattle.mig_model.specs.Migration.{World}
 use Rattle.mig_model.specs.Invariant.{IsKept, IsPrecopying, IsSwitching, IsReceiving, RanAt, seen_bytes, seen_host, current_by, copies_of, has_copy}
 use Rattle.mig_model.specs.Promises.{IsComplete, IsAlone, ArePaired, AreUnderWay}
 use Rattle.mig_model.proofs.Stopping.{in_phases, none_absurd}
+use Rattle.mig_model.proofs.SettledLemmas.{IsOneToOne-settled, values-settled}
 
 -- A table without pairs
 
@@ -104,13 +105,22 @@ is_alone world kept complete = complete_in world.source.phase world complete kep
 
 -- Pairs
 
+either_one : (a b : Bool) → a ≡ true → (a || b) ≡ true
+either_one true b h = refl
+either_one false b h = none_absurd h
+
 pub are_paired : (world : World) → IsKept world → ArePaired world
 are_paired world kept =
     record {
       one_to_one = kept.one_to_one;
       present = kept.origins_present;
+      settled_one_to_one = λ page other origin h k. IsOneToOne-settled world.destination.guest.space.object.events (get world.destination.owed) kept.one_to_one page other origin h k;
+      settled_present = λ page origin h. let pair = values-settled world.destination.guest.space.object.events (get world.destination.owed) page origin h in kept.origins_present pair.0 origin pair.1;
+      mapped = λ page origin h.
+          kept.destination_space.mapped page (either_one (contains world.destination.guest.space.object.missing page) (contains world.destination.guest.space.object.protect page) (kept.pairs_missing page origin h).0);
       registered = λ page origin h. (kept.pairs_missing page origin h).0;
       missing = λ page origin h. (kept.pairs_missing page origin h).1;
+      ended = kept.ended_empty;
     }
 
 -- Whereabouts

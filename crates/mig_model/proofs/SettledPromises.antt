@@ -1,23 +1,44 @@
--- What a map call, the reading of a message and an install do to the settled relation.
-use Rattle.std.proofs.Common.{◌≡◌, ℕ, Bool, true, false, Option, Some, None, List, [], ◌∷◌, refl, sym, ap}
-use Rattle.std.specs.FinMap.{get}
+-- What each step does to the settled relation: a map call changes it as it changes the pages, an install takes away its own pair, and
+-- no other step changes it.
+use Rattle.std.proofs.Common.{◌≡◌, ℕ, ◌/◌, ◌*◌, Bool, true, false, cond, eqb, Option, Some, None, List, [], ◌∷◌, refl, sym, ap, ◌∙◌, subst, arith, if◌then◌else◌}
+use Rattle.std.specs.Prelude.{Ok}
+use Rattle.std.specs.Ordering.{nat_cmp}
+use Rattle.std.specs.Cmp.{nat_cmp_total, unsigned_tied}
+use Rattle.std.specs.FinMap as finmap
+use Rattle.std.specs.FinMap.{FinMap, get}
 use Rattle.std.proofs.lemmas.Bool.{false≢true}
 use Rattle.mig_base.specs.declared.command.Command.{Command}
+use Rattle.mig_base.specs.declared.command.Access.{Access}
+use Rattle.mig_base.specs.declared.command.Access.TheVariants.{Answered, Missing, Protected}
 use Rattle.mig_base.specs.declared.message.Message.{Message}
 use Rattle.mig_base.specs.declared.message.Message.TheVariants.{PageFault, Remap, Remove, Unmap}
 use Rattle.mig_base.specs.Flat.{reply_of}
 use Rattle.mig_model.specs.Host.{memory}
-use Rattle.mig_model.specs.Userfault.{Noted}
 use Rattle.mig_model.specs.World.{is_access}
-use Rattle.mig_model.specs.Guest.{tried}
-use Rattle.mig_model.specs.Nodes.{settled}
-use Rattle.mig_model.specs.Migration.{World, Refusal, refusal_of, accepted, command_tried, with_guest_by, guest_by, next, next_by}
-use Rattle.mig_model.specs.Migration.Step.{DestRead}
-use Rattle.mig_model.specs.Invariant.{IsKept, AreFaults, AreRight}
-use Rattle.mig_model.specs.Promises.{owed_changed}
+use Rattle.mig_model.specs.Userfault.{Noted, Object, waits_fault}
+use Rattle.mig_model.specs.Space.{Space, access_of, accessed_by, page_of}
+use Rattle.mig_model.specs.Guest.{Fault, tried}
+use Rattle.mig_model.specs.Wire.{Frame, Sent, Copy, Received}
+use Rattle.mig_model.specs.Wire.Frame.{Advise, Page, Zero, Discard, Package, End, Resume, Request, Recv, Done}
+use Rattle.mig_model.specs.Wire.Received.{NotRun, Running, Ended}
+use Rattle.mig_model.specs.Nodes.{Destination, Act, settled, settled_by, home, install_by, install_made, copy_came, resumed_by, received_of, destination_took, destination_act, destination_acted_by}
+use Rattle.mig_model.specs.Nodes.Act.{Unprotected, Zeroed, Woke, Forgot, Requested}
+use Rattle.mig_model.specs.Migration.{World, Step, Effect, Refusal, reasons, refusal_of, accepted, command_tried, with_guest_by, guest_by, next, next_by, outcome, outcome_by, effect_of, install_effect, install_effect_by, delivered, acted_by_destination}
+use Rattle.mig_model.specs.Migration.Step.{Issue, Retry, Start, Round, Send, SourceRead, SourceAct, Switch, Deliver, DeliverBack, DestRead, DestAct, Install, Push, Serve, SendEnd, Break, Notice, Reconnect}
+use Rattle.mig_model.specs.Migration.Side.{AtSource, AtDestination}
+use Rattle.mig_model.specs.Migration.Effect.{Installed, Dropped, EndSent}
+use Rattle.mig_model.specs.Invariant.{IsKept, AreFaults, AreRight, is_package}
+use Rattle.mig_model.specs.Promises.{owed_changed, leaves_settled}
+use Rattle.mig_model.proofs.Breaking.{none_applies}
+use Rattle.mig_model.proofs.Stopping.{not_none}
+use Rattle.mig_model.proofs.SwitchMade.{no_events}
+use Rattle.mig_model.proofs.PartsChanged.{changes_parts}
 use Rattle.mig_model.proofs.SettledLemmas.{settled_by-applied}
 use Rattle.mig_model.proofs.TriedLemmas.{settled_then}
 use Rattle.mig_model.proofs.DestinationCommands.{ready_of}
+use Rattle.mig_model.proofs.FirstFrame.{first_in_place}
+use Rattle.mig_model.proofs.FramesTaken.{with_first}
+use Rattle.mig_model.proofs.WaitingCommands.{package_told}
 
 -- A map call at the destination
 
@@ -71,3 +92,155 @@ unfolding next
 settled_read world kept page =
     by_refusal (refusal_of world DestRead) world (accepted world DestRead) page
     (read_settled world.destination.guest.space.object.faults world.destination.guest.space.object.events world kept.destination_faults kept.destination_events page)
+
+-- A load or store
+
+queued_events : (waits : Bool) (object other : Object) → other.events ≡ object.events → (if waits then object else other).events ≡ object.events
+queued_events true object other h = refl
+queued_events false object other h = h
+
+accessed_events : (access : Access) (space : Space) (cpu : ℕ) (command : Command) → (accessed_by access space cpu command).object.events ≡ space.object.events
+accessed_events (Answered reply) space cpu command = refl
+accessed_events Missing space cpu command = queued_events (waits_fault space.object.faults (4096 * page_of command) false) space.object _ refl
+accessed_events Protected space cpu command = queued_events (waits_fault space.object.faults (4096 * page_of command) true) space.object _ refl
+
+accessed_by_node : (ran access : Bool) (world : World) (cpu : ℕ) (command : Command) → ran ≡ true → access ≡ true → (page : ℕ) →
+    settled (with_guest_by ran world (tried access (guest_by ran world.source.guest world.destination.guest) cpu command)).destination page ≡ settled world.destination page
+accessed_by_node false access world cpu command runs is page = absurd (false≢true runs)
+accessed_by_node true false world cpu command runs is page = absurd (false≢true is)
+accessed_by_node true true world cpu command runs is page =
+    ap (λ events. settled_by events (get world.destination.owed) page) (accessed_events (access_of world.destination.guest.space command) world.destination.guest.space cpu command)
+
+pub settled_access : (world : World) (cpu : ℕ) (command : Command) → world.destination.has_run ≡ true → is_access command ≡ true → (page : ℕ) → settled (command_tried world cpu command).destination page ≡ settled world.destination page
+settled_access world cpu command ran is page = accessed_by_node world.destination.has_run (is_access command) world cpu command ran is page
+
+-- An install takes away its own pair
+
+same_installed : (a b c d : ℕ) → Installed a b ≡ Installed c d → a ≡ c
+same_installed a b c d h = cc
+
+not_installed : (a c d : ℕ) → Dropped a ≡ Installed c d → ⊥
+not_installed a c d h = cc
+
+not_sent : (c d : ℕ) → EndSent ≡ Installed c d → ⊥
+not_sent c d h = cc
+
+page_again : (page addr : ℕ) → 4096 * page ≡ addr → page ≡ addr / 4096
+page_again page addr h = omega (arith, h)
+
+without_pair : (owed : FinMap nat_cmp ℕ) (page q : ℕ) → get (finmap.remove owed page) q ≡ (if eqb q page then None else get owed q)
+without_pair owed page q = finmap.get-remove nat_cmp_total owed page q ∙ ap (λ b. cond b None (get owed q)) (unsigned_tied q page)
+
+installed_by : (o : Option ℕ) (copy : Copy) (rest : List Copy) (world : World) (addr source : ℕ) → world.destination.guest.space.object.events ≡ [] → install_effect_by o copy.page ≡ Installed addr source → (page : ℕ) →
+    settled (install_by o world.destination copy rest) page ≡ (if eqb page (addr / 4096) then None else settled world.destination page)
+installed_by None copy rest world addr source quiet same page = absurd (not_installed (4096 * copy.page) addr source same)
+installed_by (Some here) copy rest world addr source quiet same page =
+    let at = page_again here addr (same_installed (4096 * here) (4096 * copy.page) addr source same) in
+    ap (λ events. settled_by events (get (finmap.remove world.destination.owed here)) page) quiet
+    ∙ without_pair world.destination.owed here page
+    ∙ ap (λ p. if eqb page p then None else get world.destination.owed page) at
+    ∙ ap (λ o. if eqb page (addr / 4096) then None else o) (sym (ap (λ events. settled_by events (get world.destination.owed) page) quiet))
+
+installed_first : (arrivals : List Copy) (world : World) (addr source : ℕ) → world.destination.guest.space.object.events ≡ [] → install_effect world.destination arrivals ≡ Installed addr source → (page : ℕ) →
+    settled (install_made world.destination arrivals) page ≡ (if eqb page (addr / 4096) then None else settled world.destination page)
+installed_first [] world addr source quiet same page = absurd (not_sent addr source same)
+installed_first (copy ∷ rest) world addr source quiet same page = installed_by (home world.destination.owed copy.page) copy rest world addr source quiet same page
+
+outcome_told : (o : Option Refusal) (effect other : Effect) → outcome_by o effect ≡ Ok other → (o ≡ None) × (effect ≡ other)
+outcome_told None effect other h = (refl, cc)
+outcome_told (Some refusal) effect other h = absurd (cc)
+
+pub settled_install : (world : World) (addr source : ℕ) → outcome world Install ≡ Ok (Installed addr source) → (page : ℕ) →
+    settled (next world Install).destination page ≡ (if eqb page (addr / 4096) then None else settled world.destination page)
+unfolding outcome next
+settled_install world addr source answered page =
+    let told = outcome_told (refusal_of world Install) (effect_of world Install) (Installed addr source) answered in
+    let quiet = no_events world.destination.guest.space.object.events (none_applies (reasons world Install) told.0).1.1.0 in
+    ap (λ o. settled (next_by o world (accepted world Install)).destination page) told.0
+    ∙ installed_first world.destination.arrivals world addr source quiet told.1 page
+
+-- Any other step
+
+came_settled : (ran : Bool) (node : Destination) (copy : Copy) (page : ℕ) → settled (copy_came ran node copy) page ≡ settled node page
+came_settled true node copy page = refl
+came_settled false node copy page = refl
+
+resumed_settled : (state : Received) (node : Destination) (page : ℕ) → settled (resumed_by state node) page ≡ settled node page
+resumed_settled NotRun node page = refl
+resumed_settled Running node page = refl
+resumed_settled Ended node page = refl
+
+took_settled : (frame : Frame) (node : Destination) (epoch page : ℕ) → is_package frame ≡ false → settled (destination_took node epoch frame) page ≡ settled node page
+took_settled Advise node epoch page h = refl
+took_settled (Page number bytes) node epoch page h = came_settled node.has_run node _ page
+took_settled (Zero number) node epoch page h = came_settled node.has_run node _ page
+took_settled (Discard pages) node epoch page h = refl
+took_settled (Package areas owed commands) node epoch page h = absurd (false≢true (sym h))
+took_settled End node epoch page h = refl
+took_settled Resume node epoch page h = resumed_settled (received_of node) _ page
+took_settled (Request number) node epoch page h = refl
+took_settled (Recv state owed) node epoch page h = refl
+took_settled Done node epoch page h = refl
+
+acted_settled : (act : Act) (node : Destination) (fault page : ℕ) → settled (destination_acted_by act node fault) page ≡ settled node page
+acted_settled Unprotected node fault page = refl
+acted_settled Zeroed node fault page = refl
+acted_settled Woke node fault page = refl
+acted_settled Forgot node fault page = refl
+acted_settled (Requested source) node fault page = refl
+
+held_settled : (held : List Fault) (world : World) (page : ℕ) → settled (acted_by_destination world held).destination page ≡ settled world.destination page
+held_settled [] world page = refl
+held_settled (fault ∷ rest) world page = acted_settled (destination_act world.destination fault) world.destination fault.page page
+
+-- a destination that has run takes no Package
+frame_settled : (frame : Frame) (epoch : ℕ) (rest : List Sent) (world : World) → IsKept world → world.up ≡ true → world.destination.has_run ≡ true → world.forward ≡ record { epoch = epoch; frame = frame } ∷ rest → (page : ℕ) →
+    settled (destination_took world.destination epoch frame) page ≡ settled world.destination page
+frame_settled (Package areas owed commands) epoch rest world kept up ran first page =
+    let again = subst (λ w. IsKept (record world { forward = w })) first kept in
+    let old = with_first world.source.phase world.destination.phase epoch (Package areas owed commands) rest world in
+    let is = first_in_place old.source old.destination (record { epoch = epoch; frame = Package areas owed commands }) rest old.back (again.wires up) in
+    absurd (false≢true (sym (package_told world.source.phase world.destination.phase epoch areas owed commands rest world is up again).1 ∙ ran))
+frame_settled Advise epoch rest world kept up ran first page = took_settled Advise world.destination epoch page refl
+frame_settled (Page number bytes) epoch rest world kept up ran first page = took_settled (Page number bytes) world.destination epoch page refl
+frame_settled (Zero number) epoch rest world kept up ran first page = took_settled (Zero number) world.destination epoch page refl
+frame_settled (Discard pages) epoch rest world kept up ran first page = took_settled (Discard pages) world.destination epoch page refl
+frame_settled End epoch rest world kept up ran first page = took_settled End world.destination epoch page refl
+frame_settled Resume epoch rest world kept up ran first page = took_settled Resume world.destination epoch page refl
+frame_settled (Request number) epoch rest world kept up ran first page = took_settled (Request number) world.destination epoch page refl
+frame_settled (Recv state owed) epoch rest world kept up ran first page = took_settled (Recv state owed) world.destination epoch page refl
+frame_settled Done epoch rest world kept up ran first page = took_settled Done world.destination epoch page refl
+
+delivered_settled : (wire : List Sent) (world : World) → IsKept world → world.up ≡ true → world.destination.has_run ≡ true → world.forward ≡ wire → (page : ℕ) → settled (delivered world wire).destination page ≡ settled world.destination page
+delivered_settled [] world kept up ran first page = refl
+delivered_settled (sent ∷ rest) world kept up ran first page = frame_settled sent.frame sent.epoch rest world kept up ran first page
+
+by_step : (refusal : Option Refusal) (old new : World) (page : ℕ) → (refusal ≡ None → settled new.destination page ≡ settled old.destination page) → settled (next_by refusal old new).destination page ≡ settled old.destination page
+by_step None old new page h = h refl
+by_step (Some refusal) old new page h = refl
+
+same_node : (old new : World) (page : ℕ) → new.destination ≡ old.destination → settled new.destination page ≡ settled old.destination page
+same_node old new page h = ap (λ node. settled node page) h
+
+pub settled_else : (world : World) (step : Step) → IsKept world → world.destination.has_run ≡ true → leaves_settled step ≡ true → (page : ℕ) → settled (next world step).destination page ≡ settled world.destination page
+unfolding next
+settled_else world (Issue cpu command) kept ran leaves page = by_step (refusal_of world (Issue cpu command)) world (accepted world (Issue cpu command)) page (λ free. settled_access world cpu command ran leaves page)
+settled_else world (Retry cpu) kept ran leaves page = absurd (false≢true leaves)
+settled_else world Install kept ran leaves page = absurd (false≢true leaves)
+settled_else world Start kept ran leaves page = same_node world (next world Start) page (changes_parts world Start).destination
+settled_else world Round kept ran leaves page = same_node world (next world Round) page (changes_parts world Round).destination
+settled_else world Send kept ran leaves page = same_node world (next world Send) page (changes_parts world Send).destination
+settled_else world SourceRead kept ran leaves page = same_node world (next world SourceRead) page (changes_parts world SourceRead).destination
+settled_else world SourceAct kept ran leaves page = same_node world (next world SourceAct) page (changes_parts world SourceAct).destination
+settled_else world Switch kept ran leaves page = same_node world (next world Switch) page (changes_parts world Switch).destination
+settled_else world Deliver kept ran leaves page = by_step (refusal_of world Deliver) world (accepted world Deliver) page (λ free. delivered_settled world.forward world kept (not_none _ (none_applies (reasons world Deliver) free).1.0) ran refl page)
+settled_else world DeliverBack kept ran leaves page = same_node world (next world DeliverBack) page (changes_parts world DeliverBack).destination
+settled_else world DestRead kept ran leaves page = settled_read world kept page
+settled_else world DestAct kept ran leaves page = by_step (refusal_of world DestAct) world (accepted world DestAct) page (λ free. held_settled world.destination.guest.held world page)
+settled_else world (Push epoch number) kept ran leaves page = same_node world (next world (Push epoch number)) page (changes_parts world (Push epoch number)).destination
+settled_else world Serve kept ran leaves page = same_node world (next world Serve) page (changes_parts world Serve).destination
+settled_else world SendEnd kept ran leaves page = same_node world (next world SendEnd) page (changes_parts world SendEnd).destination
+settled_else world Break kept ran leaves page = same_node world (next world Break) page (changes_parts world Break).destination
+settled_else world (Notice AtSource) kept ran leaves page = by_step (refusal_of world (Notice AtSource)) world (accepted world (Notice AtSource)) page (λ free. refl)
+settled_else world (Notice AtDestination) kept ran leaves page = by_step (refusal_of world (Notice AtDestination)) world (accepted world (Notice AtDestination)) page (λ free. refl)
+settled_else world Reconnect kept ran leaves page = same_node world (next world Reconnect) page (changes_parts world Reconnect).destination

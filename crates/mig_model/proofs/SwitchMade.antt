@@ -70,7 +70,7 @@ rest_of false sent low present k bytes same was is below =
 some_above : (n : ℕ) → ltb 0 (suc n) ≡ true
 some_above n = grind (arith, nat_tests)
 
-no_events : (events : List Noted) → ltb 0 (length events) ≡ false → events ≡ []
+pub no_events : (events : List Noted) → ltb 0 (length events) ≡ false → events ≡ []
 no_events [] h = refl
 no_events (noted ∷ events) h = none_absurd (sym h ∙ some_above (length events))
 

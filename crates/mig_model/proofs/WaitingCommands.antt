@@ -250,7 +250,7 @@ commands_in (Package areas owed commands) other = commands
 commands_in frame other = other
 
 -- a Package that comes next has the outstanding commands of the source, and the destination has not run
-package_told : (from : SourcePhase) (to : DestinationPhase) (epoch : ℕ) (areas : FinMap nat_cmp Prot) (owed : FinSet nat_cmp) (commands : List (Option Command)) (rest : List Sent) (world : World) →
+pub package_told : (from : SourcePhase) (to : DestinationPhase) (epoch : ℕ) (areas : FinMap nat_cmp Prot) (owed : FinSet nat_cmp) (commands : List (Option Command)) (rest : List Sent) (world : World) →
     comes from to (Package areas owed commands) ≡ true → world.up ≡ true → IsKept (with_first from to epoch (Package areas owed commands) rest world) →
     (commands ≡ commands_of world.source.guest.processors) × (world.destination.has_run ≡ false)
 unfolding commands_in

@@ -12,6 +12,7 @@ use Rattle.mig_base.specs.declared.command.Reply.TheVariants.{Done, At, Refused}
 use Rattle.mig_base.specs.Ranges.{in_range, pages_of}
 use Rattle.mig_base.specs.Flat.{memory_of}
 use Rattle.mig_model.specs.Host.{memory}
+use Rattle.mig_model.specs.World.{is_access}
 use Rattle.mig_model.specs.Space.{fresh_space}
 use Rattle.mig_model.specs.Guest.{is_present}
 use Rattle.mig_model.specs.Wire.{Frame, Sent}
@@ -19,7 +20,7 @@ use Rattle.mig_model.specs.Wire.Frame.{Advise, Page, Zero, Discard, Package, End
 use Rattle.mig_model.specs.Nodes.{Source, Destination, DestinationPhase, space_of, settled, is_released, is_stopped, is_source_paused}
 use Rattle.mig_model.specs.Nodes.DestinationPhase.{NotAdvised, Advised, Discarding, Runs, Interrupted}
 use Rattle.mig_model.specs.Migration.{World, Step, first_world_with, after_steps}
-use Rattle.mig_model.specs.Migration.Step.{Retry, Start, Switch, Deliver, DeliverBack, SendEnd}
+use Rattle.mig_model.specs.Migration.Step.{Issue, Retry, Install, Start, Switch, Deliver, DeliverBack, SendEnd}
 use Rattle.mig_model.specs.Invariant.{copies_of, has_copy, AreFaithful}
 
 -- a world that some list of steps leads to, from a first world with some counts
@@ -42,13 +43,18 @@ pub record IsAlone (world : World) : Type 0 where
   pub none_settled : (page : ℕ) → settled world.destination page ≡ None
   pub none_arrived : world.destination.arrivals ≡ []
 
--- the pairs of pages that are owed: one to one, each source page is present at the source, and each page that is still owed is mapped,
--- registered for missing faults, and missing
+-- the pairs of pages that are owed, in the table and in the settled relation: one to one, each source page is present at the source,
+-- and each page that is still owed is mapped, registered for missing faults, and missing. A destination that has ended has none, and
+-- no copy waits
 pub record ArePaired (world : World) : Type 0 where
   pub one_to_one : (page other origin : ℕ) → get world.destination.owed page ≡ Some origin → get world.destination.owed other ≡ Some origin → page ≡ other
   pub present : (page origin : ℕ) → get world.destination.owed page ≡ Some origin → is_present (space_of world.source) origin ≡ true
+  pub settled_one_to_one : (page other origin : ℕ) → settled world.destination page ≡ Some origin → settled world.destination other ≡ Some origin → page ≡ other
+  pub settled_present : (page origin : ℕ) → settled world.destination page ≡ Some origin → is_present (space_of world.source) origin ≡ true
+  pub mapped : (page origin : ℕ) → settled world.destination page ≡ Some origin → contains_key world.destination.guest.space.host.areas page ≡ true
   pub registered : (page origin : ℕ) → settled world.destination page ≡ Some origin → contains world.destination.guest.space.object.missing page ≡ true
   pub missing : (page origin : ℕ) → settled world.destination page ≡ Some origin → is_present world.destination.guest.space page ≡ false
+  pub ended : world.destination.ended ≡ true → (world.destination.owed ≡ finmap.empty) × (world.destination.arrivals ≡ [])
 
 -- where the destination has run: while the link is up and the source is stopped, each owed page is to be pushed, in flight, or
 -- arrived; and each copy in flight or arrived has the bytes that the source holds for its page
@@ -133,6 +139,13 @@ owed_changed owed (Mremap addr old_len new_len may_move fixed) (At target) = mov
 owed_changed owed (DontNeed addr len) Done = gone owed (addr / PAGE_SIZE) (pages_of len)
 owed_changed owed (DontNeed addr len) (Refused Enomem) = gone owed (addr / PAGE_SIZE) (pages_of len)
 owed_changed owed _ _ = owed
+
+-- the steps that are neither a map call, an install, nor a Retry, whose command is told apart
+abbrev pub leaves_settled : Step → Bool
+leaves_settled (Issue cpu command) = is_access command
+leaves_settled (Retry cpu) = false
+leaves_settled Install = false
+leaves_settled step = true
 
 -- Waiting commands
 

@@ -2,7 +2,7 @@
 //! and resumptions, in any order, those that are refused among them. Each law is a function with an empty body, whose contract is
 //! the law.
 
-ghost use Rattle.std.specs.Prelude.{◌≡◌, ℕ, ◌*◌, ◌/◌, ◌∷◌, true, false, None, Some, Ok, List};
+ghost use Rattle.std.specs.Prelude.{◌≡◌, ℕ, ◌/◌, ◌∷◌, ◌==◌, true, false, if◌then◌else◌, None, Some, Ok, List};
 ghost use Rattle.mig_base.specs.declared.command.Command.{Command};
 ghost use Rattle.mig_base.specs.Flat.{IsFlatRun, memory_of, reply_of};
 ghost use Rattle.mig_model.specs.Host.{memory};
@@ -12,12 +12,12 @@ ghost use Rattle.mig_model.specs.Wire.{Sent};
 ghost use Rattle.mig_model.specs.Wire.Received.{Running};
 ghost use Rattle.mig_model.specs.Nodes.{space_of, settled, is_precopy, is_stopped, is_source_paused, is_running, source_act, destination_act};
 ghost use Rattle.mig_model.specs.Nodes.Act.{Zeroed};
-ghost use Rattle.mig_model.specs.Migration.{World, Step, guest_of, outcome, accepted, next, first_world, after_steps};
-ghost use Rattle.mig_model.specs.Migration.Step.{Issue, DestRead, Install};
+ghost use Rattle.mig_model.specs.Migration.{World, Step, guest_of, command_tried, outcome, accepted, next, first_world, after_steps};
+ghost use Rattle.mig_model.specs.Migration.Step.{Issue, Install};
 ghost use Rattle.mig_model.specs.Migration.Effect.{Installed};
 ghost use Rattle.mig_model.specs.Invariant.{IsKept, IsPrecopying, IsSwitching, IsReceiving, current_host};
 ghost use Rattle.mig_model.specs.Parts.{ChangesParts};
-ghost use Rattle.mig_model.specs.Promises.{IsReached, IsComplete, IsAlone, ArePaired, AreUnderWay, IsPut, IsTaken, IsInPlaceBack, owed_changed, is_retry_of, story};
+ghost use Rattle.mig_model.specs.Promises.{IsReached, IsComplete, IsAlone, ArePaired, AreUnderWay, IsPut, IsTaken, IsInPlaceBack, owed_changed, leaves_settled, is_retry_of, story};
 
 /// The transcript is the run of one flat memory on the same commands in the order in which they took effect, and the guest sees the
 /// last memory of that run. Before the destination runs it is the source's; from then on each page is the destination's own, or that
@@ -68,12 +68,18 @@ pub fn owed_pages_are_under_way()
     ensures { (world : World) → IsReached world → world.destination.has_run ≡ true → AreUnderWay world }
 {}
 
-/// A map call at the destination changes the settled relation as it changes the pages: the pairs of pages that it unmaps, replaces or
-/// makes zeros end, and the pairs of pages that it moves move. Reading a message leaves the relation as it is.
+/// Once the destination has run, a map call changes the settled relation as it changes the pages: the pairs of pages that it unmaps,
+/// replaces or makes zeros end, and the pairs of pages that it moves move. An install takes away its own pair. A load or store, tried
+/// for the first time or again, leaves the relation, and so does every other step: the reading of a message among them.
 pub fn the_settled_relation()
     ensures call { (world : World) (cpu : ℕ) (command : Command) (page : ℕ) → IsReached world → world.destination.has_run ≡ true → is_access command ≡ false →
         settled (accepted world (Issue cpu command)).destination page ≡ owed_changed (settled world.destination) command (reply_of (memory world.destination.guest.space.host) command) page }
-    ensures read { (world : World) (page : ℕ) → IsReached world → settled (next world DestRead).destination page ≡ settled world.destination page }
+    ensures install { (world : World) (addr source page : ℕ) → outcome world Install ≡ Ok (Installed addr source) →
+        settled (next world Install).destination page ≡ (if page == addr / 4096 then None else settled world.destination page) }
+    ensures access { (world : World) (cpu : ℕ) (command : Command) (page : ℕ) → world.destination.has_run ≡ true → is_access command ≡ true →
+        settled (command_tried world cpu command).destination page ≡ settled world.destination page }
+    ensures others { (world : World) (step : Step) (page : ℕ) → IsReached world → world.destination.has_run ≡ true → leaves_settled step ≡ true →
+        settled (next world step).destination page ≡ settled world.destination page }
 {}
 
 /// No page is installed over one that is present: a copy that is installed, and a page of zeros that either handler puts, find the

@@ -1,9 +1,15 @@
 use Rattle.mig_model.proofs.EveryStep.{kept-reached}
-use Rattle.mig_model.proofs.SettledPromises.{settled_call, settled_read}
+use Rattle.mig_model.proofs.SettledPromises.{settled_call, settled_install, settled_access, settled_else}
 use Rattle.mig_model.proofs.migration.the_settled_relation.Goals as goal
 
 pub returns-clause-call : goal.returns-clause-call
 returns-clause-call c world cpu command page reached ran is = settled_call world cpu command (kept-reached world reached) ran is page
 
-pub returns-clause-read : goal.returns-clause-read
-returns-clause-read c world page reached = settled_read world (kept-reached world reached) page
+pub returns-clause-install : goal.returns-clause-install
+returns-clause-install c world addr source page answered = settled_install world addr source answered page
+
+pub returns-clause-access : goal.returns-clause-access
+returns-clause-access c world cpu command page ran is = settled_access world cpu command ran is page
+
+pub returns-clause-others : goal.returns-clause-others
+returns-clause-others c world step page reached ran leaves = settled_else world step (kept-reached world reached) ran leaves page
