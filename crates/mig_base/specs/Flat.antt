@@ -89,7 +89,7 @@ write memory addr width value =
     λ at. if in_range addr width at then written (memory at) (value / 256 ^ (at - addr) % 256) else memory at
 
 -- the answer of an access whose form is right, from the cell at its first address: an access to a page that is not mapped,
--- or that its protection forbids, is a segmentation fault (mmap(2), NOTES; SEGV_MAPERR and SEGV_ACCERR of sigaction(2))
+-- or that its protection forbids, is a segmentation fault (mmap(2), ERRORS, SIGSEGV; SEGV_MAPERR and SEGV_ACCERR of sigaction(2))
 abbrev pub access_reply : Option Cell → (Prot → Bool) → Reply → Reply
 access_reply None allows answer = Segv false
 access_reply (Some cell) allows answer = if allows cell.prot then answer else Segv true
@@ -127,8 +127,8 @@ abbrev pub exceeds_limit : Memory → Bool
 exceeds_limit memory = nat_lt (PAGE_SIZE * MAX_PAGES) (mapped_count memory)
 
 -- what refuses a place that is asked for, of a rounded length: it is no multiple of the page size (mmap(2), MAP_FIXED), it is
--- longer than the address space, it begins below the least address that may be mapped (mmap(2), ERRORS, EPERM: mmap_min_addr of
--- proc_sys_vm(5)), or it ends past the address space
+-- longer than the address space, it begins below the least address that may be mapped (mmap(2), DESCRIPTION, of
+-- /proc/sys/vm/mmap_min_addr; the kernel answers EPERM), or it ends past the address space
 abbrev pub place_refusals : ℕ → ℕ → List (Bool × Errno)
 place_refusals addr size =
     (not (is_page_start addr), Einval) ∷ (nat_lt (HIGH - LOW) size, Enomem) ∷ (nat_lt addr LOW, Eperm) ∷ (nat_lt HIGH (addr + size), Enomem) ∷ []
@@ -153,8 +153,9 @@ abbrev pub munmap_reply : ℕ → ℕ → Reply
 munmap_reply addr len =
     first_refusal ((not (is_page_start addr), Einval) ∷ (len == 0, Einval) ∷ (nat_lt HIGH (addr + rounded len), Einval) ∷ []) Done
 
--- madvise(2), ERRORS: EINVAL for an address that is no multiple of the page size, or a range that ends past the last address;
--- a length of 0 is done at once. ENOMEM where part of the range is not mapped: the part that is mapped is made zeros all the same
+-- madvise(2), MADV_DONTNEED and ERRORS: EINVAL for an address that is no multiple of the page size, and for a range that ends past
+-- the last address, whose length is negative for the kernel; a length of 0 is done at once. ENOMEM where part of the range is not
+-- mapped: the part that is mapped is made zeros all the same
 abbrev pub dontneed_reply : Memory → ℕ → ℕ → Reply
 dontneed_reply memory addr len =
     if not (is_page_start addr) then Refused Einval

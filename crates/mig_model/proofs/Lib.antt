@@ -57,3 +57,4 @@ pub mod FramesTaken
 pub mod WaitingCommands
 pub mod SettledPromises
 pub mod Story
+pub mod StepPromises

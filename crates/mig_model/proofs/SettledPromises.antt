@@ -244,3 +244,19 @@ settled_else world Break kept ran leaves page = same_node world (next world Brea
 settled_else world (Notice AtSource) kept ran leaves page = by_step (refusal_of world (Notice AtSource)) world (accepted world (Notice AtSource)) page (λ free. refl)
 settled_else world (Notice AtDestination) kept ran leaves page = by_step (refusal_of world (Notice AtDestination)) world (accepted world (Notice AtDestination)) page (λ free. refl)
 settled_else world Reconnect kept ran leaves page = same_node world (next world Reconnect) page (changes_parts world Reconnect).destination
+
+-- A copy that is given up leaves the relation
+
+dropped_by : (o : Option ℕ) (copy : Copy) (rest : List Copy) (world : World) (source page : ℕ) → install_effect_by o copy.page ≡ Dropped source → settled (install_by o world.destination copy rest) page ≡ settled world.destination page
+dropped_by None copy rest world source page same = refl
+dropped_by (Some here) copy rest world source page same = absurd (cc)
+
+dropped_first : (arrivals : List Copy) (world : World) (source page : ℕ) → install_effect world.destination arrivals ≡ Dropped source → settled (install_made world.destination arrivals) page ≡ settled world.destination page
+dropped_first [] world source page same = refl
+dropped_first (copy ∷ rest) world source page same = dropped_by (home world.destination.owed copy.page) copy rest world source page same
+
+pub settled_dropped : (world : World) (source page : ℕ) → outcome world Install ≡ Ok (Dropped source) → settled (next world Install).destination page ≡ settled world.destination page
+unfolding outcome next
+settled_dropped world source page answered =
+    let told = outcome_told (refusal_of world Install) (effect_of world Install) (Dropped source) answered in
+    ap (λ o. settled (next_by o world (accepted world Install)).destination page) told.0 ∙ dropped_first world.destination.arrivals world source page told.1

@@ -176,7 +176,7 @@ are_requests_and_done (sent ∷ rest) = is_request sent.frame && are_requests_an
 
 -- What is in flight in each pair of phases, while the link is up
 
--- how far the wire gets, once Switch was made: End is on it if it was sent in this epoch
+-- how far the wire gets, once Switch was made: End is the last frame on it, or was taken, if it was sent in this epoch
 abbrev pub flow_of : Source → Flow
 flow_of source = if source.ended == source.epoch then AfterEnd else Pushed
 
@@ -197,7 +197,7 @@ pub record IsPrecopying (source : Source) (kept : FinMap nat_cmp (List ℕ)) (fo
   -- each page that has a copy was sent in this epoch
   pub copies_sent : (page : ℕ) → contains_key (kept_by kept forward) page ≡ true → contains source.sent page ≡ true
 
--- where the destination has run and the source has what it is owed
+-- while the destination runs and the source is stopped
 pub record IsFlowing (source : Source) (destination : Destination) (forward : List Sent) : Type 0 where
   -- each owed page is to be pushed, in flight, or arrived
   pub whereabouts : (page origin : ℕ) → get destination.owed page ≡ Some origin → (contains source.remaining origin || has_copy (copies_of forward) origin || has_copy destination.arrivals origin) ≡ true
@@ -302,7 +302,7 @@ pub record IsKept (world : World) : Type 0 where
   -- unread events are of whole pages, and moves are between ranges that lie apart
   pub source_events : AreRight (space_of world.source).object.events
   pub destination_events : AreRight world.destination.guest.space.object.events
-  -- where page faults wait nothing else does: an event that was read before its turn would change the owed table
+  -- the queue of page faults holds page faults alone: an event that was read from it would change the owed table before its turn
   pub destination_faults : AreFaults world.destination.guest.space.object.faults
   -- the phase of the source tells whether Switch was made, and that of the destination whether it has run and ended
   pub source_phase : SwitchedAt world.source.phase world.source.switched

@@ -1,5 +1,6 @@
 -- The calls of a userfault object as a table: what each answers, and the space afterwards. ioctl_userfaultfd(2) and
--- userfaultfd(2); where several errors apply, the order is this project's.
+-- userfaultfd(2). This project's own: the order where several errors apply; what counts as one area, and what a call that stops part
+-- way answers; EAGAIN while an event is unread (the kernel's mmap_changing); and the mode of a page that is registered again.
 use Rattle.std.specs.Prelude.{ℕ, zero, suc, ◌+◌, ◌*◌, ◌/◌, ◌%◌, ◌==◌, ◌&&◌, ◌||◌, not, nat_lt, Bool, true, false, if◌then◌else◌, Option, Some, None, Result, Ok, Err, is_some, unwrap_or, List, [], ◌∷◌, length, take, drop}
 use Rattle.std.specs.Ordering.{nat_cmp}
 use Rattle.std.specs.FinMap.{FinMap, get, insert, contains_key}
@@ -54,6 +55,10 @@ is_feature i = i == 0 || i == 2 || i == 3 || i == 6
 -- the same as one number
 abbrev pub all_features : ℕ
 all_features = 77
+
+-- the features of the object of a destination: the three events
+abbrev pub event_features : ℕ
+event_features = 76
 
 -- whether the three events were asked for
 abbrev pub has_events : Object → Bool
@@ -110,7 +115,7 @@ register_error space start len bits =
 abbrev pub is_mapped_in : Space → ℕ → ℕ → ℕ → Bool
 is_mapped_in space first count page = in_range first count page && contains_key space.host.areas page
 
--- the mapped pages are registered; one that is registered for write-protect faults no longer loses its protection
+-- the mapped pages are registered; a page that is no longer registered for write-protect faults loses its protection
 abbrev pub registered_in : Space → ℕ → ℕ → Mode → Space
 registered_in space first count mode =
     record space {

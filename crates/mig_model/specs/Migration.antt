@@ -62,7 +62,7 @@ pub data Step : Type 0 where
   -- a node takes the next frame of its wire
   Deliver : Step
   DeliverBack : Step
-  -- the same of the destination's handler, and the next copy that came is installed
+  -- the destination's handler reads a message, or works the fault that it has read first; and the next copy that came is installed
   DestRead : Step
   DestAct : Step
   Install : Step

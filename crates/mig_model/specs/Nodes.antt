@@ -17,7 +17,7 @@ use Rattle.mig_base.specs.Sets.{pages_where}
 use Rattle.mig_base.specs.Bytes.{contents, zero_page}
 use Rattle.mig_model.specs.Userfault.{Noted, Mode, fresh_object, enabled_with, registered_where}
 use Rattle.mig_model.specs.Space.{Space, fresh_space}
-use Rattle.mig_model.specs.Ioctls.{all_features, registered_in, installed as pages_installed, protected_in}
+use Rattle.mig_model.specs.Ioctls.{all_features, event_features, registered_in, installed as pages_installed, protected_in}
 use Rattle.mig_model.specs.Guest.{Guest, Fault, Processor, idle_processors, all_woken, rest_held, outstanding, taken_over, is_changed_by, read_guest, worked, zero_installed, is_forgotten, is_present}
 use Rattle.mig_model.specs.Wire.{Frame, Received, Copy, kept_after}
 use Rattle.mig_model.specs.Wire.Frame.{Advise, Page, Zero, Discard, Package, End, Resume, Request, Recv, Done}
@@ -68,7 +68,7 @@ pub record Source : Type 0 where
   -- the epoch in which End was sent last: no migration has epoch 0
   pub ended : ℕ
   pub guest : Guest
-  -- pages whose newest copy under way is right; pages that this round still has to send; pages sent in this epoch
+  -- pages whose newest copy under way is right as far as the source knows; pages that this round still has to send; pages sent in this epoch
   pub clean : FinSet nat_cmp
   pub todo : FinSet nat_cmp
   pub sent : FinSet nat_cmp
@@ -370,7 +370,7 @@ assembled areas kept =
     record {
       host = record { areas = areas; bytes = kept };
       protected = no_pages;
-      object = registered_where (enabled_with fresh_object all_features) (λ page. contains_key areas page) for_missing;
+      object = registered_where (enabled_with fresh_object event_features) (λ page. contains_key areas page) for_missing;
     }
 
 -- each owed page at its own place

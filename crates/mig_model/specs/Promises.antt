@@ -10,10 +10,11 @@ use Rattle.mig_base.specs.declared.command.Command.TheVariants.{Mmap, Munmap, Mr
 use Rattle.mig_base.specs.declared.command.Reply.{Reply}
 use Rattle.mig_base.specs.declared.command.Reply.TheVariants.{Done, At, Refused}
 use Rattle.mig_base.specs.Ranges.{in_range, pages_of}
+use Rattle.mig_base.specs.Bytes.{zero_page}
 use Rattle.mig_base.specs.Flat.{memory_of}
 use Rattle.mig_model.specs.Host.{memory}
 use Rattle.mig_model.specs.World.{is_access}
-use Rattle.mig_model.specs.Space.{fresh_space}
+use Rattle.mig_model.specs.Space.{Space, fresh_space}
 use Rattle.mig_model.specs.Guest.{is_present}
 use Rattle.mig_model.specs.Wire.{Frame, Sent}
 use Rattle.mig_model.specs.Wire.Frame.{Advise, Page, Zero, Discard, Package, End, Resume, Request, Recv, Done}
@@ -73,6 +74,17 @@ pub record IsPut (old new : World) (page origin : ℕ) : Type 0 where
   pub owed : get old.destination.owed page ≡ Some origin
   pub source : get (space_of old.source).host.bytes origin ≡ get new.destination.guest.space.host.bytes page
   pub present : is_present new.destination.guest.space page ≡ true
+
+-- a page of zeros was put: the page was missing
+pub record IsZeroed (old new : Space) (page : ℕ) : Type 0 where
+  pub missing : is_present old page ≡ false
+  pub zeros : get new.host.bytes page ≡ Some zero_page
+
+-- the steps by which no page comes to remain: all but Switch and the taking of a frame that comes back
+abbrev pub keeps_remaining : Step → Bool
+keeps_remaining Switch = false
+keeps_remaining DeliverBack = false
+keeps_remaining step = true
 
 -- Frames
 

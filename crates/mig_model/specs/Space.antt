@@ -128,8 +128,8 @@ abbrev pub all_queued : Object → List Message → ℕ → Object
 all_queued object [] cpu = object
 all_queued object (message ∷ messages) cpu = all_queued (event_queued object message cpu) messages cpu
 
--- the space after a map call, which it answers as its flat memory does; the processor stays in its call until it has read as many
--- messages as the call has queued
+-- the space after a map call, which it answers as its flat memory does; the processor stays in its call until as many messages
+-- are read as the call has queued
 abbrev pub called_with : Space → ℕ → Command → Reply → Space
 called_with space cpu command reply =
     record {

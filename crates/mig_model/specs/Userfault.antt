@@ -89,7 +89,8 @@ abbrev pub waits_fault : List Noted → ℕ → Bool → Bool
 waits_fault [] addr kind = false
 waits_fault (noted ∷ rest) addr kind = is_fault_at noted.message addr kind || waits_fault rest addr kind
 
--- the object once a processor sleeps on a page: there is at most one unread fault of each kind for a page
+-- the object once a processor sleeps on a page. There is at most one unread fault of each kind for a page: the kernel has one for each
+-- thread that sleeps
 abbrev pub fault_queued : Object → ℕ → Bool → Bool → ℕ → Object
 fault_queued object addr write wp cpu =
     if waits_fault object.faults addr wp then object

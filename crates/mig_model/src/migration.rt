@@ -2,32 +2,33 @@
 //! and resumptions, in any order, those that are refused among them. Each law is a function with an empty body, whose contract is
 //! the law.
 
-ghost use Rattle.std.specs.Prelude.{◌≡◌, ℕ, ◌/◌, ◌∷◌, ◌==◌, true, false, if◌then◌else◌, None, Some, Ok, List};
+ghost use Rattle.std.specs.Prelude.{◌≡◌, ℕ, ◌/◌, ◌∷◌, ◌++◌, ◌==◌, ◌&&◌, not, true, false, if◌then◌else◌, None, Some, Ok, List};
+ghost use Rattle.std.specs.FinSet.{contains};
 ghost use Rattle.mig_base.specs.declared.command.Command.{Command};
 ghost use Rattle.mig_base.specs.Flat.{IsFlatRun, memory_of, reply_of};
 ghost use Rattle.mig_model.specs.Host.{memory};
 ghost use Rattle.mig_model.specs.World.{is_access};
-ghost use Rattle.mig_model.specs.Guest.{Fault, is_present, outstanding, processor_at};
+ghost use Rattle.mig_model.specs.Guest.{outstanding, processor_at, entries_of, took_by};
 ghost use Rattle.mig_model.specs.Wire.{Sent};
 ghost use Rattle.mig_model.specs.Wire.Received.{Running};
-ghost use Rattle.mig_model.specs.Nodes.{space_of, settled, is_precopy, is_stopped, is_source_paused, is_running, source_act, destination_act};
+ghost use Rattle.mig_model.specs.Nodes.{space_of, settled, is_precopy, is_stopped, is_source_paused, is_running};
 ghost use Rattle.mig_model.specs.Nodes.Act.{Zeroed};
-ghost use Rattle.mig_model.specs.Migration.{World, Step, guest_of, command_tried, outcome, accepted, next, first_world, after_steps};
-ghost use Rattle.mig_model.specs.Migration.Step.{Issue, Install};
-ghost use Rattle.mig_model.specs.Migration.Effect.{Installed};
+ghost use Rattle.mig_model.specs.Migration.{World, Step, guest_of, refusal_of, command_tried, outcome, accepted, next, first_world, after_steps};
+ghost use Rattle.mig_model.specs.Migration.Step.{Issue, Retry, SourceAct, DestAct, Install, Push};
+ghost use Rattle.mig_model.specs.Migration.Effect.{Installed, Dropped, Acted};
 ghost use Rattle.mig_model.specs.Invariant.{IsKept, IsPrecopying, IsSwitching, IsReceiving, current_host};
 ghost use Rattle.mig_model.specs.Parts.{ChangesParts};
-ghost use Rattle.mig_model.specs.Promises.{IsReached, IsComplete, IsAlone, ArePaired, AreUnderWay, IsPut, IsTaken, IsInPlaceBack, owed_changed, leaves_settled, is_retry_of, story};
+ghost use Rattle.mig_model.specs.Promises.{IsReached, IsComplete, IsAlone, ArePaired, AreUnderWay, IsPut, IsZeroed, IsTaken, keeps_remaining, IsInPlaceBack, owed_changed, leaves_settled, is_retry_of, story};
 
-/// The transcript is the run of one flat memory on the same commands in the order in which they took effect, and the guest sees the
-/// last memory of that run. Before the destination runs it is the source's; from then on each page is the destination's own, or that
-/// of the source from which it is still owed, or zeros.
+/// The commands in the transcript, made in turn on one flat memory, give the replies in it, and what the guest sees is that memory at
+/// the end. Before the destination runs it is the source's; from then on each page is the destination's own, or that of the source
+/// from which it is still owed, or zeros.
 pub fn every_schedule()
     ensures transcript { (world : World) → IsReached world → IsFlatRun world.transcript }
     ensures current { (world : World) → IsReached world → memory (current_host world) ≡ memory_of world.transcript }
 {}
 
-/// When a migration is complete the destination alone holds the flat memory and no page is owed, and it stays complete.
+/// Completion: the destination's own pages are the flat memory, the source has none, and nothing is owed or waits. It lasts.
 pub fn completion()
     ensures alone { (world : World) → IsReached world → IsComplete world → IsAlone world }
     ensures stays { (world : World) (steps : List Step) → IsReached world → IsComplete world → IsComplete (after_steps world steps) }
@@ -68,14 +69,15 @@ pub fn owed_pages_are_under_way()
     ensures { (world : World) → IsReached world → world.destination.has_run ≡ true → AreUnderWay world }
 {}
 
-/// Once the destination has run, a map call changes the settled relation as it changes the pages: the pairs of pages that it unmaps,
-/// replaces or makes zeros end, and the pairs of pages that it moves move. An install takes away its own pair. A load or store, tried
-/// for the first time or again, leaves the relation, and so does every other step: the reading of a message among them.
+/// Once the destination has run: what a map call does to the settled relation is what it does to the pages. Of a range that it
+/// unmaps, replaces or makes zeros the pairs are gone, and of one that it moves they stand at the new place. An install takes its own
+/// pair away. A copy that is given up, a load or store, tried for the first time or again, and every other step leave the relation.
 pub fn the_settled_relation()
     ensures call { (world : World) (cpu : ℕ) (command : Command) (page : ℕ) → IsReached world → world.destination.has_run ≡ true → is_access command ≡ false →
         settled (accepted world (Issue cpu command)).destination page ≡ owed_changed (settled world.destination) command (reply_of (memory world.destination.guest.space.host) command) page }
     ensures install { (world : World) (addr source page : ℕ) → outcome world Install ≡ Ok (Installed addr source) →
         settled (next world Install).destination page ≡ (if page == addr / 4096 then None else settled world.destination page) }
+    ensures dropped { (world : World) (source page : ℕ) → outcome world Install ≡ Ok (Dropped source) → settled (next world Install).destination page ≡ settled world.destination page }
     ensures access { (world : World) (cpu : ℕ) (command : Command) (page : ℕ) → world.destination.has_run ≡ true → is_access command ≡ true →
         settled (command_tried world cpu command).destination page ≡ settled world.destination page }
     ensures others { (world : World) (step : Step) (page : ℕ) → IsReached world → world.destination.has_run ≡ true → leaves_settled step ≡ true →
@@ -86,8 +88,8 @@ pub fn the_settled_relation()
 /// page missing. A copy that is installed is that of the page from which it was owed.
 pub fn no_page_is_installed_over_another()
     ensures install { (world : World) (addr source : ℕ) → IsReached world → outcome world Install ≡ Ok (Installed addr source) → IsPut world (next world Install) (addr / 4096) (source / 4096) }
-    ensures source_zero { (world : World) (fault : Fault) → source_act world.source fault ≡ Zeroed → is_present (space_of world.source) fault.page ≡ false }
-    ensures destination_zero { (world : World) (fault : Fault) → destination_act world.destination fault ≡ Zeroed → is_present world.destination.guest.space fault.page ≡ false }
+    ensures source_zero { (world : World) (addr : ℕ) → outcome world SourceAct ≡ Ok (Acted Zeroed addr) → IsZeroed (space_of world.source) (space_of (next world SourceAct).source) (addr / 4096) }
+    ensures destination_zero { (world : World) (addr : ℕ) → outcome world DestAct ≡ Ok (Acted Zeroed addr) → IsZeroed world.destination.guest.space (next world DestAct).destination.guest.space (addr / 4096) }
 {}
 
 /// No frame is refused, after any number of resumptions: while the link is up the first frame of each wire is in place, of the right
@@ -103,6 +105,22 @@ pub fn no_frame_is_refused()
 pub fn a_waiting_command()
     ensures { (world : World) (step : Step) (cpu : ℕ) (command : Command) → IsReached world → is_retry_of step cpu ≡ false →
         outstanding (processor_at (guest_of world).processors cpu) ≡ Some command → outstanding (processor_at (guest_of (next world step)).processors cpu) ≡ Some command }
+{}
+
+/// A command that takes effect is entered with its processor and its reply, at its first try or at a Retry; one that sleeps is not. That
+/// no other step enters anything is among the parts that a step may change.
+pub fn what_is_entered()
+    ensures issue { (world : World) (cpu : ℕ) (command : Command) → refusal_of world (Issue cpu command) ≡ None →
+        (next world (Issue cpu command)).transcript ≡ world.transcript ++ entries_of cpu command (took_by (is_access command) (guest_of world).space command) }
+    ensures retry { (world : World) (cpu : ℕ) (command : Command) → refusal_of world (Retry cpu) ≡ None → outstanding (processor_at (guest_of world).processors cpu) ≡ Some command →
+        (next world (Retry cpu)).transcript ≡ world.transcript ++ entries_of cpu command (took_by (is_access command) (guest_of world).space command) }
+{}
+
+/// A page that is pushed remains no longer, and no page comes to remain but by Switch and by a frame that the source takes.
+pub fn pages_that_remain()
+    ensures push { (world : World) (epoch page q : ℕ) → refusal_of world (Push epoch page) ≡ None →
+        contains (next world (Push epoch page)).source.remaining q ≡ (not (q == page) && contains world.source.remaining q) }
+    ensures shrinks { (world : World) (step : Step) (q : ℕ) → keeps_remaining step ≡ true → contains (next world step).source.remaining q ≡ true → contains world.source.remaining q ≡ true }
 {}
 
 /// Each step changes only its own parts. No step of the source puts anything at the destination but by the wire.

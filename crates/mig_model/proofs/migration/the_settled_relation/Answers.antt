@@ -1,5 +1,5 @@
 use Rattle.mig_model.proofs.EveryStep.{kept-reached}
-use Rattle.mig_model.proofs.SettledPromises.{settled_call, settled_install, settled_access, settled_else}
+use Rattle.mig_model.proofs.SettledPromises.{settled_call, settled_install, settled_dropped, settled_access, settled_else}
 use Rattle.mig_model.proofs.migration.the_settled_relation.Goals as goal
 
 pub returns-clause-call : goal.returns-clause-call
@@ -13,3 +13,6 @@ returns-clause-access c world cpu command page ran is = settled_access world cpu
 
 pub returns-clause-others : goal.returns-clause-others
 returns-clause-others c world step page reached ran leaves = settled_else world step (kept-reached world reached) ran leaves page
+
+pub returns-clause-dropped : goal.returns-clause-dropped
+returns-clause-dropped c world source page answered = settled_dropped world source page answered
