@@ -58,3 +58,4 @@ pub mod WaitingCommands
 pub mod SettledPromises
 pub mod Story
 pub mod StepPromises
+pub mod WaitingAccesses

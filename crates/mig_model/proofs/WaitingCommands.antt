@@ -61,7 +61,7 @@ woken_outstanding test (Woken command) = refl
 woken_outstanding test (InCall reply left) = refl
 
 -- waking leaves what waits
-woken_keeps : (test : ℕ → Bool) (ps : List Processor) (k : ℕ) → outstanding (processor_at (all_woken test ps) k) ≡ outstanding (processor_at ps k)
+pub woken_keeps : (test : ℕ → Bool) (ps : List Processor) (k : ℕ) → outstanding (processor_at (all_woken test ps) k) ≡ outstanding (processor_at ps k)
 woken_keeps test ps k = ap outstanding (map_at (woken_if test) ps k refl) ∙ woken_outstanding test (processor_at ps k)
 
 none_some : {A : Type 0} (x : A) → None ≡ Some x → ⊥
@@ -80,7 +80,7 @@ taken_outstanding (Woken command) = refl
 taken_outstanding (InCall reply left) = refl
 
 -- the destination takes over what waits
-taken_keeps : (ps : List Processor) (k : ℕ) → outstanding (processor_at (map taken_over (commands_of ps)) k) ≡ outstanding (processor_at ps k)
+pub taken_keeps : (ps : List Processor) (k : ℕ) → outstanding (processor_at (map taken_over (commands_of ps)) k) ≡ outstanding (processor_at ps k)
 taken_keeps [] k = refl
 taken_keeps (p ∷ ps) zero = taken_outstanding p
 taken_keeps (p ∷ ps) (suc k) = taken_keeps ps k

@@ -15,7 +15,7 @@ use Rattle.mig_base.specs.Flat.{memory_of}
 use Rattle.mig_model.specs.Host.{memory}
 use Rattle.mig_model.specs.World.{is_access}
 use Rattle.mig_model.specs.Space.{Space, fresh_space}
-use Rattle.mig_model.specs.Guest.{is_present}
+use Rattle.mig_model.specs.Guest.{Processor, is_present, outstanding, processor_at}
 use Rattle.mig_model.specs.Wire.{Frame, Sent}
 use Rattle.mig_model.specs.Wire.Frame.{Advise, Page, Zero, Discard, Package, End, Resume, Request, Recv, Done}
 use Rattle.mig_model.specs.Nodes.{Source, Destination, DestinationPhase, space_of, settled, is_released, is_stopped, is_source_paused}
@@ -165,6 +165,15 @@ leaves_settled step = true
 abbrev pub is_retry_of : Step → ℕ → Bool
 is_retry_of (Retry cpu) k = cpu == k
 is_retry_of step k = false
+
+-- each command that a processor still has to make is a load or a store
+abbrev pub AllAccess : List Processor → Type 0
+AllAccess processors = (k : ℕ) (command : Command) → outstanding (processor_at processors k) ≡ Some command → is_access command ≡ true
+
+-- so on both nodes: only a load or a store waits
+pub record AreAccesses (world : World) : Type 0 where
+  pub source : AllAccess world.source.guest.processors
+  pub destination : AllAccess world.destination.guest.processors
 
 -- Completion can be reached
 

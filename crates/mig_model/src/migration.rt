@@ -18,7 +18,7 @@ ghost use Rattle.mig_model.specs.Migration.Step.{Issue, Retry, SourceAct, DestAc
 ghost use Rattle.mig_model.specs.Migration.Effect.{Installed, Dropped, Acted};
 ghost use Rattle.mig_model.specs.Invariant.{IsKept, IsPrecopying, IsSwitching, IsReceiving, current_host};
 ghost use Rattle.mig_model.specs.Parts.{ChangesParts};
-ghost use Rattle.mig_model.specs.Promises.{IsReached, IsComplete, IsAlone, ArePaired, AreUnderWay, IsPut, IsZeroed, IsTaken, keeps_remaining, IsInPlaceBack, owed_changed, leaves_settled, is_retry_of, story};
+ghost use Rattle.mig_model.specs.Promises.{AreAccesses, IsReached, IsComplete, IsAlone, ArePaired, AreUnderWay, IsPut, IsZeroed, IsTaken, keeps_remaining, IsInPlaceBack, owed_changed, leaves_settled, is_retry_of, story};
 
 /// The commands in the transcript, made in turn on one flat memory, give the replies in it, and what the guest sees is that memory at
 /// the end. Before the destination runs it is the source's; from then on each page is the destination's own, or that of the source
@@ -105,6 +105,11 @@ pub fn no_frame_is_refused()
 pub fn a_waiting_command()
     ensures { (world : World) (step : Step) (cpu : ℕ) (command : Command) → IsReached world → is_retry_of step cpu ≡ false →
         outstanding (processor_at (guest_of world).processors cpu) ≡ Some command → outstanding (processor_at (guest_of (next world step)).processors cpu) ≡ Some command }
+{}
+
+/// A command that waits is a load or a store, on either node: a map call waits only for its messages to be read, and has taken effect.
+pub fn waiting_commands_are_accesses()
+    ensures { (world : World) → IsReached world → AreAccesses world }
 {}
 
 /// A command that takes effect is entered with its processor and its reply, at its first try or at a Retry; one that sleeps is not. That
