@@ -9,7 +9,9 @@ use Rattle.mig_base.specs.declared.Prot.{Prot}
 use Rattle.mig_base.specs.declared.command.Command.{Command}
 use Rattle.mig_base.proofs.PageLemmas.{same_pages}
 use Rattle.mig_model.specs.Host.{IsSound}
-use Rattle.mig_model.specs.Guest.{is_present}
+use Rattle.std.specs.Prelude.{length}
+use lib.ListN.{length-map}
+use Rattle.mig_model.specs.Guest.{is_present, outstanding}
 use Rattle.mig_model.specs.Space.{Space}
 use Rattle.mig_model.specs.Wire.{Frame, Sent, Received}
 use Rattle.mig_model.specs.Wire.Received.{NotRun, Running, Ended}
@@ -64,6 +66,10 @@ areas_in : Frame → FinMap nat_cmp Prot → FinMap nat_cmp Prot
 areas_in (Package areas owed commands) other = areas
 areas_in frame other = other
 
+unfoldable pub commands_in : Frame → List (Option Command) → List (Option Command)
+commands_in (Package areas owed commands) other = commands
+commands_in frame other = other
+
 owed_in : Frame → FinSet nat_cmp → FinSet nat_cmp
 owed_in (Package areas owed commands) other = owed
 owed_in frame other = other
@@ -80,9 +86,9 @@ kept_unless true bytes h = none_absurd h
 kept_unless false bytes h = h
 
 package_good : (source : Source) (node : Destination) (epoch : ℕ) (areas : FinMap nat_cmp Prot) (owed : FinSet nat_cmp) (commands : List (Option Command)) (rest : List Sent) → IsSound (space_of source).host →
-    IsSwitching source node.kept (record { epoch = epoch; frame = Package areas owed commands } ∷ rest) → IsGood node (Package areas owed commands)
-unfolding areas_in owed_in
-package_good source node epoch areas owed commands rest sound told =
+    IsSwitching source node.kept (record { epoch = epoch; frame = Package areas owed commands } ∷ rest) → length node.guest.processors ≡ length source.guest.processors → IsGood node (Package areas owed commands)
+unfolding areas_in owed_in commands_in
+package_good source node epoch areas owed commands rest sound told many =
     let plan = same_some (Package areas owed commands) (Package (space_of source).host.areas told.owed (commands_of source.guest.processors)) told.plan in
     let same_areas : areas ≡ (space_of source).host.areas = ap (λ f. areas_in f areas) plan in
     let same_owed : owed ≡ told.owed = ap (λ f. owed_in f owed) plan in
@@ -90,11 +96,16 @@ package_good source node epoch areas owed commands rest sound told =
       λ page h. ap is_some (told.kept_rest page) ∙ ap (λ b. is_some (cond b None (get (space_of source).host.bytes page))) (among page h),
       λ page h. ap (λ m. contains_key m page) same_areas ∙ mapped_of (space_of source) page sound (told.owed_present page (among page h)),
       λ page h. ap (λ m. contains_key m page) same_areas ∙ mapped_of (space_of source) page sound (kept_unless (contains told.owed page) (get (space_of source).host.bytes page) (sym (ap is_some (told.kept_rest page)) ∙ h)),
+      ap length (ap (λ f. commands_in f commands) plan) ∙ length-map source.guest.processors outstanding ∙ sym many,
     )
 
 -- a world in these phases, with this first frame
 abbrev pub with_first : SourcePhase → DestinationPhase → ℕ → Frame → List Sent → World → World
 with_first from to epoch frame rest world = record world { source = record world.source { phase = from }; destination = record world.destination { phase = to }; forward = record { epoch = epoch; frame = frame } ∷ rest }
+
+-- both nodes have as many processors
+abbrev pub AreAsMany : World → Type 0
+AreAsMany world = length world.destination.guest.processors ≡ length world.source.guest.processors
 
 end_good : (epoch : ℕ) (rest : List Sent) (world : World) → world.up ≡ true → IsKept (with_first Stopped Runs epoch End rest world) → world.destination.arrivals ≡ [] → world.destination.owed ≡ finmap.empty
 end_good epoch rest world up kept free =
@@ -107,36 +118,36 @@ end_good epoch rest world up kept free =
     none_owed (get world.destination.owed page) (λ origin h. nowhere world.source.remaining rest world.destination.arrivals origin (kept.end_sent ended) last.0 free (flowing.whereabouts page origin h))
     ∙ sym (get-empty nat_cmp page))
 
-good_of : (from : SourcePhase) (to : DestinationPhase) (epoch : ℕ) (frame : Frame) (rest : List Sent) (world : World) → comes from to frame ≡ true → world.up ≡ true → IsKept (with_first from to epoch frame rest world) → IsGood (with_first from to epoch frame rest world).destination frame
-good_of Stopped Discarding epoch (Package areas owed commands) rest world h up kept =
+good_of : (from : SourcePhase) (to : DestinationPhase) (epoch : ℕ) (frame : Frame) (rest : List Sent) (world : World) → comes from to frame ≡ true → world.up ≡ true → IsKept (with_first from to epoch frame rest world) → AreAsMany world → IsGood (with_first from to epoch frame rest world).destination frame
+good_of Stopped Discarding epoch (Package areas owed commands) rest world h up kept many =
     let old = with_first Stopped Discarding epoch (Package areas owed commands) rest world in
-    package_good old.source old.destination epoch areas owed commands rest kept.source_space.host (kept.wires up).2
-good_of Stopped Runs epoch End rest world h up kept = λ free. end_good epoch rest world up kept free
-good_of Precopy NotAdvised epoch End rest world h up kept = none_absurd h
-good_of Precopy NotAdvised epoch (Package areas owed commands) rest world h up kept = none_absurd h
-good_of Paused Interrupted epoch End rest world h up kept = none_absurd h
-good_of Paused Interrupted epoch (Package areas owed commands) rest world h up kept = none_absurd h
-good_of from to epoch Advise rest world h up kept = tt
-good_of from to epoch (Page page bytes) rest world h up kept = tt
-good_of from to epoch (Zero page) rest world h up kept = tt
-good_of from to epoch (Discard pages) rest world h up kept = tt
-good_of from to epoch Resume rest world h up kept = tt
-good_of from to epoch (Request page) rest world h up kept = tt
-good_of from to epoch (Recv state owed) rest world h up kept = tt
-good_of from to epoch Done rest world h up kept = tt
-good_of _ _ epoch _ rest world h up kept = none_absurd h
+    package_good old.source old.destination epoch areas owed commands rest kept.source_space.host (kept.wires up).2 many
+good_of Stopped Runs epoch End rest world h up kept many = λ free. end_good epoch rest world up kept free
+good_of Precopy NotAdvised epoch End rest world h up kept many = none_absurd h
+good_of Precopy NotAdvised epoch (Package areas owed commands) rest world h up kept many = none_absurd h
+good_of Paused Interrupted epoch End rest world h up kept many = none_absurd h
+good_of Paused Interrupted epoch (Package areas owed commands) rest world h up kept many = none_absurd h
+good_of from to epoch Advise rest world h up kept many = tt
+good_of from to epoch (Page page bytes) rest world h up kept many = tt
+good_of from to epoch (Zero page) rest world h up kept many = tt
+good_of from to epoch (Discard pages) rest world h up kept many = tt
+good_of from to epoch Resume rest world h up kept many = tt
+good_of from to epoch (Request page) rest world h up kept many = tt
+good_of from to epoch (Recv state owed) rest world h up kept many = tt
+good_of from to epoch Done rest world h up kept many = tt
+good_of _ _ epoch _ rest world h up kept many = none_absurd h
 
-taken_in : (from : SourcePhase) (to : DestinationPhase) (epoch : ℕ) (frame : Frame) (rest : List Sent) (world : World) → world.up ≡ true → IsKept (with_first from to epoch frame rest world) → IsTaken (with_first from to epoch frame rest world).destination (record { epoch = epoch; frame = frame })
-taken_in from to epoch frame rest world up kept =
+taken_in : (from : SourcePhase) (to : DestinationPhase) (epoch : ℕ) (frame : Frame) (rest : List Sent) (world : World) → world.up ≡ true → IsKept (with_first from to epoch frame rest world) → AreAsMany world → IsTaken (with_first from to epoch frame rest world).destination (record { epoch = epoch; frame = frame })
+taken_in from to epoch frame rest world up kept many =
     let old = with_first from to epoch frame rest world in
     let is = first_in_place old.source old.destination (record { epoch = epoch; frame = frame }) rest old.back (kept.wires up) in
     let placed = place_of from to frame is in
-    record { in_place = placed; own_epoch = epoch_of to old.destination epoch world.source.epoch frame placed kept.forward_epoch.0 (kept.epoch_at up); good = good_of from to epoch frame rest world is up kept }
+    record { in_place = placed; own_epoch = epoch_of to old.destination epoch world.source.epoch frame placed kept.forward_epoch.0 (kept.epoch_at up); good = good_of from to epoch frame rest world is up kept many }
 
 -- the first frame on the wire to the destination
-pub is_taken : (world : World) (sent : Sent) (rest : List Sent) → IsKept world → world.up ≡ true → world.forward ≡ sent ∷ rest → IsTaken world.destination sent
-is_taken world sent rest kept up first =
-    taken_in world.source.phase world.destination.phase sent.epoch sent.frame rest world up (subst (λ w. IsKept (record world { forward = w })) first kept)
+pub is_taken : (world : World) (sent : Sent) (rest : List Sent) → IsKept world → AreAsMany world → world.up ≡ true → world.forward ≡ sent ∷ rest → IsTaken world.destination sent
+is_taken world sent rest kept many up first =
+    taken_in world.source.phase world.destination.phase sent.epoch sent.frame rest world up (subst (λ w. IsKept (record world { forward = w })) first kept) many
 
 -- The wire back
 

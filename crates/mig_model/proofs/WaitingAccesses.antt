@@ -1,6 +1,7 @@
 -- A command that waits is a load or a store.
 use Rattle.std.proofs.Common.{◌≡◌, ℕ, zero, suc, Bool, true, false, eqb, Option, Some, None, List, [], ◌∷◌, refl, sym, ap, ◌∙◌, subst, if◌then◌else◌}
-use Rattle.std.specs.Prelude.{map, set}
+use Rattle.std.specs.Prelude.{map, set, length}
+use lib.ListN.{length-map}
 use Rattle.mig_base.specs.declared.command.Command.{Command}
 use Rattle.mig_base.specs.declared.command.Reply.{Reply}
 use Rattle.mig_base.specs.declared.command.Access.{Access}
@@ -12,7 +13,7 @@ use Rattle.mig_model.specs.Host.{memory}
 use Rattle.mig_model.specs.World.{is_access}
 use Rattle.mig_model.specs.Userfault.{Noted, next_message}
 use Rattle.mig_model.specs.Space.{Space, access_of, queued_by}
-use Rattle.mig_model.specs.Guest.{Guest, Fault, Processor, idle_processors, processor_at, processor_after, outstanding, taken_over, all_woken, is_left_by, message_less, read_guest, took_by, access_took, call_took, tried}
+use Rattle.mig_model.specs.Guest.{woken_if, Guest, Fault, Processor, idle_processors, processor_at, processor_after, outstanding, taken_over, all_woken, is_left_by, message_less, read_guest, took_by, access_took, call_took, tried}
 use Rattle.mig_model.specs.Guest.Processor.{Idle, Asleep, Woken, InCall}
 use Rattle.mig_model.specs.Wire.{Frame, Sent, Received, Copy}
 use Rattle.mig_model.specs.Wire.Frame.{Advise, Page, Zero, Discard, Package, End, Resume, Request, Recv, Done}
@@ -32,12 +33,16 @@ use Rattle.mig_model.proofs.WaitingCommands.{woken_keeps, taken_keeps, package_t
 use Rattle.mig_model.proofs.EveryStep.{kept-next, by_refusal}
 use Rattle.mig_model.proofs.FirstWorld.{kept-first}
 
--- the second has to make what the first has to, and nothing else
-abbrev pub SameWaits : List Processor → List Processor → Type 0
-SameWaits old new = (k : ℕ) → outstanding (processor_at new k) ≡ outstanding (processor_at old k)
+-- the second are as many as the first, and have to make what the first have to, and nothing else
+record IsLike (old new : List Processor) : Type 0 where
+  waits : (k : ℕ) → outstanding (processor_at new k) ≡ outstanding (processor_at old k)
+  many : length new ≡ length old
 
-all_same : (old new : List Processor) → SameWaits old new → AllAccess old → AllAccess new
-all_same old new same all k command h = all k command (sym (same k) ∙ h)
+all_like : (old new : List Processor) → IsLike old new → AllAccess old → AllAccess new
+all_like old new like all k command h = all k command (sym (like.waits k) ∙ h)
+
+unchanged : (processors : List Processor) → IsLike processors processors
+unchanged processors = record { waits = λ k. refl; many = refl }
 
 none_some : {A : Type 0} (x : A) → None ≡ Some x → ⊥
 none_some x h = cc
@@ -80,137 +85,180 @@ less_same (InCall reply zero) = refl
 less_same (InCall reply (suc zero)) = refl
 less_same (InCall reply (suc (suc left))) = refl
 
-set_same : (processors : List Processor) (i : ℕ) (new : Processor) → outstanding new ≡ outstanding (processor_at processors i) → SameWaits processors (set processors i new)
+woken_like : (test : ℕ → Bool) (processors : List Processor) → IsLike processors (all_woken test processors)
+woken_like test processors = record { waits = woken_keeps test processors; many = length-map processors (woken_if test) }
+
+set_many : (processors : List Processor) (i : ℕ) (new : Processor) → length (set processors i new) ≡ length processors
+set_many [] i new = refl
+set_many (p ∷ ps) zero new = refl
+set_many (p ∷ ps) (suc i) new = ap suc (set_many ps i new)
+
+set_same : (processors : List Processor) (i : ℕ) (new : Processor) → outstanding new ≡ outstanding (processor_at processors i) → (k : ℕ) →
+    outstanding (processor_at (set processors i new) k) ≡ outstanding (processor_at processors k)
 set_same [] i new same k = refl
 set_same (p ∷ ps) zero new same zero = same
 set_same (p ∷ ps) zero new same (suc k) = refl
 set_same (p ∷ ps) (suc i) new same zero = refl
 set_same (p ∷ ps) (suc i) new same (suc k) = set_same ps i new same k
 
-event_same : (guest : Guest) (cpu : ℕ) (message : Message) → SameWaits guest.processors (all_woken (is_left_by message) (set guest.processors cpu (message_less (processor_at guest.processors cpu))))
-event_same guest cpu message k =
-    woken_keeps (is_left_by message) (set guest.processors cpu (message_less (processor_at guest.processors cpu))) k
-    ∙ set_same guest.processors cpu (message_less (processor_at guest.processors cpu)) (less_same (processor_at guest.processors cpu)) k
+event_like : (guest : Guest) (cpu : ℕ) (message : Message) → IsLike guest.processors (all_woken (is_left_by message) (set guest.processors cpu (message_less (processor_at guest.processors cpu))))
+event_like guest cpu message =
+    let less = message_less (processor_at guest.processors cpu) in
+    let woken = woken_like (is_left_by message) (set guest.processors cpu less) in
+    record {
+      waits = λ k. woken.waits k ∙ set_same guest.processors cpu less (less_same (processor_at guest.processors cpu)) k;
+      many = woken.many ∙ set_many guest.processors cpu less;
+    }
 
-read_same : (guest : Guest) (cpu : ℕ) (message : Message) → SameWaits guest.processors (read_guest guest cpu message).processors
-read_same guest cpu (PageFault addr write wp) k = refl
-read_same guest cpu (Remap from to len) k = event_same guest cpu (Remap from to len) k
-read_same guest cpu (Remove start end) k = event_same guest cpu (Remove start end) k
-read_same guest cpu (Unmap start end) k = event_same guest cpu (Unmap start end) k
+read_like : (guest : Guest) (cpu : ℕ) (message : Message) → IsLike guest.processors (read_guest guest cpu message).processors
+read_like guest cpu (PageFault addr write wp) = unchanged guest.processors
+read_like guest cpu (Remap from to len) = event_like guest cpu (Remap from to len)
+read_like guest cpu (Remove start end) = event_like guest cpu (Remove start end)
+read_like guest cpu (Unmap start end) = event_like guest cpu (Unmap start end)
+
+-- what a destination takes over
+taken_many : (processors : List Processor) → length (map taken_over (commands_of processors)) ≡ length processors
+taken_many processors = length-map (commands_of processors) taken_over ∙ length-map processors outstanding
+
+taken_like : (processors : List Processor) → IsLike processors (map taken_over (commands_of processors))
+taken_like processors = record { waits = taken_keeps processors; many = taken_many processors }
 
 -- The nodes
 
-source_act_same : (act : Act) (node : Source) (page : ℕ) → SameWaits node.guest.processors (source_acted_by act node page).guest.processors
-source_act_same Unprotected node page k = woken_keeps (λ q. eqb q page) node.guest.processors k
-source_act_same Zeroed node page k = woken_keeps (λ q. eqb q page) node.guest.processors k
-source_act_same Woke node page k = woken_keeps (λ q. eqb q page) node.guest.processors k
-source_act_same Forgot node page k = woken_keeps (λ q. eqb q page) node.guest.processors k
-source_act_same (Requested source) node page k = woken_keeps (λ q. eqb q page) node.guest.processors k
+source_act_like : (act : Act) (node : Source) (page : ℕ) → IsLike node.guest.processors (source_acted_by act node page).guest.processors
+source_act_like Unprotected node page = woken_like (λ q. eqb q page) node.guest.processors
+source_act_like Zeroed node page = woken_like (λ q. eqb q page) node.guest.processors
+source_act_like Woke node page = woken_like (λ q. eqb q page) node.guest.processors
+source_act_like Forgot node page = woken_like (λ q. eqb q page) node.guest.processors
+source_act_like (Requested source) node page = woken_like (λ q. eqb q page) node.guest.processors
 
-destination_act_same : (act : Act) (node : Destination) (page : ℕ) → SameWaits node.guest.processors (destination_acted_by act node page).guest.processors
-destination_act_same Unprotected node page k = woken_keeps (λ q. eqb q page) node.guest.processors k
-destination_act_same Zeroed node page k = woken_keeps (λ q. eqb q page) node.guest.processors k
-destination_act_same Woke node page k = woken_keeps (λ q. eqb q page) node.guest.processors k
-destination_act_same Forgot node page k = woken_keeps (λ q. eqb q page) node.guest.processors k
-destination_act_same (Requested source) node page k = refl
+destination_act_like : (act : Act) (node : Destination) (page : ℕ) → IsLike node.guest.processors (destination_acted_by act node page).guest.processors
+destination_act_like Unprotected node page = woken_like (λ q. eqb q page) node.guest.processors
+destination_act_like Zeroed node page = woken_like (λ q. eqb q page) node.guest.processors
+destination_act_like Woke node page = woken_like (λ q. eqb q page) node.guest.processors
+destination_act_like Forgot node page = woken_like (λ q. eqb q page) node.guest.processors
+destination_act_like (Requested source) node page = unchanged node.guest.processors
 
-install_same : (o : Option ℕ) (node : Destination) (copy : Copy) (rest : List Copy) → SameWaits node.guest.processors (install_by o node copy rest).guest.processors
-install_same None node copy rest k = refl
-install_same (Some page) node copy rest k = woken_keeps (λ q. eqb q page) node.guest.processors k
+install_like : (o : Option ℕ) (node : Destination) (copy : Copy) (rest : List Copy) → IsLike node.guest.processors (install_by o node copy rest).guest.processors
+install_like None node copy rest = unchanged node.guest.processors
+install_like (Some page) node copy rest = woken_like (λ q. eqb q page) node.guest.processors
 
-rebuilt_same : (switched : Bool) (a b node : Source) → SameWaits node.guest.processors a.guest.processors → SameWaits node.guest.processors b.guest.processors → SameWaits node.guest.processors (if switched then a else b).guest.processors
-rebuilt_same true a b node one two = one
-rebuilt_same false a b node one two = two
+rebuilt_like : (switched : Bool) (a b node : Source) → IsLike node.guest.processors a.guest.processors → IsLike node.guest.processors b.guest.processors → IsLike node.guest.processors (if switched then a else b).guest.processors
+rebuilt_like true a b node one two = one
+rebuilt_like false a b node one two = two
 
-took_same : (frame : Frame) (node : Source) → SameWaits node.guest.processors (source_took node frame).guest.processors
-took_same (Recv NotRun owed) node k = rebuilt_same node.switched _ _ node (λ i. refl) (λ i. refl) k
-took_same (Recv Running owed) node k = refl
-took_same (Recv Ended owed) node k = refl
-took_same Done node k = refl
-took_same (Request page) node k = refl
-took_same Advise node k = refl
-took_same (Page page bytes) node k = refl
-took_same (Zero page) node k = refl
-took_same (Discard pages) node k = refl
-took_same (Package areas owed commands) node k = refl
-took_same End node k = refl
-took_same Resume node k = refl
+took_like : (frame : Frame) (node : Source) → IsLike node.guest.processors (source_took node frame).guest.processors
+took_like (Recv NotRun owed) node = rebuilt_like node.switched _ _ node (unchanged node.guest.processors) (unchanged node.guest.processors)
+took_like (Recv Running owed) node = unchanged node.guest.processors
+took_like (Recv Ended owed) node = unchanged node.guest.processors
+took_like Done node = unchanged node.guest.processors
+took_like (Request page) node = unchanged node.guest.processors
+took_like Advise node = unchanged node.guest.processors
+took_like (Page page bytes) node = unchanged node.guest.processors
+took_like (Zero page) node = unchanged node.guest.processors
+took_like (Discard pages) node = unchanged node.guest.processors
+took_like (Package areas owed commands) node = unchanged node.guest.processors
+took_like End node = unchanged node.guest.processors
+took_like Resume node = unchanged node.guest.processors
 
-came_same : (ran : Bool) (node : Destination) (copy : Copy) → SameWaits node.guest.processors (copy_came ran node copy).guest.processors
-came_same true node copy k = refl
-came_same false node copy k = refl
+came_like : (ran : Bool) (node : Destination) (copy : Copy) → IsLike node.guest.processors (copy_came ran node copy).guest.processors
+came_like true node copy = unchanged node.guest.processors
+came_like false node copy = unchanged node.guest.processors
 
-resumed_same : (state : Received) (node : Destination) → SameWaits node.guest.processors (resumed_by state node).guest.processors
-resumed_same NotRun node k = refl
-resumed_same Running node k = refl
-resumed_same Ended node k = refl
+resumed_like : (state : Received) (node : Destination) → IsLike node.guest.processors (resumed_by state node).guest.processors
+resumed_like NotRun node = unchanged node.guest.processors
+resumed_like Running node = unchanged node.guest.processors
+resumed_like Ended node = unchanged node.guest.processors
 
 -- Steps: what both nodes' processors still have to make
 
-by_guest : (ran : Bool) (world : World) (cpu : ℕ) (command : Command) → AreAccesses world → AreAccesses (with_guest_by ran world (tried (is_access command) (guest_by ran world.source.guest world.destination.guest) cpu command))
-by_guest true world cpu command all = record { source = all.source; destination = guest_access world.destination.guest cpu command all.destination }
-by_guest false world cpu command all = record { source = guest_access world.source.guest cpu command all.source; destination = all.destination }
+-- only loads and stores wait, and the nodes have as many processors
+record Wait (world : World) : Type 0 where
+  source : AllAccess world.source.guest.processors
+  destination : AllAccess world.destination.guest.processors
+  many : length world.destination.guest.processors ≡ length world.source.guest.processors
 
-tried_all : (world : World) (cpu : ℕ) (command : Command) → AreAccesses world → AreAccesses (command_tried world cpu command)
-tried_all world cpu command all = let new = by_guest world.destination.has_run world cpu command all in record { source = new.source; destination = new.destination }
+source_like : (world : World) (processors : List Processor) → IsLike world.source.guest.processors processors → Wait world → AllAccess processors × (length world.destination.guest.processors ≡ length processors)
+source_like world processors like all = (all_like world.source.guest.processors processors like all.source, all.many ∙ sym like.many)
 
-retried_all : (o : Option Command) (world : World) (cpu : ℕ) → AreAccesses world → AreAccesses (retried world cpu o)
+destination_like : (world : World) (processors : List Processor) → IsLike world.destination.guest.processors processors → Wait world → AllAccess processors × (length processors ≡ length world.source.guest.processors)
+destination_like world processors like all = (all_like world.destination.guest.processors processors like all.destination, like.many ∙ all.many)
+
+by_guest : (ran : Bool) (world : World) (cpu : ℕ) (command : Command) → Wait world → Wait (with_guest_by ran world (tried (is_access command) (guest_by ran world.source.guest world.destination.guest) cpu command))
+by_guest true world cpu command all =
+    record { source = all.source; destination = guest_access world.destination.guest cpu command all.destination; many = set_many world.destination.guest.processors cpu _ ∙ all.many }
+by_guest false world cpu command all =
+    record { source = guest_access world.source.guest cpu command all.source; destination = all.destination; many = all.many ∙ sym (set_many world.source.guest.processors cpu _) }
+
+tried_all : (world : World) (cpu : ℕ) (command : Command) → Wait world → Wait (command_tried world cpu command)
+tried_all world cpu command all = let new = by_guest world.destination.has_run world cpu command all in record { source = new.source; destination = new.destination; many = new.many }
+
+retried_all : (o : Option Command) (world : World) (cpu : ℕ) → Wait world → Wait (retried world cpu o)
 retried_all None world cpu all = all
 retried_all (Some command) world cpu all = tried_all world cpu command all
 
-sent_all : (o : Option ℕ) (world : World) → AreAccesses world → AreAccesses (sent_by world o)
+sent_all : (o : Option ℕ) (world : World) → Wait world → Wait (sent_by world o)
 sent_all None world all = all
-sent_all (Some page) world all = record { source = all.source; destination = all.destination }
+sent_all (Some page) world all = record { source = all.source; destination = all.destination; many = all.many }
 
-read_source_all : (o : Option Noted) (world : World) → AreAccesses world → AreAccesses (read_by_source world o)
+read_source_all : (o : Option Noted) (world : World) → Wait world → Wait (read_by_source world o)
 read_source_all None world all = all
-read_source_all (Some noted) world all = record { source = all_same world.source.guest.processors _ (read_same world.source.guest noted.cpu noted.message) all.source; destination = all.destination }
+read_source_all (Some noted) world all = let new = source_like world _ (read_like world.source.guest noted.cpu noted.message) all in record { source = new.0; destination = all.destination; many = new.1 }
 
-acted_source_all : (held : List Fault) (world : World) → AreAccesses world → AreAccesses (acted_by_source world held)
+acted_source_all : (held : List Fault) (world : World) → Wait world → Wait (acted_by_source world held)
 acted_source_all [] world all = all
 acted_source_all (fault ∷ rest) world all =
-    record { source = all_same world.source.guest.processors _ (source_act_same (source_act world.source fault) world.source fault.page) all.source; destination = all.destination }
+    let new = source_like world _ (source_act_like (source_act world.source fault) world.source fault.page) all in record { source = new.0; destination = all.destination; many = new.1 }
 
-read_destination_all : (o : Option Noted) (world : World) → AreAccesses world → AreAccesses (read_by_destination world o)
+read_destination_all : (o : Option Noted) (world : World) → Wait world → Wait (read_by_destination world o)
 read_destination_all None world all = all
-read_destination_all (Some noted) world all = record { source = all.source; destination = all_same world.destination.guest.processors _ (read_same world.destination.guest noted.cpu noted.message) all.destination }
+read_destination_all (Some noted) world all = let new = destination_like world _ (read_like world.destination.guest noted.cpu noted.message) all in record { source = all.source; destination = new.0; many = new.1 }
 
-acted_destination_all : (held : List Fault) (world : World) → AreAccesses world → AreAccesses (acted_by_destination world held)
+acted_destination_all : (held : List Fault) (world : World) → Wait world → Wait (acted_by_destination world held)
 acted_destination_all [] world all = all
 acted_destination_all (fault ∷ rest) world all =
-    record { source = all.source; destination = all_same world.destination.guest.processors _ (destination_act_same (destination_act world.destination fault) world.destination fault.page) all.destination }
+    let new = destination_like world _ (destination_act_like (destination_act world.destination fault) world.destination fault.page) all in record { source = all.source; destination = new.0; many = new.1 }
 
-install_all : (copies : List Copy) (world : World) → AreAccesses world → AreAccesses (record world { destination = install_made world.destination copies })
+install_all : (copies : List Copy) (world : World) → Wait world → Wait (record world { destination = install_made world.destination copies })
 install_all [] world all = all
-install_all (copy ∷ rest) world all = record { source = all.source; destination = all_same world.destination.guest.processors _ (install_same (home world.destination.owed copy.page) world.destination copy rest) all.destination }
+install_all (copy ∷ rest) world all = let new = destination_like world _ (install_like (home world.destination.owed copy.page) world.destination copy rest) all in record { source = all.source; destination = new.0; many = new.1 }
 
-delivered_back_all : (wire : List Sent) (world : World) → AreAccesses world → AreAccesses (delivered_back world wire)
+delivered_back_all : (wire : List Sent) (world : World) → Wait world → Wait (delivered_back world wire)
 delivered_back_all [] world all = all
-delivered_back_all (sent ∷ rest) world all = record { source = all_same world.source.guest.processors _ (took_same sent.frame world.source) all.source; destination = all.destination }
+delivered_back_all (sent ∷ rest) world all = let new = source_like world _ (took_like sent.frame world.source) all in record { source = new.0; destination = all.destination; many = new.1 }
+
+-- the destination's processors and those of the source, after a frame
+abbrev pub AfterFrame : World → List Processor → Type 0
+AfterFrame world processors = AllAccess processors × (length processors ≡ length world.source.guest.processors)
+
+unmoved : (world : World) → Wait world → AfterFrame world world.destination.guest.processors
+unmoved world all = destination_like world world.destination.guest.processors (unchanged world.destination.guest.processors) all
 
 -- the commands of a Package are those that wait at the source
-frame_all : (frame : Frame) (epoch : ℕ) (rest : List Sent) (world : World) → IsKept world → world.up ≡ true → world.forward ≡ record { epoch = epoch; frame = frame } ∷ rest → AreAccesses world → AllAccess (destination_took world.destination epoch frame).guest.processors
+frame_all : (frame : Frame) (epoch : ℕ) (rest : List Sent) (world : World) → IsKept world → world.up ≡ true → world.forward ≡ record { epoch = epoch; frame = frame } ∷ rest → Wait world →
+    AfterFrame world (destination_took world.destination epoch frame).guest.processors
 frame_all (Package areas owed commands) epoch rest world kept up first all =
     let again = subst (λ w. IsKept (record world { forward = w })) first kept in
     let old = with_first world.source.phase world.destination.phase epoch (Package areas owed commands) rest world in
     let is = first_in_place old.source old.destination (record { epoch = epoch; frame = Package areas owed commands }) rest old.back (again.wires up) in
     let told = package_told world.source.phase world.destination.phase epoch areas owed commands rest world is up again in
-    subst (λ cs. AllAccess (map taken_over cs)) (sym told.0) (all_same world.source.guest.processors (map taken_over (commands_of world.source.guest.processors)) (taken_keeps world.source.guest.processors) all.source)
-frame_all Advise epoch rest world kept up first all = all.destination
-frame_all (Page page bytes) epoch rest world kept up first all = all_same world.destination.guest.processors _ (came_same world.destination.has_run world.destination _) all.destination
-frame_all (Zero page) epoch rest world kept up first all = all_same world.destination.guest.processors _ (came_same world.destination.has_run world.destination _) all.destination
-frame_all (Discard pages) epoch rest world kept up first all = all.destination
-frame_all End epoch rest world kept up first all = all.destination
-frame_all Resume epoch rest world kept up first all = all_same world.destination.guest.processors _ (resumed_same (received_of world.destination) _) all.destination
-frame_all (Request page) epoch rest world kept up first all = all.destination
-frame_all (Recv state owed) epoch rest world kept up first all = all.destination
-frame_all Done epoch rest world kept up first all = all.destination
+    let new = source_like world _ (taken_like world.source.guest.processors) all in
+    subst (λ cs. AfterFrame world (map taken_over cs)) (sym told.0) (new.0, taken_many world.source.guest.processors)
+frame_all (Page page bytes) epoch rest world kept up first all = destination_like world _ (came_like world.destination.has_run world.destination _) all
+frame_all (Zero page) epoch rest world kept up first all = destination_like world _ (came_like world.destination.has_run world.destination _) all
+frame_all Resume epoch rest world kept up first all = destination_like world _ (resumed_like (received_of world.destination) _) all
+frame_all Advise epoch rest world kept up first all = unmoved world all
+frame_all (Discard pages) epoch rest world kept up first all = unmoved world all
+frame_all End epoch rest world kept up first all = unmoved world all
+frame_all (Request page) epoch rest world kept up first all = unmoved world all
+frame_all (Recv state owed) epoch rest world kept up first all = unmoved world all
+frame_all Done epoch rest world kept up first all = unmoved world all
 
-delivered_all : (wire : List Sent) (world : World) → IsKept world → world.up ≡ true → world.forward ≡ wire → AreAccesses world → AreAccesses (delivered world wire)
+delivered_all : (wire : List Sent) (world : World) → IsKept world → world.up ≡ true → world.forward ≡ wire → Wait world → Wait (delivered world wire)
 delivered_all [] world kept up first all = all
-delivered_all (sent ∷ rest) world kept up first all = record { source = all.source; destination = frame_all sent.frame sent.epoch rest world kept up first all }
+delivered_all (sent ∷ rest) world kept up first all = let new = frame_all sent.frame sent.epoch rest world kept up first all in record { source = all.source; destination = new.0; many = new.1 }
 
-accepted_all : (world : World) (step : Step) → IsKept world → AreAccesses world → refusal_of world step ≡ None → AreAccesses (accepted world step)
+accepted_all : (world : World) (step : Step) → IsKept world → Wait world → refusal_of world step ≡ None → Wait (accepted world step)
 accepted_all world (Issue cpu command) kept all free = tried_all world cpu command all
 accepted_all world (Retry cpu) kept all free = retried_all (outstanding (processor_at (guest_of world).processors cpu)) world cpu all
 accepted_all world Send kept all free = sent_all (least_of world.source.todo) world all
@@ -221,31 +269,39 @@ accepted_all world DeliverBack kept all free = delivered_back_all world.back wor
 accepted_all world DestRead kept all free = read_destination_all (next_message world.destination.guest.space.object) world all
 accepted_all world DestAct kept all free = acted_destination_all world.destination.guest.held world all
 accepted_all world Install kept all free = install_all world.destination.arrivals world all
-accepted_all world Start kept all free = record { source = all.source; destination = all.destination }
-accepted_all world Round kept all free = record { source = all.source; destination = all.destination }
-accepted_all world Switch kept all free = record { source = all.source; destination = all.destination }
-accepted_all world (Push epoch page) kept all free = record { source = all.source; destination = all.destination }
-accepted_all world Serve kept all free = record { source = all.source; destination = all.destination }
-accepted_all world SendEnd kept all free = record { source = all.source; destination = all.destination }
-accepted_all world Break kept all free = record { source = all.source; destination = all.destination }
-accepted_all world (Notice AtSource) kept all free = record { source = all.source; destination = all.destination }
-accepted_all world (Notice AtDestination) kept all free = record { source = all.source; destination = all.destination }
-accepted_all world Reconnect kept all free = record { source = all.source; destination = all.destination }
+accepted_all world Start kept all free = record { source = all.source; destination = all.destination; many = all.many }
+accepted_all world Round kept all free = record { source = all.source; destination = all.destination; many = all.many }
+accepted_all world Switch kept all free = record { source = all.source; destination = all.destination; many = all.many }
+accepted_all world (Push epoch page) kept all free = record { source = all.source; destination = all.destination; many = all.many }
+accepted_all world Serve kept all free = record { source = all.source; destination = all.destination; many = all.many }
+accepted_all world SendEnd kept all free = record { source = all.source; destination = all.destination; many = all.many }
+accepted_all world Break kept all free = record { source = all.source; destination = all.destination; many = all.many }
+accepted_all world (Notice AtSource) kept all free = record { source = all.source; destination = all.destination; many = all.many }
+accepted_all world (Notice AtDestination) kept all free = record { source = all.source; destination = all.destination; many = all.many }
+accepted_all world Reconnect kept all free = record { source = all.source; destination = all.destination; many = all.many }
 
 idle_all : (count : ℕ) → AllAccess (idle_processors count)
 idle_all zero k command h = absurd (none_some command h)
 idle_all (suc count) zero command h = absurd (none_some command h)
 idle_all (suc count) (suc k) command h = idle_all count k command h
 
-next_all : (world : World) (step : Step) → IsKept world → AreAccesses world → AreAccesses (next world step)
+next_all : (world : World) (step : Step) → IsKept world → Wait world → Wait (next world step)
 unfolding next
-next_all world step kept all = by_refusal AreAccesses (refusal_of world step) world (accepted world step) all (accepted_all world step kept all)
+next_all world step kept all = by_refusal Wait (refusal_of world step) world (accepted world step) all (accepted_all world step kept all)
 
-steps_all : (world : World) (steps : List Step) → IsKept world → AreAccesses world → AreAccesses (after_steps world steps)
+steps_all : (world : World) (steps : List Step) → IsKept world → Wait world → Wait (after_steps world steps)
 steps_all world [] kept all = all
 steps_all world (step ∷ steps) kept all = steps_all (next world step) steps (kept-next world step kept) (next_all world step kept all)
 
+waits : (world : World) → IsReached world → Wait world
+waits world reached =
+    subst Wait (sym reached.is)
+    (steps_all (first_world_with reached.cpus reached.epoch reached.rounds) reached.steps (kept-first reached.cpus reached.epoch reached.rounds)
+    (record { source = idle_all reached.cpus; destination = idle_all reached.cpus; many = refl }))
+
 pub are_accesses : (world : World) → IsReached world → AreAccesses world
-are_accesses world reached =
-    subst AreAccesses (sym reached.is)
-    (steps_all (first_world_with reached.cpus reached.epoch reached.rounds) reached.steps (kept-first reached.cpus reached.epoch reached.rounds) (record { source = idle_all reached.cpus; destination = idle_all reached.cpus }))
+are_accesses world reached = let all = waits world reached in record { source = all.source; destination = all.destination }
+
+-- both nodes have as many processors
+pub as_many : (world : World) → IsReached world → length world.destination.guest.processors ≡ length world.source.guest.processors
+as_many world reached = (waits world reached).many

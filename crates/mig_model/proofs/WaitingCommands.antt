@@ -30,7 +30,7 @@ use Rattle.mig_model.specs.Promises.{is_retry_of}
 use Rattle.mig_model.proofs.Breaking.{none_applies}
 use Rattle.mig_model.proofs.Stopping.{not_none}
 use Rattle.mig_model.proofs.FirstFrame.{comes, first_in_place}
-use Rattle.mig_model.proofs.FramesTaken.{with_first}
+use Rattle.mig_model.proofs.FramesTaken.{with_first, commands_in}
 
 -- Processors
 
@@ -245,10 +245,6 @@ same_took (Request page) node epoch h = record { guest = refl; ran = refl }
 same_took (Recv state owed) node epoch h = record { guest = refl; ran = refl }
 same_took Done node epoch h = record { guest = refl; ran = refl }
 
-commands_in : Frame → List (Option Command) → List (Option Command)
-commands_in (Package areas owed commands) other = commands
-commands_in frame other = other
-
 -- a Package that comes next has the outstanding commands of the source, and the destination has not run
 pub package_told : (from : SourcePhase) (to : DestinationPhase) (epoch : ℕ) (areas : FinMap nat_cmp Prot) (owed : FinSet nat_cmp) (commands : List (Option Command)) (rest : List Sent) (world : World) →
     comes from to (Package areas owed commands) ≡ true → world.up ≡ true → IsKept (with_first from to epoch (Package areas owed commands) rest world) →
@@ -358,3 +354,19 @@ pub waiting_command : (world : World) (step : Step) (k : ℕ) (command : Command
 unfolding next
 waiting_command world step k command kept other h =
     kept_by_refusal (refusal_of world step) world (accepted world step) k command h (λ free. accepted_keeps world step k command kept other free h)
+
+-- What a Retry makes of its processor
+
+set_here : (processors : List Processor) (i : ℕ) (new : Processor) (command : Command) → outstanding (processor_at processors i) ≡ Some command → processor_at (set processors i new) i ≡ new
+set_here [] i new command h = absurd (none_some command h)
+set_here (p ∷ ps) zero new command h = refl
+set_here (p ∷ ps) (suc i) new command h = set_here ps i new command h
+
+pub retried_at : (world : World) (cpu : ℕ) (command : Command) → refusal_of world (Retry cpu) ≡ None → outstanding (processor_at (guest_of world).processors cpu) ≡ Some command →
+    processor_at (guest_of (next world (Retry cpu))).processors cpu ≡ processor_after command (took_by (is_access command) (guest_of world).space command)
+unfolding next
+retried_at world cpu command free waits =
+    ap (λ o. processor_at (guest_of (next_by o world (accepted world (Retry cpu)))).processors cpu) free
+    ∙ ap (λ o. processor_at (guest_of (retried world cpu o)).processors cpu) waits
+    ∙ ap (λ g. processor_at g.processors cpu) (tried_guest world cpu command)
+    ∙ set_here (guest_of world).processors cpu (processor_after command (took_by (is_access command) (guest_of world).space command)) command waits

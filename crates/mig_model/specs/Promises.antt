@@ -1,5 +1,5 @@
 -- The promises of the whole migration, as words for its laws.
-use Rattle.std.specs.Prelude.{◌≡◌, ℕ, ◌+◌, ◌-◌, ◌/◌, ◌<◌, ◌||◌, nat_lt, ◌==◌, if◌then◌else◌, Bool, true, false, Some, None, List, [], Option, ◌∷◌}
+use Rattle.std.specs.Prelude.{length, ◌≡◌, ℕ, ◌+◌, ◌-◌, ◌/◌, ◌<◌, ◌||◌, nat_lt, ◌==◌, if◌then◌else◌, Bool, true, false, Some, None, List, [], Option, ◌∷◌}
 use Rattle.std.specs.FinMap as finmap
 use Rattle.std.specs.FinMap.{get, contains_key}
 use Rattle.std.specs.FinSet.{contains}
@@ -107,13 +107,14 @@ IsOwnEpoch node epoch Advise = Unit {0}
 IsOwnEpoch node epoch Resume = node.epoch < epoch
 IsOwnEpoch node epoch frame = epoch ≡ node.epoch
 
--- what a frame carries is right. Of a Package: no page that it owes is kept, and all of both are mapped. End does not come while a
--- page is owed and no copy waits
+-- what a frame carries is right. Of a Package: no page that it owes is kept, all of both are mapped, and it has as many processors
+-- as the destination. End does not come while a page is owed and no copy waits
 abbrev pub IsGood : Destination → Frame → Type 0
 IsGood node (Package areas owed commands) =
     ((page : ℕ) → contains owed page ≡ true → contains_key node.kept page ≡ false)
     × ((page : ℕ) → contains owed page ≡ true → contains_key areas page ≡ true)
     × ((page : ℕ) → contains_key node.kept page ≡ true → contains_key areas page ≡ true)
+    × (length commands ≡ length node.guest.processors)
 IsGood node End = node.arrivals ≡ [] → node.owed ≡ finmap.empty
 IsGood node frame = Unit {0}
 

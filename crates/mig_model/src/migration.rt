@@ -8,7 +8,7 @@ ghost use Rattle.mig_base.specs.declared.command.Command.{Command};
 ghost use Rattle.mig_base.specs.Flat.{IsFlatRun, memory_of, reply_of};
 ghost use Rattle.mig_model.specs.Host.{memory};
 ghost use Rattle.mig_model.specs.World.{is_access};
-ghost use Rattle.mig_model.specs.Guest.{outstanding, processor_at, entries_of, took_by};
+ghost use Rattle.mig_model.specs.Guest.{outstanding, processor_at, processor_after, entries_of, took_by};
 ghost use Rattle.mig_model.specs.Wire.{Sent};
 ghost use Rattle.mig_model.specs.Wire.Received.{Running};
 ghost use Rattle.mig_model.specs.Nodes.{space_of, settled, is_precopy, is_stopped, is_source_paused, is_running};
@@ -101,10 +101,13 @@ pub fn no_frame_is_refused()
 {}
 
 /// A command that waits is changed by no step but the Retry of its processor: the processor still has to make it, on whichever node it
-/// then is.
+/// then is. A Retry that is accepted tries it: the processor is idle where it took effect, and sleeps with the same command where it
+/// did not.
 pub fn a_waiting_command()
-    ensures { (world : World) (step : Step) (cpu : ℕ) (command : Command) → IsReached world → is_retry_of step cpu ≡ false →
+    ensures kept { (world : World) (step : Step) (cpu : ℕ) (command : Command) → IsReached world → is_retry_of step cpu ≡ false →
         outstanding (processor_at (guest_of world).processors cpu) ≡ Some command → outstanding (processor_at (guest_of (next world step)).processors cpu) ≡ Some command }
+    ensures retry { (world : World) (cpu : ℕ) (command : Command) → refusal_of world (Retry cpu) ≡ None → outstanding (processor_at (guest_of world).processors cpu) ≡ Some command →
+        processor_at (guest_of (next world (Retry cpu))).processors cpu ≡ processor_after command (took_by (is_access command) (guest_of world).space command) }
 {}
 
 /// A command that waits is a load or a store, on either node: a map call waits only for its messages to be read, and has taken effect.

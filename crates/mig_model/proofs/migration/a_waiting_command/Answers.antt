@@ -1,6 +1,9 @@
 use Rattle.mig_model.proofs.EveryStep.{kept-reached}
-use Rattle.mig_model.proofs.WaitingCommands.{waiting_command}
+use Rattle.mig_model.proofs.WaitingCommands.{waiting_command, retried_at}
 use Rattle.mig_model.proofs.migration.a_waiting_command.Goals as goal
 
-pub returns : goal.returns
-returns c world step cpu command reached other waits = waiting_command world step cpu command (kept-reached world reached) other waits
+pub returns-clause-kept : goal.returns-clause-kept
+returns-clause-kept c world step cpu command reached other waits = waiting_command world step cpu command (kept-reached world reached) other waits
+
+pub returns-clause-retry : goal.returns-clause-retry
+returns-clause-retry c world cpu command free waits = retried_at world cpu command free waits
