@@ -100,6 +100,7 @@ request_wires Paused Runs source node forward back sent is runs w =
         first = ap (λ l. l ++ sent ∷ []) old.first;
         requests = are_requests-push old.rest sent is old.requests;
         alone = λ other. absurd (other refl);
+        none_listed = λ other. absurd (other refl);
         needed = old.needed;
         owed_present = old.owed_present;
       },

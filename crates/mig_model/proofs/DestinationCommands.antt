@@ -45,7 +45,7 @@ entered_one old new transcript cpu command took (Entered one then) sound holds f
 -- The wires do not depend on the destination's guest
 
 receiving : (from : Source) (to : Destination) (guest : Guest) (state : Received) (back : List Sent) → IsReceiving from to state back → IsReceiving from (record to { guest = guest }) state back
-receiving from to guest state back is = record { owed = is.owed; epoch = is.epoch; rest = is.rest; first = is.first; requests = is.requests; alone = is.alone; needed = is.needed; owed_present = is.owed_present }
+receiving from to guest state back is = record { owed = is.owed; epoch = is.epoch; rest = is.rest; first = is.first; requests = is.requests; alone = is.alone; none_listed = is.none_listed; needed = is.needed; owed_present = is.owed_present }
 
 wires_in : (at : SourcePhase) (phase : DestinationPhase) (from : Source) (to : Destination) (guest : Guest) (forward back : List Sent) →
     Wires (record from { phase = at }) (record to { phase = phase }) forward back → Wires (record from { phase = at }) (record to { phase = phase; guest = guest }) forward back

@@ -60,6 +60,7 @@ still_receiving source node new state back values old =
       first = old.first;
       requests = old.requests;
       alone = old.alone;
+      none_listed = old.none_listed;
       needed = λ page origin h. let was = values page origin h in old.needed was.0 origin was.1;
       owed_present = old.owed_present;
     }

@@ -1,5 +1,5 @@
 -- No frame is refused: the first frame of each wire is in place, of the right epoch, and right.
-use Rattle.std.proofs.Common.{◌≡◌, ℕ, ◌&&◌, ◌||◌, Bool, true, false, cond, Option, Some, None, List, [], ◌∷◌, refl, sym, ap, ◌∙◌, subst, arith, is_some}
+use Rattle.std.proofs.Common.{◌≡◌, ◌≢◌, ℕ, ◌&&◌, ◌||◌, Bool, true, false, cond, Option, Some, None, List, [], ◌∷◌, refl, sym, ap, ◌∙◌, subst, arith, is_some}
 use Rattle.std.specs.Ordering.{nat_cmp}
 use Rattle.std.specs.FinMap as finmap
 use Rattle.std.specs.FinMap.{FinMap, get, contains_key, get-empty}
@@ -170,8 +170,9 @@ done_place (Request page) node more last stopped ended h = stopped
 done_place Done node more last stopped ended h = (stopped, ended)
 done_place _ node more last stopped ended h = none_absurd h
 
-recv_place : (frame : Frame) (state : Received) (owed : FinSet nat_cmp) (node : Source) → is_source_paused node.phase ≡ true → ((page : ℕ) → contains owed page ≡ true → is_present (space_of node) page ≡ true) → frame ≡ Recv state owed → IsInPlaceBack node frame
-recv_place frame state owed node paused present is = subst (IsInPlaceBack node) (sym is) (paused, present)
+recv_place : (frame : Frame) (state : Received) (owed : FinSet nat_cmp) (node : Source) → is_source_paused node.phase ≡ true → ((page : ℕ) → contains owed page ≡ true → is_present (space_of node) page ≡ true) → (state ≢ Running → owed ≡ no_pages) →
+    (state ≢ NotRun → node.switched ≡ true) → frame ≡ Recv state owed → IsInPlaceBack node frame
+recv_place frame state owed node paused present listed switched is = subst (IsInPlaceBack node) (sym is) (paused, present, listed, switched)
 
 -- a world in these phases, with this first frame on the wire back
 abbrev with_back : SourcePhase → DestinationPhase → Sent → List Sent → World → World
@@ -185,13 +186,13 @@ back_in Stopped Advised sent rest world up kept = absurd (empty_first sent rest 
 back_in Stopped Discarding sent rest world up kept = absurd (empty_first sent rest (kept.wires up).1)
 back_in Stopped Interrupted sent rest world up kept = absurd (kept.wires up)
 back_in Paused Advised sent rest world up kept =
-    recv_place sent.frame NotRun no_pages (with_back Paused Advised sent rest world).source refl (λ page h. none_absurd (sym (no_member page) ∙ h)) (first_is sent _ rest [] (kept.wires up).1)
+    recv_place sent.frame NotRun no_pages (with_back Paused Advised sent rest world).source refl (λ page h. none_absurd (sym (no_member page) ∙ h)) (λ other. refl) (λ other. absurd (other refl)) (first_is sent _ rest [] (kept.wires up).1)
 back_in Paused Runs sent rest world up kept =
     let told : IsReceiving (with_back Paused Runs sent rest world).source (with_back Paused Runs sent rest world).destination Running (sent ∷ rest) = (kept.wires up).1 in
-    recv_place sent.frame Running told.owed (with_back Paused Runs sent rest world).source refl told.owed_present (first_is sent _ rest told.rest told.first)
+    recv_place sent.frame Running told.owed (with_back Paused Runs sent rest world).source refl told.owed_present told.none_listed (λ other. kept.ran_after_switch kept.destination_phase.0) (first_is sent _ rest told.rest told.first)
 back_in Paused HasEnded sent rest world up kept =
     let told : IsReceiving (with_back Paused HasEnded sent rest world).source (with_back Paused HasEnded sent rest world).destination Ended (sent ∷ rest) = (kept.wires up).1 in
-    recv_place sent.frame Ended told.owed (with_back Paused HasEnded sent rest world).source refl told.owed_present (first_is sent _ rest told.rest told.first)
+    recv_place sent.frame Ended told.owed (with_back Paused HasEnded sent rest world).source refl told.owed_present told.none_listed (λ other. kept.ran_after_switch (kept.ended_after_run kept.destination_phase)) (first_is sent _ rest told.rest told.first)
 back_in Paused NotAdvised sent rest world up kept = absurd (kept.wires up)
 back_in Paused Discarding sent rest world up kept = absurd (kept.wires up)
 back_in Paused Interrupted sent rest world up kept = absurd (empty_first sent rest (kept.wires up).1)

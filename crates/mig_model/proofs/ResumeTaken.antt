@@ -139,6 +139,7 @@ resume_running epoch rest world kept =
       first = answer_first world.back epoch (Recv Running (origins owed)) frames w.1;
       requests = are_requests-sending epoch [] world.destination.requests refl;
       alone = λ h. absurd (h refl);
+      none_listed = λ h. absurd (h refl);
       needed = λ page origin h. origins-pair owed page origin h (kept.owed_below page origin h) (present_low world.source.guest.space.host origin kept.source_space.host (kept.origins_present page origin h));
       owed_present = λ origin h. let pair = pair-origins owed origin h in kept.origins_present pair.0 origin pair.1;
     } in
@@ -169,6 +170,7 @@ resume_ended epoch rest world kept =
       first = answer_first world.back epoch (Recv Ended no_pages) [] w.1;
       requests = refl;
       alone = λ h. refl;
+      none_listed = λ h. refl;
       needed = λ page origin h. absurd (none_some origin (sym (get-empty nat_cmp page) ∙ sym (ap (λ o. get o page) (kept.ended_empty refl).0) ∙ h));
       owed_present = λ page h. absurd (false≢true (sym (contains-empty nat_cmp page) ∙ h));
     } in

@@ -221,8 +221,9 @@ pub record IsReceiving (source : Source) (destination : Destination) (state : Re
   pub rest : List Sent
   pub first : back ≡ record { epoch = epoch; frame = Recv state owed } ∷ rest
   pub requests : are_requests rest ≡ true
-  -- where the destination does not run none come behind it
+  -- where the destination does not run none come behind it, and it lists no page
   pub alone : state ≢ Running → rest ≡ []
+  pub none_listed : state ≢ Running → owed ≡ no_pages
   pub needed : (page origin : ℕ) → get destination.owed page ≡ Some origin → contains owed origin ≡ true
   pub owed_present : (page : ℕ) → contains owed page ≡ true → is_present (space_of source) page ≡ true
 

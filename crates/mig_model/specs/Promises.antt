@@ -1,5 +1,5 @@
 -- The promises of the whole migration, as words for its laws.
-use Rattle.std.specs.Prelude.{length, ◌≡◌, ℕ, ◌+◌, ◌-◌, ◌/◌, ◌<◌, ◌||◌, nat_lt, ◌==◌, if◌then◌else◌, Bool, true, false, Some, None, List, [], Option, ◌∷◌}
+use Rattle.std.specs.Prelude.{length, ◌≢◌, ◌≡◌, ℕ, ◌+◌, ◌-◌, ◌/◌, ◌<◌, ◌||◌, nat_lt, ◌==◌, if◌then◌else◌, Bool, true, false, Some, None, List, [], Option, ◌∷◌}
 use Rattle.std.specs.FinMap as finmap
 use Rattle.std.specs.FinMap.{get, contains_key}
 use Rattle.std.specs.FinSet.{contains}
@@ -17,8 +17,9 @@ use Rattle.mig_model.specs.World.{is_access}
 use Rattle.mig_model.specs.Space.{Space, fresh_space}
 use Rattle.mig_model.specs.Guest.{Processor, is_present, outstanding, processor_at}
 use Rattle.mig_model.specs.Wire.{Frame, Sent}
+use Rattle.mig_model.specs.Wire.Received.{NotRun, Running}
 use Rattle.mig_model.specs.Wire.Frame.{Advise, Page, Zero, Discard, Package, End, Resume, Request, Recv, Done}
-use Rattle.mig_model.specs.Nodes.{Source, Destination, DestinationPhase, space_of, settled, is_released, is_stopped, is_source_paused}
+use Rattle.mig_model.specs.Nodes.{Source, Destination, DestinationPhase, no_pages, space_of, settled, is_released, is_stopped, is_source_paused}
 use Rattle.mig_model.specs.Nodes.DestinationPhase.{NotAdvised, Advised, Discarding, Runs, Interrupted}
 use Rattle.mig_model.specs.Migration.{World, Step, first_world_with, after_steps}
 use Rattle.mig_model.specs.Migration.Step.{Issue, Retry, Install, Start, Switch, Deliver, DeliverBack, SendEnd}
@@ -125,11 +126,14 @@ pub record IsTaken (node : Destination) (sent : Sent) : Type 0 where
   pub good : IsGood node sent.frame
 
 -- the frames that a source takes: a request while it is stopped, Done then once it has sent End, and while it is paused a Recv whose
--- pages it has
+-- pages it has. Only a destination that runs lists pages, and one runs or has ended only after the switch
 abbrev pub IsInPlaceBack : Source → Frame → Type 0
 IsInPlaceBack node (Request page) = is_stopped node.phase ≡ true
 IsInPlaceBack node Done = (is_stopped node.phase ≡ true) × (node.ended ≡ node.epoch)
-IsInPlaceBack node (Recv state owed) = (is_source_paused node.phase ≡ true) × ((page : ℕ) → contains owed page ≡ true → is_present (space_of node) page ≡ true)
+IsInPlaceBack node (Recv state owed) =
+    (is_source_paused node.phase ≡ true) × ((page : ℕ) → contains owed page ≡ true → is_present (space_of node) page ≡ true)
+    × (state ≢ Running → owed ≡ no_pages)
+    × (state ≢ NotRun → node.switched ≡ true)
 IsInPlaceBack node frame = ⊥
 
 -- The settled relation
