@@ -1,8 +1,9 @@
 //! The words of a migration that every crate shares.
 //!
 //! Addresses, pages and protections; the commands of processors and the replies to them; the steps of a world and their
-//! outcomes; [`Message`], what a userfault object tells; [`PageSet`], a set of pages. What the commands do to one flat memory
-//! is a definition, `specs/Flat.antt`, after mmap(2), munmap(2), mremap(2) and madvise(2): this crate executes no command.
+//! outcomes; [`Message`], what a userfault object tells, and [`Wake`], whom it wakes; [`PageSet`], a set of pages. What the
+//! commands do to one flat memory is a definition, `specs/Flat.antt`, after mmap(2), munmap(2), mremap(2) and madvise(2): this
+//! crate executes no command.
 #![tactic(auto)]
 
 pub mod chunk;
@@ -13,12 +14,14 @@ pub mod message;
 pub mod page_set;
 mod slots;
 pub mod step;
+pub mod wake;
 mod words;
 
 pub use crate::command::{Access, Command, Entry, Errno, Place, Reply};
 pub use crate::message::Message;
 pub use crate::page_set::PageSet;
 pub use crate::step::{DestinationPhase, Effect, Refusal, SourcePhase, Step, WorldPhase};
+pub use crate::wake::Wake;
 use std::alloc::AllocError;
 use thiserror::Error;
 

@@ -268,11 +268,11 @@ error_none true errno rest h = absurd (cc)
 error_none false errno rest h = (refl, h)
 
 -- no error of the list holds
-abbrev NoneHolds : List (Bool × Errno) → Type 0
+abbrev pub NoneHolds : List (Bool × Errno) → Type 0
 NoneHolds [] = Unit {0}
 NoneHolds (error ∷ errors) = (error.0 ≡ false) × NoneHolds errors
 
-none_holds : (errors : List (Bool × Errno)) → first_error errors ≡ None → NoneHolds errors
+pub none_holds : (errors : List (Bool × Errno)) → first_error errors ≡ None → NoneHolds errors
 none_holds [] h = tt
 none_holds (error ∷ errors) h = let one = error_none error.0 error.1 (first_error errors) h in (one.0, none_holds errors one.1)
 
@@ -281,11 +281,11 @@ left_sound : (error : Option Errno) (old new : Space) → IsSoundSpace old → (
 left_sound None old new sound h = h refl
 left_sound (Some errno) old new sound h = sound
 
-not_false : (b : Bool) → not b ≡ false → b ≡ true
+pub not_false : (b : Bool) → not b ≡ false → b ≡ true
 not_false true h = refl
 not_false false h = none_absurd (sym h)
 
-every_page : (test : ℕ → Bool) (first count page : ℕ) → is_every test first count ≡ true → first ≤ page → page < first + count → test page ≡ true
+pub every_page : (test : ℕ → Bool) (first count page : ℕ) → is_every test first count ≡ true → first ≤ page → page < first + count → test page ≡ true
 every_page test first count page h low high =
     let at : first + (page - first) ≡ page = omega arith in
     ap test (sym at) ∙ not_false (test (first + (page - first))) (none_below_tells (λ i. not (test (first + i))) count (page - first) h (omega arith))
@@ -338,7 +338,7 @@ same_bool_true true b h e = e
 same_bool_true false b h e = none_absurd h
 
 -- the pages before the first that is present can be put
-can_put : (space : Space) (first count : ℕ) (bytes : ℕ → List ℕ) (protect : Bool) → IsSoundSpace space → is_one_area space first count ≡ true → ((i : ℕ) → i < count → length (bytes i) ≡ 4096) →
+pub can_put : (space : Space) (first count : ℕ) (bytes : ℕ → List ℕ) (protect : Bool) → IsSoundSpace space → is_one_area space first count ≡ true → ((i : ℕ) → i < count → length (bytes i) ≡ 4096) →
     (protect ≡ true → contains space.object.protect first ≡ true) → CanPut space first (missing_run space first count) bytes protect
 can_put space first count bytes protect sound area whole watched =
     let few = missing_run-few space first count in
@@ -354,11 +354,11 @@ can_put space first count bytes protect sound area whole watched =
     }
 
 -- either not asked for, or registered
-protect_told : (asked has : Bool) → (asked && not has) ≡ false → asked ≡ true → has ≡ true
+pub protect_told : (asked has : Bool) → (asked && not has) ≡ false → asked ≡ true → has ≡ true
 protect_told true has h e = not_false has h
 protect_told false has h e = none_absurd e
 
-length-handed : (bytes : List ℕ) (i : ℕ) → i < length bytes / 4096 → length (handed bytes i) ≡ 4096
+pub length-handed : (bytes : List ℕ) (i : ℕ) → i < length bytes / 4096 → length (handed bytes i) ≡ 4096
 length-handed bytes i l = simp (length-take, length-drop) (omega (arith, l))
 
 pub IsSoundSpace-copied : (space : Space) (start : ℕ) (bytes : List ℕ) (bits : ℕ) → IsSoundSpace space → IsSoundSpace (copied space start bytes bits)

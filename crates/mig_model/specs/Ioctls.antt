@@ -9,6 +9,8 @@ use Rattle.mig_base.specs.declared.TheConstants.{PAGE_SIZE, LOW, HIGH}
 use Rattle.mig_base.specs.declared.Prot.{Prot}
 use Rattle.mig_base.specs.declared.command.Errno.{Errno}
 use Rattle.mig_base.specs.declared.command.Errno.TheVariants.{Enoent, Eagain, Eexist, Einval}
+use Rattle.mig_base.specs.declared.wake.Wake.{Wake}
+use Rattle.mig_base.specs.declared.wake.Wake.TheVariants.{Nobody, Range}
 use Rattle.mig_base.specs.Codes.{prot_number}
 use Rattle.mig_base.specs.Bits.{is_one}
 use Rattle.mig_base.specs.Bytes.{zero_page}
@@ -81,11 +83,6 @@ is_every test first count = none_below (λ i. not (test (first + i))) count
 -- whether no page of it is mapped
 abbrev pub is_bare : Space → ℕ → ℕ → Bool
 is_bare space first count = none_below (λ i. contains_key space.host.areas (first + i)) count
-
--- whom a call wakes: the processors that sleep on a page of the range, or nobody
-pub data Wake : Type 0 where
-  Nobody : Wake
-  Range : (start len : ℕ) → Wake
 
 -- UFFDIO_API
 

@@ -6,6 +6,7 @@ use Rattle.mig_base.specs.Ranges.{in_range, none_below}
 use Rattle.mig_base.specs.Sets.{pages_where}
 use Rattle.mig_model.specs.Userfault as machine
 use Rattle.mig_model.specs.Userfault.{Object, is_registered}
+use Rattle.mig_model.specs.Ioctls.{same_bool}
 use Rattle.userfault.specs.declared.modes.Mode.{Mode}
 
 -- the machine's word for a mode
@@ -15,6 +16,10 @@ mode_of mode = record { missing = mode.missing; protect = mode.protect }
 -- whether some page of a range is registered in any mode
 abbrev pub is_any_registered : Object → ℕ → ℕ → Bool
 is_any_registered object first count = not (none_below (λ i. is_registered object (first + i)) count)
+
+-- whether two pages have the same mode
+abbrev pub has_mode_of : Object → ℕ → ℕ → Bool
+has_mode_of object page other = same_bool (contains object.missing page) (contains object.missing other) && same_bool (contains object.protect page) (contains object.protect other)
 
 -- whether a page is in each of the two sets that is asked for
 abbrev pub has_asked : FinSet nat_cmp → FinSet nat_cmp → Bool → Bool → ℕ → Bool

@@ -1,10 +1,11 @@
 //! The modes of pages, and sets of pages once a range was registered or moved.
 
-ghost use Rattle.std.specs.Prelude.{◌≡◌, ℕ, ◌+◌, ◌<◌, ◌≤◌, ◌⊎◌, ◌&&◌, not, false, IfOk};
+ghost use Rattle.std.specs.Prelude.{◌≡◌, ℕ, ◌+◌, ◌<◌, ◌≤◌, ◌⊎◌, ◌&&◌, ◌||◌, not, false, IfOk};
 ghost use Rattle.std.specs.FinSet.{contains};
 ghost use Rattle.mig_base.specs.Ranges.{in_range};
 ghost use Rattle.mig_base.specs.Sets.{moved_set};
 ghost use Rattle.mig_base.specs.declared.TheConstants.{HIGH_PAGE};
+ghost use Rattle.mig_model.specs.Ioctls.{is_every, same_bool};
 ghost use Rattle.userfault.specs.Modes.{registered_set};
 
 use mig_base::{NoMemory, PageNo, PageSet};
@@ -85,4 +86,20 @@ fn run_of(set: &PageSet, from: PageNo, end: PageNo, want: bool) -> (PageNo, Page
     let start = set.next(from, want).min(end);
     let stop = set.next(start, !want).min(end);
     (start, stop)
+}
+
+/// Whether a set has all pages of a range, where it is asked for that.
+pub fn has_all(set: &PageSet, first: PageNo, count: u32, asked: bool) -> bool
+    requires { first + count ≤ HIGH_PAGE }
+    ensures { result ≡ is_every (λ page. not asked || contains set.now page) first count }
+{
+    !asked || set.next(first, false) >= first + count
+}
+
+/// Whether a set has all pages of a range, or none of them.
+pub fn is_one_run(set: &PageSet, first: PageNo, count: u32) -> bool
+    requires { first + count ≤ HIGH_PAGE }
+    ensures { result ≡ is_every (λ page. same_bool (contains set.now first) (contains set.now page)) first count }
+{
+    set.next(first, !set.contains(first)) >= first + count
 }

@@ -5,9 +5,10 @@ ghost use Rattle.std.specs.Option.{option_map};
 ghost use Rattle.mig_base.specs.Ranges.{in_range};
 ghost use Rattle.mig_base.specs.declared.TheConstants.{HIGH_PAGE};
 ghost use Rattle.mig_model.specs.Userfault as machine;
-ghost use Rattle.userfault.specs.Modes.{mode_of, is_any_registered};
+ghost use Rattle.mig_model.specs.Ioctls.{is_every};
+ghost use Rattle.userfault.specs.Modes.{mode_of, is_any_registered, has_mode_of};
 
-use crate::modes::{Mode, moved, registered};
+use crate::modes::{Mode, has_all, is_one_run, moved, registered};
 use crate::noted::{Noted, copy_queue, waits};
 use mig_base::{Addr, Message, NoMemory, PageNo, PageSet};
 use std::alloc::Global;
@@ -133,6 +134,26 @@ impl Userfault {
     {
         let end = first + count;
         self.missing.next(first, true) < end || self.protect.next(first, true) < end
+    }
+
+    /// Whether each of the `count` pages from `first` on has all modes asked for.
+    pub fn has_modes(&self, first: PageNo, count: u32, mode: Mode) -> bool
+        requires { first + count ≤ HIGH_PAGE }
+        ensures { result ≡ is_every (λ page. machine.has_modes self.now page (mode_of mode)) first count }
+    {
+        let missing = has_all(&self.missing, first, count, mode.missing);
+        let protect = has_all(&self.protect, first, count, mode.protect);
+        missing && protect
+    }
+
+    /// Whether the `count` pages from `first` on all have the mode of the first, which may be none.
+    pub fn has_one_mode(&self, first: PageNo, count: u32) -> bool
+        requires { first + count ≤ HIGH_PAGE }
+        ensures { result ≡ is_every (has_mode_of self.now first) first count }
+    {
+        let missing = is_one_run(&self.missing, first, count);
+        let protect = is_one_run(&self.protect, first, count);
+        missing && protect
     }
 
     /// Notes that a processor sleeps on the page at an address: by a store where `write`, on a page that is write-protected

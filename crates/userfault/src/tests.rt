@@ -147,6 +147,31 @@ fn a_forgotten_range_touches_no_other_page(rt: HostRuntime) {
     assert!(rt; !object.is_any_registered(0x3ff, 0x1000));
 }
 
+/// Three pages of one mode, and one of another between them and a fifth.
+#[test]
+fn ranges_of_one_mode(rt: HostRuntime) {
+    let mut object = Userfault::new(rt.alloc());
+    register(&rt, &mut object, 0x3fe, 5, MISSING);
+    register(&rt, &mut object, 0x401, 1, BOTH);
+    for (count, one, missing, both) in [
+        (1, true, true, false),
+        (3, true, true, false),
+        (4, false, true, false),
+        (5, false, true, false),
+        (6, false, false, false),
+    ] {
+        assert_eq!(rt; object.has_one_mode(0x3fe, count), one, "{count} pages");
+        assert_eq!(rt;
+            object.has_modes(0x3fe, count, MISSING),
+            missing,
+            "{count} pages"
+        );
+        assert_eq!(rt; object.has_modes(0x3fe, count, BOTH), both, "{count} pages");
+    }
+    assert!(rt; object.has_modes(0x401, 1, BOTH) && object.has_modes(0x10, 8, NONE));
+    assert!(rt; object.has_one_mode(0x10, 8) && !object.has_modes(0x10, 8, PROTECT));
+}
+
 /// Pages on both sides of a chunk's border, one of them not registered, go to where another mode was.
 #[test]
 fn a_moved_range_touches_no_other_page(rt: HostRuntime) {

@@ -1,0 +1,10 @@
+use Rattle.std.proofs.Common.{◌∙◌, ap, not, arith}
+use Rattle.std.specs.FinSet.{contains}
+use Rattle.userfault.proofs.EveryLemmas.{every_same}
+use Rattle.userfault.proofs.modes.is_one_run.Goals as goal
+
+pub returns : goal.returns
+returns c =
+    every_same (contains c.args.set.now) c.args.first c.args.count c.next.result c.next.ensures.range.0
+    (λ q a b. c.next.ensures.before q a b ∙ ap (λ w. not (not w)) c.contains.ensures)
+    (λ l. c.next.ensures.here (omega arith) ∙ ap not c.contains.ensures)
