@@ -1,10 +1,6 @@
-pub mod AnswerLemmas
-pub mod PaddingLemmas
 pub mod RunLemmas
 pub mod SendLemmas
 pub mod KeepLemmas
 pub mod StepLemmas
 pub mod ReadyLemmas
-pub mod MapCallLemmas
-pub mod RemapLemmas
-pub mod ChangeLemmas
+pub mod UnwatchedLemmas

@@ -20,7 +20,7 @@ use Rattle.mig_model.specs.Kept.{IsKept, IsOnTheWay, AreCopies, kept_by}
 use Rattle.mig_model.proofs.WorldLemmas.{at_stage}
 use Rattle.mig_model.proofs.Taking.{kept_takes}
 use Rattle.hosts.specs.Frames.{IsFrameSound, IsReady}
-use Rattle.hosts.proofs.AnswerLemmas.{has_put}
+use Rattle.uffd_ioctl.proofs.AnswerLemmas.{has_put}
 
 none_is_first : (wire : List Sent) (sent : Sent) (rest : List Sent) → wire ≡ [] → wire ≡ sent ∷ rest → ⊥
 none_is_first wire sent rest none first = cc

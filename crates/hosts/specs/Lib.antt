@@ -1,4 +1,3 @@
 pub mod Frames
 pub mod Worlds
-pub mod MapCalls
-pub mod Remaps
+pub mod Spaces

@@ -41,6 +41,11 @@ impl Model for Destination {
     ghost coded = { coded_destination };
 
     ghost view = { λ d. record { phase = d.phase; epoch = d.epoch; kept = d.kept.bytes; host = d.host } };
+
+    ghost use Rattle.std.specs.Prelude.{◌≡◌};
+    ghost use Rattle.std.specs.FinSet.{empty};
+
+    ghost invariant = { λ d. d.kept.protected ≡ empty };
 }
 
 impl Destination {
@@ -103,7 +108,7 @@ impl Destination {
             }
             Frame::Package { areas, owed } => {
                 let kept = mem::replace(&mut self.kept, PageTable::new(self.alloc));
-                self.host = Host::assemble(areas, kept);
+                self.host = Host::assemble(self.alloc, areas, kept);
                 self.phase = DestinationPhase::Running;
                 Ok(Effect::TookPackage { owed: owed.len() })
             }
@@ -130,7 +135,9 @@ fn take_page(
     page: PageNo,
     bytes: Box<[u8; 4096]>,
 ) -> Result<Effect, Sent>
-    requires { page < HIGH_PAGE }
+    requires page { page < HIGH_PAGE }
+    requires open { kept.old.protected ≡ set.empty }
+    ensures open { kept.new.protected ≡ set.empty }
     ensures effect { IfOk result (λ effect. effect ≡ Effect.TookPage (4096 * page)) }
     ensures ok { OnOk result (kept.new.bytes ≡ map.insert kept.old.bytes page bytes.value) }
     ensures frame { IfErr result (λ back. sent_value back ≡ record { epoch = epoch; frame = Page page bytes.value }) }
@@ -149,7 +156,9 @@ fn take_page(
 
 /// Takes a page of zeros. Where there is no memory for it, the frame comes back and nothing has changed.
 fn take_zero(alloc: Global, kept: &mut PageTable, epoch: u32, page: PageNo) -> Result<Effect, Sent>
-    requires { page < HIGH_PAGE }
+    requires page { page < HIGH_PAGE }
+    requires open { kept.old.protected ≡ set.empty }
+    ensures open { kept.new.protected ≡ set.empty }
     ensures effect { IfOk result (λ effect. effect ≡ Effect.TookZero (4096 * page)) }
     ensures ok { OnOk result (kept.new.bytes ≡ map.insert kept.old.bytes page zero_page) }
     ensures frame { IfErr result (λ back. sent_value back ≡ record { epoch = epoch; frame = Zero page }) }
@@ -168,7 +177,9 @@ fn take_zero(alloc: Global, kept: &mut PageTable, epoch: u32, page: PageNo) -> R
 
 /// Keeps the newest copy of a page. Where there is no memory for it, the bytes come back and nothing has changed.
 fn keep(kept: &mut PageTable, page: PageNo, bytes: Box<[u8; 4096]>) -> Result<(), Box<[u8; 4096]>>
-    requires { page < HIGH_PAGE }
+    requires page { page < HIGH_PAGE }
+    requires open { kept.old.protected ≡ set.empty }
+    ensures open { kept.new.protected ≡ set.empty }
     ensures ok { OnOk result (kept.new.bytes ≡ map.insert kept.old.bytes page bytes.value) }
     ensures back { IfErr result (λ back. back ≡ bytes) }
     ensures err { OnErr result (kept.new.bytes ≡ kept.old.bytes) }
@@ -185,7 +196,9 @@ fn keep(kept: &mut PageTable, page: PageNo, bytes: Box<[u8; 4096]>) -> Result<()
 
 /// Keeps a page of zeros as the newest copy of a page.
 fn keep_zero(alloc: Global, kept: &mut PageTable, page: PageNo) -> Result<(), NoMemory>
-    requires { page < HIGH_PAGE }
+    requires page { page < HIGH_PAGE }
+    requires open { kept.old.protected ≡ set.empty }
+    ensures open { kept.new.protected ≡ set.empty }
     ensures ok { OnOk result (kept.new.bytes ≡ map.insert kept.old.bytes page zero_page) }
     ensures err { OnErr result (kept.new.bytes ≡ kept.old.bytes) }
 {
@@ -204,8 +217,10 @@ fn keep_zero(alloc: Global, kept: &mut PageTable, page: PageNo) -> Result<(), No
 
 /// Gives up the copies of the pages of a set.
 fn give_up(kept: &mut PageTable, pages: &PageSet)
-    requires { (page : ℕ) → set.contains pages.now page ≡ true → page < HIGH_PAGE }
-    ensures { kept.new.bytes ≡ map.retain_keys kept.old.bytes (λ page. not (set.contains pages.now page)) }
+    requires below { (page : ℕ) → set.contains pages.now page ≡ true → page < HIGH_PAGE }
+    requires open { kept.old.protected ≡ set.empty }
+    ensures bytes { kept.new.bytes ≡ map.retain_keys kept.old.bytes (λ page. not (set.contains pages.now page)) }
+    ensures open { kept.new.protected ≡ set.empty }
 {
     let mut page = pages.next(0, true);
     while page < HIGH_PAGE {

@@ -2,16 +2,13 @@
 //!
 //! [`World::step`] makes one step, and is the only way to change a world; its contract is the step of the machine of the crate
 //! `mig_model`. The transcript of every [`World`] is the run of one flat memory, also while the memory moves from the source to
-//! the destination. [`Host`] executes commands on an `area_map::AreaMap` and a `page_table::PageTable`, after mmap(2), munmap(2),
-//! mremap(2) and madvise(2). Nothing here reads, prints or waits.
+//! the destination. A [`Host`] is a `uffd_ioctl::Space` whose userfault object is not enabled: it executes commands after mmap(2),
+//! munmap(2), mremap(2) and madvise(2). Nothing here reads, prints or waits.
 #![tactic(auto)]
 
-mod access;
 mod destination;
 mod frame;
 mod host;
-mod map_calls;
-mod remap;
 mod source;
 mod world;
 

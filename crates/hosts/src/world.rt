@@ -10,6 +10,7 @@ ghost use Rattle.hosts.specs.Frames.{frame_value, wire_value, IsReady, TakesFirs
 
 use crate::destination::Destination;
 use crate::frame::{Frame, Sent, push, switch_frames};
+use crate::host::is_access;
 use crate::source::Source;
 use mig_base::{
     Command, Effect, Entry, MAX_CPUS, NoMemory, Refusal, Reply, SourcePhase, Step, WorldPhase,
@@ -320,19 +321,6 @@ fn has_switched(phase: SourcePhase) -> bool
     match phase {
         SourcePhase::Stopped | SourcePhase::Released => true,
         SourcePhase::Idle | SourcePhase::Precopy => false,
-    }
-}
-
-/// Whether a command is a load or a store.
-fn is_access(command: Command) -> bool
-    ensures { result ≡ is_load_or_store command }
-{
-    match command {
-        Command::Load { .. } | Command::Store { .. } => true,
-        Command::Mmap { .. }
-        | Command::Munmap { .. }
-        | Command::Mremap { .. }
-        | Command::DontNeed { .. } => false,
     }
 }
 

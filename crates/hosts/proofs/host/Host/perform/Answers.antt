@@ -1,17 +1,26 @@
-use Rattle.hosts.proofs.ChangeLemmas.{memory_after, memory_made}
+use Rattle.std.proofs.Common.{◌∙◌, ap, sym}
+use Rattle.mig_base.specs.Flat.{reply_of}
+use Rattle.mig_model.specs.Host.{memory}
+use Rattle.hosts.proofs.UnwatchedLemmas.{never_missing, access_reply_is, accessed_host, called_host, stays_after_access, stays_after_call, memory_kept}
 use Rattle.hosts.proofs.host.Host.perform.Goals as goal
 
-pub returns-in-Store-clause-memory : goal.returns-in-Store-clause-memory
-returns-in-Store-clause-memory c = memory_made c.store.result (record { areas = c.self.inside.areas; bytes = c.self.inside.pages.bytes }) c.store.new.self c.args.self.now c.args.command _ c.self.view_is c.self.invariant c.in-Store.is c.store.ensures.host
+pub unreachable-requires : goal.unreachable-requires
+unreachable-requires c = never_missing c.self.inside.space c.args.command _ c.self.invariant c.in_ok-reply.ensures.access (λ reply h. c.in_default.not-Answered reply h)
 
-pub returns-in-Mmap-clause-memory : goal.returns-in-Mmap-clause-memory
-returns-in-Mmap-clause-memory c = memory_made c.mmap.result (record { areas = c.self.inside.areas; bytes = c.self.inside.pages.bytes }) c.mmap.new.self c.args.self.now c.args.command _ c.self.view_is c.self.invariant c.in-Mmap.is c.mmap.ensures.host
+pub invariant_of-self-then-is_access : goal.invariant_of-self-then-is_access
+invariant_of-self-then-is_access c = stays_after_access c.self.inside.space c.access.new.self 0 c.args.command (sym c.is_access.ensures ∙ c.if-is_access.true) c.self.invariant c.in_ok-reply.ensures.space
 
-pub returns-in-Munmap-clause-memory : goal.returns-in-Munmap-clause-memory
-returns-in-Munmap-clause-memory c = memory_made c.munmap.result (record { areas = c.self.inside.areas; bytes = c.self.inside.pages.bytes }) c.munmap.new.self c.args.self.now c.args.command _ c.self.view_is c.self.invariant c.in-Munmap.is c.munmap.ensures.host
+pub invariant_of-self-else-is_access : goal.invariant_of-self-else-is_access
+invariant_of-self-else-is_access c = stays_after_call c.self.inside.space c.map_call.new.self 0 c.args.command (sym c.is_access.ensures ∙ c.if-is_access.false) c.self.invariant c.in_ok-reply-2.ensures.space
 
-pub returns-in-Mremap-clause-memory : goal.returns-in-Mremap-clause-memory
-returns-in-Mremap-clause-memory c = memory_made c.mremap.result (record { areas = c.self.inside.areas; bytes = c.self.inside.pages.bytes }) c.mremap.new.self c.args.self.now c.args.command _ c.self.view_is c.self.invariant c.in-Mremap.is c.mremap.ensures.host
+pub returns-in-Answered-clause-reply : goal.returns-in-Answered-clause-reply
+returns-in-Answered-clause-reply c =
+    access_reply_is c.self.inside.space c.args.command _ c.in-Answered.reply c.self.invariant c.in_ok-reply.ensures.access c.in-Answered.is ∙ ap (λ h. reply_of (memory h) c.args.command) c.self.view_is
 
-pub returns-in-DontNeed-clause-memory : goal.returns-in-DontNeed-clause-memory
-returns-in-DontNeed-clause-memory c = memory_after (record { areas = c.self.inside.areas; bytes = c.self.inside.pages.bytes }) c.dontneed.new.self c.args.self.now c.args.command _ c.self.view_is c.self.invariant c.in-DontNeed.is c.dontneed.ensures.host
+pub returns-in-Answered-clause-memory : goal.returns-in-Answered-clause-memory
+returns-in-Answered-clause-memory c =
+    memory_kept c.self.inside.space.host c.args.self.now c.access.new.self.host c.args.command c.self.view_is c.self.invariant.sound.host (accessed_host c.self.inside.space c.access.new.self 0 c.args.command c.self.invariant c.in_ok-reply.ensures.space)
+
+pub returns-in_ok-reply-2-clause-memory : goal.returns-in_ok-reply-2-clause-memory
+returns-in_ok-reply-2-clause-memory c =
+    memory_kept c.self.inside.space.host c.args.self.now c.map_call.new.self.host c.args.command c.self.view_is c.self.invariant.sound.host (called_host c.self.inside.space c.map_call.new.self 0 c.args.command c.self.invariant c.in_ok-reply-2.ensures.space)

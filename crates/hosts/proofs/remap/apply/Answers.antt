@@ -1,4 +1,0 @@
-use Rattle.hosts.proofs.remap.apply.Goals as goal
-
-pub unreachable-requires : goal.unreachable-requires
-unreachable-requires c = c.in_default.ensures.none c.requires.prot.0 c.requires.prot.1

@@ -1,9 +1,0 @@
-use Rattle.std.proofs.Common.{◌∙◌, None}
-use Rattle.hosts.proofs.RemapLemmas.{shrunk}
-use Rattle.hosts.proofs.remap.shrink.Goals as goal
-
-pub returns-clause-areas : goal.returns-clause-areas
-returns-clause-areas c = c.in_ok-unmap.ensures.ok ∙ shrunk c.args.areas.now c.args.range.from c.args.range.count c.args.range.to c.args.range.new_count _ c.requires.place c.requires.shorter
-
-pub returns-clause-pages : goal.returns-clause-pages
-returns-clause-pages c = c.drop_range.ensures.bytes ∙ shrunk c.args.pages.now.bytes c.args.range.from c.args.range.count c.args.range.to c.args.range.new_count None c.requires.place c.requires.shorter

@@ -1,0 +1,474 @@
+-- What the map calls make of a space.
+use Rattle.std.proofs.Common.{◌≡◌, ℕ, ◌+◌, ◌-◌, ◌*◌, ◌/◌, ◌%◌, ◌^◌, ◌<◌, ◌≤◌, ◌&&◌, ◌||◌, Bool, true, false, cond, not, eqb, ltb, leb, Option, None, List, [], ◌∷◌, ◌++◌, length, nat_lt, ◌==◌, refl, sym, ap, ◌∙◌, subst, ◌⊎◌, ⊎_elim, arith, min, is_some}
+use Rattle.std.specs.Ordering.{nat_cmp}
+use Rattle.std.specs.FinMap.{FinMap, get}
+use Rattle.std.specs.FinSet.{FinSet, contains}
+use Rattle.std.proofs.lemmas.Bool.Decides.{nat_tests}
+use Rattle.std.proofs.lemmas.Bool.{false≢true}
+use Rattle.std.proofs.lemmas.List.{length-append}
+use Rattle.mig_base.specs.declared.TheConstants.{HIGH, HIGH_PAGE}
+use Rattle.mig_base.specs.declared.Prot.{Prot}
+use Rattle.mig_base.specs.declared.command.Errno.TheVariants.{Enomem, Einval}
+use Rattle.mig_base.specs.declared.command.Place.{Place}
+use Rattle.mig_base.specs.declared.command.Command.{Command}
+use Rattle.mig_base.specs.declared.command.Command.TheVariants.{Mmap, Munmap, Mremap, DontNeed}
+use Rattle.mig_base.specs.declared.command.Reply.{Reply}
+use Rattle.mig_base.specs.declared.command.Reply.TheVariants.{Done, At, Refused}
+use Rattle.mig_base.specs.declared.message.Message.{Message}
+use Rattle.mig_base.specs.declared.message.Message.TheVariants as message
+use Rattle.mig_base.specs.declared.message.Message.TheVariants.{Unmap, Remove}
+use Rattle.mig_base.specs.Ranges.{in_range, lesser, none_below, pages_of, rounded}
+use Rattle.mig_base.specs.Pages.{set_range, remove_range, moved_range}
+use Rattle.mig_base.specs.Sets.{without, pages_where, moved_set}
+use Rattle.mig_base.specs.Flat.{is_page_start, is_all_mapped, mmap_reply, mremap_reply, dontneed_reply, reply_of}
+use Rattle.mig_base.proofs.RangeLemmas.{none_below_tells, none_below-from}
+use Rattle.mig_base.proofs.SetLemmas.{same_members, member_without, member_below}
+use Rattle.mig_base.proofs.ReplyLemmas.{mmap_inside, mremap_told}
+use Rattle.mig_model.specs.Host.{Host, memory, host_changed, host_dropped, IsSound}
+use Rattle.mig_model.specs.World.{is_access}
+use Rattle.mig_model.specs.Userfault.{Object, Mode, mode_at, is_registered, unregistered, registered_where, moved_modes, event_queued}
+use Rattle.mig_model.specs.Space.{Space, IsSoundSpace, is_watched, told, remap_messages, call_messages, modes_after, protected_after, all_queued, called, queued_by}
+use Rattle.mig_model.proofs.CommandLemmas.{remapped_place}
+use Rattle.mig_model.proofs.SpaceLemmas.{IsSoundSpace-called}
+use Rattle.page_table.specs.Views.{Pages}
+use Rattle.uffd_ioctl.specs.declared.remap.Remap.{Remap}
+use Rattle.uffd_ioctl.specs.Remaps.{IsRemap, replaced_message, cut_message, moved_message}
+use Rattle.uffd_ioctl.specs.Spaces.{space_of}
+use Rattle.uffd_ioctl.proofs.AnswerLemmas.{munmap_done}
+use Rattle.uffd_ioctl.proofs.ChangeLemmas.{dropped_below}
+use Rattle.uffd_ioctl.proofs.MapCallLemmas.{past_not_all}
+
+abbrev PageMap : Type 0 → Type 0
+PageMap X = FinMap nat_cmp X
+
+abbrev Set : Type 0
+Set = FinSet nat_cmp
+
+-- Modes
+
+-- a range is registered of which no page was
+put_missing : (here asked other_asked x y : Bool) → cond (here && not ((not asked || (x && not here)) && (not other_asked || (y && not here)))) asked (x && not here) ≡ cond here asked x
+put_missing here asked other_asked x y = grind (arith, nat_tests)
+
+put_protect : (here asked other_asked x y : Bool) → cond (here && not ((not other_asked || (y && not here)) && (not asked || (x && not here)))) asked (x && not here) ≡ cond here asked x
+put_protect here asked other_asked x y = grind (arith, nat_tests)
+
+member_missing : (own other : Set) (first count : ℕ) (asked other_asked : Bool) (q : ℕ) →
+    contains (pages_where (λ page. cond (in_range first count page && not ((not asked || contains (without own first count) page) && (not other_asked || contains (without other first count) page))) asked (contains (without own first count) page))) q
+    ≡ (ltb q HIGH_PAGE && cond (in_range first count q) asked (contains own q))
+member_missing own other first count asked other_asked q =
+    let here = in_range first count q in
+    member_below (λ page. cond (in_range first count page && not ((not asked || contains (without own first count) page) && (not other_asked || contains (without other first count) page))) asked (contains (without own first count) page)) HIGH_PAGE q
+    ∙ ap (λ b. ltb q HIGH_PAGE && b)
+    (ap (λ x. cond (here && not ((not asked || x) && (not other_asked || contains (without other first count) q))) asked x) (member_without own first count q)
+    ∙ ap (λ y. cond (here && not ((not asked || (contains own q && not here)) && (not other_asked || y))) asked (contains own q && not here)) (member_without other first count q)
+    ∙ put_missing here asked other_asked (contains own q) (contains other q))
+
+member_protect : (own other : Set) (first count : ℕ) (asked other_asked : Bool) (q : ℕ) →
+    contains (pages_where (λ page. cond (in_range first count page && not ((not other_asked || contains (without other first count) page) && (not asked || contains (without own first count) page))) asked (contains (without own first count) page))) q
+    ≡ (ltb q HIGH_PAGE && cond (in_range first count q) asked (contains own q))
+member_protect own other first count asked other_asked q =
+    let here = in_range first count q in
+    member_below (λ page. cond (in_range first count page && not ((not other_asked || contains (without other first count) page) && (not asked || contains (without own first count) page))) asked (contains (without own first count) page)) HIGH_PAGE q
+    ∙ ap (λ b. ltb q HIGH_PAGE && b)
+    (ap (λ x. cond (here && not ((not other_asked || contains (without other first count) q) && (not asked || x))) asked x) (member_without own first count q)
+    ∙ ap (λ y. cond (here && not ((not other_asked || y) && (not asked || (contains own q && not here)))) asked (contains own q && not here)) (member_without other first count q)
+    ∙ put_protect here asked other_asked (contains own q) (contains other q))
+
+abbrev moved_test : Set → ℕ → ℕ → ℕ → ℕ → Bool → ℕ → Bool
+moved_test set from count to new_count growth = λ page. cond (in_range to new_count page) (cond (ltb (page - to) count) (contains set (from + (page - to))) growth) (not (in_range from count page) && contains set page)
+
+-- the range stays where it is
+stays_at : (from count new_count kept q : ℕ) (along old growth : Bool) → kept ≡ min count new_count → (from ≤ q → along ≡ old) → cond (in_range (from + kept) (new_count - kept) q) growth (old && not (in_range (from + kept) (count - kept) q)) ≡ cond (in_range from new_count q) (cond (ltb (q - from) count) along growth) (not (in_range from count q) && old)
+stays_at from count new_count kept q along old growth least same = grind (arith, nat_tests, same)
+
+same_page : (set : Set) (from q : ℕ) → from ≤ q → contains set (from + (q - from)) ≡ contains set q
+same_page set from q h = let e : from + (q - from) ≡ q = omega arith in ap (contains set) e
+
+stayed : (set : Set) (from count new_count kept : ℕ) (growth : Bool) (q : ℕ) → kept ≡ min count new_count → (ltb q HIGH_PAGE && cond (in_range (from + kept) (new_count - kept) q) growth (contains (without set (from + kept) (count - kept)) q)) ≡ contains (moved_set set from count from new_count growth) q
+stayed set from count new_count kept growth q least =
+    ap (λ b. ltb q HIGH_PAGE && cond (in_range (from + kept) (new_count - kept) q) growth b) (member_without set (from + kept) (count - kept) q)
+    ∙ ap (λ b. ltb q HIGH_PAGE && b) (stays_at from count new_count kept q (contains set (from + (q - from))) (contains set q) growth least (same_page set from q))
+    ∙ sym (member_below (moved_test set from count from new_count growth) HIGH_PAGE q)
+
+-- it goes elsewhere
+goes_to : (from count to new_count kept q : ℕ) (along old growth : Bool) → kept ≡ min count new_count → ((from + count ≤ to) ⊎ (to + new_count ≤ from))
+    → cond (in_range (to + kept) (new_count - kept) q) growth (cond (in_range to kept q) (cond (ltb (q - to) kept) along false) (not (in_range from kept q) && old) && not (in_range (from + kept) (count - kept) q))
+    ≡ cond (in_range to new_count q) (cond (ltb (q - to) count) along growth) (not (in_range from count q) && old)
+goes_to from count to new_count kept q along old growth least apart = grind (arith, nat_tests)
+
+low_twice : (low here growth b out : Bool) → (low && cond here growth ((low && b) && out)) ≡ (low && cond here growth (b && out))
+low_twice true here growth b out = refl
+low_twice false here growth b out = refl
+
+gone : (set : Set) (from count to new_count kept : ℕ) (growth : Bool) (q : ℕ) → kept ≡ min count new_count → ((from + count ≤ to) ⊎ (to + new_count ≤ from)) → (ltb q HIGH_PAGE && cond (in_range (to + kept) (new_count - kept) q) growth (contains (without (moved_set set from kept to kept false) (from + kept) (count - kept)) q)) ≡ contains (moved_set set from count to new_count growth) q
+gone set from count to new_count kept growth q least apart =
+    let low = ltb q HIGH_PAGE in
+    let grown = in_range (to + kept) (new_count - kept) q in
+    let out = not (in_range (from + kept) (count - kept) q) in
+    ap (λ b. low && cond grown growth b) (member_without (moved_set set from kept to kept false) (from + kept) (count - kept) q ∙ ap (λ b. b && out) (member_below (moved_test set from kept to kept false) HIGH_PAGE q))
+    ∙ low_twice low grown growth (moved_test set from kept to kept false q) out
+    ∙ ap (λ b. low && b) (goes_to from count to new_count kept q (contains set (from + (q - to))) (contains set q) growth least apart)
+    ∙ sym (member_below (moved_test set from count to new_count growth) HIGH_PAGE q)
+
+both_sets : (object : Object) (a b c d : Set) → a ≡ c → b ≡ d → record object { missing = a; protect = b } ≡ record object { missing = c; protect = d }
+both_sets object a b c d h k = ap (λ s. record object { missing = s; protect = b }) h ∙ ap (λ s. record object { missing = c; protect = s }) k
+
+-- the object once the modes of a range are moved, its old ends are forgotten, and the pages by which it grows are registered
+abbrev in_steps : Object → ℕ → ℕ → ℕ → ℕ → ℕ → Mode → Object
+in_steps object from count to new_count kept mode = registered_where (unregistered (unregistered object (from + kept) (count - kept)) (to + kept) (new_count - kept)) (in_range (to + kept) (new_count - kept)) mode
+
+steps_stay : (object : Object) (from count new_count kept : ℕ) (mode : Mode) → kept ≡ min count new_count → in_steps object from count from new_count kept mode ≡ moved_modes object from count from new_count mode
+steps_stay object from count new_count kept mode least =
+    let missing = without object.missing (from + kept) (count - kept) in
+    let protect = without object.protect (from + kept) (count - kept) in
+    both_sets object _ _ _ _
+    (same_members _ _ (λ q. member_missing missing protect (from + kept) (new_count - kept) mode.missing mode.protect q ∙ stayed object.missing from count new_count kept mode.missing q least))
+    (same_members _ _ (λ q. member_protect protect missing (from + kept) (new_count - kept) mode.protect mode.missing q ∙ stayed object.protect from count new_count kept mode.protect q least))
+
+abbrev no_mode : Mode
+no_mode = record { missing = false; protect = false }
+
+steps_go : (object : Object) (from count to new_count kept : ℕ) (mode : Mode) → kept ≡ min count new_count → ((from + count ≤ to) ⊎ (to + new_count ≤ from)) → in_steps (moved_modes object from kept to kept no_mode) from count to new_count kept mode ≡ moved_modes object from count to new_count mode
+steps_go object from count to new_count kept mode least apart =
+    let missing = without (moved_set object.missing from kept to kept false) (from + kept) (count - kept) in
+    let protect = without (moved_set object.protect from kept to kept false) (from + kept) (count - kept) in
+    both_sets object _ _ _ _
+    (same_members _ _ (λ q. member_missing missing protect (to + kept) (new_count - kept) mode.missing mode.protect q ∙ gone object.missing from count to new_count kept mode.missing q least apart))
+    (same_members _ _ (λ q. member_protect protect missing (to + kept) (new_count - kept) mode.protect mode.missing q ∙ gone object.protect from count to new_count kept mode.protect q least apart))
+
+-- the steps, one by one
+steps : (first second third new : Object) (from count to new_count kept : ℕ) (mode : Mode) → second ≡ unregistered first (from + kept) (count - kept) → third ≡ unregistered second (to + kept) (new_count - kept) → new ≡ registered_where third (in_range (to + kept) (new_count - kept)) mode → new ≡ in_steps first from count to new_count kept mode
+steps first second third new from count to new_count kept mode two three is =
+    is ∙ ap (λ o. registered_where o (in_range (to + kept) (new_count - kept)) mode) (three ∙ ap (λ o. unregistered o (to + kept) (new_count - kept)) two)
+
+pub modes_stay : (object first second third new : Object) (range : Remap) (kept : ℕ) (mode last : Mode) → range.from ≡ range.to → kept ≡ min range.count range.new_count → mode ≡ last → first ≡ object
+    → second ≡ unregistered first (range.from + kept) (range.count - kept) → third ≡ unregistered second (range.to + kept) (range.new_count - kept) → new ≡ registered_where third (in_range (range.to + kept) (range.new_count - kept)) mode
+    → new ≡ moved_modes object range.from range.count range.to range.new_count last
+modes_stay object first second third new range kept mode last place least mode_is one two three is =
+    steps first second third new range.from range.count range.to range.new_count kept mode two three is
+    ∙ ap (λ o. in_steps o range.from range.count range.to range.new_count kept mode) one
+    ∙ ap (λ to. in_steps object range.from range.count to range.new_count kept mode) (sym place)
+    ∙ steps_stay object range.from range.count range.new_count kept mode least
+    ∙ ap (λ to. moved_modes object range.from range.count to range.new_count mode) place
+    ∙ ap (moved_modes object range.from range.count range.to range.new_count) mode_is
+
+must_lie_apart : (range : Remap) → IsRemap range → (range.from ≡ range.to → ⊥) → (range.from + range.count ≤ range.to) ⊎ (range.to + range.new_count ≤ range.from)
+must_lie_apart range well other =
+    ⊎_elim
+    (λ (same : range.to ≡ range.from). absurd (other (sym same)))
+    (λ (apart : (range.from + range.count ≤ range.to) ⊎ (range.to + range.new_count ≤ range.from)). apart)
+    well.place
+
+pub modes_go : (object first second third new : Object) (range : Remap) (kept : ℕ) (mode last : Mode) → IsRemap range → (range.from ≡ range.to → ⊥) → kept ≡ min range.count range.new_count → mode ≡ last → first ≡ moved_modes object range.from kept range.to kept no_mode
+    → second ≡ unregistered first (range.from + kept) (range.count - kept) → third ≡ unregistered second (range.to + kept) (range.new_count - kept) → new ≡ registered_where third (in_range (range.to + kept) (range.new_count - kept)) mode
+    → new ≡ moved_modes object range.from range.count range.to range.new_count last
+modes_go object first second third new range kept mode last well other least mode_is one two three is =
+    steps first second third new range.from range.count range.to range.new_count kept mode two three is
+    ∙ ap (λ o. in_steps o range.from range.count range.to range.new_count kept mode) one
+    ∙ steps_go object range.from range.count range.to range.new_count kept mode least (must_lie_apart range well other)
+    ∙ ap (moved_modes object range.from range.count range.to range.new_count) mode_is
+
+-- Messages
+
+queued_more : (object : Object) (one two : List Message) (cpu : ℕ) → all_queued (all_queued object one cpu) two cpu ≡ all_queued object (one ++ two) cpu
+queued_more object [] two cpu = refl
+queued_more object (message ∷ one) two cpu = queued_more (event_queued object message cpu) one two cpu
+
+page_again : (page : ℕ) → 4096 * page / 4096 ≡ page
+page_again page = omega arith
+
+-- the modes once a range is moved
+abbrev modes_of : Object → Remap → Object
+modes_of object range = moved_modes object range.from range.count range.to range.new_count (mode_at object (range.from + (range.count - 1)))
+
+abbrev three_messages : Object → Remap → List Message
+three_messages object range = replaced_message object range ++ cut_message object range ++ moved_message object range
+
+abbrev messages_at : Object → ℕ → ℕ → ℕ → ℕ → ℕ → ℕ → List Message
+messages_at object addr count target new_count from to =
+    told (not (to == from) && is_watched object to new_count) (Unmap target (target + 4096 * new_count))
+    ++ told (nat_lt new_count count && is_watched object (from + new_count) (count - new_count)) (Unmap (addr + 4096 * new_count) (addr + 4096 * count))
+    ++ told (not (to == from) && is_watched object from (lesser count new_count)) (message.Remap addr target (4096 * lesser count new_count))
+
+messages_are : (object : Object) (range : Remap) → three_messages object range ≡ remap_messages object (4096 * range.from) range.count (4096 * range.to) range.new_count
+messages_are object range =
+    sym (ap (λ from. messages_at object (4096 * range.from) range.count (4096 * range.to) range.new_count from (4096 * range.to / 4096)) (page_again range.from)
+    ∙ ap (λ to. messages_at object (4096 * range.from) range.count (4096 * range.to) range.new_count range.from to) (page_again range.to))
+
+pub remap_queued : (object copied modes first second third : Object) (range : Remap) (cpu : ℕ) → copied ≡ object → modes ≡ modes_of copied range → first ≡ all_queued modes (replaced_message object range) cpu → second ≡ all_queued first (cut_message object range) cpu → third ≡ all_queued second (moved_message object range) cpu
+    → third ≡ all_queued (modes_of object range) (remap_messages object (4096 * range.from) range.count (4096 * range.to) range.new_count) cpu
+remap_queued object copied modes first second third range cpu same is one two three =
+    let replaced = replaced_message object range in
+    let cut = cut_message object range in
+    let moved = moved_message object range in
+    three
+    ∙ ap (λ o. all_queued o moved cpu) (two ∙ ap (λ o. all_queued o cut cpu) (one ∙ ap (λ o. all_queued o replaced cpu) (is ∙ ap (λ o. modes_of o range) same)) ∙ queued_more (modes_of object range) replaced cut cpu)
+    ∙ queued_more (modes_of object range) (replaced ++ cut) moved cpu
+    ∙ ap (λ m. all_queued (modes_of object range) m cpu) (messages_are object range)
+
+pub remap_counted : (object : Object) (range : Remap) (replaced cut moved : ℕ) → replaced ≡ length (replaced_message object range) → cut ≡ length (cut_message object range) → moved ≡ length (moved_message object range)
+    → replaced + cut + moved ≡ length (remap_messages object (4096 * range.from) range.count (4096 * range.to) range.new_count)
+remap_counted object range replaced cut moved one two three =
+    ap (λ n. n + cut + moved) one
+    ∙ ap (λ n. length (replaced_message object range) + n + moved) two
+    ∙ ap (λ n. length (replaced_message object range) + length (cut_message object range) + n) three
+    ∙ ap (λ n. n + length (moved_message object range)) (sym (length-append (replaced_message object range) (cut_message object range)))
+    ∙ sym (length-append (replaced_message object range ++ cut_message object range) (moved_message object range))
+    ∙ ap length (messages_are object range)
+
+-- Spaces
+
+-- the space once a call is answered so
+abbrev answered : Space → ℕ → Command → Reply → Space
+answered space cpu command reply =
+    record {
+      host = host_changed space.host command reply;
+      protected = protected_after space.protected command reply;
+      object = all_queued (modes_after space.object command reply) (call_messages space.object command reply) cpu;
+    }
+
+answered_is : (space : Space) (cpu : ℕ) (command : Command) (reply : Reply) → reply ≡ reply_of (memory space.host) command → answered space cpu command reply ≡ called space cpu command
+answered_is space cpu command reply h = ap (answered space cpu command) h
+
+parts_are : (areas others : PageMap Prot) (pages : Pages) (bytes : PageMap (List ℕ)) (protected : Set) (object other : Object) → areas ≡ others → pages.bytes ≡ bytes → pages.protected ≡ protected → object ≡ other
+    → space_of areas pages object ≡ record { host = record { areas = others; bytes = bytes }; protected = protected; object = other }
+parts_are areas others pages bytes protected object other is_areas is_bytes is_protected is_object =
+    ap (λ a. record { host = record { areas = a; bytes = pages.bytes }; protected = pages.protected; object = object }) is_areas
+    ∙ ap (λ b. record { host = record { areas = others; bytes = b }; protected = pages.protected; object = object }) is_bytes
+    ∙ ap (λ p. record { host = record { areas = others; bytes = bytes }; protected = p; object = object }) is_protected
+    ∙ ap (λ o. record { host = record { areas = others; bytes = bytes }; protected = protected; object = o }) is_object
+
+pub sound_called : (new space : Space) (cpu : ℕ) (command : Command) → is_access command ≡ false → IsSoundSpace space → new ≡ called space cpu command → IsSoundSpace new
+sound_called new space cpu command call sound is = subst IsSoundSpace (sym is) (IsSoundSpace-called space cpu command call sound)
+
+must_be_false : (b : Bool) → (b ≡ true → ⊥) → b ≡ false
+must_be_false true h = absurd (h refl)
+must_be_false false h = refl
+
+none_there : {X : Type 0} (o : Option X) → o ≡ None → is_some o ≡ true → ⊥
+none_there o none some = false≢true (sym (ap is_some none) ∙ some)
+
+-- past the address space no page is protected or registered
+pub protected_below : (space : Space) → IsSoundSpace space → (page : ℕ) → HIGH_PAGE ≤ page → contains space.protected page ≡ false
+protected_below space sound page past =
+    must_be_false (contains space.protected page) (λ h. none_there (get space.host.bytes page) (sound.host.mapped page (sound.host.bound page past)) (sound.present page h))
+
+registered_below : (space : Space) → IsSoundSpace space → (page : ℕ) → HIGH_PAGE ≤ page → is_registered space.object page ≡ false
+registered_below space sound page past =
+    must_be_false (is_registered space.object page) (λ h. none_there (get space.host.areas page) (sound.host.bound page past) (sound.mapped page h))
+
+-- Pages mapped
+
+pub space_made : (space : Space) (areas : PageMap Prot) (pages : Pages) (object : Object) (cpu bytes start count end : ℕ) (prot : Prot) (place : Place) → At start ≡ mmap_reply (memory space.host) bytes prot place → count ≡ pages_of bytes → end ≡ 4096 * (start / 4096 + count)
+    → areas ≡ set_range space.host.areas (start / 4096) count prot → pages.bytes ≡ remove_range space.host.bytes (start / 4096) count → pages.protected ≡ without space.protected (start / 4096) count
+    → object ≡ all_queued (unregistered space.object (start / 4096) count) (told (is_watched space.object (start / 4096) count) (Unmap start end)) cpu
+    → space_of areas pages object ≡ called space cpu (Mmap bytes prot place)
+space_made space areas pages object cpu bytes start count end prot place reply size is_end is_areas is_bytes is_protected is_object =
+    let whole = (mmap_inside (memory space.host) bytes prot place start reply).whole in
+    let last : end ≡ start + rounded bytes = omega arith in
+    parts_are areas _ pages _ _ object _
+    (is_areas ∙ ap (λ n. set_range space.host.areas (start / 4096) n prot) size)
+    (is_bytes ∙ ap (remove_range space.host.bytes (start / 4096)) size)
+    (is_protected ∙ ap (without space.protected (start / 4096)) size)
+    (is_object
+    ∙ ap (λ n. all_queued (unregistered space.object (start / 4096) n) (told (is_watched space.object (start / 4096) n) (Unmap start end)) cpu) size
+    ∙ ap (λ e. all_queued (unregistered space.object (start / 4096) (pages_of bytes)) (told (is_watched space.object (start / 4096) (pages_of bytes)) (Unmap start e)) cpu) last)
+    ∙ answered_is space cpu (Mmap bytes prot place) (At start) reply
+
+-- Pages unmapped
+
+pub space_unmapped : (space : Space) (areas : PageMap Prot) (pages : Pages) (object : Object) (cpu addr bytes count end : ℕ) → addr % 4096 ≡ 0 → 0 < bytes → count ≡ pages_of bytes → addr / 4096 + count ≤ HIGH_PAGE → end ≡ 4096 * (addr / 4096 + count)
+    → areas ≡ remove_range space.host.areas (addr / 4096) count → pages.bytes ≡ remove_range space.host.bytes (addr / 4096) count → pages.protected ≡ without space.protected (addr / 4096) count
+    → object ≡ all_queued (unregistered space.object (addr / 4096) count) (told (is_watched space.object (addr / 4096) count) (Unmap addr end)) cpu
+    → space_of areas pages object ≡ called space cpu (Munmap addr bytes)
+space_unmapped space areas pages object cpu addr bytes count end whole some size high is_end is_areas is_bytes is_protected is_object =
+    let last : end ≡ addr + rounded bytes = omega arith in
+    parts_are areas _ pages _ _ object _
+    (is_areas ∙ ap (remove_range space.host.areas (addr / 4096)) size)
+    (is_bytes ∙ ap (remove_range space.host.bytes (addr / 4096)) size)
+    (is_protected ∙ ap (without space.protected (addr / 4096)) size)
+    (is_object
+    ∙ ap (λ n. all_queued (unregistered space.object (addr / 4096) n) (told (is_watched space.object (addr / 4096) n) (Unmap addr end)) cpu) size
+    ∙ ap (λ e. all_queued (unregistered space.object (addr / 4096) (pages_of bytes)) (told (is_watched space.object (addr / 4096) (pages_of bytes)) (Unmap addr e)) cpu) last)
+    ∙ answered_is space cpu (Munmap addr bytes) Done (munmap_done addr bytes whole some (omega arith))
+
+-- A range at its new place
+
+moved_told : (object : Object) (addr target from to count new_count pages new_pages : ℕ) → from ≡ addr → to ≡ target → count ≡ pages → new_count ≡ new_pages → remap_messages object from count to new_count ≡ remap_messages object addr pages target new_pages
+moved_told object addr target from to count new_count pages new_pages is_from is_to size new_size =
+    ap (λ a. remap_messages object a count to new_count) is_from
+    ∙ ap (λ n. remap_messages object addr n to new_count) size
+    ∙ ap (λ a. remap_messages object addr pages a new_count) is_to
+    ∙ ap (remap_messages object addr pages target) new_size
+
+-- a mremap that is answered tells of the range by its addresses
+remap_told : (space : Space) (addr old_len new_len : ℕ) (may_move : Bool) (fixed : Option ℕ) (target count new_count : ℕ) → IsSound space.host → At target ≡ mremap_reply (memory space.host) addr old_len new_len may_move fixed → count ≡ pages_of old_len → new_count ≡ pages_of new_len
+    → remap_messages space.object (4096 * (addr / 4096)) count (4096 * (target / 4096)) new_count ≡ remap_messages space.object addr (pages_of old_len) target (pages_of new_len)
+remap_told space addr old_len new_len may_move fixed target count new_count sound reply size new_size =
+    let tells = mremap_told (memory space.host) addr old_len new_len may_move fixed target reply in
+    let whole = tells.whole in
+    let even = (remapped_place space.host addr old_len new_len target sound tells).whole in
+    moved_told space.object addr target (4096 * (addr / 4096)) (4096 * (target / 4096)) count new_count (pages_of old_len) (pages_of new_len) (omega arith) (omega arith) size new_size
+
+pub queued_moved : (space value : Space) (addr old_len new_len : ℕ) (may_move : Bool) (fixed : Option ℕ) (target count new_count queued : ℕ) → space ≡ value → IsSoundSpace space → At target ≡ mremap_reply (memory space.host) addr old_len new_len may_move fixed → count ≡ pages_of old_len → new_count ≡ pages_of new_len
+    → queued ≡ length (remap_messages space.object (4096 * (addr / 4096)) count (4096 * (target / 4096)) new_count) → queued ≡ queued_by value (Mremap addr old_len new_len may_move fixed)
+queued_moved space value addr old_len new_len may_move fixed target count new_count queued view sound reply size new_size is =
+    is
+    ∙ ap length (remap_told space addr old_len new_len may_move fixed target count new_count sound.host reply size new_size)
+    ∙ ap (λ r. length (call_messages space.object (Mremap addr old_len new_len may_move fixed) r)) reply
+    ∙ ap (λ s. queued_by s (Mremap addr old_len new_len may_move fixed)) view
+
+pub space_moved : (space : Space) (areas : PageMap Prot) (pages : Pages) (object : Object) (cpu addr old_len new_len : ℕ) (may_move : Bool) (fixed : Option ℕ) (target count new_count : ℕ) → IsSoundSpace space → At target ≡ mremap_reply (memory space.host) addr old_len new_len may_move fixed → count ≡ pages_of old_len → new_count ≡ pages_of new_len
+    → areas ≡ moved_range space.host.areas (addr / 4096) count (target / 4096) new_count (get space.host.areas (addr / 4096)) → pages.bytes ≡ moved_range space.host.bytes (addr / 4096) count (target / 4096) new_count None → pages.protected ≡ moved_set space.protected (addr / 4096) count (target / 4096) new_count false
+    → object ≡ all_queued (moved_modes space.object (addr / 4096) count (target / 4096) new_count (mode_at space.object (addr / 4096 + (count - 1)))) (remap_messages space.object (4096 * (addr / 4096)) count (4096 * (target / 4096)) new_count) cpu
+    → space_of areas pages object ≡ called space cpu (Mremap addr old_len new_len may_move fixed)
+space_moved space areas pages object cpu addr old_len new_len may_move fixed target count new_count sound reply size new_size is_areas is_bytes is_protected is_object =
+    let from = addr / 4096 in
+    let to = target / 4096 in
+    let prot = get space.host.areas from in
+    let messages = remap_messages space.object (4096 * from) count (4096 * to) new_count in
+    parts_are areas _ pages _ _ object _
+    (is_areas ∙ ap (λ n. moved_range space.host.areas from n to new_count prot) size ∙ ap (λ n. moved_range space.host.areas from (pages_of old_len) to n prot) new_size)
+    (is_bytes ∙ ap (λ n. moved_range space.host.bytes from n to new_count None) size ∙ ap (λ n. moved_range space.host.bytes from (pages_of old_len) to n None) new_size)
+    (is_protected ∙ ap (λ n. moved_set space.protected from n to new_count false) size ∙ ap (λ n. moved_set space.protected from (pages_of old_len) to n false) new_size)
+    (is_object
+    ∙ ap (λ n. all_queued (moved_modes space.object from n to new_count (mode_at space.object (from + (n - 1)))) messages cpu) size
+    ∙ ap (λ n. all_queued (moved_modes space.object from (pages_of old_len) to n (mode_at space.object (from + (pages_of old_len - 1)))) messages cpu) new_size
+    ∙ ap (λ m. all_queued (moved_modes space.object from (pages_of old_len) to (pages_of new_len) (mode_at space.object (from + (pages_of old_len - 1)))) m cpu) (remap_told space addr old_len new_len may_move fixed target count new_count sound.host reply size new_size))
+    ∙ answered_is space cpu (Mremap addr old_len new_len may_move fixed) (At target) reply
+
+-- Pages that are not needed
+
+same_bool_by : (a b : Bool) → (a ≡ true → b ≡ true) → (b ≡ true → a ≡ true) → a ≡ b
+same_bool_by true b h k = sym (h refl)
+same_bool_by false true h k = k refl
+same_bool_by false false h k = refl
+
+inside_or_past : (page : ℕ) → (page < HIGH_PAGE) ⊎ (HIGH_PAGE ≤ page)
+inside_or_past page = grind (arith, nat_tests)
+
+-- no page past the address space passes
+clipped : (test : ℕ → Bool) (first count low end : ℕ) → ((page : ℕ) → HIGH_PAGE ≤ page → test page ≡ false) → low ≡ min first HIGH_PAGE → end ≡ min (first + count) HIGH_PAGE → none_below (λ i. test (low + i)) (end - low) ≡ none_below (λ i. test (first + i)) count
+clipped test first count low end past is_low is_end =
+    same_bool_by (none_below (λ i. test (low + i)) (end - low)) (none_below (λ i. test (first + i)) count)
+    (λ none.
+    none_below-from (λ i. test (first + i)) count (λ i l.
+    ⊎_elim
+    (λ (inside : first + i < HIGH_PAGE).
+    let here : first + i ≡ low + i = omega arith in
+    ap test here ∙ none_below_tells (λ i. test (low + i)) (end - low) i none (omega arith))
+    (λ (out : HIGH_PAGE ≤ first + i). past (first + i) out)
+    (inside_or_past (first + i))))
+    (λ none.
+    none_below-from (λ i. test (low + i)) (end - low) (λ i l.
+    let here : low + i ≡ first + i = omega arith in
+    ap test here ∙ none_below_tells (λ i. test (first + i)) count i none (omega arith)))
+
+clipped_out : (first count low end q : ℕ) (has : Bool) → low ≡ min first HIGH_PAGE → end ≡ min (first + count) HIGH_PAGE → (HIGH_PAGE ≤ q → has ≡ false) → (has && not (in_range low (end - low) q)) ≡ (has && not (in_range first count q))
+clipped_out first count low end q has is_low is_end past = grind (arith, nat_tests, past)
+
+without_below : (set : Set) (first count low end : ℕ) → ((page : ℕ) → HIGH_PAGE ≤ page → contains set page ≡ false) → low ≡ min first HIGH_PAGE → end ≡ min (first + count) HIGH_PAGE → without set low (end - low) ≡ without set first count
+without_below set first count low end past is_low is_end =
+    same_members (without set low (end - low)) (without set first count) (λ q.
+    member_without set low (end - low) q ∙ clipped_out first count low end q (contains set q) is_low is_end (past q) ∙ sym (member_without set first count q))
+
+told_not : (due : Bool) (one other : Message) → due ≡ false → told due one ≡ told due other
+told_not true one other h = absurd (false≢true (sym h))
+told_not false one other h = refl
+
+-- the reply to a call that is not invalid, with what it rests on
+abbrev reply_by : Bool → Bool → Bool → Bool → Reply
+reply_by start none past all = cond (not start) (Refused Einval) (cond none Done (cond past (Refused Einval) (cond (not all) (Refused Enomem) Done)))
+
+dropped_told : (start none past all due : Bool) (addr last whole clip : ℕ) (reply : Reply) (messages : Reply → List Message) → (messages Done ≡ told due (Remove addr whole)) → (messages (Refused Enomem) ≡ told due (Remove addr clip)) → reply ≡ reply_by start none past all → (reply ≡ Refused Einval → ⊥)
+    → (none ≡ true → due ≡ false) → (start ≡ true → none ≡ false → all ≡ true → last ≡ whole) → (start ≡ true → last ≡ clip) → told due (Remove addr last) ≡ messages reply
+dropped_told false none past all due addr last whole clip reply messages done hole is other nothing up cut = absurd (other is)
+dropped_told true true past all due addr last whole clip reply messages done hole is other nothing up cut = told_not due (Remove addr last) (Remove addr whole) (nothing refl) ∙ sym (ap messages is ∙ done)
+dropped_told true false true all due addr last whole clip reply messages done hole is other nothing up cut = absurd (other is)
+dropped_told true false false true due addr last whole clip reply messages done hole is other nothing up cut = ap (λ e. told due (Remove addr e)) (up refl refl refl) ∙ sym (ap messages is ∙ done)
+dropped_told true false false false due addr last whole clip reply messages done hole is other nothing up cut = ap (λ e. told due (Remove addr e)) (cut refl) ∙ sym (ap messages is ∙ hole)
+
+eqb_tells : (a b : ℕ) → eqb a b ≡ true → a ≡ b
+eqb_tells a b h = grind (arith, nat_tests)
+
+eqb_denies : (a : ℕ) → eqb a 0 ≡ false → 0 < a
+eqb_denies a h = grind (arith, nat_tests)
+
+lesser_is : (a b : ℕ) → lesser a b ≡ min a b
+lesser_is a b = grind (arith, nat_tests)
+
+-- no page of no bytes is watched
+none_watched : (object : Object) (first bytes : ℕ) → eqb bytes 0 ≡ true → is_watched object first (pages_of bytes) ≡ false
+none_watched object first bytes h =
+    let e = eqb_tells bytes 0 h in
+    let pages : pages_of bytes ≡ 0 = omega arith in
+    ap (is_watched object first) pages ∙ ap not (none_below-from (λ i. is_registered object (first + i)) 0 (λ i l. absurd (omega arith)))
+
+low_or_high : (a b : ℕ) → (a ≤ b) ⊎ (b < a)
+low_or_high a b = grind (arith, nat_tests)
+
+-- a range that is all mapped lies inside the address space
+mapped_inside : (host : Host) (addr bytes : ℕ) → IsSound host → 0 < bytes → is_all_mapped (memory host) addr (rounded bytes) ≡ true → addr + rounded bytes ≤ HIGH
+mapped_inside host addr bytes sound some all =
+    ⊎_elim
+    (λ (low : addr + rounded bytes ≤ HIGH). low)
+    (λ (past : HIGH < addr + rounded bytes). absurd (false≢true (sym (past_not_all host addr bytes sound past some) ∙ all)))
+    (low_or_high (addr + rounded bytes) HIGH)
+
+drop_told : (space : Space) (addr bytes low end last : ℕ) (reply : Reply) → IsSoundSpace space → reply ≡ dontneed_reply (memory space.host) addr bytes → (reply ≡ Refused Einval → ⊥) → low ≡ min (addr / 4096) HIGH_PAGE → end ≡ min (addr / 4096 + pages_of bytes) HIGH_PAGE → last ≡ 4096 * end
+    → told (is_watched space.object low (end - low)) (Remove addr last) ≡ call_messages space.object (DontNeed addr bytes) reply
+drop_told space addr bytes low end last reply sound is other is_low is_end is_last =
+    let first = addr / 4096 in
+    let due = is_watched space.object first (pages_of bytes) in
+    let all = is_all_mapped (memory space.host) addr (rounded bytes) in
+    ap (λ b. told (not b) (Remove addr last)) (clipped (is_registered space.object) first (pages_of bytes) low end (registered_below space sound) is_low is_end)
+    ∙ dropped_told (is_page_start addr) (eqb bytes 0) (leb (2 ^ 64) (addr + rounded bytes)) all due addr last (addr + rounded bytes) (lesser (addr + rounded bytes) HIGH) reply (call_messages space.object (DontNeed addr bytes)) refl refl is other
+    (none_watched space.object first bytes)
+    (λ start some mapped.
+    let whole = eqb_tells (addr % 4096) 0 start in
+    let high = mapped_inside space.host addr bytes sound.host (eqb_denies bytes some) mapped in
+    omega arith)
+    (λ start.
+    let whole = eqb_tells (addr % 4096) 0 start in
+    let least = lesser_is (addr + rounded bytes) HIGH in
+    let clip : last ≡ min (addr + rounded bytes) HIGH = omega arith in
+    clip ∙ sym least)
+
+pub queued_dropped : (space value : Space) (addr bytes low end last queued : ℕ) (reply : Reply) → space ≡ value → IsSoundSpace space → reply ≡ dontneed_reply (memory space.host) addr bytes → (reply ≡ Refused Einval → ⊥) → low ≡ min (addr / 4096) HIGH_PAGE → end ≡ min (addr / 4096 + pages_of bytes) HIGH_PAGE → last ≡ 4096 * end
+    → queued ≡ length (told (is_watched space.object low (end - low)) (Remove addr last)) → queued ≡ queued_by value (DontNeed addr bytes)
+queued_dropped space value addr bytes low end last queued reply view sound is other is_low is_end is_last counted =
+    counted
+    ∙ ap length (drop_told space addr bytes low end last reply sound is other is_low is_end is_last)
+    ∙ ap (λ r. length (call_messages space.object (DontNeed addr bytes) r)) is
+    ∙ ap (λ s. queued_by s (DontNeed addr bytes)) view
+
+-- the space that a call leaves which is not invalid
+abbrev left_by : Space → ℕ → ℕ → ℕ → Reply → Space
+left_by space cpu addr bytes reply =
+    record {
+      host = host_dropped space.host (addr / 4096) (pages_of bytes);
+      protected = without space.protected (addr / 4096) (pages_of bytes);
+      object = all_queued space.object (call_messages space.object (DontNeed addr bytes) reply) cpu;
+    }
+
+by_reply : (space : Space) (cpu addr bytes : ℕ) (reply other : Reply) → reply ≡ other → left_by space cpu addr bytes other ≡ answered space cpu (DontNeed addr bytes) other → left_by space cpu addr bytes reply ≡ answered space cpu (DontNeed addr bytes) reply
+by_reply space cpu addr bytes reply other e h = ap (left_by space cpu addr bytes) e ∙ h ∙ sym (ap (answered space cpu (DontNeed addr bytes)) e)
+
+dropped_cases : (start none past all : Bool) (space : Space) (cpu addr bytes : ℕ) (reply : Reply) → reply ≡ reply_by start none past all → (reply ≡ Refused Einval → ⊥) → left_by space cpu addr bytes reply ≡ answered space cpu (DontNeed addr bytes) reply
+dropped_cases false none past all space cpu addr bytes reply is other = absurd (other is)
+dropped_cases true true past all space cpu addr bytes reply is other = by_reply space cpu addr bytes reply Done is refl
+dropped_cases true false true all space cpu addr bytes reply is other = absurd (other is)
+dropped_cases true false false true space cpu addr bytes reply is other = by_reply space cpu addr bytes reply Done is refl
+dropped_cases true false false false space cpu addr bytes reply is other = by_reply space cpu addr bytes reply (Refused Enomem) is refl
+
+pub space_dropped : (space : Space) (pages : Pages) (object : Object) (cpu addr bytes low end last : ℕ) (reply : Reply) → IsSoundSpace space → reply ≡ dontneed_reply (memory space.host) addr bytes → (reply ≡ Refused Einval → ⊥) → low ≡ min (addr / 4096) HIGH_PAGE → end ≡ min (addr / 4096 + pages_of bytes) HIGH_PAGE → last ≡ 4096 * end
+    → pages.bytes ≡ remove_range space.host.bytes low (end - low) → pages.protected ≡ without space.protected low (end - low) → object ≡ all_queued space.object (told (is_watched space.object low (end - low)) (Remove addr last)) cpu
+    → space_of space.host.areas pages object ≡ called space cpu (DontNeed addr bytes)
+space_dropped space pages object cpu addr bytes low end last reply sound is other is_low is_end is_last is_bytes is_protected is_object =
+    parts_are space.host.areas space.host.areas pages _ _ object _ refl
+    (is_bytes ∙ dropped_below space.host (addr / 4096) (pages_of bytes) low end sound.host is_low is_end)
+    (is_protected ∙ without_below space.protected (addr / 4096) (pages_of bytes) low end (protected_below space sound) is_low is_end)
+    (is_object ∙ ap (λ m. all_queued space.object m cpu) (drop_told space addr bytes low end last reply sound is other is_low is_end is_last))
+    ∙ dropped_cases (is_page_start addr) (eqb bytes 0) (leb (2 ^ 64) (addr + rounded bytes)) (is_all_mapped (memory space.host) addr (rounded bytes)) space cpu addr bytes reply is other
+    ∙ answered_is space cpu (DontNeed addr bytes) reply is

@@ -1,0 +1,9 @@
+pub mod MapCallLemmas
+pub mod PaddingLemmas
+pub mod AnswerLemmas
+pub mod ChangeLemmas
+pub mod RemapLemmas
+pub mod AccessLemmas
+pub mod CallLemmas
+pub mod InstallLemmas
+pub mod RegisterLemmas

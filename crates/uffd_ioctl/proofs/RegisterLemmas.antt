@@ -1,0 +1,376 @@
+-- Flags, and the registration and the protection of the pages of a range.
+use Rattle.std.proofs.Common.{◌≡◌, ◌≢◌, ℕ, ◌+◌, ◌-◌, ◌<◌, ◌≤◌, ◌&&◌, ◌||◌, Bool, true, false, cond, not, eqb, ltb, refl, sym, ap, ◌∙◌, subst, arith, Option, Some, None, is_some, List, [], length, take, get_or, min, max, Bor}
+use Rattle.std.proofs.lemmas.Bool.Decides.{nat_tests}
+use Rattle.std.proofs.lemmas.Bool.{false≢true}
+use Rattle.std.specs.Option.{option_copied}
+use Rattle.std.specs.Ordering.{nat_cmp}
+use Rattle.std.specs.FinMap.{FinMap, get, contains_key}
+use Rattle.std.specs.FinSet.{FinSet, empty, contains, contains-empty}
+use Rattle.mig_base.specs.declared.TheConstants.{HIGH_PAGE}
+use Rattle.mig_base.specs.declared.Area.{Area}
+use Rattle.mig_base.specs.declared.Prot.{Prot}
+use Rattle.mig_base.specs.declared.command.Errno.{Errno}
+use Rattle.mig_base.specs.Ranges.{in_range}
+use Rattle.mig_base.specs.Sets.{without}
+use Rattle.mig_base.proofs.SetLemmas.{same_members, member_below, member_without}
+use Rattle.area_map.specs.Areas.{AreRuns, pages_in, prot_in}
+use Rattle.area_map.proofs.AreaLemmas.{no_area, runs_at}
+use Rattle.area_map.proofs.MoveLemmas.{one_more}
+use Rattle.area_map.proofs.ViewLemmas.{get-pages_in}
+use Rattle.page_table.specs.Views.{Pages}
+use Rattle.userfault.proofs.ModeLemmas.{is_pages_where}
+use Rattle.mig_model.specs.Host.{IsSound}
+use Rattle.mig_model.specs.Userfault.{Object, Mode, fresh_object, enabled_with, is_registered, has_modes, registered_where, unregistered}
+use Rattle.mig_model.specs.Space.{Space, IsSoundSpace}
+use Rattle.mig_model.specs.Ioctls.{event_features, mode_of, left_by, is_mapped_in, registered_in, unregistered_in, protected_in}
+use Rattle.uffd_ioctl.specs.Spaces.{space_of, assembled_object}
+
+-- Flags
+
+pub is_unknown : (set known : Bool) → set ≡ true → known ≡ false → (set && not known) ≡ true
+is_unknown set known h k = rw (h, k) refl
+
+pub not_set : (set known : Bool) → set ≡ false → (set && not known) ≡ false
+not_set set known h = rw h refl
+
+pub is_known : (set known : Bool) → known ≡ true → (set && not known) ≡ false
+is_known true known h = ap not h
+is_known false known h = refl
+
+-- Protected pages, one after the other
+
+-- a page that is set, or cleared
+pub one_set : (first page q : ℕ) (value old now : Bool) → first ≤ page → now ≡ cond (in_range first (page - first) q) value old → (q ≡ page → value ≡ true) → (eqb q page || now) ≡ cond (in_range first (page + 1 - first) q) value old
+one_set first page q value old now low h at = grind (arith, nat_tests)
+
+pub one_cleared : (first page q : ℕ) (value old now : Bool) → first ≤ page → now ≡ cond (in_range first (page - first) q) value old → (q ≡ page → value ≡ false) → (not (eqb q page) && now) ≡ cond (in_range first (page + 1 - first) q) value old
+one_cleared first page q value old now low h at = grind (arith, nat_tests)
+
+-- a page that has what it is to have
+pub one_left : (first page q : ℕ) (value old now : Bool) → first ≤ page → now ≡ cond (in_range first (page - first) q) value old → (q ≡ page → value ≡ now) → now ≡ cond (in_range first (page + 1 - first) q) value old
+one_left first page q value old now low h at = grind (arith, nat_tests)
+
+copied_some : {T : Type 0} (o : Option (Bor T)) → is_some (option_copied o) ≡ is_some o
+copied_some (Some x) = refl
+copied_some None = refl
+
+-- whether a page is present, as the table answered
+pub is_there : (now old : FinMap nat_cmp (List ℕ)) (page q : ℕ) (held : Option (Bor (List ℕ))) (answer value : Bool) → option_copied held ≡ get now page → now ≡ old → answer ≡ is_some held → answer ≡ value → q ≡ page → contains_key old q ≡ value
+is_there now old page q held answer value is same told v at =
+    ap (contains_key old) at ∙ ap (λ m. contains_key m page) (sym same) ∙ sym (ap is_some is) ∙ copied_some held ∙ sym told ∙ v
+
+pub both_hold : (a b : Bool) → a ≡ true → b ≡ true → (a && b) ≡ true
+both_hold a b h k = rw (h, k) refl
+
+pub first_fails : (a b : Bool) → a ≡ false → (a && b) ≡ false
+first_fails a b h = rw h refl
+
+pub second_fails : (a b : Bool) → b ≡ false → (a && b) ≡ false
+second_fails true b h = h
+second_fails false b h = refl
+
+pub second_holds : (a b : Bool) → b ≡ true → (a && b) ≡ a
+second_holds true b h = h
+second_holds false b h = refl
+
+-- a page that was not reached has what it had
+pub not_yet : (first page q : ℕ) (value old now : Bool) → q ≡ page → now ≡ cond (in_range first (page - first) q) value old → old ≡ now
+not_yet first page q value old now at h = grind (arith, nat_tests)
+
+pub is_off : (b : Bool) → not b ≡ true → b ≡ false
+is_off true h = sym h
+is_off false h = refl
+
+pub is_on : (b : Bool) → not b ≡ false → b ≡ true
+is_on true h = refl
+is_on false h = sym h
+
+-- Registered pages
+
+-- a page that is registered lies below the end of the address space
+abbrev pub AreLow : Object → Type 0
+AreLow object = (page : ℕ) → HIGH_PAGE ≤ page → is_registered object page ≡ false
+
+no_left : (a b : Bool) → (a || b) ≡ false → a ≡ false
+no_left true b h = h
+no_left false b h = refl
+
+no_right : (a b : Bool) → (a || b) ≡ false → b ≡ false
+no_right true b h = absurd (false≢true (sym h))
+no_right false b h = h
+
+not_past : (q bound : ℕ) (b : Bool) → bound ≤ q → (ltb q bound && b) ≡ false
+not_past q bound b h = grind (arith, nat_tests)
+
+neither_of : (a b : Bool) → a ≡ false → b ≡ false → (a || b) ≡ false
+neither_of a b h k = rw (h, k) refl
+
+pub registered_low : (object : Object) (test : ℕ → Bool) (mode : Mode) → AreLow (registered_where object test mode)
+registered_low object test mode page past =
+    neither_of (contains (registered_where object test mode).missing page) (contains (registered_where object test mode).protect page)
+    (member_below _ HIGH_PAGE page ∙ not_past page HIGH_PAGE _ past)
+    (member_below _ HIGH_PAGE page ∙ not_past page HIGH_PAGE _ past)
+
+pub same_where : (object : Object) (test other : ℕ → Bool) (mode : Mode) → ((q : ℕ) → test q ≡ other q) → registered_where object test mode ≡ registered_where object other mode
+same_where object test other mode h = ap (λ t. registered_where object t mode) (λ i q. h q i)
+
+none_asked : (test has value own : Bool) → test ≡ false → cond (test && not has) value own ≡ own
+none_asked test has value own h = rw h refl
+
+-- no page passes
+pub nothing_where : (object : Object) (test : ℕ → Bool) (mode : Mode) → AreLow object → ((q : ℕ) → test q ≡ false) → object ≡ registered_where object test mode
+nothing_where object test mode low none =
+    let new = registered_where object test mode in
+    let left : (value : Bool) (own : FinSet nat_cmp) (q : ℕ) → cond (test q && not (has_modes object q mode)) value (contains own q) ≡ contains own q = λ value own q. none_asked (test q) (has_modes object q mode) value (contains own q) (none q) in
+    let missing : object.missing ≡ new.missing = is_pages_where object.missing _ (λ q. sym (left mode.missing object.missing q)) (λ q past. left mode.missing object.missing q ∙ no_left _ _ (low q past)) in
+    let protect : object.protect ≡ new.protect = is_pages_where object.protect _ (λ q. sym (left mode.protect object.protect q)) (λ q past. left mode.protect object.protect q ∙ no_right _ _ (low q past)) in
+    λ i. record object { missing = missing i; protect = protect i }
+
+-- whether a page has all modes asked for
+abbrev all_asked : Bool → Bool → Bool → Bool → Bool
+all_asked m p missing protect = (not m || missing) && (not p || protect)
+
+itself : (b : Bool) → (not b || b) ≡ true
+itself true = refl
+itself false = refl
+
+has_them : (m p : Bool) → all_asked m p m p ≡ true
+has_them m p = rw (itself m, itself p) refl
+
+twice_asked : (m p missing protect u value : Bool) → cond (u && not (all_asked m p m p)) value value ≡ value
+twice_asked m p missing protect true value = rw (has_them m p) refl
+twice_asked m p missing protect false value = refl
+
+-- a page that is asked for twice
+twice_at : (t u m p missing protect value own has : Bool) → has ≡ all_asked m p missing protect → cond (u && not (all_asked m p (cond (t && not has) m missing) (cond (t && not has) p protect))) value (cond (t && not has) value own) ≡ cond ((t || u) && not has) value own
+twice_at true u m p missing protect value own false h = twice_asked m p missing protect u value
+twice_at true true m p missing protect value own true h = rw (← h) refl
+twice_at true false m p missing protect value own true h = refl
+twice_at false true m p missing protect value own true h = rw (← h) refl
+twice_at false true m p missing protect value own false h = rw (← h) refl
+twice_at false false m p missing protect value own has h = refl
+
+twice_below : (low t u m p missing protect value own has : Bool) → has ≡ all_asked m p missing protect
+    → (low && cond (u && not (all_asked m p (low && cond (t && not has) m missing) (low && cond (t && not has) p protect))) value (low && cond (t && not has) value own)) ≡ (low && cond ((t || u) && not has) value own)
+twice_below true t u m p missing protect value own has h = twice_at t u m p missing protect value own has h
+twice_below false t u m p missing protect value own has h = refl
+
+-- registered where one test passes, and then where another does
+where_either : (object : Object) (test other : ℕ → Bool) (mode : Mode) → registered_where (registered_where object test mode) other mode ≡ registered_where object (λ page. test page || other page) mode
+where_either object test other mode =
+    let first = registered_where object test mode in
+    let last = registered_where first other mode in
+    let both = registered_where object (λ page. test page || other page) mode in
+    let missing_at : (q : ℕ) → contains first.missing q ≡ (ltb q HIGH_PAGE && cond (test q && not (has_modes object q mode)) mode.missing (contains object.missing q)) = λ q. member_below _ HIGH_PAGE q in
+    let protect_at : (q : ℕ) → contains first.protect q ≡ (ltb q HIGH_PAGE && cond (test q && not (has_modes object q mode)) mode.protect (contains object.protect q)) = λ q. member_below _ HIGH_PAGE q in
+    let missing : last.missing ≡ both.missing = same_members last.missing both.missing (λ q.
+    member_below _ HIGH_PAGE q
+    ∙ (λ i. ltb q HIGH_PAGE && cond (other q && not (all_asked mode.missing mode.protect (missing_at q i) (protect_at q i))) mode.missing (missing_at q i))
+    ∙ twice_below (ltb q HIGH_PAGE) (test q) (other q) mode.missing mode.protect (contains object.missing q) (contains object.protect q) mode.missing (contains object.missing q) (has_modes object q mode) refl
+    ∙ sym (member_below _ HIGH_PAGE q)) in
+    let protect : last.protect ≡ both.protect = same_members last.protect both.protect (λ q.
+    member_below _ HIGH_PAGE q
+    ∙ (λ i. ltb q HIGH_PAGE && cond (other q && not (all_asked mode.missing mode.protect (missing_at q i) (protect_at q i))) mode.protect (protect_at q i))
+    ∙ twice_below (ltb q HIGH_PAGE) (test q) (other q) mode.missing mode.protect (contains object.missing q) (contains object.protect q) mode.protect (contains object.protect q) (has_modes object q mode) refl
+    ∙ sym (member_below _ HIGH_PAGE q)) in
+    λ i. record object { missing = missing i; protect = protect i }
+
+-- One area after the other
+
+pub in_both : (first count other size start end q : ℕ) → start ≡ max first other → end ≡ min (first + count) (other + size) → in_range start (end - start) q ≡ (in_range first count q && in_range other size q)
+in_both first count other size start end q is_start is_end = grind (arith, nat_tests)
+
+pub apart : (first count other size start end q : ℕ) → start ≡ max first other → end ≡ min (first + count) (other + size) → end ≤ start → (in_range first count q && in_range other size q) ≡ false
+apart first count other size start end q is_start is_end none = grind (arith, nat_tests)
+
+pub area_bound : (areas : List Area) (i : ℕ) → AreRuns areas → i < length areas → (get_or areas i no_area).first + (get_or areas i no_area).count ≤ HIGH_PAGE
+area_bound areas i runs below = (runs_at areas i runs below).0.bound
+
+-- the mapped pages of a range
+abbrev pub is_mapped_by : ℕ → ℕ → List Area → ℕ → Bool
+is_mapped_by first count areas page = in_range first count page && contains_key (pages_in areas) page
+
+is_some-cond : (b : Bool) (prot : Prot) (o : Option Prot) → is_some (cond b (Some prot) o) ≡ (b || is_some o)
+is_some-cond true prot o = refl
+is_some-cond false prot o = refl
+
+distributed : (inside here before : Bool) → ((inside && before) || (inside && here)) ≡ (inside && (here || before))
+distributed false here before = refl
+distributed true true true = refl
+distributed true true false = refl
+distributed true false true = refl
+distributed true false false = refl
+
+mapped_more : (first count : ℕ) (areas : List Area) (i q : ℕ) → AreRuns areas → i < length areas → (is_mapped_by first count (take i areas) q || (in_range first count q && in_range (get_or areas i no_area).first (get_or areas i no_area).count q)) ≡ is_mapped_by first count (take (i + 1) areas) q
+mapped_more first count areas i q runs below =
+    let area = get_or areas i no_area in
+    ap (λ o. (in_range first count q && is_some o) || (in_range first count q && in_range area.first area.count q)) (get-pages_in (take i areas) q)
+    ∙ distributed (in_range first count q) (in_range area.first area.count q) (is_some (prot_in (take i areas) q))
+    ∙ ap (λ b. in_range first count q && b) (sym (is_some-cond (in_range area.first area.count q) area.prot (prot_in (take i areas) q)))
+    ∙ ap (λ o. in_range first count q && is_some o) (one_more areas i q runs below)
+    ∙ ap (λ o. in_range first count q && is_some o) (sym (get-pages_in (take (i + 1) areas) q))
+
+pub mapped_none : (first count : ℕ) (q : ℕ) → is_mapped_by first count [] q ≡ false
+unfolding prot_in
+mapped_none first count q = ap (λ o. in_range first count q && is_some o) (get-pages_in [] q) ∙ second_fails (in_range first count q) false refl
+
+-- one area more
+pub registered_more : (object before after : Object) (first count : ℕ) (areas : List Area) (i : ℕ) (mode : Mode) → AreRuns areas → i < length areas → before ≡ registered_where object (is_mapped_by first count (take i areas)) mode
+    → after ≡ registered_where before (λ page. in_range first count page && in_range (get_or areas i no_area).first (get_or areas i no_area).count page) mode → after ≡ registered_where object (is_mapped_by first count (take (i + 1) areas)) mode
+registered_more object before after first count areas i mode runs below was is =
+    let area = get_or areas i no_area in
+    is
+    ∙ ap (λ o. registered_where o (λ page. in_range first count page && in_range area.first area.count page) mode) was
+    ∙ where_either object (is_mapped_by first count (take i areas)) (λ page. in_range first count page && in_range area.first area.count page) mode
+    ∙ same_where object (λ page. is_mapped_by first count (take i areas) page || (in_range first count page && in_range area.first area.count page)) (is_mapped_by first count (take (i + 1) areas)) mode (λ q. mapped_more first count areas i q runs below)
+
+-- Spaces changed
+
+pub none_by : {A : Type 0} (o : Option A) → ((x : A) → o ≡ Some x → ⊥) → o ≡ None
+none_by None h = refl
+none_by (Some x) h = absurd (h x refl)
+
+-- a call that nothing refuses
+pub made_by : (error : Option Errno) (old new made : Space) → error ≡ None → made ≡ new → made ≡ left_by error old new
+made_by error old new made none is = is ∙ ap (λ e. left_by e old new) (sym none)
+
+not_in : (here old : Bool) → cond here false old ≡ (old && not here)
+not_in true true = refl
+not_in true false = refl
+not_in false true = refl
+not_in false false = refl
+
+-- a range that is registered no longer
+pub opened : (areas : FinMap nat_cmp Prot) (pages new : Pages) (object after : Object) (first count : ℕ) → new.bytes ≡ pages.bytes → ((q : ℕ) → contains new.protected q ≡ cond (in_range first count q) false (contains pages.protected q)) → after ≡ unregistered object first count
+    → space_of areas new after ≡ unregistered_in (space_of areas pages object) first count
+opened areas pages new object after first count bytes is same =
+    let protected : new.protected ≡ without pages.protected first count = same_members new.protected (without pages.protected first count) (λ q. is q ∙ not_in (in_range first count q) (contains pages.protected q) ∙ sym (member_without pages.protected first count q)) in
+    λ i. record { host = record { areas = areas; bytes = bytes i }; protected = protected i; object = same i }
+
+not_on : (b : Bool) → (b ≡ true → ⊥) → b ≡ false
+not_on true h = absurd (h refl)
+not_on false h = refl
+
+kept_false : (here protect present old : Bool) → present ≡ false → old ≡ false → cond here (protect && present) old ≡ false
+kept_false true true present old h k = h
+kept_false true false present old h k = refl
+kept_false false protect present old h k = k
+
+unprotected_past : (now : Space) (page : ℕ) → IsSoundSpace now → HIGH_PAGE ≤ page → contains now.protected page ≡ false
+unprotected_past now page sound past = not_on (contains now.protected page) (λ h. false≢true (sym (ap is_some (sound.host.mapped page (sound.host.bound page past))) ∙ sound.present page h))
+
+-- pages protected, or no longer
+pub set_in : (areas : FinMap nat_cmp Prot) (pages new : Pages) (object : Object) (first count : ℕ) (protect : Bool) → IsSoundSpace (space_of areas pages object) → new.bytes ≡ pages.bytes
+    → ((q : ℕ) → contains new.protected q ≡ cond (in_range first count q) (protect && contains_key pages.bytes q) (contains pages.protected q)) → space_of areas new object ≡ protected_in (space_of areas pages object) first count protect
+set_in areas pages new object first count protect sound bytes is =
+    let protected : new.protected ≡ (protected_in (space_of areas pages object) first count protect).protected = is_pages_where new.protected _ is
+    (λ q past. kept_false (in_range first count q) protect (contains_key pages.bytes q) (contains pages.protected q) (ap is_some (sound.host.mapped q (sound.host.bound q past))) (unprotected_past (space_of areas pages object) q sound past)) in
+    λ i. record { host = record { areas = areas; bytes = bytes i }; protected = protected i; object = object }
+
+-- Pages registered in a space
+
+pub sound_low : (space : Space) → IsSoundSpace space → AreLow space.object
+sound_low space sound page past = not_on (is_registered space.object page) (λ h. false≢true (sym (ap is_some (sound.host.bound page past)) ∙ sound.mapped page h))
+
+is_below : (q bound : ℕ) → (bound ≤ q → ⊥) → ltb q bound ≡ true
+is_below q bound h = grind (arith, nat_tests, h)
+
+or_on : (a b : Bool) → b ≡ true → (a || b) ≡ true
+or_on true b h = refl
+or_on false b h = h
+
+-- a page that was protected, and so lies in the address space, is mapped and is registered for that
+watched_at : (here has asked : Bool) → (not here || (true && cond ((here && true) && not has) asked true)) ≡ (asked || has || not (here && true))
+watched_at true true true = refl
+watched_at true true false = refl
+watched_at true false true = refl
+watched_at true false false = refl
+watched_at false has asked = sym (or_on (asked || has) true refl)
+
+still_protected : (old here low mapped has asked own : Bool) → (old ≡ true → low ≡ true) → (old ≡ true → mapped ≡ true) → (old ≡ true → own ≡ true) → (old && (not here || (low && cond ((here && mapped) && not has) asked own))) ≡ (old && (asked || has || not (here && mapped)))
+still_protected false here low mapped has asked own h k m = refl
+still_protected true here low mapped has asked own h k m = rw (h refl, k refl, m refl) (watched_at here has asked)
+
+pub watched_in : (areas found : FinMap nat_cmp Prot) (pages new : Pages) (object after : Object) (first count : ℕ) (mode : Mode) → IsSoundSpace (space_of areas pages object) → found ≡ areas → new.bytes ≡ pages.bytes
+    → after ≡ registered_where object (λ page. in_range first count page && contains_key found page) mode
+    → ((q : ℕ) → contains new.protected q ≡ (contains pages.protected q && (not (in_range first count q) || contains after.protect q))) → space_of areas new after ≡ registered_in (space_of areas pages object) first count mode
+watched_in areas found pages new object after first count mode sound seen bytes is kept =
+    let space = space_of areas pages object in
+    let watching = registered_where object (is_mapped_in space first count) mode in
+    let same : after ≡ watching = is ∙ ap (λ m. registered_where object (λ page. in_range first count page && contains_key m page) mode) seen in
+    let mapped : (q : ℕ) → contains pages.protected q ≡ true → contains_key areas q ≡ true = λ q h. sound.mapped q (or_on (contains object.missing q) (contains object.protect q) (sound.watched q h)) in
+    let protected : new.protected ≡ (registered_in space first count mode).protected = is_pages_where new.protected _
+    (λ q.
+    kept q
+    ∙ ap (λ o. contains pages.protected q && (not (in_range first count q) || contains o.protect q)) same
+    ∙ ap (λ b. contains pages.protected q && (not (in_range first count q) || b)) (member_below _ HIGH_PAGE q)
+    ∙ still_protected (contains pages.protected q) (in_range first count q) (ltb q HIGH_PAGE) (contains_key areas q) (has_modes object q mode) mode.protect (contains object.protect q)
+    (λ h. is_below q HIGH_PAGE (λ past. false≢true (sym (unprotected_past space q sound past) ∙ h)))
+    (mapped q)
+    (sound.watched q))
+    (λ q past. first_fails (contains pages.protected q) _ (unprotected_past space q sound past)) in
+    λ i. record { host = record { areas = areas; bytes = bytes i }; protected = protected i; object = same i }
+
+-- A space put together
+
+empty_has : (page : ℕ) → contains (empty {R = nat_cmp}) page ≡ false
+empty_has page = contains-empty nat_cmp page
+
+fresh_has : (features page : ℕ) → is_registered (enabled_with fresh_object features) page ≡ false
+fresh_has features page = neither_of (contains (enabled_with fresh_object features).missing page) (contains (enabled_with fresh_object features).protect page) (empty_has page) (empty_has page)
+
+pub enabled_low : (fresh object : Object) (features : ℕ) → fresh ≡ fresh_object → object ≡ enabled_with fresh features → AreLow object
+enabled_low fresh object features new is = subst AreLow (sym (is ∙ ap (λ o. enabled_with o features) new)) (λ page past. fresh_has features page)
+
+in_all : (q bound : ℕ) → (bound ≤ q → ⊥) → in_range 0 bound q ≡ true
+in_all q bound h = grind (arith, nat_tests, h)
+
+second_alone : (low mapped : Bool) → (mapped ≡ true → low ≡ true) → (low && mapped) ≡ mapped
+second_alone low true h = rw (h refl) refl
+second_alone true false h = refl
+second_alone false false h = refl
+
+not_zero : (n : ℕ) → n ≢ 0 → eqb n 0 ≡ false
+not_zero n h = grind (arith, nat_tests)
+
+-- with a mode all mapped pages are registered
+pub assembled_watching : (areas found : FinMap nat_cmp Prot) (bytes : FinMap nat_cmp (List ℕ)) (fresh start after : Object) (mode : Mode) (bits : ℕ) → IsSound (record { areas = areas; bytes = bytes }) → bits ≢ 0 → fresh ≡ fresh_object → start ≡ enabled_with fresh event_features → found ≡ areas → mode ≡ mode_of bits
+    → after ≡ registered_where start (λ page. in_range 0 HIGH_PAGE page && contains_key found page) mode → after ≡ assembled_object areas bits
+assembled_watching areas found bytes fresh start after mode bits sound some new on seen asked is =
+    let watching = enabled_with fresh_object event_features in
+    is
+    ∙ (λ i. registered_where (on i) (λ page. in_range 0 HIGH_PAGE page && contains_key (seen i) page) (asked i))
+    ∙ (λ i. registered_where (enabled_with (new i) event_features) (λ page. in_range 0 HIGH_PAGE page && contains_key areas page) (mode_of bits))
+    ∙ same_where watching (λ page. in_range 0 HIGH_PAGE page && contains_key areas page) (λ page. contains_key areas page) (mode_of bits)
+    (λ q. second_alone (in_range 0 HIGH_PAGE q) (contains_key areas q) (λ h. in_all q HIGH_PAGE (λ past. false≢true (sym (ap is_some (sound.bound q past)) ∙ h))))
+    ∙ sym (ap (λ b. cond b fresh_object (registered_where watching (λ page. contains_key areas page) (mode_of bits))) (not_zero bits some))
+
+pub assembled_fresh : (areas : FinMap nat_cmp Prot) (fresh : Object) (bits : ℕ) → fresh ≡ fresh_object → bits ≡ 0 → fresh ≡ assembled_object areas bits
+assembled_fresh areas fresh bits new none = new ∙ ap (assembled_object areas) (sym none)
+
+asked_alone : (low test has value own : Bool) → own ≡ false → (low && cond (test && not has) value own) ≡ true → test ≡ true
+asked_alone false test has value own none h = absurd (false≢true h)
+asked_alone true true has value own none h = refl
+asked_alone true false has value own none h = absurd (false≢true (sym none ∙ h))
+
+one_of : (a b test : Bool) → (a ≡ true → test ≡ true) → (b ≡ true → test ≡ true) → (a || b) ≡ true → test ≡ true
+one_of true b test left right h = left refl
+one_of false b test left right h = right h
+
+registered_mapped : (areas : FinMap nat_cmp Prot) (none : Bool) (mode : Mode) (page : ℕ) → is_registered (cond none fresh_object (registered_where (enabled_with fresh_object event_features) (λ q. contains_key areas q) mode)) page ≡ true → contains_key areas page ≡ true
+registered_mapped areas true mode page h = absurd (false≢true (sym (fresh_has 0 page) ∙ h))
+registered_mapped areas false mode page h =
+    let start = enabled_with fresh_object event_features in
+    let after = registered_where start (λ q. contains_key areas q) mode in
+    one_of (contains after.missing page) (contains after.protect page) (contains_key areas page)
+    (λ e. asked_alone (ltb page HIGH_PAGE) (contains_key areas page) (has_modes start page mode) mode.missing (contains start.missing page) (empty_has page) (sym (member_below _ HIGH_PAGE page) ∙ e))
+    (λ e. asked_alone (ltb page HIGH_PAGE) (contains_key areas page) (has_modes start page mode) mode.protect (contains start.protect page) (empty_has page) (sym (member_below _ HIGH_PAGE page) ∙ e))
+    h
+
+pub assembled_sound : (areas : FinMap nat_cmp Prot) (bytes : FinMap nat_cmp (List ℕ)) (bits : ℕ) → IsSound (record { areas = areas; bytes = bytes }) → IsSoundSpace (record { host = record { areas = areas; bytes = bytes }; protected = empty; object = assembled_object areas bits })
+assembled_sound areas bytes bits sound = record {
+  host = sound;
+  mapped = λ page h. registered_mapped areas (eqb bits 0) (mode_of bits) page h;
+  present = λ page h. absurd (false≢true (sym (empty_has page) ∙ h));
+  watched = λ page h. absurd (false≢true (sym (empty_has page) ∙ h));
+}

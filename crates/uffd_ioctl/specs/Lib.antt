@@ -1,0 +1,4 @@
+pub mod MapCalls
+pub mod Remaps
+pub mod Puts
+pub mod Spaces

@@ -1,0 +1,40 @@
+-- A range that mremap may put at its new place.
+use Rattle.std.specs.Prelude.{◌≡◌, ℕ, ◌+◌, ◌-◌, ◌*◌, ◌≤◌, ◌<◌, ◌⊎◌, ◌==◌, ◌&&◌, not, nat_lt, List}
+use Rattle.std.specs.Ordering.{nat_cmp}
+use Rattle.std.specs.FinMap.{FinMap, get}
+use Rattle.mig_base.specs.declared.TheConstants.{PAGE_SIZE, HIGH_PAGE}
+use Rattle.mig_base.specs.declared.Prot.{Prot}
+use Rattle.mig_base.specs.declared.message.Message.TheVariants as message
+use Rattle.mig_base.specs.declared.message.Message.TheVariants.{Unmap}
+use Rattle.mig_base.specs.declared.message.Message.{Message}
+use Rattle.mig_base.specs.Ranges.{lesser}
+use Rattle.mig_model.specs.Userfault.{Object}
+use Rattle.mig_model.specs.Space.{told, is_watched}
+use Rattle.area_map.specs.Ranges.{HasOneProt}
+use Rattle.uffd_ioctl.specs.declared.remap.Remap.{Remap}
+
+-- the range has a page, both ranges lie inside the address space, and the new one begins where the old does, or lies apart
+pub record IsRemap (range : Remap) : Type 0 where
+  pub some : 0 < range.count
+  pub from : range.from + range.count ≤ HIGH_PAGE
+  pub to : range.to + range.new_count ≤ HIGH_PAGE
+  pub place : (range.to ≡ range.from) ⊎ ((range.from + range.count ≤ range.to) ⊎ (range.to + range.new_count ≤ range.from))
+
+-- the pages are mapped, with one protection
+abbrev pub HasProt : FinMap nat_cmp Prot → ℕ → ℕ → Type 0
+HasProt areas first count = (prot : Prot) × HasOneProt (λ page. get areas page) first count prot
+
+-- the three messages of a remap: userfaultfd(2), UFFD_EVENT_UNMAP and UFFD_EVENT_REMAP
+abbrev pub replaced_message : Object → Remap → List Message
+replaced_message object range =
+    told (not (range.to == range.from) && is_watched object range.to range.new_count) (Unmap (PAGE_SIZE * range.to) (PAGE_SIZE * range.to + PAGE_SIZE * range.new_count))
+
+abbrev pub cut_message : Object → Remap → List Message
+cut_message object range =
+    told (nat_lt range.new_count range.count && is_watched object (range.from + range.new_count) (range.count - range.new_count))
+    (Unmap (PAGE_SIZE * range.from + PAGE_SIZE * range.new_count) (PAGE_SIZE * range.from + PAGE_SIZE * range.count))
+
+abbrev pub moved_message : Object → Remap → List Message
+moved_message object range =
+    told (not (range.to == range.from) && is_watched object range.from (lesser range.count range.new_count))
+    (message.Remap (PAGE_SIZE * range.from) (PAGE_SIZE * range.to) (PAGE_SIZE * lesser range.count range.new_count))

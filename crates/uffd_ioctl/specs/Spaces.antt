@@ -1,0 +1,49 @@
+-- The space of the code as that of the machine.
+use Rattle.std.specs.Prelude.{ℕ, ◌==◌, if◌then◌else◌, Result, Ok, Err, refl}
+use Rattle.std.specs.Ordering.{nat_cmp}
+use Rattle.std.specs.FinMap.{FinMap, contains_key}
+use Rattle.std.specs.FinSet as set
+use Rattle.std.specs.FinSet.{FinSet}
+use Rattle.std.specs.Coded.{Coded, code_by, coded×, coded_ℕ}
+use Rattle.mig_base.specs.declared.Prot.{Prot}
+use Rattle.mig_base.specs.declared.command.Errno.{Errno}
+use Rattle.mig_base.specs.declared.command.Command.{Command}
+use Rattle.mig_base.specs.declared.command.Access.{Access}
+use Rattle.mig_base.specs.declared.command.Access.TheVariants.{Answered, Missing, Protected}
+use Rattle.mig_base.specs.Flat.{Memory, after}
+use Rattle.mig_model.specs.Host.{Host, coded_host}
+use Rattle.mig_model.specs.Userfault.{Object, fresh_object, enabled_with, registered_where}
+use Rattle.mig_model.specs.Space.{Space}
+use Rattle.mig_model.specs.Ioctls.{event_features, mode_of}
+use Rattle.page_table.specs.Views.{Pages}
+use Rattle.userfault.specs.Codes.{coded_object}
+use Rattle.uffd_ioctl.specs.declared.fault.IoctlFault.{IoctlFault}
+use Rattle.uffd_ioctl.specs.declared.fault.IoctlFault.TheVariants as fault
+
+-- the code of a space
+abbrev pub coded_space : Coded Space
+coded_space =
+    code_by (Host × (FinSet nat_cmp × Object)) (coded× coded_host (coded× (set.code coded_ℕ) coded_object))
+    (λ s. (s.host, (s.protected, s.object)))
+    (λ p. record { host = p.0; protected = p.1.0; object = p.1.1 })
+    (λ _. refl)
+
+-- what the fields of a space mean
+abbrev pub space_of : FinMap nat_cmp Prot → Pages → Object → Space
+space_of areas pages object = record { host = record { areas = areas; bytes = pages.bytes }; protected = pages.protected; object = object }
+
+-- the answer of a row, where the call may also want for memory
+abbrev pub ioctl_result : {A : Type 0} → Result A Errno → Result A IoctlFault
+ioctl_result (Ok answer) = Ok answer
+ioctl_result (Err errno) = Err (fault.Errno errno)
+
+-- the object of a space that is put together: with a mode it is enabled for the three events, and all mapped pages are registered
+abbrev pub assembled_object : FinMap nat_cmp Prot → ℕ → Object
+assembled_object areas bits =
+    if bits == 0 then fresh_object else registered_where (enabled_with fresh_object event_features) (λ page. contains_key areas page) (mode_of bits)
+
+-- the flat memory after an access that comes to this: one that is answered is made, and a page fault changes nothing
+abbrev pub memory_after : Access → Memory → Command → Memory
+memory_after (Answered reply) memory command = after memory command
+memory_after Missing memory command = memory
+memory_after Protected memory command = memory

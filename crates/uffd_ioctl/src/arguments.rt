@@ -1,0 +1,92 @@
+//! The arguments of a userfault object's calls: ranges of whole pages, and words of flags.
+
+ghost use Rattle.std.specs.Prelude.{◌≡◌, ◌+◌, ◌/◌, ◌<◌, ◌≤◌, ◌&&◌, false};
+ghost use Rattle.mig_base.specs.Bits.{is_one};
+ghost use Rattle.mig_base.specs.declared.TheConstants.{HIGH_PAGE};
+ghost use Rattle.mig_model.specs.Ioctls as table;
+ghost use Rattle.userfault.specs.Modes as modes;
+
+use mig_base::{Addr, HIGH_PAGE, LOW, PAGE_SIZE, PageNo};
+use userfault::Mode;
+
+/// UFFD_FEATURE_PAGEFAULT_FLAG_WP, UFFD_FEATURE_EVENT_REMAP, UFFD_FEATURE_EVENT_REMOVE and UFFD_FEATURE_EVENT_UNMAP.
+pub(crate) const ALL_FEATURES: u64 = 77;
+
+/// The three events.
+pub(crate) const EVENT_FEATURES: u64 = 76;
+
+/// A range of pages: at least one, all of the address space.
+#[derive(Clone, Copy, Drop)]
+pub(crate) struct PageRange {
+    pub(crate) first: PageNo,
+    pub(crate) count: u32,
+}
+
+/// Whether a range of bytes is no range of whole pages of the address space.
+pub(crate) fn is_bad_range(start: Addr, len: u64) -> bool
+    ensures { result ≡ table.is_bad_range start len }
+{
+    start % PAGE_SIZE != 0
+        || len % PAGE_SIZE != 0
+        || len == 0
+        || start < LOW
+        || start / PAGE_SIZE + len / PAGE_SIZE > u64::from(HIGH_PAGE)
+}
+
+/// The pages of a range of bytes that is not bad.
+pub(crate) fn whole_pages(start: Addr, len: u64) -> PageRange
+    requires { table.is_bad_range start len ≡ false }
+    ensures first { result.first ≡ start / 4096 }
+    ensures count { result.count ≡ len / 4096 }
+    ensures some { 0 < result.count }
+    ensures inside { result.first + result.count ≤ HIGH_PAGE }
+{
+    PageRange {
+        first: (start / PAGE_SIZE) as PageNo,
+        count: (len / PAGE_SIZE) as u32,
+    }
+}
+
+/// Whether a flag is set.
+pub(crate) fn has_bit(flags: u64, i: u32) -> bool
+    requires { i < 64 }
+    ensures { result ≡ is_one flags i }
+{
+    (flags >> i) & 1 == 1
+}
+
+/// The modes that a word of flags asks for: UFFDIO_REGISTER_MODE_MISSING and UFFDIO_REGISTER_MODE_WP.
+pub(crate) fn mode_of(flags: u64) -> Mode
+    ensures { modes.mode_of result ≡ table.mode_of flags }
+{
+    Mode {
+        missing: has_bit(flags, 0),
+        protect: has_bit(flags, 1),
+    }
+}
+
+/// Whether a feature is asked for that this object has not.
+pub(crate) fn has_unknown_feature(features: u64) -> bool
+    ensures { result ≡ table.has_unknown table.is_feature features }
+{
+    for i in 0..64 {
+        if has_bit(features, i) && !is_feature(i) {
+            return true;
+        }
+    }
+    false
+}
+
+/// Whether this object has the feature of that bit.
+fn is_feature(i: u32) -> bool
+    ensures { result ≡ table.is_feature i }
+{
+    matches!(i, 0 | 2 | 3 | 6)
+}
+
+/// Whether the three events are among the features.
+pub(crate) fn has_events(features: u64) -> bool
+    ensures { result ≡ (is_one features 2 && is_one features 3 && is_one features 6) }
+{
+    has_bit(features, 2) && has_bit(features, 3) && has_bit(features, 6)
+}

@@ -1,0 +1,94 @@
+//! How the calls of a userfault object answer.
+
+ghost use Rattle.std.specs.Prelude.{◌≡◌, ◌*◌, ◌<◌, Some, None};
+ghost use Rattle.uffd_ioctl.specs.Puts.{put_result, own_fault};
+
+use mig_base::{Addr, Errno, PAGE_SIZE, Wake};
+use page_table::PutFault;
+use thiserror::Error;
+
+/// Why a call of a userfault object was refused.
+#[derive(Clone, Copy, Debug, PartialEq, Eq, Error)]
+pub enum IoctlFault {
+    /// The error of ioctl_userfaultfd(2). The same call is refused again as long as nothing else has changed the space.
+    #[error("error {0:?}")]
+    Errno(Errno),
+    /// A growth was refused. The same call may succeed later.
+    #[error("no memory")]
+    NoMemory,
+}
+
+/// What UFFDIO_COPY or UFFDIO_ZEROPAGE has done.
+#[derive(Clone, Copy, Debug, PartialEq, Eq)]
+pub struct Copied {
+    /// How many bytes were put: the whole range.
+    pub bytes: u64,
+    /// The processors to be woken.
+    pub wake: Wake,
+}
+
+/// Why UFFDIO_COPY or UFFDIO_ZEROPAGE stopped, and what it did before: the pages put stay, and those who sleep on them are woken.
+#[derive(Clone, Copy, Debug, PartialEq, Eq, Error)]
+#[error("{fault} after {copied} bytes")]
+pub struct CopyFault {
+    /// How many bytes were put before it stopped: a multiple of the page size.
+    pub copied: u64,
+    /// Why it stopped: behind a page that was put this is EAGAIN, and the same call from there on says more.
+    pub fault: IoctlFault,
+    /// The processors to be woken.
+    pub wake: Wake,
+}
+
+/// What a call says that was refused before any page was put.
+pub(crate) fn refused(errno: Errno) -> CopyFault
+    ensures { result ≡ record { copied = 0; fault = IoctlFault.Errno errno; wake = Wake.Nobody } }
+{
+    CopyFault {
+        copied: 0,
+        fault: IoctlFault::Errno(errno),
+        wake: Wake::Nobody,
+    }
+}
+
+/// What a call says that has put the first `done` pages from `start` on, where `quiet` wakes nobody, and `stop` is why it put no
+/// more, if it did not put all.
+pub(crate) fn outcome(
+    start: Addr,
+    done: u32,
+    quiet: bool,
+    stop: Option<PutFault>,
+) -> Result<Copied, CopyFault>
+    ensures { result ≡ put_result start done quiet stop }
+{
+    let bytes = u64::from(done) * PAGE_SIZE;
+    let wake = if done == 0 || quiet {
+        Wake::Nobody
+    } else {
+        Wake::Range { start, len: bytes }
+    };
+    match stop {
+        None => Ok(Copied { bytes, wake }),
+        Some(stop) => {
+            let fault = if done == 0 {
+                own_fault(stop)
+            } else {
+                IoctlFault::Errno(Errno::Eagain)
+            };
+            Err(CopyFault {
+                copied: bytes,
+                fault,
+                wake,
+            })
+        }
+    }
+}
+
+/// What a page answers that could not be put.
+fn own_fault(stop: PutFault) -> IoctlFault
+    ensures { result ≡ own_fault stop }
+{
+    match stop {
+        PutFault::Present => IoctlFault::Errno(Errno::Eexist),
+        PutFault::NoMemory => IoctlFault::NoMemory,
+    }
+}

@@ -1,0 +1,101 @@
+//! Pages that a call puts over a range, one after the other, up to the first that cannot be put.
+
+ghost use Rattle.std.specs.Prelude.{◌≡◌, ℕ, ◌+◌, ◌/◌, ◌<◌, ◌≤◌, ◌&&◌, ◌||◌, ◌↔◌, false, OnOk, IfOk, IfErr, IsTrue, length};
+ghost use Rattle.std.specs.FinMap as map;
+ghost use Rattle.std.specs.FinSet as set;
+ghost use Rattle.mig_base.specs.Bytes.{zero_page};
+ghost use Rattle.mig_base.specs.Ranges.{in_range};
+ghost use Rattle.mig_base.specs.declared.TheConstants.{HIGH_PAGE};
+ghost use Rattle.mig_model.specs.Ioctls.{put_pages, handed};
+ghost use Rattle.uffd_ioctl.specs.Puts.{IsPut};
+
+use mig_base::{NoMemory, PAGE_SIZE, PageNo};
+use page_table::{PageTable, PutFault};
+use std::alloc::Global;
+
+/// Puts copies of the bytes at the pages from `first` on, write-protected where `protect`: how many, and why no more.
+pub(crate) fn put_copies(
+    alloc: Global,
+    pages: &mut PageTable,
+    first: PageNo,
+    bytes: &[u8],
+    protect: bool,
+) -> (u32, Option<PutFault>)
+    requires { first + length bytes.now / 4096 ≤ HIGH_PAGE }
+    ensures put { IsPut pages.old.bytes first (length bytes.now / 4096) result.0 result.1 }
+    ensures bytes { pages.new.bytes ≡ put_pages pages.old.bytes first result.0 (handed bytes.now) }
+    ensures protected { (q : ℕ) → set.contains pages.new.protected q ≡ (set.contains pages.old.protected q || (protect && in_range first result.0 q)) }
+{
+    let size = PAGE_SIZE as usize;
+    let count = (bytes.len() / size) as u32;
+    let mut done = 0;
+    while done < count {
+        let start = done as usize * size;
+        let page = first + done;
+        if let Err(fault) = put_copy(alloc, pages, page, &bytes[start..start + size], protect) {
+            return (done, Some(fault));
+        }
+        done += 1;
+    }
+    (done, None)
+}
+
+/// Puts a copy of the bytes of one page. On an error the table is as it was: `Present` exactly where the page is present.
+fn put_copy(
+    alloc: Global,
+    pages: &mut PageTable,
+    page: PageNo,
+    bytes: &[u8],
+    protect: bool,
+) -> Result<(), PutFault>
+    requires page { page < HIGH_PAGE }
+    requires whole { length bytes.now ≡ 4096 }
+    ensures bytes { OnOk result (pages.new.bytes ≡ map.insert pages.old.bytes page bytes.now) }
+    ensures protected { OnOk result ((q : ℕ) → set.contains pages.new.protected q ≡ (set.contains pages.old.protected q || (protect && in_range page 1 q))) }
+    ensures missing { OnOk result (map.contains_key pages.old.bytes page ≡ false) }
+    ensures fault { IfErr result (λ fault. (pages.new ≡ pages.old) × ((fault ≡ PutFault.Present) ↔ IsTrue (map.contains_key pages.old.bytes page))) }
+{
+    if pages.get(page).is_some() {
+        return Err(PutFault::Present);
+    }
+    let Ok(copy) = copy_of(alloc, bytes) else {
+        return Err(PutFault::NoMemory);
+    };
+    if let Err((fault, _)) = pages.put(page, copy) {
+        return Err(fault);
+    }
+    if protect {
+        pages.protect(page);
+    }
+    Ok(())
+}
+
+/// The bytes of one page again, in a box of their own.
+fn copy_of(alloc: Global, bytes: &[u8]) -> Result<Box<[u8; 4096]>, NoMemory>
+    requires { length bytes.now ≡ 4096 }
+    ensures { IfOk result (λ copy. copy.value ≡ bytes.now) }
+{
+    let mut page = [0; 4096];
+    page.copy_from_slice(bytes);
+    let Ok(copy) = Box::new(alloc, page) else {
+        return Err(NoMemory);
+    };
+    Ok(copy)
+}
+
+/// Puts zeros at the `count` pages from `first` on, not write-protected: how many, and why no more.
+pub(crate) fn put_zeros(pages: &mut PageTable, first: PageNo, count: u32) -> (u32, Option<PutFault>)
+    requires { first + count ≤ HIGH_PAGE }
+    ensures put { IsPut pages.old.bytes first count result.0 result.1 }
+    ensures bytes { pages.new.bytes ≡ put_pages pages.old.bytes first result.0 (λ i. zero_page) }
+    ensures protected { pages.new.protected ≡ pages.old.protected }
+{
+    let mut done = 0;
+    while done < count {
+        if let Err(fault) = pages.put_zero(first + done) {
+            return (done, Some(fault));
+        }
+        done += 1;
+    }
+    (done, None)
+}

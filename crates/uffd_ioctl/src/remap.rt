@@ -1,0 +1,119 @@
+//! Ranges of pages that become longer or shorter, or go elsewhere.
+
+ghost use Rattle.std.specs.Prelude.{◌≡◌, ℕ, ◌+◌, ◌<◌, ◌≤◌, ◌⊎◌, false, OnOk, OnErr, None};
+ghost use Rattle.std.specs.FinMap as map;
+ghost use Rattle.std.specs.FinSet as set;
+ghost use Rattle.mig_base.specs.Pages.{moved_range};
+ghost use Rattle.mig_base.specs.Sets.{moved_set};
+ghost use Rattle.mig_base.specs.declared.TheConstants.{HIGH_PAGE};
+ghost use Rattle.area_map.specs.Ranges.{HasOneProt};
+ghost use Rattle.uffd_ioctl.specs.Remaps.{IsRemap, HasProt};
+
+use area_map::AreaMap;
+use mig_base::{HIGH_PAGE, NoMemory, PageNo, Prot};
+use page_table::PageTable;
+
+/// A range of pages, and the one that it becomes: it begins where it was, or lies apart from it.
+#[derive(Clone, Copy, Drop)]
+pub(crate) struct Remap {
+    pub(crate) from: PageNo,
+    pub(crate) count: u32,
+    pub(crate) to: PageNo,
+    pub(crate) new_count: u32,
+}
+
+/// Makes the change of the areas and pages of a host. `NoMemory` leaves both as they were.
+pub(crate) fn apply(
+    areas: &mut AreaMap,
+    pages: &mut PageTable,
+    range: Remap,
+) -> Result<(), NoMemory>
+    requires range { IsRemap range }
+    requires prot { HasProt areas.old range.from range.count }
+    requires protected { (page : ℕ) → HIGH_PAGE ≤ page → set.contains pages.old.protected page ≡ false }
+    ensures areas { OnOk result (areas.new ≡ moved_range areas.old range.from range.count range.to range.new_count (map.get areas.old range.from)) }
+    ensures pages { OnOk result (pages.new.bytes ≡ moved_range pages.old.bytes range.from range.count range.to range.new_count None) }
+    ensures protected { OnOk result (pages.new.protected ≡ moved_set pages.old.protected range.from range.count range.to range.new_count false) }
+    ensures err { OnErr result ((areas.new ≡ areas.old) × (pages.new ≡ pages.old)) }
+{
+    let Some(prot) = areas.one_prot(range.from, range.count) else {
+        unreachable!()
+    };
+    if range.from != range.to {
+        relocate(areas, pages, range, prot)
+    } else if range.new_count <= range.count {
+        shrink(areas, pages, range)
+    } else {
+        grow(areas, pages, range, prot)
+    }
+}
+
+/// Takes the end of a range away.
+fn shrink(areas: &mut AreaMap, pages: &mut PageTable, range: Remap) -> Result<(), NoMemory>
+    requires range { IsRemap range }
+    requires prot { HasProt areas.old range.from range.count }
+    requires place { range.to ≡ range.from }
+    requires shorter { range.new_count ≤ range.count }
+    requires protected { (page : ℕ) → HIGH_PAGE ≤ page → set.contains pages.old.protected page ≡ false }
+    ensures areas { OnOk result (areas.new ≡ moved_range areas.old range.from range.count range.to range.new_count (map.get areas.old range.from)) }
+    ensures pages { OnOk result (pages.new.bytes ≡ moved_range pages.old.bytes range.from range.count range.to range.new_count None) }
+    ensures protected { OnOk result (pages.new.protected ≡ moved_set pages.old.protected range.from range.count range.to range.new_count false) }
+    ensures err { OnErr result ((areas.new ≡ areas.old) × (pages.new ≡ pages.old)) }
+{
+    let end = range.from + range.new_count;
+    let tail = range.count - range.new_count;
+    areas.unmap(end, tail)?;
+    pages.drop_range(end, tail);
+    Ok(())
+}
+
+/// Adds pages of zeros to the end of a range.
+fn grow(
+    areas: &mut AreaMap,
+    pages: &mut PageTable,
+    range: Remap,
+    prot: Prot,
+) -> Result<(), NoMemory>
+    requires range { IsRemap range }
+    requires prot { HasOneProt (λ page. map.get areas.old page) range.from range.count prot }
+    requires place { range.to ≡ range.from }
+    requires longer { range.count < range.new_count }
+    requires protected { (page : ℕ) → HIGH_PAGE ≤ page → set.contains pages.old.protected page ≡ false }
+    ensures areas { OnOk result (areas.new ≡ moved_range areas.old range.from range.count range.to range.new_count (map.get areas.old range.from)) }
+    ensures pages { OnOk result (pages.new.bytes ≡ moved_range pages.old.bytes range.from range.count range.to range.new_count None) }
+    ensures protected { OnOk result (pages.new.protected ≡ moved_set pages.old.protected range.from range.count range.to range.new_count false) }
+    ensures err { OnErr result ((areas.new ≡ areas.old) × (pages.new ≡ pages.old)) }
+{
+    let end = range.from + range.count;
+    let added = range.new_count - range.count;
+    areas.map(end, added, prot)?;
+    pages.drop_range(end, added);
+    Ok(())
+}
+
+/// Moves a range: its pages go along as far as both ranges go.
+fn relocate(
+    areas: &mut AreaMap,
+    pages: &mut PageTable,
+    range: Remap,
+    prot: Prot,
+) -> Result<(), NoMemory>
+    requires range { IsRemap range }
+    requires prot { HasOneProt (λ page. map.get areas.old page) range.from range.count prot }
+    requires apart { (range.from + range.count ≤ range.to) ⊎ (range.to + range.new_count ≤ range.from) }
+    requires protected { (page : ℕ) → HIGH_PAGE ≤ page → set.contains pages.old.protected page ≡ false }
+    ensures areas { OnOk result (areas.new ≡ moved_range areas.old range.from range.count range.to range.new_count (map.get areas.old range.from)) }
+    ensures pages { OnOk result (pages.new.bytes ≡ moved_range pages.old.bytes range.from range.count range.to range.new_count None) }
+    ensures protected { OnOk result (pages.new.protected ≡ moved_set pages.old.protected range.from range.count range.to range.new_count false) }
+    ensures err { OnErr result ((areas.new ≡ areas.old) × (pages.new ≡ pages.old)) }
+{
+    let mut moved = areas.copy()?;
+    moved.unmap(range.from, range.count)?;
+    moved.map(range.to, range.new_count, prot)?;
+    let kept = range.count.min(range.new_count);
+    pages.move_range(range.from, range.to, kept)?;
+    pages.drop_range(range.from + kept, range.count - kept);
+    pages.drop_range(range.to + kept, range.new_count - kept);
+    *areas = moved;
+    Ok(())
+}
