@@ -17,11 +17,15 @@ fn mmap(len: u64, prot: Prot, place: Place) -> Command {
     }
 }
 
-fn munmap(addr: Addr, len: u64) -> Command {
+fn munmap(addr: Addr, len: u64) -> Command
+    ensures { is_access result ≡ false }
+{
     Command::Munmap { addr, len }
 }
 
-fn mremap(addr: Addr, old_len: u64, new_len: u64) -> Command {
+fn mremap(addr: Addr, old_len: u64, new_len: u64) -> Command
+    ensures { is_access result ≡ false }
+{
     Command::Mremap {
         addr,
         old_len,
@@ -31,7 +35,9 @@ fn mremap(addr: Addr, old_len: u64, new_len: u64) -> Command {
     }
 }
 
-fn mremap_away(addr: Addr, old_len: u64, new_len: u64, fixed: Option<Addr>) -> Command {
+fn mremap_away(addr: Addr, old_len: u64, new_len: u64, fixed: Option<Addr>) -> Command
+    ensures { is_access result ≡ false }
+{
     Command::Mremap {
         addr,
         old_len,
@@ -41,7 +47,9 @@ fn mremap_away(addr: Addr, old_len: u64, new_len: u64, fixed: Option<Addr>) -> C
     }
 }
 
-fn dontneed(addr: Addr, len: u64) -> Command {
+fn dontneed(addr: Addr, len: u64) -> Command
+    ensures { is_access result ≡ false }
+{
     Command::DontNeed { addr, len }
 }
 
@@ -195,10 +203,10 @@ fn pages_that_are_not_needed(rt: HostRuntime) -> Result<(), Fail> {
 
 // The userfault object
 
-/// Pages 0x10 and so on, of which there are so many, mapped read-write.
-fn mapped(rt: &impl Abort, alloc: Global, pages: u64) -> Space {
+/// So many bytes from page 0x10 on, mapped read-write.
+fn mapped(rt: &impl Abort, alloc: Global, len: u64) -> Space {
     let mut space = Space::new(alloc);
-    let all = mmap(pages * PAGE_SIZE, Prot::ReadWrite, Place::Anywhere);
+    let all = mmap(len, Prot::ReadWrite, Place::Anywhere);
     answers(rt, &mut space, all, Reply::At(FIRST));
     space
 }
@@ -281,11 +289,15 @@ fn nothing_put(errno: Errno) -> Result<Copied, CopyFault> {
     })
 }
 
-fn wide_load(addr: Addr) -> Command {
+fn wide_load(addr: Addr) -> Command
+    ensures { is_access result ≡ true }
+{
     Command::Load { addr, width: 8 }
 }
 
-fn wide_store(addr: Addr) -> Command {
+fn wide_store(addr: Addr) -> Command
+    ensures { is_access result ≡ true }
+{
     Command::Store {
         addr,
         width: 8,
@@ -338,7 +350,7 @@ fn protected_and_moved(rt: &impl Abort, space: &mut Space) {
 
 #[test]
 fn faults_and_a_move(rt: HostRuntime) -> Result<(), Fail> {
-    let mut space = mapped(&rt, rt.alloc(), 3);
+    let mut space = mapped(&rt, rt.alloc(), 12288);
     assert_eq!(rt; space.handshake(0xaa, 0x4d), Ok(0x4d));
     registers(&rt, &mut space, 0x10000, 12288, 3);
     missing_pages(&rt, &mut space);
@@ -394,7 +406,7 @@ fn copies_up_to_a_page(rt: &impl Abort, space: &mut Space) {
 
 #[test]
 fn the_calls_of_the_object(rt: HostRuntime) -> Result<(), Fail> {
-    let mut space = mapped(&rt, rt.alloc(), 2);
+    let mut space = mapped(&rt, rt.alloc(), 8192);
     enabled_once(&rt, &mut space);
     registers(&rt, &mut space, 0x10000, 12288, 1);
     assert_eq!(rt; space.writeprotect(0x10000, 4096, 1), Err(Errno::Enoent));
@@ -413,7 +425,7 @@ fn the_calls_of_the_object(rt: HostRuntime) -> Result<(), Fail> {
 /// A copy of two pages that may be refused memory at either: what was put stays, and the rest is put by the next call.
 #[test]
 fn a_copy_that_wants_memory(rt: HostRuntime) -> Result<(), Fail> {
-    let mut space = mapped(&rt, rt.alloc(), 2);
+    let mut space = mapped(&rt, rt.alloc(), 8192);
     assert_eq!(rt; space.handshake(0xaa, 0x4d), Ok(0x4d));
     registers(&rt, &mut space, 0x10000, 8192, 1);
     let two = [2; 8192];
@@ -442,7 +454,7 @@ fn a_copy_that_wants_memory(rt: HostRuntime) -> Result<(), Fail> {
 /// What a handler reads of each event, and that growth is registered as the last page was.
 #[test]
 fn events_of_map_calls(rt: HostRuntime) -> Result<(), Fail> {
-    let mut space = mapped(&rt, rt.alloc(), 2);
+    let mut space = mapped(&rt, rt.alloc(), 8192);
     assert_eq!(rt; space.handshake(0xaa, 0x4d), Ok(0x4d));
     registers(&rt, &mut space, 0x11000, 4096, 1);
     let longer = mremap(0x10000, 8192, 12288);
