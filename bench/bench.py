@@ -1,7 +1,8 @@
 #!/usr/bin/env python3
 """Times postmig on scripts of its own making, and prints a table: seconds, lines a second, peak resident memory.
 
-Run it from anywhere, once ./postmig has built the program: python3 bench/bench.py [NAME ..]
+Run it from anywhere, once ./postmig prove has built the program: python3 bench/bench.py [--write | NAME ..]
+With --write the table goes to docs/PERFORMANCE.md.
 """
 
 import os
@@ -11,8 +12,9 @@ import sys
 import tempfile
 import time
 
-TOP = pathlib.Path(__file__).resolve().parent.parent
-PROGRAM = TOP / "crates" / "postmig" / "out" / "postmig"
+import page
+
+PROGRAM = page.TOP / "crates" / "postmig" / "out" / "postmig"
 PAGE = 4096
 LOW = 0x10000
 
@@ -33,7 +35,7 @@ def accesses(count, pages=1024):
 
 
 def areas(count):
-    """So many areas of one page each: protections in turn, so that no two make one."""
+    """That many areas of one page each, with protections in turn, so that no two are joined."""
     for index in range(count):
         yield f"cpu 0 mmap {PAGE} {'rw' if index % 2 else 'r'}"
 
@@ -63,7 +65,7 @@ def mapped_and_unmapped(count):
 
 
 def moves(count, pages=64):
-    """A range that goes to and fro between two places."""
+    """A range that moves back and forth between two places."""
     places = (LOW, LOW + 4096 * PAGE)
     yield f"cpu 0 mmap {pages * PAGE} rw"
     for page in range(pages):
@@ -74,7 +76,7 @@ def moves(count, pages=64):
 
 
 def stop_and_copy(pages):
-    """A whole migration of so many present pages."""
+    """A whole migration of that many present pages."""
     yield f"cpu 0 mmap {pages * PAGE} rw"
     for page in range(pages):
         yield f"cpu 0 store {LOW + page * PAGE:#x} 8 {page + 1}"
@@ -106,7 +108,7 @@ TRANSCRIPTS = ["accesses-10k", "accesses-100k", "accesses-1m", "map-unmap-8192",
 
 
 def timed(name, count, arguments, script):
-    """Prints the row of a program's run on a file, the best of three."""
+    """The row of a program's run on a file, the best of three."""
     best, memory = None, 0
     for _ in range(3):
         with open(script) as source, open(os.devnull, "w") as sink:
@@ -118,7 +120,7 @@ def timed(name, count, arguments, script):
             sys.exit(f"{name}: status {status}")
         best = seconds if best is None else min(best, seconds)
         memory = max(memory, usage.ru_maxrss)
-    print(f"| {name} | {count:,} | {best:.3f} | {count / best:,.0f} | {memory / 1024:.1f} |")
+    return f"| {name} | {count:,} | {best:.3f} | {count / best:,.0f} | {memory / 1024:.1f} |"
 
 
 def measure(name, lines):
@@ -129,22 +131,32 @@ def measure(name, lines):
             for line in lines:
                 file.write(line + "\n")
                 count += 1
-        timed(name, count, ["run"], script)
+        yield timed(name, count, ["run"], script)
         if name in TRANSCRIPTS:
             transcript = pathlib.Path(folder) / "transcript"
-            timed(f"{name}, transcript", count, ["run", "--transcript"], script)
+            yield timed(f"{name}, transcript", count, ["run", "--transcript"], script)
             with open(script) as source, open(transcript, "w") as sink:
                 subprocess.run([PROGRAM, "run", "--transcript"], stdin=source, stdout=sink, check=True)
-            timed(f"{name}, check", count, ["check"], transcript)
+            yield timed(f"{name}, check", count, ["check"], transcript)
+
+
+def table(names):
+    yield "| case | lines | seconds (best of 3) | lines a second | peak resident MiB |"
+    yield "|---|---|---|---|---|"
+    for name in names:
+        yield from measure(name, CASES[name]())
 
 
 def main():
     if not PROGRAM.exists():
-        sys.exit("build the program first: ./postmig run --help")
-    print("| case | lines | seconds (best of 3) | lines a second | peak resident MiB |")
-    print("|---|---|---|---|---|")
-    for name in sys.argv[1:] or CASES:
-        measure(name, CASES[name]())
+        sys.exit("build the program first: ./postmig prove")
+    words = sys.argv[1:]
+    rows = []
+    for row in table(CASES if words in ([], ["--write"]) else words):
+        print(row, flush=True)
+        rows.append(row)
+    if words == ["--write"]:
+        page.put("speed", f"Measured on {page.machine()}.\n\n" + "\n".join(rows))
 
 
 if __name__ == "__main__":

@@ -1,0 +1,25 @@
+"""Puts what a script has measured into its part of docs/PERFORMANCE.md, between two comments that name the part."""
+
+import pathlib
+import platform
+
+TOP = pathlib.Path(__file__).resolve().parent.parent
+PAGE = TOP / "docs" / "PERFORMANCE.md"
+
+
+def machine():
+    """The machine on which it was measured, in a few words."""
+    for line in open("/proc/cpuinfo"):
+        if line.startswith("model name"):
+            return f"{line.partition(':')[2].strip()}, {len([it for it in open('/proc/cpuinfo') if it.startswith('processor')])} processors"
+    return platform.machine()
+
+
+def put(part, text):
+    page = PAGE.read_text()
+    begin, end = f"<!-- {part} -->\n", f"<!-- end of {part} -->\n"
+    head, _, rest = page.partition(begin)
+    _, found, tail = rest.partition(end)
+    if not found:
+        raise SystemExit(f"{PAGE}: no part {part}")
+    PAGE.write_text(head + begin + text.rstrip("\n") + "\n" + end + tail)
