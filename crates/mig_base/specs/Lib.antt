@@ -1,5 +1,6 @@
 pub mod Ranges
 pub mod Flat
+pub mod Commands
 pub mod FlatMap
 pub mod Pages
 pub mod Bytes
