@@ -1,4 +1,5 @@
 pub mod Ranges
+pub mod Tests
 pub mod Flat
 pub mod Commands
 pub mod FlatMap

@@ -1,5 +1,5 @@
 -- What a table shows of its places.
-use Rattle.std.proofs.Common.{◌≡◌, ℕ, zero, suc, ◌+◌, ◌-◌, ◌/◌, ◌≤◌, ◌&&◌, ◌||◌, Bool, true, false, cond, not, eqb, ltb, refl, sym, ap, ◌∙◌, ⊎_elim, arith, List, length, [], Option, Some, None, is_some, unwrap_or}
+use Rattle.std.proofs.Common.{◌≡◌, ℕ, ◌+◌, ◌-◌, ◌/◌, ◌≤◌, ◌&&◌, ◌||◌, Bool, true, false, cond, not, eqb, ltb, refl, sym, ap, ◌∙◌, ⊎_elim, arith, List, length, [], Option, Some, None, is_some, unwrap_or}
 use Rattle.std.specs.Option.{option_map}
 use Rattle.std.specs.Ordering.{nat_cmp}
 use Rattle.std.specs.Cmp.{nat_cmp_total, unsigned_tied}
@@ -9,9 +9,9 @@ use Rattle.std.proofs.lemmas.Bool.Decides.{nat_tests}
 use Rattle.std.proofs.lemmas.Bool.{false≢true}
 use Rattle.mig_base.specs.declared.TheConstants.{HIGH_PAGE}
 use Rattle.mig_base.specs.Ranges.{in_range}
-use Rattle.mig_base.specs.Pages.{remove_range}
+use Rattle.mig_base.specs.Pages.{remove_range, map_below}
 use Rattle.mig_base.specs.Sets.{without, set_below}
-use Rattle.mig_base.proofs.PageLemmas.{same_pages, get-remove_range}
+use Rattle.mig_base.proofs.PageLemmas.{same_pages, get-remove_range, get-map_below}
 use Rattle.mig_base.proofs.SetLemmas.{same_members, member_inserted, member_removed, member_without, member_below}
 use mathlib.Core.Logic.{dite}
 use native.Mathlib.Decide.{ℕ_discrete}
@@ -20,27 +20,8 @@ use Rattle.mig_base.proofs.BitLemmas.{bool_cases}
 use Rattle.page_table.proofs.LeafLemmas.{eqb-true, eqb-false}
 use Rattle.page_table.specs.Leaves.{Cell, Place, cell_at, cell_in, is_place, has_place, no_cell, written_cell, moved_cell}
 use Rattle.mig_base.specs.Bytes.{overwrite, page_at}
-use Rattle.page_table.specs.Views.{Pages, map_below, pages_of, IsTable}
+use Rattle.page_table.specs.Views.{Pages, pages_of, IsTable}
 use Rattle.page_table.proofs.TableLemmas.{past_places}
-
-got_here : {X : Type 0} (o : Option X) (m : map.FinMap nat_cmp X) (k q : ℕ) → map.get (elim o [ None ↦ m | Some x ↦ map.insert m k x ]) q ≡ elim o [ None ↦ map.get m q | Some x ↦ cond (eqb q k) (Some x) (map.get m q) ]
-got_here None m k q = refl
-got_here (Some x) m k q = map.get-insert nat_cmp_total m k x q ∙ ap (λ b. cond b (Some x) (map.get m q)) (unsigned_tied q k)
-
-step : {X : Type 0} (o p : Option X) (bound q : ℕ) → (q ≡ bound → p ≡ o) → elim o [ None ↦ cond (ltb q bound) p None | Some x ↦ cond (eqb q bound) (Some x) (cond (ltb q bound) p None) ] ≡ cond (ltb q (suc bound)) p None
-step None p bound q h = grind (arith, nat_tests)
-step (Some x) p bound q h = grind (arith, nat_tests)
-
-nothing : {X : Type 0} (q : ℕ) (o : Option X) → cond (ltb q 0) o None ≡ None
-nothing q o = grind (arith, nat_tests)
-
-pub get-map_below : {X : Type 0} (f : ℕ → Option X) (bound q : ℕ) → map.get (map_below f bound) q ≡ cond (ltb q bound) (f q) None
-unfolding map_below
-get-map_below f zero q = map.get-empty nat_cmp q ∙ sym (nothing q (f q))
-get-map_below f (suc bound) q =
-    got_here (f bound) (map_below f bound) bound q
-    ∙ ap (λ r. elim (f bound) [ None ↦ r | Some x ↦ cond (eqb q bound) (Some x) r ]) (get-map_below f bound q)
-    ∙ step (f bound) (f q) bound q (λ e. ap f e)
 
 all_bytes : (q : ℕ) (o : Option (List ℕ)) → (HIGH_PAGE ≤ q → o ≡ None) → cond (ltb q HIGH_PAGE) o None ≡ o
 all_bytes q o h = grind (arith, nat_tests)

@@ -1,10 +1,8 @@
 -- The bytes of pages.
-use Rattle.std.specs.Prelude.{ℕ, ◌+◌, List, ◌++◌, [], replicate, length, take, drop, unwrap_or, Option}
+use Rattle.std.specs.Prelude.{ℕ, List, Option}
 use Rattle.std.specs.Option.{option_map}
 use Rattle.std.specs.declared.boxed.Box.{Box}
 use Rattle.std.specs.declared.alloc.Global.{Global}
-use Rattle.std.specs.Ordering.{nat_cmp}
-use Rattle.std.specs.FinMap.{FinMap, get}
 
 -- a page as a table has it: its box, if it is present
 abbrev pub Page : Type 0
