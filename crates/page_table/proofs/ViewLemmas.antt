@@ -21,7 +21,7 @@ use Rattle.page_table.proofs.LeafLemmas.{eqb-true, eqb-false}
 use Rattle.page_table.specs.Leaves.{Cell, Place, cell_at, cell_in, is_place, has_place, no_cell, written_cell, moved_cell}
 use Rattle.mig_base.specs.Bytes.{overwrite, page_at}
 use Rattle.page_table.specs.Views.{Pages, pages_of, IsTable}
-use Rattle.page_table.proofs.TableLemmas.{past_places}
+use Rattle.page_table.proofs.TableLemmas.{past_places, at_place}
 
 all_bytes : (q : ℕ) (o : Option (List ℕ)) → (HIGH_PAGE ≤ q → o ≡ None) → cond (ltb q HIGH_PAGE) o None ≡ o
 all_bytes q o h = grind (arith, nat_tests)
@@ -213,17 +213,24 @@ none_gathered q b = grind (arith, nat_tests)
 pub gathered_none : (places : List Place) → IsGathered places set.empty 0
 gathered_none places q = set.contains-empty nat_cmp q ∙ none_gathered q (is_some (cell_at places q).0)
 
-one_gathered : (q bound : ℕ) (b : Bool) → (q ≡ bound → b ≡ true) → (eqb q bound || (ltb q bound && b)) ≡ (ltb q (bound + 1) && b)
-one_gathered q bound b h = grind (arith, nat_tests)
+gathered_leaf : (q at : ℕ) (b : Bool) → ((ltb q (1024 * at) && b) || (in_range (1024 * at) 1024 q && b)) ≡ (ltb q (1024 * (at + 1)) && b)
+gathered_leaf q at b = grind (arith, nat_tests)
 
-pub gathered_more : (places : List Place) (pages : set.FinSet nat_cmp) (bound : ℕ) → IsGathered places pages bound → is_some (cell_at places bound).0 ≡ true → IsGathered places (set.insert pages bound) (bound + 1)
-gathered_more places pages bound is h q = member_inserted pages bound q ∙ ap (λ b. eqb q bound || b) (is q) ∙ one_gathered q bound (is_some (cell_at places q).0) (λ e. ap (λ k. is_some (cell_at places k).0) e ∙ h)
+in_leaf : (places : List Place) (place : Place) (at q : ℕ) → place ≡ get_or places at None → (in_range (1024 * at) 1024 q && is_some (cell_in place (q % 1024)).0) ≡ (in_range (1024 * at) 1024 q && is_some (cell_at places q).0)
+in_leaf places place at q is =
+    ⊎_elim
+    (λ (here : in_range (1024 * at) 1024 q ≡ true). let own : q / 1024 ≡ at = this_leaf q at here in ap (λ x. in_range (1024 * at) 1024 q && is_some x.0) (ap (λ o. cell_in o (q % 1024)) is ∙ at_place places q at own))
+    (λ (other : in_range (1024 * at) 1024 q ≡ false). rw other refl)
+    (bool_cases (in_range (1024 * at) 1024 q))
+  where
+    this_leaf : (q at : ℕ) → in_range (1024 * at) 1024 q ≡ true → q / 1024 ≡ at
+    this_leaf q at h = grind (arith, nat_tests)
 
-none_there : (q bound : ℕ) (b : Bool) → (q ≡ bound → b ≡ false) → (ltb q bound && b) ≡ (ltb q (bound + 1) && b)
-none_there q bound b h = grind (arith, nat_tests)
-
-pub gathered_past : (places : List Place) (pages : set.FinSet nat_cmp) (bound : ℕ) → IsGathered places pages bound → is_some (cell_at places bound).0 ≡ false → IsGathered places pages (bound + 1)
-gathered_past places pages bound is h q = is q ∙ none_there q bound (is_some (cell_at places q).0) (λ e. ap (λ k. is_some (cell_at places k).0) e ∙ h)
+pub gathered_more : (places : List Place) (place : Place) (pages new : set.FinSet nat_cmp) (at : ℕ) → place ≡ get_or places at None → IsGathered places pages (1024 * at) → ((q : ℕ) → set.contains new q ≡ (set.contains pages q || (in_range (1024 * at) 1024 q && is_some (cell_in place (q % 1024)).0))) → IsGathered places new (1024 * (at + 1))
+gathered_more places place pages new at is old h q =
+    h q ∙ ap (λ b. b || (in_range (1024 * at) 1024 q && is_some (cell_in place (q % 1024)).0)) (old q)
+    ∙ ap (λ b. (ltb q (1024 * at) && is_some (cell_at places q).0) || b) (in_leaf places place at q is)
+    ∙ gathered_leaf q at (is_some (cell_at places q).0)
 
 all_there : (q bound : ℕ) (b : Bool) → (bound ≤ q → b ≡ false) → (ltb q bound && b) ≡ b
 all_there q bound b h = grind (arith, nat_tests)

@@ -5,6 +5,7 @@ use Rattle.std.specs.FinMap as map
 use Rattle.std.specs.FinSet as set
 use Rattle.std.specs.Coded.{Coded, code_by, coded×, coded_ℕ, coded_list}
 use Rattle.mig_base.specs.declared.TheConstants.{HIGH_PAGE}
+use Rattle.mig_base.specs.declared.chunk.TheConstants.{CHUNKS}
 use Rattle.mig_base.specs.Pages.{map_below}
 use Rattle.mig_base.specs.Sets.{set_below}
 use Rattle.page_table.specs.Leaves.{Place, cell_at}
@@ -24,5 +25,5 @@ pages_of places = record { bytes = map_below (λ q. (cell_at places q).0) HIGH_P
 
 -- no more places than there are pages for, and only present pages are protected
 pub record IsTable (places : List Place) : Type 0 where
-  pub few : length places ≤ 1024
+  pub few : length places ≤ CHUNKS
   pub inside : (q : ℕ) → (cell_at places q).1 ≡ true → is_some (cell_at places q).0 ≡ true
