@@ -6,7 +6,8 @@ use Rattle.mig_model.specs.Wire.Frame.{Resume}
 use Rattle.mig_model.specs.Nodes.{SourcePhase, DestinationPhase, is_source_idle, is_source_paused, is_released, is_interrupted}
 use Rattle.mig_model.specs.Nodes.SourcePhase.{Idle, Precopy, Stopped, Paused, Released}
 use Rattle.mig_model.specs.Nodes.DestinationPhase.{NotAdvised, Advised, Discarding, Runs, Interrupted, HasEnded}
-use Rattle.mig_model.specs.Migration.{World, Refusal, first_of, reasons, refusal_of, accepted, has_started}
+use Rattle.mig_model.specs.Migration.{World, Refusal, reasons, refusal_of, accepted, has_started}
+use Rattle.mig_base.specs.Tests.{first_holding}
 use Rattle.mig_model.specs.Migration.Step.{Break, Notice, Reconnect}
 use Rattle.mig_model.specs.Migration.Side.{AtSource, AtDestination}
 use Rattle.mig_model.specs.Invariant.{IsKept, AreWhole, copies_of, AreFaithful, AreOf}
@@ -21,9 +22,9 @@ refused_none true refusal rest h = absurd (cc)
 refused_none false refusal rest h = (refl, h)
 
 -- a step that is not refused has no reason to be
-pub none_applies : (list : List (Bool × Refusal)) → first_of list ≡ None → NoneApplies list
+pub none_applies : (list : List (Bool × Refusal)) → first_holding list ≡ None → NoneApplies list
 none_applies [] h = tt
-none_applies (reason ∷ list) h = let one = refused_none reason.0 reason.1 (first_of list) h in (one.0, none_applies list one.1)
+none_applies (reason ∷ list) h = let one = refused_none reason.0 reason.1 (first_holding list) h in (one.0, none_applies list one.1)
 
 or_none : (a b : Bool) → (a || b) ≡ false → (a ≡ false) × (b ≡ false)
 or_none true b h = absurd (false≢true (sym h))

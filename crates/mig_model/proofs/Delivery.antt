@@ -12,7 +12,8 @@ use Rattle.mig_model.specs.Wire.Frame.{Advise, Page, Zero, Discard, Package, End
 use Rattle.mig_model.specs.Nodes.{Source, SourcePhase, Destination, DestinationPhase}
 use Rattle.mig_model.specs.Nodes.SourcePhase.{Idle, Precopy, Stopped, Paused, Released}
 use Rattle.mig_model.specs.Nodes.DestinationPhase.{NotAdvised, Advised, Discarding, Runs, Interrupted}
-use Rattle.mig_model.specs.Migration.{World, delivered, accepted, refusal_of, has_started, is_empty, is_end, is_end_next}
+use Rattle.mig_model.specs.Migration.{World, delivered, accepted, refusal_of, has_started, is_end, is_end_next}
+use Rattle.mig_base.specs.Tests.{is_empty}
 use Rattle.mig_model.specs.Migration.Step.{Deliver}
 use Rattle.mig_model.specs.Migration.Refusal.{Phase, LinkBroken, NothingThere, InstallFirst}
 use Rattle.mig_model.specs.Invariant.{Wires, IsKept, AreOf, AreWhole, AreFaithful, copies_of, has_copy, flow_of, EpochAt}

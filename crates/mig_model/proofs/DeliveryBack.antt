@@ -9,10 +9,11 @@ use Rattle.mig_model.specs.Wire.Frame.{Request, Recv, Done}
 use Rattle.mig_model.specs.Nodes.{SourcePhase, DestinationPhase, no_pages}
 use Rattle.mig_model.specs.Nodes.SourcePhase.{Idle, Precopy, Stopped, Paused, Released}
 use Rattle.mig_model.specs.Nodes.DestinationPhase.{NotAdvised, Advised, Discarding, Runs, Interrupted, HasEnded}
-use Rattle.mig_model.specs.Migration.{World, delivered_back, accepted, refusal_of, has_started, is_empty}
+use Rattle.mig_model.specs.Migration.{World, delivered_back, accepted, refusal_of, has_started}
+use Rattle.mig_base.specs.Tests.{is_empty}
 use Rattle.mig_model.specs.Migration.Step.{DeliverBack}
 use Rattle.mig_model.specs.Migration.Refusal.{Phase, LinkBroken, NothingThere}
-use Rattle.mig_model.specs.Invariant.{IsKept, IsReceiving, is_none, are_requests_and_done}
+use Rattle.mig_model.specs.Invariant.{IsKept, IsReceiving, are_requests_and_done}
 use Rattle.mig_model.proofs.FirstFrame.{empty_not, not_refused}
 use Rattle.mig_model.proofs.FramesBack.{at_back, not_up, request_taken, released_kept, recv_precopy, recv_switched, recv_running}
 
@@ -60,7 +61,7 @@ or_none : (b : Bool) → (b || false) ≡ true → b ≡ true
 or_none true h = refl
 or_none false h = absurd (false≢true h)
 
-is_last : (rest : List Sent) → is_none rest ≡ true → rest ≡ []
+is_last : (rest : List Sent) → is_empty rest ≡ true → rest ≡ []
 is_last [] h = refl
 is_last (sent ∷ rest) h = absurd (false≢true h)
 

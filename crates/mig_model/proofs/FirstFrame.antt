@@ -7,7 +7,8 @@ use Rattle.mig_model.specs.Wire.Frame.{Page, Zero, Discard, Package, End, Resume
 use Rattle.mig_model.specs.Nodes.{Source, SourcePhase, Destination, DestinationPhase}
 use Rattle.mig_model.specs.Nodes.SourcePhase.{Idle, Precopy, Stopped, Paused, Released}
 use Rattle.mig_model.specs.Nodes.DestinationPhase.{NotAdvised, Advised, Discarding, Runs, Interrupted, HasEnded}
-use Rattle.mig_model.specs.Migration.{World, first_of}
+use Rattle.mig_model.specs.Migration.{World}
+use Rattle.mig_base.specs.Tests.{first_holding}
 use Rattle.mig_model.specs.Migration as migration
 use Rattle.mig_model.specs.Invariant.{Flow, flow_next, flow_after, Wires}
 use Rattle.mig_model.specs.Invariant.Flow.{BeforeAdvise, Copies, BeforePackage, Pushed, AfterEnd}
@@ -23,8 +24,8 @@ tested : (test : Bool) (refusal : migration.Refusal) (rest : Option migration.Re
 tested true refusal rest h = absurd (let e : Some refusal ≡ None = h in cc)
 tested false refusal rest h = (refl, h)
 
-pub not_refused : (test : Bool) (refusal : migration.Refusal) (rest : List (Bool × migration.Refusal)) → first_of ((test, refusal) ∷ rest) ≡ None → (test ≡ false) × (first_of rest ≡ None)
-not_refused test refusal rest h = tested test refusal (first_of rest) h
+pub not_refused : (test : Bool) (refusal : migration.Refusal) (rest : List (Bool × migration.Refusal)) → first_holding ((test, refusal) ∷ rest) ≡ None → (test ≡ false) × (first_holding rest ≡ None)
+not_refused test refusal rest h = tested test refusal (first_holding rest) h
 
 -- Flows
 

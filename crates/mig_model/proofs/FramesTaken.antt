@@ -20,7 +20,8 @@ use Rattle.mig_model.specs.Nodes.{Source, SourcePhase, Destination, DestinationP
 use Rattle.mig_model.specs.Nodes.SourcePhase.{Idle, Precopy, Stopped, Paused, Released}
 use Rattle.mig_model.specs.Nodes.DestinationPhase.{NotAdvised, Advised, Discarding, Runs, Interrupted, HasEnded}
 use Rattle.mig_model.specs.Migration.{World}
-use Rattle.mig_model.specs.Invariant.{IsKept, IsSwitching, IsFlowing, IsReceiving, EpochAt, AreOf, flow_of, is_request, is_done, is_none, are_requests, are_requests_and_done}
+use Rattle.mig_model.specs.Invariant.{IsKept, IsSwitching, IsFlowing, IsReceiving, EpochAt, AreOf, flow_of, is_request, is_done, are_requests, are_requests_and_done}
+use Rattle.mig_base.specs.Tests.{is_empty}
 use Rattle.mig_model.specs.Promises.{is_in_place, IsOwnEpoch, IsGood, IsTaken, IsInPlaceBack}
 use Rattle.mig_model.proofs.Stopping.{none_absurd, no_member}
 use Rattle.mig_model.proofs.FirstFrame.{comes, first_in_place, nothing_behind}
@@ -180,7 +181,7 @@ with_back from to sent rest world = record world { source = record world.source 
 
 back_in : (from : SourcePhase) (to : DestinationPhase) (sent : Sent) (rest : List Sent) (world : World) → world.up ≡ true → IsKept (with_back from to sent rest world) → IsInPlaceBack (with_back from to sent rest world).source sent.frame
 back_in Stopped Runs sent rest world up kept = request_place sent.frame (with_back Stopped Runs sent rest world).source refl (and_first (is_request sent.frame) (are_requests rest) (kept.wires up).1)
-back_in Stopped HasEnded sent rest world up kept = done_place sent.frame (with_back Stopped HasEnded sent rest world).source (are_requests_and_done rest) (is_none rest) refl (kept.wires up).2 (kept.wires up).1
+back_in Stopped HasEnded sent rest world up kept = done_place sent.frame (with_back Stopped HasEnded sent rest world).source (are_requests_and_done rest) (is_empty rest) refl (kept.wires up).2 (kept.wires up).1
 back_in Stopped NotAdvised sent rest world up kept = absurd (empty_first sent rest (kept.wires up).1)
 back_in Stopped Advised sent rest world up kept = absurd (empty_first sent rest (kept.wires up).1)
 back_in Stopped Discarding sent rest world up kept = absurd (empty_first sent rest (kept.wires up).1)

@@ -3,7 +3,7 @@ use Rattle.std.proofs.Common.{◌≡◌, ℕ, ◌+◌, Bool, true, false, Option
 use Rattle.std.proofs.lemmas.Bool.{false≢true}
 use Rattle.std.proofs.lemmas.List.{append_assoc}
 use Rattle.mig_base.specs.declared.command.Command.{Command}
-use Rattle.mig_model.specs.World.{is_access}
+use Rattle.mig_base.specs.Commands.{is_access}
 use Rattle.mig_model.specs.Userfault.{Noted, next_message}
 use Rattle.mig_model.specs.Guest.{Guest, Fault, tried, outstanding, processor_at}
 use Rattle.mig_model.specs.Wire.{Frame, Sent, page_frame, sending, sending_if}

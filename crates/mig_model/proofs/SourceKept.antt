@@ -13,7 +13,8 @@ use Rattle.mig_model.specs.Wire.{Sent}
 use Rattle.mig_model.specs.Nodes.{Source, SourcePhase, Destination, DestinationPhase, space_of, no_pages, settled}
 use Rattle.mig_model.specs.Nodes.SourcePhase.{Idle, Precopy, Stopped, Paused, Released}
 use Rattle.mig_model.specs.Nodes.DestinationPhase.{NotAdvised, Advised, Discarding, Runs, Interrupted, HasEnded}
-use Rattle.mig_model.specs.Migration.{World, Refusal, first_of}
+use Rattle.mig_model.specs.Migration.{World, Refusal}
+use Rattle.mig_base.specs.Tests.{first_holding}
 use Rattle.mig_model.specs.Invariant.{IsKept, IsPrecopying, Wires, AreRight, AreWhole, AreOf, EpochAt, RanAt, SwitchedAt, is_unread, copies_of, current_by}
 use Rattle.mig_model.proofs.SourceTests.{none_absurd}
 
@@ -34,9 +35,9 @@ one_refused : (test : Bool) (refusal : Refusal) (rest : Option Refusal) → (if 
 one_refused true refusal rest h = absurd (cc)
 one_refused false refusal rest h = (refl, h)
 
-pub none_refused : (refusals : List (Bool × Refusal)) → first_of refusals ≡ None → NoneRefused refusals
+pub none_refused : (refusals : List (Bool × Refusal)) → first_holding refusals ≡ None → NoneRefused refusals
 none_refused [] h = tt
-none_refused (refusal ∷ refusals) h = let one = one_refused refusal.0 refusal.1 (first_of refusals) h in (one.0, none_refused refusals one.1)
+none_refused (refusal ∷ refusals) h = let one = one_refused refusal.0 refusal.1 (first_holding refusals) h in (one.0, none_refused refusals one.1)
 
 -- A world whose source, forward wire and transcript have changed before the switch
 

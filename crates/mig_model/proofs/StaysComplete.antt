@@ -2,14 +2,15 @@
 use Rattle.std.proofs.Common.{◌≡◌, ℕ, ◌&&◌, ◌||◌, Bool, true, false, not, Option, Some, None, List, [], ◌∷◌, refl, sym, ap, ◌∙◌}
 use Rattle.std.proofs.lemmas.Bool.{false≢true}
 use Rattle.mig_base.specs.declared.command.Command.{Command}
-use Rattle.mig_model.specs.World.{is_access}
+use Rattle.mig_base.specs.Commands.{is_access}
 use Rattle.mig_model.specs.Userfault.{Noted, next_message}
 use Rattle.mig_model.specs.Guest.{Guest, Fault, processor_at, outstanding, tried}
 use Rattle.mig_model.specs.Wire.{Sent}
 use Rattle.mig_model.specs.Nodes.{Act, SourcePhase, is_source_idle, is_precopy, is_stopped, is_source_paused, is_released, space_of, source_act, source_acted_by}
 use Rattle.mig_model.specs.Nodes.Act.{Unprotected, Zeroed, Woke, Forgot, Requested}
 use Rattle.mig_model.specs.Nodes.SourcePhase.{Idle, Precopy, Stopped, Paused, Released}
-use Rattle.mig_model.specs.Migration.{World, Step, Refusal, reasons, refusal_of, accepted, next, next_by, guest_of, with_guest_by, command_tried, retried, read_by_source, acted_by_source, delivered, read_by_destination, acted_by_destination, has_started, is_empty}
+use Rattle.mig_model.specs.Migration.{World, Step, Refusal, reasons, refusal_of, accepted, next, next_by, guest_of, with_guest_by, command_tried, retried, read_by_source, acted_by_source, delivered, read_by_destination, acted_by_destination, has_started}
+use Rattle.mig_base.specs.Tests.{is_empty}
 use Rattle.mig_model.specs.Migration.Step.{Issue, Retry, Start, Round, Send, SourceRead, SourceAct, Switch, Deliver, DeliverBack, DestRead, DestAct, Install, Push, Serve, SendEnd, Break, Notice, Reconnect}
 use Rattle.mig_model.specs.Migration.Side.{AtSource, AtDestination}
 use Rattle.mig_model.specs.Invariant.{IsKept}

@@ -15,9 +15,9 @@ use Rattle.mig_base.specs.declared.command.Entry.{Entry}
 use Rattle.mig_base.specs.declared.message.Message.{Message}
 use Rattle.mig_base.specs.Flat.{reply_of}
 use Rattle.mig_model.specs.Host.{Host, memory, host_changed, host_after, IsSound}
-use Rattle.mig_model.specs.World.{is_access}
+use Rattle.mig_base.specs.Commands.{is_access, page_of}
 use Rattle.mig_model.specs.Userfault.{Object, Noted, waits_fault, event_queued}
-use Rattle.mig_model.specs.Space.{Space, IsSoundSpace, is_made, page_of, access_of, accessed_by, called, modes_after, call_messages, all_queued, queued_by}
+use Rattle.mig_model.specs.Space.{Space, IsSoundSpace, is_made, access_of, accessed_by, called, modes_after, call_messages, all_queued, queued_by}
 use Rattle.mig_model.specs.Guest.{Took, access_took, call_took, took_by, space_by, entries_of}
 use Rattle.mig_model.specs.Guest.Took.{Answer, Sleep}
 use Rattle.mig_model.specs.Nodes.{settled_by}

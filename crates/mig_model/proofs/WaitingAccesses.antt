@@ -10,7 +10,7 @@ use Rattle.mig_base.specs.declared.message.Message.{Message}
 use Rattle.mig_base.specs.declared.message.Message.TheVariants.{PageFault, Remap, Remove, Unmap}
 use Rattle.mig_base.specs.Flat.{reply_of}
 use Rattle.mig_model.specs.Host.{memory}
-use Rattle.mig_model.specs.World.{is_access}
+use Rattle.mig_base.specs.Commands.{is_access}
 use Rattle.mig_model.specs.Userfault.{Noted, next_message}
 use Rattle.mig_model.specs.Space.{Space, access_of, queued_by}
 use Rattle.mig_model.specs.Guest.{woken_if, Guest, Fault, Processor, idle_processors, processor_at, processor_after, outstanding, taken_over, all_woken, is_left_by, message_less, read_guest, took_by, access_took, call_took, tried}

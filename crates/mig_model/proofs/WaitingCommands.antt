@@ -10,9 +10,8 @@ use Rattle.mig_base.specs.declared.Prot.{Prot}
 use Rattle.mig_base.specs.declared.command.Command.{Command}
 use Rattle.mig_base.specs.declared.message.Message.{Message}
 use Rattle.mig_base.specs.declared.message.Message.TheVariants.{PageFault, Remap, Remove, Unmap}
-use Rattle.mig_model.specs.World.{is_access}
+use Rattle.mig_base.specs.Commands.{is_access, page_of}
 use Rattle.mig_model.specs.Userfault.{Noted, next_message}
-use Rattle.mig_model.specs.Space.{page_of}
 use Rattle.mig_model.specs.Guest.{Guest, Fault, Processor, processor_at, processor_after, is_idle, is_left_by, outstanding, taken_over, woken_if, all_woken, message_less, read_guest, took_by, tried}
 use Rattle.mig_model.specs.Guest.Processor.{Idle, Asleep, Woken, InCall}
 use Rattle.mig_model.specs.Wire.{Frame, Sent, Received, Copy}

@@ -15,7 +15,8 @@ use Rattle.mig_base.specs.Bytes.{zero_page}
 use Rattle.mig_base.specs.Flat.{reply_of}
 use Rattle.mig_model.specs.Host.{memory}
 use Rattle.mig_model.specs.Userfault.{is_registered, message_read}
-use Rattle.mig_model.specs.Space.{Space, access_of, accessed, called, queued_by, page_of}
+use Rattle.mig_model.specs.Space.{Space, access_of, accessed, called, queued_by}
+use Rattle.mig_base.specs.Commands.{page_of}
 use Rattle.mig_model.specs.Ioctls.{installed}
 
 -- Processors

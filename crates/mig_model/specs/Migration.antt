@@ -1,6 +1,6 @@
 -- The machine of the whole migration: what each step of a world answers, and the world after it. The steps are those of processors,
 -- fault handlers, pushers and deliveries, and broken channels and their resumption.
-use Rattle.std.specs.Prelude.{ℕ, ◌+◌, ◌-◌, ◌*◌, ◌^◌, ◌==◌, ◌&&◌, ◌||◌, not, nat_lt, Bool, true, false, if◌then◌else◌, Option, Some, None, is_some, Result, Ok, Err, List, [], ◌∷◌, ◌++◌, length}
+use Rattle.std.specs.Prelude.{ℕ, ◌+◌, ◌-◌, ◌*◌, ◌^◌, ◌==◌, ◌&&◌, ◌||◌, not, nat_lt, Bool, true, false, Option, Some, None, is_some, Result, Ok, Err, List, [], ◌∷◌, ◌++◌, length}
 use Rattle.std.specs.FinSet as finset
 use Rattle.std.specs.FinSet.{contains}
 use Rattle.mig_base.specs.declared.TheConstants.{PAGE_SIZE}
@@ -9,7 +9,8 @@ use Rattle.mig_base.specs.declared.command.Reply.{Reply}
 use Rattle.mig_base.specs.declared.command.Entry.{Entry}
 use Rattle.mig_base.specs.declared.message.Message.{Message}
 use Rattle.mig_base.specs.declared.message.Message.TheVariants.{PageFault}
-use Rattle.mig_model.specs.World.{is_access}
+use Rattle.mig_base.specs.Commands.{is_access}
+use Rattle.mig_base.specs.Tests.{is_empty, first_holding}
 use Rattle.mig_model.specs.Userfault.{Noted, next_message, changing}
 use Rattle.mig_model.specs.Guest.{Guest, Fault, Took, is_idle, is_woken, outstanding, processor_at, handed_over, took_by, tried, entries_of, is_present}
 use Rattle.mig_model.specs.Guest.Took.{Answer, Sleep, Call}
@@ -141,10 +142,6 @@ with_guest world guest = with_guest_by world.destination.has_run world guest
 
 -- Refusals
 
-abbrev pub is_empty : {A : Type 0} → List A → Bool
-is_empty [] = true
-is_empty (x ∷ xs) = false
-
 -- whether a migration has started, and whether the source still runs the processors in it
 abbrev pub has_started : World → Bool
 has_started world = not (is_source_idle world.source.phase)
@@ -176,11 +173,6 @@ is_paused_at world AtDestination = is_interrupted world.destination.phase
 -- whether a count is at its greatest
 abbrev pub is_used : ℕ → Bool
 is_used count = not (nat_lt count (2 ^ 32 - 1))
-
--- the first refusal whose test holds
-abbrev pub first_of : List (Bool × Refusal) → Option Refusal
-first_of [] = None
-first_of (refusal ∷ refusals) = if refusal.0 then Some refusal.1 else first_of refusals
 
 -- the reasons for which a step may be refused, in order
 abbrev pub reasons : World → Step → List (Bool × Refusal)
@@ -214,7 +206,7 @@ reasons world Reconnect = (not (is_source_paused world.source.phase && is_interr
 
 -- why a step is refused, if it is
 abbrev pub refusal_of : World → Step → Option Refusal
-refusal_of world step = first_of (reasons world step)
+refusal_of world step = first_holding (reasons world step)
 
 -- What an accepted step does
 

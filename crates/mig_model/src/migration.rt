@@ -7,7 +7,7 @@ ghost use Rattle.std.specs.FinSet.{contains};
 ghost use Rattle.mig_base.specs.declared.command.Command.{Command};
 ghost use Rattle.mig_base.specs.Flat.{IsFlatRun, memory_of, reply_of};
 ghost use Rattle.mig_model.specs.Host.{memory};
-ghost use Rattle.mig_model.specs.World.{is_access};
+ghost use Rattle.mig_base.specs.Commands.{is_access};
 ghost use Rattle.mig_model.specs.Guest.{outstanding, processor_at, processor_after, entries_of, took_by};
 ghost use Rattle.mig_model.specs.Wire.{Sent};
 ghost use Rattle.mig_model.specs.Wire.Received.{Running};
