@@ -1,14 +1,15 @@
 -- Break, Notice and Reconnect keep what every world of the whole migration keeps.
 use Rattle.std.proofs.Common.{◌≡◌, ◌≢◌, ℕ, ◌+◌, ◌&&◌, ◌||◌, Bool, true, false, cond, not, Option, Some, None, List, [], ◌∷◌, ◌++◌, refl, sym, ap, ◌∙◌, subst, ◌⊎◌, inl, ⊎_elim, arith}
 use Rattle.std.proofs.lemmas.Bool.{false≢true}
+use Rattle.mig_base.specs.declared.phase.DestPhase.{DestPhase}
+use Rattle.mig_base.specs.declared.phase.SourcePhase.{SourcePhase}
+use Rattle.mig_base.specs.declared.refusal.Refusal.{Refusal}
+use Rattle.mig_base.specs.declared.schedule.Side.{Side}
+use Rattle.mig_base.specs.declared.schedule.Step.{Step}
 use Rattle.mig_model.specs.Wire.{Sent}
 use Rattle.mig_model.specs.Wire.Frame.{Resume}
-use Rattle.mig_model.specs.Nodes.{SourcePhase, DestinationPhase, is_source_idle, is_source_paused, is_released, is_interrupted}
-use Rattle.mig_model.specs.Nodes.SourcePhase.{Idle, Precopy, Stopped, Paused, Released}
-use Rattle.mig_model.specs.Nodes.DestinationPhase.{NotAdvised, Advised, Discarding, Runs, Interrupted, HasEnded}
-use Rattle.mig_model.specs.Migration.{World, Refusal, first_of, reasons, refusal_of, accepted, has_started}
-use Rattle.mig_model.specs.Migration.Step.{Break, Notice, Reconnect}
-use Rattle.mig_model.specs.Migration.Side.{AtSource, AtDestination}
+use Rattle.mig_model.specs.Nodes.{is_source_idle, is_source_paused, is_released, is_interrupted}
+use Rattle.mig_model.specs.Migration.{World, first_of, reasons, refusal_of, accepted, has_started}
 use Rattle.mig_model.specs.Invariant.{IsKept, AreWhole, copies_of, AreFaithful, AreOf}
 
 -- no reason of the list holds
@@ -37,23 +38,23 @@ and_both : (a b : Bool) → (a && b) ≡ true → (a ≡ true) × (b ≡ true)
 and_both true b h = (refl, h)
 and_both false b h = absurd (false≢true h)
 
-started_not_idle : (phase : SourcePhase) → not (not (is_source_idle phase)) ≡ false → phase ≢ Idle
-started_not_idle Idle h e = false≢true (sym h)
-started_not_idle Precopy h e = cc
-started_not_idle Stopped h e = cc
-started_not_idle Paused h e = cc
-started_not_idle Released h e = cc
+started_not_idle : (phase : SourcePhase) → not (not (is_source_idle phase)) ≡ false → phase ≢ SourcePhase.Idle
+started_not_idle SourcePhase.Idle h e = false≢true (sym h)
+started_not_idle SourcePhase.Precopy h e = cc
+started_not_idle SourcePhase.Stopped h e = cc
+started_not_idle SourcePhase.Paused h e = cc
+started_not_idle SourcePhase.Released h e = cc
 
-not_released : (phase : SourcePhase) → is_released phase ≡ false → phase ≢ Released
-not_released Released h e = false≢true (sym h)
-not_released Idle h e = cc
-not_released Precopy h e = cc
-not_released Stopped h e = cc
-not_released Paused h e = cc
+not_released : (phase : SourcePhase) → is_released phase ≡ false → phase ≢ SourcePhase.Released
+not_released SourcePhase.Released h e = false≢true (sym h)
+not_released SourcePhase.Idle h e = cc
+not_released SourcePhase.Precopy h e = cc
+not_released SourcePhase.Stopped h e = cc
+not_released SourcePhase.Paused h e = cc
 
-pub kept-break : (world : World) → IsKept world → refusal_of world Break ≡ None → IsKept (accepted world Break)
+pub kept-break : (world : World) → IsKept world → refusal_of world Step.Break ≡ None → IsKept (accepted world Step.Break)
 kept-break world kept free =
-    let told = none_applies (reasons world Break) free in
+    let told = none_applies (reasons world Step.Break) free in
     let phases = or_none (not (has_started world)) (is_released world.source.phase) told.0 in
     record {
       flat = kept.flat;
@@ -101,24 +102,24 @@ kept-break world kept free =
     }
 
 -- before Switch End was not sent, whatever the phase is once a migration has started
-ended_before_switch : (phase : SourcePhase) (A : Type 0) → phase ≢ Idle → (A ⊎ (phase ≡ Idle)) → A ⊎ (Paused ≡ Idle)
+ended_before_switch : (phase : SourcePhase) (A : Type 0) → phase ≢ SourcePhase.Idle → (A ⊎ (phase ≡ SourcePhase.Idle)) → A ⊎ (SourcePhase.Paused ≡ SourcePhase.Idle)
 ended_before_switch phase A not_idle told = ⊎_elim (λ a. inl a) (λ idle. absurd (not_idle idle)) told
 
-paused_not_idle : Paused ≢ Idle
+paused_not_idle : SourcePhase.Paused ≢ SourcePhase.Idle
 paused_not_idle h = cc
 
-paused_not_released : Paused ≢ Released
+paused_not_released : SourcePhase.Paused ≢ SourcePhase.Released
 paused_not_released h = cc
 
-interrupted_advised : Interrupted ≢ NotAdvised
+interrupted_advised : DestPhase.Paused ≢ DestPhase.Idle
 interrupted_advised h = cc
 
 link_down : {A : Type 0} (up : Bool) → up ≡ false → up ≡ true → A
 link_down up down h = absurd (false≢true (sym down ∙ h))
 
-pub kept-notice_source : (world : World) → IsKept world → refusal_of world (Notice AtSource) ≡ None → IsKept (accepted world (Notice AtSource))
+pub kept-notice_source : (world : World) → IsKept world → refusal_of world (Step.Notice Side.Source) ≡ None → IsKept (accepted world (Step.Notice Side.Source))
 kept-notice_source world kept free =
-    let told = none_applies (reasons world (Notice AtSource)) free in
+    let told = none_applies (reasons world (Step.Notice Side.Source)) free in
     let phases = or_none (not (has_started world) || is_released world.source.phase) (is_source_paused world.source.phase) told.0 in
     let two = or_none (not (has_started world)) (is_released world.source.phase) phases.0 in
     let not_idle = started_not_idle world.source.phase two.0 in
@@ -168,9 +169,9 @@ kept-notice_source world kept free =
       epoch_at = kept.epoch_at;
     }
 
-pub kept-notice_destination : (world : World) → IsKept world → refusal_of world (Notice AtDestination) ≡ None → IsKept (accepted world (Notice AtDestination))
+pub kept-notice_destination : (world : World) → IsKept world → refusal_of world (Step.Notice Side.Destination) ≡ None → IsKept (accepted world (Step.Notice Side.Destination))
 kept-notice_destination world kept free =
-    let told = none_applies (reasons world (Notice AtDestination)) free in
+    let told = none_applies (reasons world (Step.Notice Side.Destination)) free in
     let down : world.up ≡ false = told.1.0 in
     record {
       flat = kept.flat;
@@ -220,14 +221,14 @@ kept-notice_destination world kept free =
 -- Reconnect: both sides have noticed that the link is down, and nothing is in flight
 
 -- a world in these phases
-abbrev in_phases : SourcePhase → DestinationPhase → World → World
+abbrev in_phases : SourcePhase → DestPhase → World → World
 in_phases from to world = record world { source = record world.source { phase = from }; destination = record world.destination { phase = to } }
 
 resume_sent : List Sent → ℕ → List Sent
 resume_sent forward epoch = forward ++ record { epoch = epoch; frame = Resume } ∷ []
 
-reconnected_in : (from : SourcePhase) (to : DestinationPhase) (world : World) → is_source_paused from ≡ true → is_interrupted to ≡ true → world.up ≡ false → IsKept (in_phases from to world) → IsKept (accepted (in_phases from to world) Reconnect)
-reconnected_in Paused Interrupted world is_from is_to down kept =
+reconnected_in : (from : SourcePhase) (to : DestPhase) (world : World) → is_source_paused from ≡ true → is_interrupted to ≡ true → world.up ≡ false → IsKept (in_phases from to world) → IsKept (accepted (in_phases from to world) Step.Resume)
+reconnected_in SourcePhase.Paused DestPhase.Paused world is_from is_to down kept =
     let nothing = kept.down down in
     let epoch = world.source.epoch + 1 in
     let before = kept.ended_before in
@@ -278,18 +279,18 @@ reconnected_in Paused Interrupted world is_from is_to down kept =
       epochs = omega (arith, late);
       epoch_at = λ up. omega (arith, late);
     }
-reconnected_in Idle to world is_from is_to down kept = absurd (false≢true is_from)
-reconnected_in Precopy to world is_from is_to down kept = absurd (false≢true is_from)
-reconnected_in Stopped to world is_from is_to down kept = absurd (false≢true is_from)
-reconnected_in Released to world is_from is_to down kept = absurd (false≢true is_from)
-reconnected_in Paused NotAdvised world is_from is_to down kept = absurd (false≢true is_to)
-reconnected_in Paused Advised world is_from is_to down kept = absurd (false≢true is_to)
-reconnected_in Paused Discarding world is_from is_to down kept = absurd (false≢true is_to)
-reconnected_in Paused Runs world is_from is_to down kept = absurd (false≢true is_to)
-reconnected_in Paused HasEnded world is_from is_to down kept = absurd (false≢true is_to)
+reconnected_in SourcePhase.Idle to world is_from is_to down kept = absurd (false≢true is_from)
+reconnected_in SourcePhase.Precopy to world is_from is_to down kept = absurd (false≢true is_from)
+reconnected_in SourcePhase.Stopped to world is_from is_to down kept = absurd (false≢true is_from)
+reconnected_in SourcePhase.Released to world is_from is_to down kept = absurd (false≢true is_from)
+reconnected_in SourcePhase.Paused DestPhase.Idle world is_from is_to down kept = absurd (false≢true is_to)
+reconnected_in SourcePhase.Paused DestPhase.Advised world is_from is_to down kept = absurd (false≢true is_to)
+reconnected_in SourcePhase.Paused DestPhase.Discarding world is_from is_to down kept = absurd (false≢true is_to)
+reconnected_in SourcePhase.Paused DestPhase.Running world is_from is_to down kept = absurd (false≢true is_to)
+reconnected_in SourcePhase.Paused DestPhase.Ended world is_from is_to down kept = absurd (false≢true is_to)
 
-pub kept-reconnect : (world : World) → IsKept world → refusal_of world Reconnect ≡ None → IsKept (accepted world Reconnect)
+pub kept-reconnect : (world : World) → IsKept world → refusal_of world Step.Resume ≡ None → IsKept (accepted world Step.Resume)
 kept-reconnect world kept free =
-    let told = none_applies (reasons world Reconnect) free in
+    let told = none_applies (reasons world Step.Resume) free in
     let phases = and_both (is_source_paused world.source.phase) (is_interrupted world.destination.phase) (not_none _ told.0) in
     reconnected_in world.source.phase world.destination.phase world phases.0 phases.1 told.1.0 kept

@@ -3,6 +3,11 @@ use Rattle.std.proofs.Common.{◌≡◌, ℕ, ◌/◌, ◌%◌, ◌&&◌, ◌||�
 use Rattle.std.specs.Option.{option_map, option_and_then}
 use Rattle.std.specs.Ordering.{nat_cmp}
 use Rattle.std.specs.FinMap.{FinMap, get, contains_key}
+use Rattle.mig_base.specs.declared.cpu_state.CpuState.{CpuState}
+use Rattle.mig_base.specs.declared.phase.DestPhase.{DestPhase}
+use Rattle.mig_base.specs.declared.phase.SourcePhase.{SourcePhase}
+use Rattle.mig_base.specs.declared.refusal.Refusal.{Refusal}
+use Rattle.mig_base.specs.declared.schedule.Step.{Step}
 use Rattle.mig_base.specs.declared.TheConstants.{HIGH_PAGE}
 use Rattle.mig_base.specs.declared.Prot.{Prot}
 use Rattle.mig_base.specs.Bytes.{zero_page}
@@ -13,16 +18,12 @@ use Rattle.mig_model.specs.Host.{Host, memory}
 use Rattle.mig_model.specs.Userfault.{Noted, is_registered}
 use Rattle.mig_model.specs.Space.{Space}
 use Rattle.mig_model.specs.Ioctls.{put_pages}
-use Rattle.mig_model.specs.Guest.{Fault, Processor, all_woken, is_forgotten, is_present, worked, zero_installed}
+use Rattle.mig_model.specs.Guest.{Fault, all_woken, is_forgotten, is_present, worked, zero_installed}
 use Rattle.mig_model.specs.Wire.{Sent, sending_if}
 use Rattle.mig_model.specs.Wire.Frame.{Request}
-use Rattle.mig_model.specs.Nodes.{Source, SourcePhase, Destination, DestinationPhase, space_of, is_running, is_requested, requesting, destination_act_by, destination_acted_by, act_frames}
-use Rattle.mig_model.specs.Nodes.SourcePhase.{Idle, Precopy, Stopped, Paused, Released}
-use Rattle.mig_model.specs.Nodes.DestinationPhase.{NotAdvised, Advised, Discarding, Runs, Interrupted, HasEnded}
+use Rattle.mig_model.specs.Nodes.{Source, Destination, space_of, is_running, is_requested, requesting, destination_act_by, destination_acted_by, act_frames}
 use Rattle.mig_model.specs.Nodes.Act.{Zeroed, Woke, Forgot, Requested}
 use Rattle.mig_model.specs.Migration.{World, accepted, refusal_of, destination_sends}
-use Rattle.mig_model.specs.Migration.Step.{DestAct}
-use Rattle.mig_model.specs.Migration.Refusal.{Phase, NothingThere, Changing}
 use Rattle.mig_model.specs.Invariant.{IsKept, Wires, AreOf, EpochAt, are_requests, is_request, seen_host, seen_bytes}
 use Rattle.mig_model.proofs.HostLemmas.{memory-at, same_memory}
 use Rattle.mig_model.proofs.SettledLemmas.{none_some, none_absurd, eqb_true}
@@ -79,18 +80,18 @@ AreOf-push : (epoch : ℕ) (wire : List Sent) (sent : Sent) → sent.epoch ≡ e
 AreOf-push epoch [] sent is are = (is, tt)
 AreOf-push epoch (first ∷ wire) sent is are = (are.0, AreOf-push epoch wire sent is are.1)
 
-runs_not_advised : {A : Type 0} → Runs ≡ NotAdvised → A
+runs_not_advised : {A : Type 0} → DestPhase.Running ≡ DestPhase.Idle → A
 runs_not_advised h = absurd (cc)
 
-runs_not_ended : {A : Type 0} → Runs ≡ HasEnded → A
+runs_not_ended : {A : Type 0} → DestPhase.Running ≡ DestPhase.Ended → A
 runs_not_ended h = absurd (cc)
 
-request_wires : (from : SourcePhase) (to : DestinationPhase) (source : Source) (node : Destination) (forward back : List Sent) (sent : Sent) → is_request sent.frame ≡ true → is_running to ≡ true →
+request_wires : (from : SourcePhase) (to : DestPhase) (source : Source) (node : Destination) (forward back : List Sent) (sent : Sent) → is_request sent.frame ≡ true → is_running to ≡ true →
     Wires (record source { phase = from }) (record node { phase = to }) forward back → Wires (record source { phase = from }) (record node { phase = to }) forward (back ++ sent ∷ [])
-request_wires Idle Runs source node forward back sent is runs w = runs_not_advised w.0
-request_wires Precopy Runs source node forward back sent is runs w = w
-request_wires Stopped Runs source node forward back sent is runs w = (w.0, are_requests-push back sent is w.1, w.2)
-request_wires Paused Runs source node forward back sent is runs w =
+request_wires SourcePhase.Idle DestPhase.Running source node forward back sent is runs w = runs_not_advised w.0
+request_wires SourcePhase.Precopy DestPhase.Running source node forward back sent is runs w = w
+request_wires SourcePhase.Stopped DestPhase.Running source node forward back sent is runs w = (w.0, are_requests-push back sent is w.1, w.2)
+request_wires SourcePhase.Paused DestPhase.Running source node forward back sent is runs w =
     let old = w.1 in (
       w.0,
       record {
@@ -105,20 +106,20 @@ request_wires Paused Runs source node forward back sent is runs w =
         owed_present = old.owed_present;
       },
     )
-request_wires Released Runs source node forward back sent is runs w = runs_not_ended w.0
-request_wires from NotAdvised source node forward back sent is runs w = none_absurd runs
-request_wires from Advised source node forward back sent is runs w = none_absurd runs
-request_wires from Discarding source node forward back sent is runs w = none_absurd runs
-request_wires from Interrupted source node forward back sent is runs w = none_absurd runs
-request_wires from HasEnded source node forward back sent is runs w = none_absurd runs
+request_wires SourcePhase.Released DestPhase.Running source node forward back sent is runs w = runs_not_ended w.0
+request_wires from DestPhase.Idle source node forward back sent is runs w = none_absurd runs
+request_wires from DestPhase.Advised source node forward back sent is runs w = none_absurd runs
+request_wires from DestPhase.Discarding source node forward back sent is runs w = none_absurd runs
+request_wires from DestPhase.Paused source node forward back sent is runs w = none_absurd runs
+request_wires from DestPhase.Ended source node forward back sent is runs w = none_absurd runs
 
-running_epoch : (to : DestinationPhase) (epoch source_epoch : ℕ) → is_running to ≡ true → EpochAt to epoch source_epoch → epoch ≡ source_epoch
-running_epoch Runs epoch source_epoch runs at = at
-running_epoch NotAdvised epoch source_epoch runs at = none_absurd runs
-running_epoch Advised epoch source_epoch runs at = none_absurd runs
-running_epoch Discarding epoch source_epoch runs at = none_absurd runs
-running_epoch Interrupted epoch source_epoch runs at = none_absurd runs
-running_epoch HasEnded epoch source_epoch runs at = none_absurd runs
+running_epoch : (to : DestPhase) (epoch source_epoch : ℕ) → is_running to ≡ true → EpochAt to epoch source_epoch → epoch ≡ source_epoch
+running_epoch DestPhase.Running epoch source_epoch runs at = at
+running_epoch DestPhase.Idle epoch source_epoch runs at = none_absurd runs
+running_epoch DestPhase.Advised epoch source_epoch runs at = none_absurd runs
+running_epoch DestPhase.Discarding epoch source_epoch runs at = none_absurd runs
+running_epoch DestPhase.Paused epoch source_epoch runs at = none_absurd runs
+running_epoch DestPhase.Ended epoch source_epoch runs at = none_absurd runs
 
 up_not_down : {A : Type 0} (up : Bool) → up ≡ true → up ≡ false → A
 up_not_down up h k = none_absurd (sym k ∙ h)
@@ -200,7 +201,7 @@ at_held events held world =
     }
 
 -- only the processors, the held faults and the requests have changed
-only_woken : (world : World) (processors : List Processor) (held : List Fault) (requests : List ℕ) → IsKept world → world.destination.has_run ≡ true →
+only_woken : (world : World) (processors : List CpuState) (held : List Fault) (requests : List ℕ) → IsKept world → world.destination.has_run ≡ true →
     IsKept (record world { destination = record world.destination { guest = record world.destination.guest { processors = processors; held = held }; requests = requests } })
 only_woken world processors held requests kept runs =
     kept-handled world (record world.destination.guest { processors = processors; held = held }) world.destination.owed requests world.destination.arrivals world.destination.installed world.destination.dropped world.destination.faults kept runs
@@ -277,15 +278,15 @@ act_in false false None fault rest world kept runs f p h =
     let new : World = record old { destination = destination_acted_by Zeroed old.destination fault.page } in
     nothing_sent world.up new refl (zeros_put fault rest world kept runs (not_or (contains_key world.destination.guest.space.host.areas fault.page) (is_registered world.destination.guest.space.object fault.page) f) p h)
 
-acted_in : (events : List Noted) (held : List Fault) (world : World) → IsKept (at_held events held world) → world.destination.has_run ≡ true → ltb 0 (length events) ≡ false → IsKept (accepted (at_held events held world) DestAct)
+acted_in : (events : List Noted) (held : List Fault) (world : World) → IsKept (at_held events held world) → world.destination.has_run ≡ true → ltb 0 (length events) ≡ false → IsKept (accepted (at_held events held world) Step.DestAct)
 acted_in (noted ∷ events) held world kept runs quiet = absurd (none_changing (length events) quiet)
 acted_in [] [] world kept runs quiet = kept
 acted_in [] (fault ∷ rest) world kept runs quiet =
     act_in (is_forgotten world.destination.guest.space fault.page) (is_present world.destination.guest.space fault.page) (get world.destination.owed fault.page) fault rest world kept runs refl refl refl
 
-pub kept-dest_act : (world : World) → IsKept world → refusal_of world DestAct ≡ None → IsKept (accepted world DestAct)
+pub kept-dest_act : (world : World) → IsKept world → refusal_of world Step.DestAct ≡ None → IsKept (accepted world Step.DestAct)
 kept-dest_act world kept none =
-    let ran = first_holds_not (not world.destination.has_run) Phase _ none in
-    let some = first_holds_not _ NothingThere _ ran.1 in
-    let quiet = first_holds_not (ltb 0 (length world.destination.guest.space.object.events)) Changing _ some.1 in
+    let ran = first_holds_not (not world.destination.has_run) Refusal.Phase _ none in
+    let some = first_holds_not _ Refusal.NothingThere _ ran.1 in
+    let quiet = first_holds_not (ltb 0 (length world.destination.guest.space.object.events)) Refusal.Changing _ some.1 in
     acted_in world.destination.guest.space.object.events world.destination.guest.held world kept (not_false world.destination.has_run ran.0) quiet.0

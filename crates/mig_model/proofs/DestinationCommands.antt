@@ -4,6 +4,10 @@ use Rattle.std.specs.FinMap as finmap
 use Rattle.std.specs.FinMap.{get}
 use Rattle.std.specs.FinSet.{contains}
 use Rattle.std.proofs.lemmas.Bool.{false≢true}
+use Rattle.mig_base.specs.declared.phase.DestPhase.{DestPhase}
+use Rattle.mig_base.specs.declared.phase.Received.{Received}
+use Rattle.mig_base.specs.declared.phase.SourcePhase.{SourcePhase}
+use Rattle.mig_base.specs.declared.schedule.Step.{Step}
 use Rattle.mig_base.specs.declared.command.Command.{Command}
 use Rattle.mig_base.specs.declared.command.Entry.{Entry}
 use Rattle.mig_base.specs.Flat.{IsFlatRun, memory_of}
@@ -11,12 +15,9 @@ use Rattle.mig_model.specs.Host.{Host, memory, IsSound}
 use Rattle.mig_model.specs.World.{is_access}
 use Rattle.mig_model.specs.Space.{IsSoundSpace, fresh_space}
 use Rattle.mig_model.specs.Guest.{Guest, is_present, Took, took_by, tried, entries_of, outstanding, processor_at}
-use Rattle.mig_model.specs.Wire.{Sent, Received}
-use Rattle.mig_model.specs.Nodes.{Source, SourcePhase, Destination, DestinationPhase, space_of, settled}
-use Rattle.mig_model.specs.Nodes.SourcePhase.{Idle, Precopy, Stopped, Paused, Released}
-use Rattle.mig_model.specs.Nodes.DestinationPhase.{NotAdvised, Advised, Discarding, Runs, Interrupted, HasEnded}
+use Rattle.mig_model.specs.Wire.{Sent}
+use Rattle.mig_model.specs.Nodes.{Source, Destination, space_of, settled}
 use Rattle.mig_model.specs.Migration.{World, guest_by, guest_of, with_guest_by, command_tried, retried, refusal_of, accepted}
-use Rattle.mig_model.specs.Migration.Step.{Issue, Retry}
 use Rattle.mig_model.specs.Invariant.{IsKept, AreFaults, AreRight, Wires, IsReceiving, current_by, current_host, seen_host}
 use Rattle.mig_model.proofs.FaultLemmas.{AreFaults-tried}
 use Rattle.mig_model.proofs.WorldLemmas.{holds_after, flat_after}
@@ -47,23 +48,23 @@ entered_one old new transcript cpu command took (Entered one then) sound holds f
 receiving : (from : Source) (to : Destination) (guest : Guest) (state : Received) (back : List Sent) → IsReceiving from to state back → IsReceiving from (record to { guest = guest }) state back
 receiving from to guest state back is = record { owed = is.owed; epoch = is.epoch; rest = is.rest; first = is.first; requests = is.requests; alone = is.alone; none_listed = is.none_listed; needed = is.needed; owed_present = is.owed_present }
 
-wires_in : (at : SourcePhase) (phase : DestinationPhase) (from : Source) (to : Destination) (guest : Guest) (forward back : List Sent) →
+wires_in : (at : SourcePhase) (phase : DestPhase) (from : Source) (to : Destination) (guest : Guest) (forward back : List Sent) →
     Wires (record from { phase = at }) (record to { phase = phase }) forward back → Wires (record from { phase = at }) (record to { phase = phase; guest = guest }) forward back
-wires_in Stopped Runs from to guest forward back w = (w.0, w.1, record { whereabouts = w.2.whereabouts })
-wires_in Stopped NotAdvised from to guest forward back w = w
-wires_in Stopped Advised from to guest forward back w = w
-wires_in Stopped Discarding from to guest forward back w = w
-wires_in Stopped Interrupted from to guest forward back w = w
-wires_in Stopped HasEnded from to guest forward back w = w
-wires_in Paused Advised from to guest forward back w = w
-wires_in Paused Runs from to guest forward back w = (w.0, receiving (record from { phase = Paused }) (record to { phase = Runs }) guest _ back w.1)
-wires_in Paused HasEnded from to guest forward back w = (w.0, receiving (record from { phase = Paused }) (record to { phase = HasEnded }) guest _ back w.1)
-wires_in Paused NotAdvised from to guest forward back w = w
-wires_in Paused Discarding from to guest forward back w = w
-wires_in Paused Interrupted from to guest forward back w = w
-wires_in Idle phase from to guest forward back w = w
-wires_in Precopy phase from to guest forward back w = w
-wires_in Released phase from to guest forward back w = w
+wires_in SourcePhase.Stopped DestPhase.Running from to guest forward back w = (w.0, w.1, record { whereabouts = w.2.whereabouts })
+wires_in SourcePhase.Stopped DestPhase.Idle from to guest forward back w = w
+wires_in SourcePhase.Stopped DestPhase.Advised from to guest forward back w = w
+wires_in SourcePhase.Stopped DestPhase.Discarding from to guest forward back w = w
+wires_in SourcePhase.Stopped DestPhase.Paused from to guest forward back w = w
+wires_in SourcePhase.Stopped DestPhase.Ended from to guest forward back w = w
+wires_in SourcePhase.Paused DestPhase.Advised from to guest forward back w = w
+wires_in SourcePhase.Paused DestPhase.Running from to guest forward back w = (w.0, receiving (record from { phase = SourcePhase.Paused }) (record to { phase = DestPhase.Running }) guest _ back w.1)
+wires_in SourcePhase.Paused DestPhase.Ended from to guest forward back w = (w.0, receiving (record from { phase = SourcePhase.Paused }) (record to { phase = DestPhase.Ended }) guest _ back w.1)
+wires_in SourcePhase.Paused DestPhase.Idle from to guest forward back w = w
+wires_in SourcePhase.Paused DestPhase.Discarding from to guest forward back w = w
+wires_in SourcePhase.Paused DestPhase.Paused from to guest forward back w = w
+wires_in SourcePhase.Idle phase from to guest forward back w = w
+wires_in SourcePhase.Precopy phase from to guest forward back w = w
+wires_in SourcePhase.Released phase from to guest forward back w = w
 
 pub wires-with_guest : (from : Source) (to : Destination) (guest : Guest) (forward back : List Sent) → Wires from to forward back → Wires from (record to { guest = guest }) forward back
 wires-with_guest from to guest forward back w = wires_in from.phase to.phase from to guest forward back w
@@ -122,12 +123,12 @@ kept-command_at_destination world cpu command ran kept = kept-tried_at world.des
 
 -- The steps, where the destination has run
 
-pub kept-issue_at_destination : (world : World) (cpu : ℕ) (command : Command) → world.destination.has_run ≡ true → IsKept world → refusal_of world (Issue cpu command) ≡ None → IsKept (accepted world (Issue cpu command))
+pub kept-issue_at_destination : (world : World) (cpu : ℕ) (command : Command) → world.destination.has_run ≡ true → IsKept world → refusal_of world (Step.Issue cpu command) ≡ None → IsKept (accepted world (Step.Issue cpu command))
 kept-issue_at_destination world cpu command ran kept taken = kept-command_at_destination world cpu command ran kept
 
 retried_kept : (o : Option Command) (world : World) (cpu : ℕ) → world.destination.has_run ≡ true → IsKept world → IsKept (retried world cpu o)
 retried_kept None world cpu ran kept = kept
 retried_kept (Some command) world cpu ran kept = kept-command_at_destination world cpu command ran kept
 
-pub kept-retry_at_destination : (world : World) (cpu : ℕ) → world.destination.has_run ≡ true → IsKept world → refusal_of world (Retry cpu) ≡ None → IsKept (accepted world (Retry cpu))
+pub kept-retry_at_destination : (world : World) (cpu : ℕ) → world.destination.has_run ≡ true → IsKept world → refusal_of world (Step.Retry cpu) ≡ None → IsKept (accepted world (Step.Retry cpu))
 kept-retry_at_destination world cpu ran kept taken = retried_kept (outstanding (processor_at (guest_of world).processors cpu)) world cpu ran kept

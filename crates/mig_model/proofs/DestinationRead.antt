@@ -5,6 +5,12 @@ use Rattle.std.specs.FinMap as finmap
 use Rattle.std.specs.FinMap.{FinMap, get, get-empty}
 use Rattle.std.specs.FinSet.{contains}
 use Rattle.std.proofs.lemmas.Bool.{false≢true}
+use Rattle.mig_base.specs.declared.cpu_state.CpuState.{CpuState}
+use Rattle.mig_base.specs.declared.phase.DestPhase.{DestPhase}
+use Rattle.mig_base.specs.declared.phase.Received.{Received}
+use Rattle.mig_base.specs.declared.phase.SourcePhase.{SourcePhase}
+use Rattle.mig_base.specs.declared.refusal.Refusal.{Refusal}
+use Rattle.mig_base.specs.declared.schedule.Step.{Step}
 use Rattle.mig_base.specs.declared.TheConstants.{HIGH_PAGE}
 use Rattle.mig_base.specs.declared.message.Message.{Message}
 use Rattle.mig_base.specs.declared.message.Message.TheVariants.{PageFault, Remap, Remove, Unmap}
@@ -12,14 +18,10 @@ use Rattle.mig_base.proofs.PageLemmas.{same_pages}
 use Rattle.mig_model.specs.Host.{memory}
 use Rattle.mig_model.specs.Userfault.{Noted}
 use Rattle.mig_model.specs.Space.{IsSoundSpace}
-use Rattle.mig_model.specs.Guest.{Guest, Fault, Processor, all_woken, is_left_by, is_present, message_less, processor_at}
-use Rattle.mig_model.specs.Wire.{Sent, Copy, Received}
-use Rattle.mig_model.specs.Nodes.{Source, SourcePhase, Destination, DestinationPhase, space_of, settled_by, owed_table_after}
-use Rattle.mig_model.specs.Nodes.SourcePhase.{Idle, Precopy, Stopped, Paused, Released}
-use Rattle.mig_model.specs.Nodes.DestinationPhase.{NotAdvised, Advised, Discarding, Runs, Interrupted, HasEnded}
-use Rattle.mig_model.specs.Migration.{World, Refusal, accepted, refusal_of}
-use Rattle.mig_model.specs.Migration.Step.{DestRead}
-use Rattle.mig_model.specs.Migration.Refusal.{Phase}
+use Rattle.mig_model.specs.Guest.{Guest, Fault, all_woken, is_left_by, is_present, message_less, processor_at}
+use Rattle.mig_model.specs.Wire.{Sent, Copy}
+use Rattle.mig_model.specs.Nodes.{Source, Destination, space_of, settled_by, owed_table_after}
+use Rattle.mig_model.specs.Migration.{World, accepted, refusal_of}
 use Rattle.mig_model.specs.Invariant.{IsKept, Wires, IsReceiving, IsFlowing, AreRight, AreFaults, AreFaithful, has_copy, copies_of, seen_host, current_host}
 use Rattle.mig_model.proofs.IoctlLemmas.{IsSoundSpace-read}
 use Rattle.mig_model.proofs.SettledLemmas.{get-owed_table_after, settled_by-applied, values-after, none-after, IsOneToOne-after, owed_below-after}
@@ -79,37 +81,37 @@ still_flowing source node new forward values copies old =
           last_of_three (contains source.remaining origin) (has_copy (copies_of forward) origin) (has_copy node.arrivals origin) (has_copy new.arrivals origin) (copies page origin h) (old.whereabouts was.0 origin was.1);
     }
 
-wires_handled : (from : SourcePhase) (to : DestinationPhase) (source : Source) (node : Destination) (forward back : List Sent) (guest : Guest) (owed : FinMap nat_cmp ℕ) (requests : List ℕ) (arrivals : List Copy) (installed dropped faults : ℕ) →
+wires_handled : (from : SourcePhase) (to : DestPhase) (source : Source) (node : Destination) (forward back : List Sent) (guest : Guest) (owed : FinMap nat_cmp ℕ) (requests : List ℕ) (arrivals : List Copy) (installed dropped faults : ℕ) →
     ((page origin : ℕ) → get owed page ≡ Some origin → (other : ℕ) × (get node.owed other ≡ Some origin)) →
     ((page origin : ℕ) → get owed page ≡ Some origin → has_copy node.arrivals origin ≡ true → has_copy arrivals origin ≡ true) →
     Wires (record source { phase = from }) (record node { phase = to }) forward back →
     Wires (record source { phase = from }) (handled (record node { phase = to }) guest owed requests arrivals installed dropped faults) forward back
-wires_handled Idle to source node forward back guest owed requests arrivals installed dropped faults values copies w = w
-wires_handled Released to source node forward back guest owed requests arrivals installed dropped faults values copies w = w
-wires_handled Precopy NotAdvised source node forward back guest owed requests arrivals installed dropped faults values copies w = w
-wires_handled Precopy Advised source node forward back guest owed requests arrivals installed dropped faults values copies w = w
-wires_handled Precopy Discarding source node forward back guest owed requests arrivals installed dropped faults values copies w = w
-wires_handled Precopy Runs source node forward back guest owed requests arrivals installed dropped faults values copies w = w
-wires_handled Precopy Interrupted source node forward back guest owed requests arrivals installed dropped faults values copies w = w
-wires_handled Precopy HasEnded source node forward back guest owed requests arrivals installed dropped faults values copies w = w
-wires_handled Stopped NotAdvised source node forward back guest owed requests arrivals installed dropped faults values copies w = w
-wires_handled Stopped Advised source node forward back guest owed requests arrivals installed dropped faults values copies w = w
-wires_handled Stopped Discarding source node forward back guest owed requests arrivals installed dropped faults values copies w = w
-wires_handled Stopped Runs source node forward back guest owed requests arrivals installed dropped faults values copies w =
-    let old : Destination = record node { phase = Runs } in
-    (w.0, w.1, still_flowing (record source { phase = Stopped }) old (handled old guest owed requests arrivals installed dropped faults) forward values copies w.2)
-wires_handled Stopped Interrupted source node forward back guest owed requests arrivals installed dropped faults values copies w = w
-wires_handled Stopped HasEnded source node forward back guest owed requests arrivals installed dropped faults values copies w = w
-wires_handled Paused NotAdvised source node forward back guest owed requests arrivals installed dropped faults values copies w = w
-wires_handled Paused Advised source node forward back guest owed requests arrivals installed dropped faults values copies w = w
-wires_handled Paused Discarding source node forward back guest owed requests arrivals installed dropped faults values copies w = w
-wires_handled Paused Runs source node forward back guest owed requests arrivals installed dropped faults values copies w =
-    let old : Destination = record node { phase = Runs } in
-    (w.0, still_receiving (record source { phase = Paused }) old (handled old guest owed requests arrivals installed dropped faults) Received.Running back values w.1)
-wires_handled Paused Interrupted source node forward back guest owed requests arrivals installed dropped faults values copies w = w
-wires_handled Paused HasEnded source node forward back guest owed requests arrivals installed dropped faults values copies w =
-    let old : Destination = record node { phase = HasEnded } in
-    (w.0, still_receiving (record source { phase = Paused }) old (handled old guest owed requests arrivals installed dropped faults) Received.Ended back values w.1)
+wires_handled SourcePhase.Idle to source node forward back guest owed requests arrivals installed dropped faults values copies w = w
+wires_handled SourcePhase.Released to source node forward back guest owed requests arrivals installed dropped faults values copies w = w
+wires_handled SourcePhase.Precopy DestPhase.Idle source node forward back guest owed requests arrivals installed dropped faults values copies w = w
+wires_handled SourcePhase.Precopy DestPhase.Advised source node forward back guest owed requests arrivals installed dropped faults values copies w = w
+wires_handled SourcePhase.Precopy DestPhase.Discarding source node forward back guest owed requests arrivals installed dropped faults values copies w = w
+wires_handled SourcePhase.Precopy DestPhase.Running source node forward back guest owed requests arrivals installed dropped faults values copies w = w
+wires_handled SourcePhase.Precopy DestPhase.Paused source node forward back guest owed requests arrivals installed dropped faults values copies w = w
+wires_handled SourcePhase.Precopy DestPhase.Ended source node forward back guest owed requests arrivals installed dropped faults values copies w = w
+wires_handled SourcePhase.Stopped DestPhase.Idle source node forward back guest owed requests arrivals installed dropped faults values copies w = w
+wires_handled SourcePhase.Stopped DestPhase.Advised source node forward back guest owed requests arrivals installed dropped faults values copies w = w
+wires_handled SourcePhase.Stopped DestPhase.Discarding source node forward back guest owed requests arrivals installed dropped faults values copies w = w
+wires_handled SourcePhase.Stopped DestPhase.Running source node forward back guest owed requests arrivals installed dropped faults values copies w =
+    let old : Destination = record node { phase = DestPhase.Running } in
+    (w.0, w.1, still_flowing (record source { phase = SourcePhase.Stopped }) old (handled old guest owed requests arrivals installed dropped faults) forward values copies w.2)
+wires_handled SourcePhase.Stopped DestPhase.Paused source node forward back guest owed requests arrivals installed dropped faults values copies w = w
+wires_handled SourcePhase.Stopped DestPhase.Ended source node forward back guest owed requests arrivals installed dropped faults values copies w = w
+wires_handled SourcePhase.Paused DestPhase.Idle source node forward back guest owed requests arrivals installed dropped faults values copies w = w
+wires_handled SourcePhase.Paused DestPhase.Advised source node forward back guest owed requests arrivals installed dropped faults values copies w = w
+wires_handled SourcePhase.Paused DestPhase.Discarding source node forward back guest owed requests arrivals installed dropped faults values copies w = w
+wires_handled SourcePhase.Paused DestPhase.Running source node forward back guest owed requests arrivals installed dropped faults values copies w =
+    let old : Destination = record node { phase = DestPhase.Running } in
+    (w.0, still_receiving (record source { phase = SourcePhase.Paused }) old (handled old guest owed requests arrivals installed dropped faults) Received.Running back values w.1)
+wires_handled SourcePhase.Paused DestPhase.Paused source node forward back guest owed requests arrivals installed dropped faults values copies w = w
+wires_handled SourcePhase.Paused DestPhase.Ended source node forward back guest owed requests arrivals installed dropped faults values copies w =
+    let old : Destination = record node { phase = DestPhase.Ended } in
+    (w.0, still_receiving (record source { phase = SourcePhase.Paused }) old (handled old guest owed requests arrivals installed dropped faults) Received.Ended back values w.1)
 
 -- The invariant
 
@@ -190,7 +192,7 @@ empty-after message owed h =
     get-owed_table_after message owed page ∙ none-after message (get owed) (nothing_owed owed h) page ∙ sym (get-empty nat_cmp page))
 
 -- an event is read: the settled relation is as it was, and the owed table is what the event makes of it
-event_read : (message : Message) (cpu : ℕ) (events : List Noted) (world : World) (processors : List Processor) (faults : ℕ) →
+event_read : (message : Message) (cpu : ℕ) (events : List Noted) (world : World) (processors : List CpuState) (faults : ℕ) →
     IsKept (at_queues [] (record { message = message; cpu = cpu } ∷ events) world) → world.destination.has_run ≡ true →
     IsKept (record world { destination = handled world.destination (record (at_queues [] events world).destination.guest { processors = processors }) (owed_table_after message world.destination.owed) world.destination.requests world.destination.arrivals world.destination.installed world.destination.dropped faults })
 event_read message cpu events world processors faults kept runs =
@@ -240,7 +242,7 @@ fault_read noted faults events world held count kept runs =
     })
 
 event_in : (message : Message) (cpu : ℕ) (events : List Noted) (world : World) → IsKept (at_queues [] (record { message = message; cpu = cpu } ∷ events) world) → world.destination.has_run ≡ true →
-    IsKept (accepted (at_queues [] (record { message = message; cpu = cpu } ∷ events) world) DestRead)
+    IsKept (accepted (at_queues [] (record { message = message; cpu = cpu } ∷ events) world) Step.DestRead)
 event_in (PageFault addr write wp) cpu events world kept runs = absurd (kept.destination_events.0)
 event_in (Remap from to len) cpu events world kept runs =
     event_read (Remap from to len) cpu events world (all_woken (is_left_by (Remap from to len)) (set world.destination.guest.processors cpu (message_less (processor_at world.destination.guest.processors cpu)))) (world.destination.faults + 0) kept runs
@@ -250,14 +252,14 @@ event_in (Unmap start end) cpu events world kept runs =
     event_read (Unmap start end) cpu events world (all_woken (is_left_by (Unmap start end)) (set world.destination.guest.processors cpu (message_less (processor_at world.destination.guest.processors cpu)))) (world.destination.faults + 0) kept runs
 
 fault_in : (message : Message) (cpu : ℕ) (faults events : List Noted) (world : World) → IsKept (at_queues (record { message = message; cpu = cpu } ∷ faults) events world) → world.destination.has_run ≡ true →
-    IsKept (accepted (at_queues (record { message = message; cpu = cpu } ∷ faults) events world) DestRead)
+    IsKept (accepted (at_queues (record { message = message; cpu = cpu } ∷ faults) events world) Step.DestRead)
 fault_in (PageFault addr write wp) cpu faults events world kept runs =
     fault_read (record { message = PageFault addr write wp; cpu = cpu }) faults events world (world.destination.guest.held ++ record { page = addr / 4096; wp = wp } ∷ []) (world.destination.faults + 1) kept runs
 fault_in (Remap from to len) cpu faults events world kept runs = absurd kept.destination_faults.0
 fault_in (Remove start end) cpu faults events world kept runs = absurd kept.destination_faults.0
 fault_in (Unmap start end) cpu faults events world kept runs = absurd kept.destination_faults.0
 
-read_in : (faults events : List Noted) (world : World) → IsKept (at_queues faults events world) → world.destination.has_run ≡ true → IsKept (accepted (at_queues faults events world) DestRead)
+read_in : (faults events : List Noted) (world : World) → IsKept (at_queues faults events world) → world.destination.has_run ≡ true → IsKept (accepted (at_queues faults events world) Step.DestRead)
 read_in [] [] world kept runs = kept
 read_in [] (noted ∷ events) world kept runs = event_in noted.message noted.cpu events world kept runs
 read_in (noted ∷ faults) events world kept runs = fault_in noted.message noted.cpu faults events world kept runs
@@ -271,7 +273,7 @@ pub not_false : (b : Bool) → not b ≡ false → b ≡ true
 not_false true h = refl
 not_false false h = absurd (false≢true (sym h))
 
-pub kept-dest_read : (world : World) → IsKept world → refusal_of world DestRead ≡ None → IsKept (accepted world DestRead)
+pub kept-dest_read : (world : World) → IsKept world → refusal_of world Step.DestRead ≡ None → IsKept (accepted world Step.DestRead)
 kept-dest_read world kept none =
-    let told = first_holds_not (not world.destination.has_run) Phase _ none in
+    let told = first_holds_not (not world.destination.has_run) Refusal.Phase _ none in
     read_in world.destination.guest.space.object.faults world.destination.guest.space.object.events world kept (not_false world.destination.has_run told.0)

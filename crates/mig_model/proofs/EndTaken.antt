@@ -6,12 +6,12 @@ use Rattle.std.specs.FinMap.{get, get-empty}
 use Rattle.std.specs.FinSet.{FinSet, contains, contains-empty}
 use Rattle.std.proofs.lemmas.Bool.{false≢true}
 use Rattle.std.proofs.lemmas.Bool.Decides.{nat_tests}
+use Rattle.mig_base.specs.declared.phase.DestPhase.{DestPhase}
+use Rattle.mig_base.specs.declared.phase.SourcePhase.{SourcePhase}
 use Rattle.mig_base.proofs.PageLemmas.{same_pages}
 use Rattle.mig_model.specs.Wire.{Sent, Copy}
 use Rattle.mig_model.specs.Wire.Frame.{End, Done}
 use Rattle.mig_model.specs.Nodes.{Source, no_pages}
-use Rattle.mig_model.specs.Nodes.SourcePhase.{Idle, Stopped, Released}
-use Rattle.mig_model.specs.Nodes.DestinationPhase.{NotAdvised, Runs}
 use Rattle.mig_model.specs.Migration.{World, delivered}
 use Rattle.mig_model.specs.Invariant.{Wires, IsKept, IsFlowing, AreOf, copies_of, has_copy, flow_of, RanAt}
 use Rattle.mig_model.specs.Invariant.Flow.{Pushed, AfterEnd}
@@ -42,10 +42,10 @@ none_owed None never = refl
 none_owed (Some x) never = absurd (never x refl)
 
 pub end_taken : (epoch : ℕ) (rest : List Sent) (world : World) →
-    let old : World = at_state Stopped Runs true true (record { epoch = epoch; frame = End } ∷ rest) world in
+    let old : World = at_state SourcePhase.Stopped DestPhase.Running true true (record { epoch = epoch; frame = End } ∷ rest) world in
     world.destination.arrivals ≡ [] → IsKept old → IsKept (delivered old old.forward)
 end_taken epoch rest world free kept =
-    let old : World = at_state Stopped Runs true true (record { epoch = epoch; frame = End } ∷ rest) world in
+    let old : World = at_state SourcePhase.Stopped DestPhase.Running true true (record { epoch = epoch; frame = End } ∷ rest) world in
     let new : World = delivered old old.forward in
     let w = kept.wires refl in
     let last = nothing_behind rest (flow_of old.source) w.0 in
@@ -57,11 +57,11 @@ end_taken epoch rest world free kept =
     ∙ sym (get-empty nat_cmp page)) in
     let destination_phase : RanAt new.destination.phase new.destination.has_run new.destination.ended = refl in
     let ended_after_run : new.destination.ended ≡ true → new.destination.has_run ≡ true = λ h. refl in
-    let kept_advised : new.destination.phase ≡ NotAdvised → new.destination.kept ≡ finmap.empty = λ h. cc in
+    let kept_advised : new.destination.phase ≡ DestPhase.Idle → new.destination.kept ≡ finmap.empty = λ h. cc in
     let ended_empty : new.destination.ended ≡ true → (new.destination.owed ≡ finmap.empty) × (new.destination.arrivals ≡ []) = λ h. (no_pair, free) in
     let wires : new.up ≡ true → Wires new.source new.destination new.forward new.back =
     λ u. (last.0, are_requests_and_done-push world.back (record { epoch = world.destination.epoch; frame = Done }) refl w.1, ended) in
-    let down : new.up ≡ false → (new.forward ≡ []) × (new.back ≡ []) × (new.source.phase ≢ Idle) × (new.source.phase ≢ Released) = λ h. absurd (false≢true (sym h)) in
+    let down : new.up ≡ false → (new.forward ≡ []) × (new.back ≡ []) × (new.source.phase ≢ SourcePhase.Idle) × (new.source.phase ≢ SourcePhase.Released) = λ h. absurd (false≢true (sym h)) in
     let forward_epoch : AreOf new.source.epoch new.forward = kept.forward_epoch.1 in
     let back_epoch : AreOf new.source.epoch new.back = AreOf-append world.source.epoch world.back (record { epoch = world.destination.epoch; frame = Done } ∷ []) kept.back_epoch (kept.epoch_at refl, tt) in
     assumption

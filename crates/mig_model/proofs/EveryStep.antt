@@ -1,10 +1,11 @@
 -- What every world of the whole migration keeps is kept by every step, and by every list of them.
 use Rattle.std.proofs.Common.{◌≡◌, ℕ, ◌||◌, Bool, true, false, not, Option, Some, None, List, [], ◌∷◌, refl, sym, subst, is_some}
+use Rattle.mig_base.specs.declared.refusal.Refusal.{Refusal}
+use Rattle.mig_base.specs.declared.schedule.Side.{Side}
+use Rattle.mig_base.specs.declared.schedule.Step.{Step}
 use Rattle.mig_base.specs.declared.command.Command.{Command}
 use Rattle.mig_model.specs.Guest.{processor_at, outstanding}
-use Rattle.mig_model.specs.Migration.{World, Step, Refusal, first_world_with, reasons, refusal_of, accepted, next, next_by, after_steps, guest_of, command_tried, retried, runs}
-use Rattle.mig_model.specs.Migration.Step.{Issue, Retry, Start, Round, Send, SourceRead, SourceAct, Switch, Deliver, DeliverBack, DestRead, DestAct, Install, Push, Serve, SendEnd, Break, Notice, Reconnect}
-use Rattle.mig_model.specs.Migration.Side.{AtSource, AtDestination}
+use Rattle.mig_model.specs.Migration.{World, first_world_with, reasons, refusal_of, accepted, next, next_by, after_steps, guest_of, command_tried, retried, runs}
 use Rattle.mig_model.specs.Invariant.{IsKept}
 use Rattle.mig_model.specs.Promises.{IsReached, IsComplete}
 use Rattle.mig_model.proofs.Breaking.{none_applies, kept-break, kept-notice_source, kept-notice_destination, kept-reconnect}
@@ -42,28 +43,28 @@ retry_by None world cpu some may kept = none_absurd some
 retry_by (Some command) world cpu some may kept = kept-command world cpu command may kept
 
 pub kept-accepted : (world : World) (step : Step) → IsKept world → refusal_of world step ≡ None → IsKept (accepted world step)
-kept-accepted world (Issue cpu command) kept free = let told = none_applies (reasons world (Issue cpu command)) free in kept-command world cpu command (not_none _ told.1.1.0) kept
-kept-accepted world (Retry cpu) kept free =
-    let told = none_applies (reasons world (Retry cpu)) free in
+kept-accepted world (Step.Issue cpu command) kept free = let told = none_applies (reasons world (Step.Issue cpu command)) free in kept-command world cpu command (not_none _ told.1.1.0) kept
+kept-accepted world (Step.Retry cpu) kept free =
+    let told = none_applies (reasons world (Step.Retry cpu)) free in
     retry_by (outstanding (processor_at (guest_of world).processors cpu)) world cpu (not_none _ told.1.0) (not_none _ told.1.1.1.0) kept
-kept-accepted world Start kept free = kept-start world kept free
-kept-accepted world Round kept free = kept-round world kept free
-kept-accepted world Send kept free = kept-send world kept free
-kept-accepted world SourceRead kept free = kept-source_read world kept free
-kept-accepted world SourceAct kept free = kept-source_act world kept free
-kept-accepted world Switch kept free = kept-switch world kept free
-kept-accepted world Deliver kept free = kept-deliver world kept free
-kept-accepted world DeliverBack kept free = kept-deliver_back world kept free
-kept-accepted world DestRead kept free = kept-dest_read world kept free
-kept-accepted world DestAct kept free = kept-dest_act world kept free
-kept-accepted world Install kept free = kept-install world kept free
-kept-accepted world (Push epoch page) kept free = kept-push world epoch page kept free
-kept-accepted world Serve kept free = kept-serve world kept free
-kept-accepted world SendEnd kept free = kept-send_end world kept free
-kept-accepted world Break kept free = kept-break world kept free
-kept-accepted world (Notice AtSource) kept free = kept-notice_source world kept free
-kept-accepted world (Notice AtDestination) kept free = kept-notice_destination world kept free
-kept-accepted world Reconnect kept free = kept-reconnect world kept free
+kept-accepted world Step.Start kept free = kept-start world kept free
+kept-accepted world Step.Round kept free = kept-round world kept free
+kept-accepted world Step.Send kept free = kept-send world kept free
+kept-accepted world Step.SourceRead kept free = kept-source_read world kept free
+kept-accepted world Step.SourceAct kept free = kept-source_act world kept free
+kept-accepted world Step.Switch kept free = kept-switch world kept free
+kept-accepted world Step.Deliver kept free = kept-deliver world kept free
+kept-accepted world Step.DeliverBack kept free = kept-deliver_back world kept free
+kept-accepted world Step.DestRead kept free = kept-dest_read world kept free
+kept-accepted world Step.DestAct kept free = kept-dest_act world kept free
+kept-accepted world Step.Install kept free = kept-install world kept free
+kept-accepted world (Step.Push ticket) kept free = kept-push world ticket kept free
+kept-accepted world Step.Serve kept free = kept-serve world kept free
+kept-accepted world Step.End kept free = kept-send_end world kept free
+kept-accepted world Step.Break kept free = kept-break world kept free
+kept-accepted world (Step.Notice Side.Source) kept free = kept-notice_source world kept free
+kept-accepted world (Step.Notice Side.Destination) kept free = kept-notice_destination world kept free
+kept-accepted world Step.Resume kept free = kept-reconnect world kept free
 
 -- what holds of the old world, and of the new one where nothing refuses the step
 pub by_refusal : (P : World → Type 0) (refusal : Option Refusal) (old new : World) → P old → (refusal ≡ None → P new) → P (next_by refusal old new)

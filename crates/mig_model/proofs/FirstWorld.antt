@@ -4,10 +4,10 @@ use Rattle.std.specs.Ordering.{nat_cmp}
 use Rattle.std.specs.FinMap.{get, empty, get-empty}
 use Rattle.std.specs.FinSet.{contains}
 use Rattle.std.proofs.lemmas.Bool.{false≢true}
+use Rattle.mig_base.specs.declared.phase.SourcePhase.{SourcePhase}
 use Rattle.mig_model.specs.Space.{fresh_space}
 use Rattle.mig_model.specs.Ioctls.{all_features}
 use Rattle.mig_model.specs.Nodes.{no_pages}
-use Rattle.mig_model.specs.Nodes.SourcePhase.{Idle, Paused, Released}
 use Rattle.mig_model.specs.Migration.{first_world_with}
 use Rattle.mig_model.specs.Invariant.{IsKept}
 use Rattle.mig_model.proofs.HostLemmas.{memory-empty}
@@ -24,10 +24,10 @@ no_pair page x h = absurd (none_is_some x (sym (get-empty nat_cmp page) ∙ h))
 no_page : {A : Type 0} (page : ℕ) → contains no_pages page ≡ true → A
 no_page page h = absurd (false≢true (sym (no_member page) ∙ h))
 
-idle_not_paused : Idle ≢ Paused
+idle_not_paused : SourcePhase.Idle ≢ SourcePhase.Paused
 idle_not_paused h = cc
 
-idle_not_released : Idle ≢ Released
+idle_not_released : SourcePhase.Idle ≢ SourcePhase.Released
 idle_not_released h = cc
 
 pub kept-first : (cpus epoch rounds : ℕ) → IsKept (first_world_with cpus epoch rounds)

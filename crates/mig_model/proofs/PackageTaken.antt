@@ -7,6 +7,8 @@ use Rattle.std.specs.FinMap.{FinMap, get, contains_key, get-empty}
 use Rattle.std.specs.FinSet.{FinSet, contains, contains-empty}
 use Rattle.std.proofs.lemmas.Bool.{false≢true}
 use Rattle.std.proofs.lemmas.Bool.Decides.{nat_tests}
+use Rattle.mig_base.specs.declared.phase.DestPhase.{DestPhase}
+use Rattle.mig_base.specs.declared.phase.SourcePhase.{SourcePhase}
 use Rattle.mig_base.specs.declared.TheConstants.{HIGH_PAGE}
 use Rattle.mig_base.specs.declared.Prot.{Prot}
 use Rattle.mig_base.specs.declared.command.Command.{Command}
@@ -20,8 +22,6 @@ use Rattle.mig_model.specs.Guest.{is_present}
 use Rattle.mig_model.specs.Wire.{Sent}
 use Rattle.mig_model.specs.Wire.Frame.{Package}
 use Rattle.mig_model.specs.Nodes.{Source, no_pages, assembled, own_places, settled, space_of, commands_of}
-use Rattle.mig_model.specs.Nodes.SourcePhase.{Idle, Stopped, Released}
-use Rattle.mig_model.specs.Nodes.DestinationPhase.{NotAdvised, Discarding}
 use Rattle.mig_model.specs.Migration.{World, delivered}
 use Rattle.mig_model.specs.Invariant.{Wires, IsKept, IsSwitching, AreOf, AreRight, AreFaults, AreFaithful, copies_of, has_copy, RanAt, are_requests, seen_host, seen_bytes, current_host}
 use Rattle.mig_model.proofs.FirstFrame.{at_state, none_some}
@@ -188,10 +188,10 @@ plan_of source kept rest epoch areas owed commands w =
     }
 
 pub package_taken : (epoch : ℕ) (areas : FinMap nat_cmp Prot) (owed : FinSet nat_cmp) (commands : List (Option Command)) (rest : List Sent) (world : World) →
-    let old : World = at_state Stopped Discarding false true (record { epoch = epoch; frame = Package areas owed commands } ∷ rest) world in
+    let old : World = at_state SourcePhase.Stopped DestPhase.Discarding false true (record { epoch = epoch; frame = Package areas owed commands } ∷ rest) world in
     IsKept old → IsKept (delivered old old.forward)
 package_taken epoch areas owed commands rest world kept =
-    let old : World = at_state Stopped Discarding false true (record { epoch = epoch; frame = Package areas owed commands } ∷ rest) world in
+    let old : World = at_state SourcePhase.Stopped DestPhase.Discarding false true (record { epoch = epoch; frame = Package areas owed commands } ∷ rest) world in
     let new : World = delivered old old.forward in
     let host : Host = world.source.guest.space.host in
     let pages : FinMap nat_cmp (List ℕ) = world.destination.kept in
@@ -210,7 +210,7 @@ package_taken epoch areas owed commands rest world kept =
     let ended_after_run : new.destination.ended ≡ true → new.destination.has_run ≡ true = λ h. refl in
     let not_run : new.destination.has_run ≡ false → (new.destination.owed ≡ finmap.empty) × (new.destination.guest.space ≡ fresh_space) × (new.destination.arrivals ≡ []) = λ h. absurd (false≢true (sym h)) in
     let kept_none : new.destination.has_run ≡ true → new.destination.kept ≡ finmap.empty = λ h. refl in
-    let kept_advised : new.destination.phase ≡ NotAdvised → new.destination.kept ≡ finmap.empty = λ h. refl in
+    let kept_advised : new.destination.phase ≡ DestPhase.Idle → new.destination.kept ≡ finmap.empty = λ h. refl in
     let kept_whole : (page : ℕ) (bytes : List ℕ) → get new.destination.kept page ≡ Some bytes → length bytes ≡ 4096 = λ page bytes h. absurd (none_some bytes (sym (get-empty nat_cmp page) ∙ h)) in
     let one_to_one : (page other origin : ℕ) → get new.destination.owed page ≡ Some origin → get new.destination.owed other ≡ Some origin → page ≡ other =
     λ page other origin h g. sym (own_place owed page origin h).2 ∙ (own_place owed other origin g).2 in
@@ -239,6 +239,6 @@ package_taken epoch areas owed commands rest world kept =
             (ap (λ q. contains world.source.remaining q || has_copy (copies_of rest) q) own.2 ∙ plan.whereabouts page own.1);
       },
     ) in
-    let down : new.up ≡ false → (new.forward ≡ []) × (new.back ≡ []) × (new.source.phase ≢ Idle) × (new.source.phase ≢ Released) = λ h. absurd (false≢true (sym h)) in
+    let down : new.up ≡ false → (new.forward ≡ []) × (new.back ≡ []) × (new.source.phase ≢ SourcePhase.Idle) × (new.source.phase ≢ SourcePhase.Released) = λ h. absurd (false≢true (sym h)) in
     let forward_epoch : AreOf new.source.epoch new.forward = kept.forward_epoch.1 in
     assumption

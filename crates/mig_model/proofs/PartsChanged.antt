@@ -2,6 +2,11 @@
 use Rattle.std.proofs.Common.{◌≡◌, ℕ, ◌+◌, Bool, true, false, Option, Some, None, List, [], ◌∷◌, ◌++◌, refl, sym, ◌∙◌}
 use Rattle.std.proofs.lemmas.Bool.{false≢true}
 use Rattle.std.proofs.lemmas.List.{append_assoc}
+use Rattle.mig_base.specs.declared.phase.DestPhase.{DestPhase}
+use Rattle.mig_base.specs.declared.phase.SourcePhase.{SourcePhase}
+use Rattle.mig_base.specs.declared.refusal.Refusal.{Refusal}
+use Rattle.mig_base.specs.declared.schedule.Side.{Side}
+use Rattle.mig_base.specs.declared.schedule.Step.{Step}
 use Rattle.mig_base.specs.declared.command.Command.{Command}
 use Rattle.mig_model.specs.World.{is_access}
 use Rattle.mig_model.specs.Userfault.{Noted, next_message}
@@ -9,11 +14,7 @@ use Rattle.mig_model.specs.Guest.{Guest, Fault, tried, outstanding, processor_at
 use Rattle.mig_model.specs.Wire.{Frame, Sent, page_frame, sending, sending_if}
 use Rattle.mig_model.specs.Wire.Frame.{Advise, End, Resume}
 use Rattle.mig_model.specs.Nodes.{Source, Destination, space_of, bytes_of, least_of, source_started, page_sent, switch_made, switch_frames, page_pushed, source_took, source_answers}
-use Rattle.mig_model.specs.Nodes.SourcePhase.{Paused}
-use Rattle.mig_model.specs.Nodes.DestinationPhase.{Interrupted}
-use Rattle.mig_model.specs.Migration.{World, Step, Refusal, refusal_of, accepted, next, next_by, guest_of, with_guest_by, command_tried, retried, source_sends, sent_by, read_by_source, acted_by_source, delivered, delivered_back, read_by_destination, acted_by_destination}
-use Rattle.mig_model.specs.Migration.Step.{Issue, Retry, Start, Round, Send, SourceRead, SourceAct, Switch, Deliver, DeliverBack, DestRead, DestAct, Install, Push, Serve, SendEnd, Break, Notice, Reconnect}
-use Rattle.mig_model.specs.Migration.Side.{AtSource, AtDestination}
+use Rattle.mig_model.specs.Migration.{World, refusal_of, accepted, next, next_by, guest_of, with_guest_by, command_tried, retried, source_sends, sent_by, read_by_source, acted_by_source, delivered, delivered_back, read_by_destination, acted_by_destination}
 use Rattle.mig_model.specs.Parts.{Grows, Shrinks, GuestAlone, SourceAlone, DestinationAlone, Delivers, DeliversBack, ChangesParts}
 use Rattle.mig_model.proofs.Stopping.{append-nil}
 
@@ -115,40 +116,40 @@ delivered_back_one world (sent ∷ rest) is = record { destination = refl; forwa
 
 -- what an accepted step changes
 accepted_alone : (world : World) (step : Step) → ChangesParts world step (accepted world step)
-accepted_alone world (Issue cpu command) = guest_alone world cpu command
-accepted_alone world (Retry cpu) = retried_alone world cpu (outstanding (processor_at (guest_of world).processors cpu))
-accepted_alone world Start = sending_source world (source_started world.source) (Advise ∷ [])
-accepted_alone world Round = quiet_source world _
-accepted_alone world Send = sent_alone world (least_of world.source.todo)
-accepted_alone world SourceRead = read_alone world (next_message (space_of world.source).object)
-accepted_alone world SourceAct = acted_alone world world.source.guest.held
-accepted_alone world Switch = sending_source world (switch_made world.source) (switch_frames world.source)
-accepted_alone world Deliver = delivered_one world world.forward refl
-accepted_alone world DeliverBack = delivered_back_one world world.back refl
-accepted_alone world DestRead = destination_read_alone world (next_message world.destination.guest.space.object)
-accepted_alone world DestAct = destination_acted_alone world world.destination.guest.held
-accepted_alone world Install = quiet_destination world _
-accepted_alone world (Push epoch page) = sending_source world (page_pushed world.source page) (page_frame page (bytes_of world.source page) ∷ [])
-accepted_alone world Serve = quiet_source world _
-accepted_alone world SendEnd = sending_source world (record world.source { ended = world.source.epoch }) (End ∷ [])
-accepted_alone world Break = record { source = refl; destination = refl; transcript = refl }
-accepted_alone world (Notice AtSource) = record { phase = Paused; is = refl }
-accepted_alone world (Notice AtDestination) = record { phase = Interrupted; is = refl }
-accepted_alone world Reconnect = record { source = refl; destination = refl; forward = grows_by world.forward (world.source.epoch + 1) (Resume ∷ []); back = refl; transcript = refl }
+accepted_alone world (Step.Issue cpu command) = guest_alone world cpu command
+accepted_alone world (Step.Retry cpu) = retried_alone world cpu (outstanding (processor_at (guest_of world).processors cpu))
+accepted_alone world Step.Start = sending_source world (source_started world.source) (Advise ∷ [])
+accepted_alone world Step.Round = quiet_source world _
+accepted_alone world Step.Send = sent_alone world (least_of world.source.todo)
+accepted_alone world Step.SourceRead = read_alone world (next_message (space_of world.source).object)
+accepted_alone world Step.SourceAct = acted_alone world world.source.guest.held
+accepted_alone world Step.Switch = sending_source world (switch_made world.source) (switch_frames world.source)
+accepted_alone world Step.Deliver = delivered_one world world.forward refl
+accepted_alone world Step.DeliverBack = delivered_back_one world world.back refl
+accepted_alone world Step.DestRead = destination_read_alone world (next_message world.destination.guest.space.object)
+accepted_alone world Step.DestAct = destination_acted_alone world world.destination.guest.held
+accepted_alone world Step.Install = quiet_destination world _
+accepted_alone world (Step.Push ticket) = sending_source world (page_pushed world.source ticket.page) (page_frame ticket.page (bytes_of world.source ticket.page) ∷ [])
+accepted_alone world Step.Serve = quiet_source world _
+accepted_alone world Step.End = sending_source world (record world.source { ended = world.source.epoch }) (End ∷ [])
+accepted_alone world Step.Break = record { source = refl; destination = refl; transcript = refl }
+accepted_alone world (Step.Notice Side.Source) = record { phase = SourcePhase.Paused; is = refl }
+accepted_alone world (Step.Notice Side.Destination) = record { phase = DestPhase.Paused; is = refl }
+accepted_alone world Step.Resume = record { source = refl; destination = refl; forward = grows_by world.forward (world.source.epoch + 1) (Resume ∷ []); back = refl; transcript = refl }
 
 -- a refused step changes nothing
 refused_alone : (world : World) (step : Step) → ChangesParts world step world
-refused_alone world (Issue cpu command) = guest_kept world
-refused_alone world (Retry cpu) = guest_kept world
-refused_alone world Deliver = delivered_none world
-refused_alone world DeliverBack = record { destination = refl; forward = as_it_was world.forward; back = none_taken world.back; up = refl; transcript = refl }
-refused_alone world DestRead = destination_kept world
-refused_alone world DestAct = destination_kept world
-refused_alone world Install = destination_kept world
-refused_alone world Break = record { source = refl; destination = refl; transcript = refl }
-refused_alone world (Notice AtSource) = record { phase = world.source.phase; is = refl }
-refused_alone world (Notice AtDestination) = record { phase = world.destination.phase; is = refl }
-refused_alone world Reconnect = record { source = refl; destination = refl; forward = as_it_was world.forward; back = refl; transcript = refl }
+refused_alone world (Step.Issue cpu command) = guest_kept world
+refused_alone world (Step.Retry cpu) = guest_kept world
+refused_alone world Step.Deliver = delivered_none world
+refused_alone world Step.DeliverBack = record { destination = refl; forward = as_it_was world.forward; back = none_taken world.back; up = refl; transcript = refl }
+refused_alone world Step.DestRead = destination_kept world
+refused_alone world Step.DestAct = destination_kept world
+refused_alone world Step.Install = destination_kept world
+refused_alone world Step.Break = record { source = refl; destination = refl; transcript = refl }
+refused_alone world (Step.Notice Side.Source) = record { phase = world.source.phase; is = refl }
+refused_alone world (Step.Notice Side.Destination) = record { phase = world.destination.phase; is = refl }
+refused_alone world Step.Resume = record { source = refl; destination = refl; forward = as_it_was world.forward; back = refl; transcript = refl }
 refused_alone world _ = source_kept world
 
 alone_by : (refusal : Option Refusal) (world new : World) (step : Step) → ChangesParts world step new → ChangesParts world step (next_by refusal world new)

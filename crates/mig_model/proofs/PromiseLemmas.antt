@@ -6,6 +6,9 @@ use Rattle.std.specs.FinMap.{FinMap, get, get-empty}
 use Rattle.std.specs.FinSet.{contains}
 use Rattle.std.proofs.lemmas.Bool.Decides.{nat_tests}
 use Rattle.std.proofs.lemmas.Bool.{false≢true}
+use Rattle.mig_base.specs.declared.phase.DestPhase.{DestPhase}
+use Rattle.mig_base.specs.declared.phase.Received.{Received}
+use Rattle.mig_base.specs.declared.phase.SourcePhase.{SourcePhase}
 use Rattle.mig_base.specs.declared.TheConstants.{HIGH_PAGE}
 use Rattle.mig_base.specs.declared.message.Message.{Message}
 use Rattle.mig_base.specs.declared.message.Message.TheVariants.{PageFault, Remap, Remove, Unmap}
@@ -13,12 +16,9 @@ use Rattle.mig_base.specs.Pages.{map_below}
 use Rattle.mig_base.proofs.PageLemmas.{same_pages, get-map_below}
 use Rattle.mig_model.specs.Host.{Host, memory, IsSound}
 use Rattle.mig_model.specs.Userfault.{Noted}
-use Rattle.mig_model.specs.Wire.Received.{Running}
 use Rattle.mig_model.specs.Guest.{Fault, is_present}
-use Rattle.mig_model.specs.Nodes.{SourcePhase, DestinationPhase, is_released, is_stopped, is_precopy, is_source_paused, is_running, space_of, source_act, source_act_by, destination_act, destination_act_by, owed_after, settled, settled_by}
+use Rattle.mig_model.specs.Nodes.{is_released, is_stopped, is_precopy, is_source_paused, is_running, space_of, source_act, source_act_by, destination_act, destination_act_by, owed_after, settled, settled_by}
 use Rattle.mig_model.specs.Nodes.Act.{Zeroed}
-use Rattle.mig_model.specs.Nodes.SourcePhase.{Idle, Precopy, Stopped, Paused, Released}
-use Rattle.mig_model.specs.Nodes.DestinationPhase.{NotAdvised, Advised, Discarding, Runs, Interrupted, HasEnded}
 use Rattle.mig_model.specs.Migration.{World}
 use Rattle.mig_model.specs.Invariant.{IsKept, IsPrecopying, IsSwitching, IsReceiving, RanAt, seen_bytes, seen_host, current_by, copies_of, has_copy}
 use Rattle.mig_model.specs.Promises.{IsComplete, IsAlone, ArePaired, AreUnderWay}
@@ -71,11 +71,11 @@ up_or_down : (up : Bool) → (up ≡ false → ⊥) → up ≡ true
 up_or_down true h = refl
 up_or_down false h = absurd (h refl)
 
-ended_told : (phase : DestinationPhase) (ran ended : Bool) → phase ≡ HasEnded → RanAt phase ran ended → ended ≡ true
+ended_told : (phase : DestPhase) (ran ended : Bool) → phase ≡ DestPhase.Ended → RanAt phase ran ended → ended ≡ true
 ended_told phase ran ended is told = subst (λ p. RanAt p ran ended) is told
 
 complete_in : (from : SourcePhase) (world : World) → is_released from ≡ true → IsKept (in_phases from world.destination.phase world) → IsAlone (in_phases from world.destination.phase world)
-complete_in Released world released kept =
+complete_in SourcePhase.Released world released kept =
     let up = up_or_down world.up (λ h. (kept.down h).3 refl) in
     let wires = kept.wires up in
     let ended = ended_told world.destination.phase world.destination.has_run world.destination.ended wires.0 kept.destination_phase in
@@ -95,10 +95,10 @@ complete_in Released world released kept =
       none_settled = none;
       none_arrived = empty_now.1;
     }
-complete_in Idle world released kept = none_absurd released
-complete_in Precopy world released kept = none_absurd released
-complete_in Stopped world released kept = none_absurd released
-complete_in Paused world released kept = none_absurd released
+complete_in SourcePhase.Idle world released kept = none_absurd released
+complete_in SourcePhase.Precopy world released kept = none_absurd released
+complete_in SourcePhase.Stopped world released kept = none_absurd released
+complete_in SourcePhase.Paused world released kept = none_absurd released
 
 pub is_alone : (world : World) → IsKept world → IsComplete world → IsAlone world
 is_alone world kept complete = complete_in world.source.phase world complete kept
@@ -129,18 +129,18 @@ are_paired world kept =
 none_some : {A : Type 0} (x : A) → None ≡ Some x → ⊥
 none_some x h = cc
 
-whereabouts_in : (from : SourcePhase) (to : DestinationPhase) (world : World) → is_stopped from ≡ true → world.destination.has_run ≡ true → world.up ≡ true → IsKept (in_phases from to world) → (page origin : ℕ) → get world.destination.owed page ≡ Some origin →
+whereabouts_in : (from : SourcePhase) (to : DestPhase) (world : World) → is_stopped from ≡ true → world.destination.has_run ≡ true → world.up ≡ true → IsKept (in_phases from to world) → (page origin : ℕ) → get world.destination.owed page ≡ Some origin →
     (contains world.source.remaining origin || has_copy (copies_of world.forward) origin || has_copy world.destination.arrivals origin) ≡ true
-whereabouts_in Stopped Runs world stopped ran up kept page origin owed = (kept.wires up).2.whereabouts page origin owed
-whereabouts_in Stopped NotAdvised world stopped ran up kept page origin owed = absurd (false≢true (sym kept.destination_phase ∙ ran))
-whereabouts_in Stopped Advised world stopped ran up kept page origin owed = absurd (false≢true (sym kept.destination_phase ∙ ran))
-whereabouts_in Stopped Discarding world stopped ran up kept page origin owed = absurd (false≢true (sym kept.destination_phase ∙ ran))
-whereabouts_in Stopped Interrupted world stopped ran up kept page origin owed = absurd (kept.wires up)
-whereabouts_in Stopped HasEnded world stopped ran up kept page origin owed = absurd (none_some origin (sym (ap (λ m. get m page) (kept.ended_empty kept.destination_phase).0 ∙ get-empty nat_cmp page) ∙ owed))
-whereabouts_in Idle to world stopped ran up kept page origin owed = none_absurd stopped
-whereabouts_in Precopy to world stopped ran up kept page origin owed = none_absurd stopped
-whereabouts_in Paused to world stopped ran up kept page origin owed = none_absurd stopped
-whereabouts_in Released to world stopped ran up kept page origin owed = none_absurd stopped
+whereabouts_in SourcePhase.Stopped DestPhase.Running world stopped ran up kept page origin owed = (kept.wires up).2.whereabouts page origin owed
+whereabouts_in SourcePhase.Stopped DestPhase.Idle world stopped ran up kept page origin owed = absurd (false≢true (sym kept.destination_phase ∙ ran))
+whereabouts_in SourcePhase.Stopped DestPhase.Advised world stopped ran up kept page origin owed = absurd (false≢true (sym kept.destination_phase ∙ ran))
+whereabouts_in SourcePhase.Stopped DestPhase.Discarding world stopped ran up kept page origin owed = absurd (false≢true (sym kept.destination_phase ∙ ran))
+whereabouts_in SourcePhase.Stopped DestPhase.Paused world stopped ran up kept page origin owed = absurd (kept.wires up)
+whereabouts_in SourcePhase.Stopped DestPhase.Ended world stopped ran up kept page origin owed = absurd (none_some origin (sym (ap (λ m. get m page) (kept.ended_empty kept.destination_phase).0 ∙ get-empty nat_cmp page) ∙ owed))
+whereabouts_in SourcePhase.Idle to world stopped ran up kept page origin owed = none_absurd stopped
+whereabouts_in SourcePhase.Precopy to world stopped ran up kept page origin owed = none_absurd stopped
+whereabouts_in SourcePhase.Paused to world stopped ran up kept page origin owed = none_absurd stopped
+whereabouts_in SourcePhase.Released to world stopped ran up kept page origin owed = none_absurd stopped
 
 pub are_under_way : (world : World) → IsKept world → world.destination.has_run ≡ true → AreUnderWay world
 are_under_way world kept ran =
@@ -152,50 +152,50 @@ are_under_way world kept ran =
 
 -- What is in flight
 
-precopying_in : (from : SourcePhase) (to : DestinationPhase) (world : World) → is_precopy from ≡ true → world.up ≡ true → IsKept (in_phases from to world) → IsPrecopying (in_phases from to world).source world.destination.kept world.forward
-precopying_in Precopy NotAdvised world precopy up kept = (kept.wires up).2
-precopying_in Precopy Advised world precopy up kept = (kept.wires up).2
-precopying_in Precopy Discarding world precopy up kept = absurd (kept.wires up)
-precopying_in Precopy Runs world precopy up kept = absurd (kept.wires up)
-precopying_in Precopy Interrupted world precopy up kept = absurd (kept.wires up)
-precopying_in Precopy HasEnded world precopy up kept = absurd (kept.wires up)
-precopying_in Idle to world precopy up kept = none_absurd precopy
-precopying_in Stopped to world precopy up kept = none_absurd precopy
-precopying_in Paused to world precopy up kept = none_absurd precopy
-precopying_in Released to world precopy up kept = none_absurd precopy
+precopying_in : (from : SourcePhase) (to : DestPhase) (world : World) → is_precopy from ≡ true → world.up ≡ true → IsKept (in_phases from to world) → IsPrecopying (in_phases from to world).source world.destination.kept world.forward
+precopying_in SourcePhase.Precopy DestPhase.Idle world precopy up kept = (kept.wires up).2
+precopying_in SourcePhase.Precopy DestPhase.Advised world precopy up kept = (kept.wires up).2
+precopying_in SourcePhase.Precopy DestPhase.Discarding world precopy up kept = absurd (kept.wires up)
+precopying_in SourcePhase.Precopy DestPhase.Running world precopy up kept = absurd (kept.wires up)
+precopying_in SourcePhase.Precopy DestPhase.Paused world precopy up kept = absurd (kept.wires up)
+precopying_in SourcePhase.Precopy DestPhase.Ended world precopy up kept = absurd (kept.wires up)
+precopying_in SourcePhase.Idle to world precopy up kept = none_absurd precopy
+precopying_in SourcePhase.Stopped to world precopy up kept = none_absurd precopy
+precopying_in SourcePhase.Paused to world precopy up kept = none_absurd precopy
+precopying_in SourcePhase.Released to world precopy up kept = none_absurd precopy
 
 pub is_precopying : (world : World) → IsKept world → world.up ≡ true → is_precopy world.source.phase ≡ true → IsPrecopying world.source world.destination.kept world.forward
 is_precopying world kept up precopy = precopying_in world.source.phase world.destination.phase world precopy up kept
 
-switching_in : (from : SourcePhase) (to : DestinationPhase) (world : World) → is_stopped from ≡ true → world.up ≡ true → world.destination.has_run ≡ false → IsKept (in_phases from to world) → IsSwitching (in_phases from to world).source world.destination.kept world.forward
-switching_in Stopped NotAdvised world stopped up ran kept = (kept.wires up).2
-switching_in Stopped Advised world stopped up ran kept = (kept.wires up).2
-switching_in Stopped Discarding world stopped up ran kept = (kept.wires up).2
-switching_in Stopped Runs world stopped up ran kept = absurd (false≢true (sym ran ∙ kept.destination_phase.0))
-switching_in Stopped Interrupted world stopped up ran kept = absurd (kept.wires up)
-switching_in Stopped HasEnded world stopped up ran kept = absurd (false≢true (sym ran ∙ kept.ended_after_run kept.destination_phase))
-switching_in Idle to world stopped up ran kept = none_absurd stopped
-switching_in Precopy to world stopped up ran kept = none_absurd stopped
-switching_in Paused to world stopped up ran kept = none_absurd stopped
-switching_in Released to world stopped up ran kept = none_absurd stopped
+switching_in : (from : SourcePhase) (to : DestPhase) (world : World) → is_stopped from ≡ true → world.up ≡ true → world.destination.has_run ≡ false → IsKept (in_phases from to world) → IsSwitching (in_phases from to world).source world.destination.kept world.forward
+switching_in SourcePhase.Stopped DestPhase.Idle world stopped up ran kept = (kept.wires up).2
+switching_in SourcePhase.Stopped DestPhase.Advised world stopped up ran kept = (kept.wires up).2
+switching_in SourcePhase.Stopped DestPhase.Discarding world stopped up ran kept = (kept.wires up).2
+switching_in SourcePhase.Stopped DestPhase.Running world stopped up ran kept = absurd (false≢true (sym ran ∙ kept.destination_phase.0))
+switching_in SourcePhase.Stopped DestPhase.Paused world stopped up ran kept = absurd (kept.wires up)
+switching_in SourcePhase.Stopped DestPhase.Ended world stopped up ran kept = absurd (false≢true (sym ran ∙ kept.ended_after_run kept.destination_phase))
+switching_in SourcePhase.Idle to world stopped up ran kept = none_absurd stopped
+switching_in SourcePhase.Precopy to world stopped up ran kept = none_absurd stopped
+switching_in SourcePhase.Paused to world stopped up ran kept = none_absurd stopped
+switching_in SourcePhase.Released to world stopped up ran kept = none_absurd stopped
 
 pub is_switching : (world : World) → IsKept world → world.up ≡ true → is_stopped world.source.phase ≡ true → world.destination.has_run ≡ false → IsSwitching world.source world.destination.kept world.forward
 is_switching world kept up stopped ran = switching_in world.source.phase world.destination.phase world stopped up ran kept
 
-receiving_in : (from : SourcePhase) (to : DestinationPhase) (world : World) → is_source_paused from ≡ true → is_running to ≡ true → world.up ≡ true → IsKept (in_phases from to world) →
-    IsReceiving (in_phases from to world).source (in_phases from to world).destination Running world.back
-receiving_in Paused Runs world paused runs up kept = (kept.wires up).1
-receiving_in Paused NotAdvised world paused runs up kept = none_absurd runs
-receiving_in Paused Advised world paused runs up kept = none_absurd runs
-receiving_in Paused Discarding world paused runs up kept = none_absurd runs
-receiving_in Paused Interrupted world paused runs up kept = none_absurd runs
-receiving_in Paused HasEnded world paused runs up kept = none_absurd runs
-receiving_in Idle to world paused runs up kept = none_absurd paused
-receiving_in Precopy to world paused runs up kept = none_absurd paused
-receiving_in Stopped to world paused runs up kept = none_absurd paused
-receiving_in Released to world paused runs up kept = none_absurd paused
+receiving_in : (from : SourcePhase) (to : DestPhase) (world : World) → is_source_paused from ≡ true → is_running to ≡ true → world.up ≡ true → IsKept (in_phases from to world) →
+    IsReceiving (in_phases from to world).source (in_phases from to world).destination Received.Running world.back
+receiving_in SourcePhase.Paused DestPhase.Running world paused runs up kept = (kept.wires up).1
+receiving_in SourcePhase.Paused DestPhase.Idle world paused runs up kept = none_absurd runs
+receiving_in SourcePhase.Paused DestPhase.Advised world paused runs up kept = none_absurd runs
+receiving_in SourcePhase.Paused DestPhase.Discarding world paused runs up kept = none_absurd runs
+receiving_in SourcePhase.Paused DestPhase.Paused world paused runs up kept = none_absurd runs
+receiving_in SourcePhase.Paused DestPhase.Ended world paused runs up kept = none_absurd runs
+receiving_in SourcePhase.Idle to world paused runs up kept = none_absurd paused
+receiving_in SourcePhase.Precopy to world paused runs up kept = none_absurd paused
+receiving_in SourcePhase.Stopped to world paused runs up kept = none_absurd paused
+receiving_in SourcePhase.Released to world paused runs up kept = none_absurd paused
 
-pub is_receiving : (world : World) → IsKept world → world.up ≡ true → is_source_paused world.source.phase ≡ true → is_running world.destination.phase ≡ true → IsReceiving world.source world.destination Running world.back
+pub is_receiving : (world : World) → IsKept world → world.up ≡ true → is_source_paused world.source.phase ≡ true → is_running world.destination.phase ≡ true → IsReceiving world.source world.destination Received.Running world.back
 is_receiving world kept up paused runs = receiving_in world.source.phase world.destination.phase world paused runs up kept
 
 -- The zero pages of the handlers

@@ -7,6 +7,11 @@ use Rattle.std.specs.Cmp.{nat_cmp_total, unsigned_tied}
 use Rattle.std.specs.FinMap as finmap
 use Rattle.std.specs.FinMap.{FinMap, get}
 use Rattle.std.proofs.lemmas.Bool.{false≢true}
+use Rattle.mig_base.specs.declared.effect.Effect.{Effect}
+use Rattle.mig_base.specs.declared.phase.Received.{Received}
+use Rattle.mig_base.specs.declared.refusal.Refusal.{Refusal}
+use Rattle.mig_base.specs.declared.schedule.Side.{Side}
+use Rattle.mig_base.specs.declared.schedule.Step.{Step}
 use Rattle.mig_base.specs.declared.command.Command.{Command}
 use Rattle.mig_base.specs.declared.command.Access.{Access}
 use Rattle.mig_base.specs.declared.command.Access.TheVariants.{Answered, Missing, Protected}
@@ -18,15 +23,11 @@ use Rattle.mig_model.specs.World.{is_access}
 use Rattle.mig_model.specs.Userfault.{Noted, Object, waits_fault}
 use Rattle.mig_model.specs.Space.{Space, access_of, accessed_by, page_of}
 use Rattle.mig_model.specs.Guest.{Fault, tried}
-use Rattle.mig_model.specs.Wire.{Frame, Sent, Copy, Received}
+use Rattle.mig_model.specs.Wire.{Frame, Sent, Copy}
 use Rattle.mig_model.specs.Wire.Frame.{Advise, Page, Zero, Discard, Package, End, Resume, Request, Recv, Done}
-use Rattle.mig_model.specs.Wire.Received.{NotRun, Running, Ended}
 use Rattle.mig_model.specs.Nodes.{Destination, Act, settled, settled_by, home, install_by, install_made, copy_came, resumed_by, received_of, destination_took, destination_act, destination_acted_by}
 use Rattle.mig_model.specs.Nodes.Act.{Unprotected, Zeroed, Woke, Forgot, Requested}
-use Rattle.mig_model.specs.Migration.{World, Step, Effect, Refusal, reasons, refusal_of, accepted, command_tried, with_guest_by, guest_by, next, next_by, outcome, outcome_by, effect_of, install_effect, install_effect_by, delivered, acted_by_destination}
-use Rattle.mig_model.specs.Migration.Step.{Issue, Retry, Start, Round, Send, SourceRead, SourceAct, Switch, Deliver, DeliverBack, DestRead, DestAct, Install, Push, Serve, SendEnd, Break, Notice, Reconnect}
-use Rattle.mig_model.specs.Migration.Side.{AtSource, AtDestination}
-use Rattle.mig_model.specs.Migration.Effect.{Installed, Dropped, EndSent}
+use Rattle.mig_model.specs.Migration.{World, reasons, refusal_of, accepted, command_tried, with_guest_by, guest_by, next, next_by, outcome, outcome_by, effect_of, install_effect, install_effect_by, delivered, acted_by_destination}
 use Rattle.mig_model.specs.Invariant.{IsKept, AreFaults, AreRight, is_package}
 use Rattle.mig_model.specs.Promises.{owed_changed, leaves_settled}
 use Rattle.mig_model.proofs.Breaking.{none_applies}
@@ -64,21 +65,21 @@ at_queues faults events world =
     }
 
 event_settled : (message : Message) (cpu : ℕ) (events : List Noted) (world : World) → AreRight (record { message = message; cpu = cpu } ∷ events) → (page : ℕ) →
-    settled (accepted (at_queues [] (record { message = message; cpu = cpu } ∷ events) world) DestRead).destination page ≡ settled (at_queues [] (record { message = message; cpu = cpu } ∷ events) world).destination page
+    settled (accepted (at_queues [] (record { message = message; cpu = cpu } ∷ events) world) Step.DestRead).destination page ≡ settled (at_queues [] (record { message = message; cpu = cpu } ∷ events) world).destination page
 event_settled (PageFault addr write wp) cpu events world right page = absurd right.0
 event_settled (Remap from to len) cpu events world right page = ap (λ f. f page) (settled_by-applied (record { message = Remap from to len; cpu = cpu }) events world.destination.owed)
 event_settled (Remove start end) cpu events world right page = ap (λ f. f page) (settled_by-applied (record { message = Remove start end; cpu = cpu }) events world.destination.owed)
 event_settled (Unmap start end) cpu events world right page = ap (λ f. f page) (settled_by-applied (record { message = Unmap start end; cpu = cpu }) events world.destination.owed)
 
 fault_settled : (message : Message) (cpu : ℕ) (faults events : List Noted) (world : World) → AreFaults (record { message = message; cpu = cpu } ∷ faults) → (page : ℕ) →
-    settled (accepted (at_queues (record { message = message; cpu = cpu } ∷ faults) events world) DestRead).destination page ≡ settled (at_queues (record { message = message; cpu = cpu } ∷ faults) events world).destination page
+    settled (accepted (at_queues (record { message = message; cpu = cpu } ∷ faults) events world) Step.DestRead).destination page ≡ settled (at_queues (record { message = message; cpu = cpu } ∷ faults) events world).destination page
 fault_settled (PageFault addr write wp) cpu faults events world are page = refl
 fault_settled (Remap from to len) cpu faults events world are page = absurd are.0
 fault_settled (Remove start end) cpu faults events world are page = absurd are.0
 fault_settled (Unmap start end) cpu faults events world are page = absurd are.0
 
 read_settled : (faults events : List Noted) (world : World) → AreFaults faults → AreRight events → (page : ℕ) →
-    settled (accepted (at_queues faults events world) DestRead).destination page ≡ settled (at_queues faults events world).destination page
+    settled (accepted (at_queues faults events world) Step.DestRead).destination page ≡ settled (at_queues faults events world).destination page
 read_settled [] [] world are right page = refl
 read_settled [] (noted ∷ events) world are right page = event_settled noted.message noted.cpu events world right page
 read_settled (noted ∷ faults) events world are right page = fault_settled noted.message noted.cpu faults events world are page
@@ -87,10 +88,10 @@ by_refusal : (refusal : Option Refusal) (old new : World) (page : ℕ) → settl
 by_refusal None old new page h = h
 by_refusal (Some refusal) old new page h = refl
 
-pub settled_read : (world : World) → IsKept world → (page : ℕ) → settled (next world DestRead).destination page ≡ settled world.destination page
+pub settled_read : (world : World) → IsKept world → (page : ℕ) → settled (next world Step.DestRead).destination page ≡ settled world.destination page
 unfolding next
 settled_read world kept page =
-    by_refusal (refusal_of world DestRead) world (accepted world DestRead) page
+    by_refusal (refusal_of world Step.DestRead) world (accepted world Step.DestRead) page
     (read_settled world.destination.guest.space.object.faults world.destination.guest.space.object.events world kept.destination_faults kept.destination_events page)
 
 -- A load or store
@@ -116,13 +117,13 @@ settled_access world cpu command ran is page = accessed_by_node world.destinatio
 
 -- An install takes away its own pair
 
-same_installed : (a b c d : ℕ) → Installed a b ≡ Installed c d → a ≡ c
+same_installed : (a b c d : ℕ) → Effect.Installed a b ≡ Effect.Installed c d → a ≡ c
 same_installed a b c d h = cc
 
-not_installed : (a c d : ℕ) → Dropped a ≡ Installed c d → ⊥
+not_installed : (a c d : ℕ) → Effect.Dropped a ≡ Effect.Installed c d → ⊥
 not_installed a c d h = cc
 
-not_sent : (c d : ℕ) → EndSent ≡ Installed c d → ⊥
+not_sent : (c d : ℕ) → Effect.EndSent ≡ Effect.Installed c d → ⊥
 not_sent c d h = cc
 
 page_again : (page addr : ℕ) → 4096 * page ≡ addr → page ≡ addr / 4096
@@ -131,7 +132,7 @@ page_again page addr h = omega (arith, h)
 without_pair : (owed : FinMap nat_cmp ℕ) (page q : ℕ) → get (finmap.remove owed page) q ≡ (if eqb q page then None else get owed q)
 without_pair owed page q = finmap.get-remove nat_cmp_total owed page q ∙ ap (λ b. cond b None (get owed q)) (unsigned_tied q page)
 
-installed_by : (o : Option ℕ) (copy : Copy) (rest : List Copy) (world : World) (addr source : ℕ) → world.destination.guest.space.object.events ≡ [] → install_effect_by o copy.page ≡ Installed addr source → (page : ℕ) →
+installed_by : (o : Option ℕ) (copy : Copy) (rest : List Copy) (world : World) (addr source : ℕ) → world.destination.guest.space.object.events ≡ [] → install_effect_by o copy.page ≡ Effect.Installed addr source → (page : ℕ) →
     settled (install_by o world.destination copy rest) page ≡ (if eqb page (addr / 4096) then None else settled world.destination page)
 installed_by None copy rest world addr source quiet same page = absurd (not_installed (4096 * copy.page) addr source same)
 installed_by (Some here) copy rest world addr source quiet same page =
@@ -141,7 +142,7 @@ installed_by (Some here) copy rest world addr source quiet same page =
     ∙ ap (λ p. if eqb page p then None else get world.destination.owed page) at
     ∙ ap (λ o. if eqb page (addr / 4096) then None else o) (sym (ap (λ events. settled_by events (get world.destination.owed) page) quiet))
 
-installed_first : (arrivals : List Copy) (world : World) (addr source : ℕ) → world.destination.guest.space.object.events ≡ [] → install_effect world.destination arrivals ≡ Installed addr source → (page : ℕ) →
+installed_first : (arrivals : List Copy) (world : World) (addr source : ℕ) → world.destination.guest.space.object.events ≡ [] → install_effect world.destination arrivals ≡ Effect.Installed addr source → (page : ℕ) →
     settled (install_made world.destination arrivals) page ≡ (if eqb page (addr / 4096) then None else settled world.destination page)
 installed_first [] world addr source quiet same page = absurd (not_sent addr source same)
 installed_first (copy ∷ rest) world addr source quiet same page = installed_by (home world.destination.owed copy.page) copy rest world addr source quiet same page
@@ -150,13 +151,13 @@ outcome_told : (o : Option Refusal) (effect other : Effect) → outcome_by o eff
 outcome_told None effect other h = (refl, cc)
 outcome_told (Some refusal) effect other h = absurd (cc)
 
-pub settled_install : (world : World) (addr source : ℕ) → outcome world Install ≡ Ok (Installed addr source) → (page : ℕ) →
-    settled (next world Install).destination page ≡ (if eqb page (addr / 4096) then None else settled world.destination page)
+pub settled_install : (world : World) (addr source : ℕ) → outcome world Step.Install ≡ Ok (Effect.Installed addr source) → (page : ℕ) →
+    settled (next world Step.Install).destination page ≡ (if eqb page (addr / 4096) then None else settled world.destination page)
 unfolding outcome next
 settled_install world addr source answered page =
-    let told = outcome_told (refusal_of world Install) (effect_of world Install) (Installed addr source) answered in
-    let quiet = no_events world.destination.guest.space.object.events (none_applies (reasons world Install) told.0).1.1.0 in
-    ap (λ o. settled (next_by o world (accepted world Install)).destination page) told.0
+    let told = outcome_told (refusal_of world Step.Install) (effect_of world Step.Install) (Effect.Installed addr source) answered in
+    let quiet = no_events world.destination.guest.space.object.events (none_applies (reasons world Step.Install) told.0).1.1.0 in
+    ap (λ o. settled (next_by o world (accepted world Step.Install)).destination page) told.0
     ∙ installed_first world.destination.arrivals world addr source quiet told.1 page
 
 -- Any other step
@@ -166,9 +167,9 @@ came_settled true node copy page = refl
 came_settled false node copy page = refl
 
 resumed_settled : (state : Received) (node : Destination) (page : ℕ) → settled (resumed_by state node) page ≡ settled node page
-resumed_settled NotRun node page = refl
-resumed_settled Running node page = refl
-resumed_settled Ended node page = refl
+resumed_settled Received.NotRun node page = refl
+resumed_settled Received.Running node page = refl
+resumed_settled Received.Ended node page = refl
 
 took_settled : (frame : Frame) (node : Destination) (epoch page : ℕ) → is_package frame ≡ false → settled (destination_took node epoch frame) page ≡ settled node page
 took_settled Advise node epoch page h = refl
@@ -224,39 +225,39 @@ same_node old new page h = ap (λ node. settled node page) h
 
 pub settled_else : (world : World) (step : Step) → IsKept world → world.destination.has_run ≡ true → leaves_settled step ≡ true → (page : ℕ) → settled (next world step).destination page ≡ settled world.destination page
 unfolding next
-settled_else world (Issue cpu command) kept ran leaves page = by_step (refusal_of world (Issue cpu command)) world (accepted world (Issue cpu command)) page (λ free. settled_access world cpu command ran leaves page)
-settled_else world (Retry cpu) kept ran leaves page = absurd (false≢true leaves)
-settled_else world Install kept ran leaves page = absurd (false≢true leaves)
-settled_else world Start kept ran leaves page = same_node world (next world Start) page (changes_parts world Start).destination
-settled_else world Round kept ran leaves page = same_node world (next world Round) page (changes_parts world Round).destination
-settled_else world Send kept ran leaves page = same_node world (next world Send) page (changes_parts world Send).destination
-settled_else world SourceRead kept ran leaves page = same_node world (next world SourceRead) page (changes_parts world SourceRead).destination
-settled_else world SourceAct kept ran leaves page = same_node world (next world SourceAct) page (changes_parts world SourceAct).destination
-settled_else world Switch kept ran leaves page = same_node world (next world Switch) page (changes_parts world Switch).destination
-settled_else world Deliver kept ran leaves page = by_step (refusal_of world Deliver) world (accepted world Deliver) page (λ free. delivered_settled world.forward world kept (not_none _ (none_applies (reasons world Deliver) free).1.0) ran refl page)
-settled_else world DeliverBack kept ran leaves page = same_node world (next world DeliverBack) page (changes_parts world DeliverBack).destination
-settled_else world DestRead kept ran leaves page = settled_read world kept page
-settled_else world DestAct kept ran leaves page = by_step (refusal_of world DestAct) world (accepted world DestAct) page (λ free. held_settled world.destination.guest.held world page)
-settled_else world (Push epoch number) kept ran leaves page = same_node world (next world (Push epoch number)) page (changes_parts world (Push epoch number)).destination
-settled_else world Serve kept ran leaves page = same_node world (next world Serve) page (changes_parts world Serve).destination
-settled_else world SendEnd kept ran leaves page = same_node world (next world SendEnd) page (changes_parts world SendEnd).destination
-settled_else world Break kept ran leaves page = same_node world (next world Break) page (changes_parts world Break).destination
-settled_else world (Notice AtSource) kept ran leaves page = by_step (refusal_of world (Notice AtSource)) world (accepted world (Notice AtSource)) page (λ free. refl)
-settled_else world (Notice AtDestination) kept ran leaves page = by_step (refusal_of world (Notice AtDestination)) world (accepted world (Notice AtDestination)) page (λ free. refl)
-settled_else world Reconnect kept ran leaves page = same_node world (next world Reconnect) page (changes_parts world Reconnect).destination
+settled_else world (Step.Issue cpu command) kept ran leaves page = by_step (refusal_of world (Step.Issue cpu command)) world (accepted world (Step.Issue cpu command)) page (λ free. settled_access world cpu command ran leaves page)
+settled_else world (Step.Retry cpu) kept ran leaves page = absurd (false≢true leaves)
+settled_else world Step.Install kept ran leaves page = absurd (false≢true leaves)
+settled_else world Step.Start kept ran leaves page = same_node world (next world Step.Start) page (changes_parts world Step.Start).destination
+settled_else world Step.Round kept ran leaves page = same_node world (next world Step.Round) page (changes_parts world Step.Round).destination
+settled_else world Step.Send kept ran leaves page = same_node world (next world Step.Send) page (changes_parts world Step.Send).destination
+settled_else world Step.SourceRead kept ran leaves page = same_node world (next world Step.SourceRead) page (changes_parts world Step.SourceRead).destination
+settled_else world Step.SourceAct kept ran leaves page = same_node world (next world Step.SourceAct) page (changes_parts world Step.SourceAct).destination
+settled_else world Step.Switch kept ran leaves page = same_node world (next world Step.Switch) page (changes_parts world Step.Switch).destination
+settled_else world Step.Deliver kept ran leaves page = by_step (refusal_of world Step.Deliver) world (accepted world Step.Deliver) page (λ free. delivered_settled world.forward world kept (not_none _ (none_applies (reasons world Step.Deliver) free).1.0) ran refl page)
+settled_else world Step.DeliverBack kept ran leaves page = same_node world (next world Step.DeliverBack) page (changes_parts world Step.DeliverBack).destination
+settled_else world Step.DestRead kept ran leaves page = settled_read world kept page
+settled_else world Step.DestAct kept ran leaves page = by_step (refusal_of world Step.DestAct) world (accepted world Step.DestAct) page (λ free. held_settled world.destination.guest.held world page)
+settled_else world (Step.Push ticket) kept ran leaves page = same_node world (next world (Step.Push ticket)) page (changes_parts world (Step.Push ticket)).destination
+settled_else world Step.Serve kept ran leaves page = same_node world (next world Step.Serve) page (changes_parts world Step.Serve).destination
+settled_else world Step.End kept ran leaves page = same_node world (next world Step.End) page (changes_parts world Step.End).destination
+settled_else world Step.Break kept ran leaves page = same_node world (next world Step.Break) page (changes_parts world Step.Break).destination
+settled_else world (Step.Notice Side.Source) kept ran leaves page = by_step (refusal_of world (Step.Notice Side.Source)) world (accepted world (Step.Notice Side.Source)) page (λ free. refl)
+settled_else world (Step.Notice Side.Destination) kept ran leaves page = by_step (refusal_of world (Step.Notice Side.Destination)) world (accepted world (Step.Notice Side.Destination)) page (λ free. refl)
+settled_else world Step.Resume kept ran leaves page = same_node world (next world Step.Resume) page (changes_parts world Step.Resume).destination
 
 -- A copy that is given up leaves the relation
 
-dropped_by : (o : Option ℕ) (copy : Copy) (rest : List Copy) (world : World) (source page : ℕ) → install_effect_by o copy.page ≡ Dropped source → settled (install_by o world.destination copy rest) page ≡ settled world.destination page
+dropped_by : (o : Option ℕ) (copy : Copy) (rest : List Copy) (world : World) (source page : ℕ) → install_effect_by o copy.page ≡ Effect.Dropped source → settled (install_by o world.destination copy rest) page ≡ settled world.destination page
 dropped_by None copy rest world source page same = refl
 dropped_by (Some here) copy rest world source page same = absurd (cc)
 
-dropped_first : (arrivals : List Copy) (world : World) (source page : ℕ) → install_effect world.destination arrivals ≡ Dropped source → settled (install_made world.destination arrivals) page ≡ settled world.destination page
+dropped_first : (arrivals : List Copy) (world : World) (source page : ℕ) → install_effect world.destination arrivals ≡ Effect.Dropped source → settled (install_made world.destination arrivals) page ≡ settled world.destination page
 dropped_first [] world source page same = refl
 dropped_first (copy ∷ rest) world source page same = dropped_by (home world.destination.owed copy.page) copy rest world source page same
 
-pub settled_dropped : (world : World) (source page : ℕ) → outcome world Install ≡ Ok (Dropped source) → settled (next world Install).destination page ≡ settled world.destination page
+pub settled_dropped : (world : World) (source page : ℕ) → outcome world Step.Install ≡ Ok (Effect.Dropped source) → settled (next world Step.Install).destination page ≡ settled world.destination page
 unfolding outcome next
 settled_dropped world source page answered =
-    let told = outcome_told (refusal_of world Install) (effect_of world Install) (Dropped source) answered in
-    ap (λ o. settled (next_by o world (accepted world Install)).destination page) told.0 ∙ dropped_first world.destination.arrivals world source page told.1
+    let told = outcome_told (refusal_of world Step.Install) (effect_of world Step.Install) (Effect.Dropped source) answered in
+    ap (λ o. settled (next_by o world (accepted world Step.Install)).destination page) told.0 ∙ dropped_first world.destination.arrivals world source page told.1

@@ -4,6 +4,8 @@ use Rattle.std.specs.Ordering.{nat_cmp}
 use Rattle.std.specs.FinMap.{FinMap, get, insert, contains_key}
 use Rattle.std.specs.FinSet.{contains}
 use Rattle.std.proofs.lemmas.Bool.{false≢true}
+use Rattle.mig_base.specs.declared.cpu_state.CpuState.{CpuState}
+use Rattle.mig_base.specs.declared.schedule.Step.{Step}
 use Rattle.mig_base.specs.declared.command.Entry.{Entry}
 use Rattle.mig_base.specs.declared.command.Command.{Command}
 use Rattle.mig_base.specs.declared.command.Command.TheVariants.{Load, Store, Mmap, Munmap, Mremap, DontNeed}
@@ -18,10 +20,9 @@ use Rattle.mig_model.specs.Host.{Host, memory, host_changed, host_after, IsSound
 use Rattle.mig_model.specs.World.{is_access}
 use Rattle.mig_model.specs.Userfault.{Object, fault_queued, waits_fault}
 use Rattle.mig_model.specs.Space.{Space, IsSoundSpace, is_made, access_of, accessed_by, called, queued_by, call_messages, modes_after}
-use Rattle.mig_model.specs.Guest.{Processor, access_took, call_took, took_by, tried, entries_of, outstanding, processor_at}
+use Rattle.mig_model.specs.Guest.{access_took, call_took, took_by, tried, entries_of, outstanding, processor_at}
 use Rattle.mig_model.specs.Nodes.{space_of}
 use Rattle.mig_model.specs.Migration.{World, reasons, refusal_of, accepted, runs, guest_of, retried, command_tried}
-use Rattle.mig_model.specs.Migration.Step.{Issue, Retry}
 use Rattle.mig_model.specs.Invariant.{IsKept, AreRight, is_unread}
 use Rattle.mig_model.proofs.HostLemmas.{get-put}
 use Rattle.mig_model.proofs.CommandLemmas.{memory-changed}
@@ -95,7 +96,7 @@ elsewhere space (Munmap addr len) page other access answered watched protected =
 elsewhere space (Mremap addr old_len new_len may_move fixed) page other access answered watched protected = none_absurd access
 elsewhere space (DontNeed addr len) page other access answered watched protected = none_absurd access
 
-answered_changed : (world : World) (cpu : ℕ) (command : Command) (reply : Reply) (processors : List Processor) → IsKept world → world.destination.has_run ≡ false → world.source.switched ≡ false → is_access command ≡ true →
+answered_changed : (world : World) (cpu : ℕ) (command : Command) (reply : Reply) (processors : List CpuState) → IsKept world → world.destination.has_run ≡ false → world.source.switched ≡ false → is_access command ≡ true →
     access_of (space_of world.source) command ≡ Answered reply →
     IsChanged world.source (record world.source.guest { space = record (space_of world.source) { host = host_after (space_of world.source).host command }; processors = processors }) world.source.clean world.source.todo
     (world.transcript ++ record { cpu = cpu; command = command; reply = reply } ∷ [])
@@ -135,7 +136,7 @@ alike_if false object new alike = alike
 faulted_alike : (object : Object) (addr : ℕ) (write wp : Bool) (cpu : ℕ) → IsAlike object (fault_queued object addr write wp cpu)
 faulted_alike object addr write wp cpu = alike_if (waits_fault object.faults addr wp) object _ (record { events = refl; missing = refl; protect = refl })
 
-slept_changed : (world : World) (processors : List Processor) (object : Object) → IsKept world → world.destination.has_run ≡ false → world.source.switched ≡ false → IsAlike (space_of world.source).object object →
+slept_changed : (world : World) (processors : List CpuState) (object : Object) → IsKept world → world.destination.has_run ≡ false → world.source.switched ≡ false → IsAlike (space_of world.source).object object →
     IsSoundSpace (record (space_of world.source) { object = object }) →
     IsChanged world.source (record world.source.guest { space = record (space_of world.source) { object = object }; processors = processors }) world.source.clean world.source.todo (world.transcript ++ [])
 slept_changed world processors object kept bare unswitched alike sound =
@@ -154,7 +155,7 @@ slept_changed world processors object kept bare unswitched alike sound =
       copies = λ page h u. (h, unread page u, refl);
     }
 
-access_changed : (world : World) (cpu : ℕ) (command : Command) (processors : List Processor) (answer : Access) → IsKept world → world.destination.has_run ≡ false → world.source.switched ≡ false → is_access command ≡ true →
+access_changed : (world : World) (cpu : ℕ) (command : Command) (processors : List CpuState) (answer : Access) → IsKept world → world.destination.has_run ≡ false → world.source.switched ≡ false → is_access command ≡ true →
     access_of (space_of world.source) command ≡ answer →
     IsChanged world.source (record world.source.guest { space = accessed_by answer (space_of world.source) cpu command; processors = processors }) world.source.clean world.source.todo
     (world.transcript ++ entries_of cpu command (access_took answer))
@@ -172,7 +173,7 @@ entered_once : (cpu : ℕ) (command : Command) (reply : Reply) (count : ℕ) →
 entered_once cpu command reply zero = refl
 entered_once cpu command reply (suc count) = refl
 
-call_changed : (world : World) (cpu : ℕ) (command : Command) (processors : List Processor) → IsKept world → world.destination.has_run ≡ false → world.source.switched ≡ false → is_access command ≡ false →
+call_changed : (world : World) (cpu : ℕ) (command : Command) (processors : List CpuState) → IsKept world → world.destination.has_run ≡ false → world.source.switched ≡ false → is_access command ≡ false →
     IsChanged world.source (record world.source.guest { space = called (space_of world.source) cpu command; processors = processors }) world.source.clean world.source.todo
     (world.transcript ++ entries_of cpu command (call_took (reply_of (memory (space_of world.source).host) command) (queued_by (space_of world.source) command)))
 call_changed world cpu command processors kept bare unswitched call =
@@ -250,12 +251,12 @@ retried_at_source : (world : World) (cpu : ℕ) (o : Option Command) → world.d
 retried_at_source world cpu None bare unswitched kept = kept
 retried_at_source world cpu (Some command) bare unswitched kept = kept-command_at_source world cpu command bare unswitched kept
 
-pub kept-issue_at_source : (world : World) (cpu : ℕ) (command : Command) → world.destination.has_run ≡ false → IsKept world → refusal_of world (Issue cpu command) ≡ None → IsKept (accepted world (Issue cpu command))
+pub kept-issue_at_source : (world : World) (cpu : ℕ) (command : Command) → world.destination.has_run ≡ false → IsKept world → refusal_of world (Step.Issue cpu command) ≡ None → IsKept (accepted world (Step.Issue cpu command))
 kept-issue_at_source world cpu command bare kept allowed =
-    let tests = none_refused (reasons world (Issue cpu command)) allowed in
+    let tests = none_refused (reasons world (Step.Issue cpu command)) allowed in
     kept-command_at_source world cpu command bare (runs_not_switched world.source.switched world.destination.has_run bare (not_false (runs world) tests.1.1.0)) kept
 
-pub kept-retry_at_source : (world : World) (cpu : ℕ) → world.destination.has_run ≡ false → IsKept world → refusal_of world (Retry cpu) ≡ None → IsKept (accepted world (Retry cpu))
+pub kept-retry_at_source : (world : World) (cpu : ℕ) → world.destination.has_run ≡ false → IsKept world → refusal_of world (Step.Retry cpu) ≡ None → IsKept (accepted world (Step.Retry cpu))
 kept-retry_at_source world cpu bare kept allowed =
-    let tests = none_refused (reasons world (Retry cpu)) allowed in
+    let tests = none_refused (reasons world (Step.Retry cpu)) allowed in
     retried_at_source world cpu (outstanding (processor_at (guest_of world).processors cpu)) bare (runs_not_switched world.source.switched world.destination.has_run bare (not_false (runs world) tests.1.1.1.0)) kept

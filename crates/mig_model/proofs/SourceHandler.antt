@@ -5,6 +5,9 @@ use Rattle.std.specs.FinMap.{get, contains_key}
 use Rattle.std.specs.FinSet.{FinSet, contains, remove, contains-retain, nat_cmp-IsAntisymmetric}
 use Rattle.std.proofs.lemmas.Bool.Decides.{nat_tests}
 use Rattle.std.proofs.lemmas.Bool.{false≢true}
+use Rattle.mig_base.specs.declared.cpu_state.CpuState.{CpuState}
+use Rattle.mig_base.specs.declared.phase.SourcePhase.{SourcePhase}
+use Rattle.mig_base.specs.declared.schedule.Step.{Step}
 use Rattle.mig_base.specs.declared.TheConstants.{HIGH_PAGE}
 use Rattle.mig_base.specs.declared.message.Message.{Message}
 use Rattle.mig_base.specs.declared.message.Message.TheVariants.{PageFault, Remap, Remove, Unmap}
@@ -15,12 +18,10 @@ use Rattle.mig_base.proofs.SetLemmas.{member_below, member_removed}
 use Rattle.mig_model.specs.Userfault.{Noted, Object, is_registered, next_of, next_message, read_by, message_read}
 use Rattle.mig_model.specs.Space.{Space, IsSoundSpace}
 use Rattle.mig_model.specs.Ioctls.{protected_in}
-use Rattle.mig_model.specs.Guest.{Processor, Fault, is_changed_by, read_guest, zero_installed, is_forgotten, is_present}
-use Rattle.mig_model.specs.Nodes.{SourcePhase, Act, space_of, unchanged, is_source_idle, source_act, source_act_by, source_acted_by}
-use Rattle.mig_model.specs.Nodes.SourcePhase.{Idle}
+use Rattle.mig_model.specs.Guest.{Fault, is_changed_by, read_guest, zero_installed, is_forgotten, is_present}
+use Rattle.mig_model.specs.Nodes.{Act, space_of, unchanged, is_source_idle, source_act, source_act_by, source_acted_by}
 use Rattle.mig_model.specs.Nodes.Act.{Unprotected, Zeroed, Woke, Forgot, Requested}
 use Rattle.mig_model.specs.Migration.{World, reasons, refusal_of, accepted, read_by_source, acted_by_source}
-use Rattle.mig_model.specs.Migration.Step.{SourceRead, SourceAct}
 use Rattle.mig_model.specs.Invariant.{IsKept, AreRight, is_unread}
 use Rattle.mig_model.proofs.IoctlLemmas.{IsSoundSpace-read, IsSoundSpace-protected, IsSoundSpace-installed, CanPut}
 use Rattle.mig_model.proofs.SourceKept.{none_refused, source_holds, IsChanged, changed}
@@ -30,7 +31,7 @@ use Rattle.mig_model.proofs.SourceTests.{in_one_is, none_absurd, not_false, not_
 
 -- The tests of both steps
 
-never_idle : {A : Type 0} (phase : SourcePhase) → not (is_source_idle phase) ≡ true → phase ≡ Idle → A
+never_idle : {A : Type 0} (phase : SourcePhase) → not (is_source_idle phase) ≡ true → phase ≡ SourcePhase.Idle → A
 never_idle phase h idle = none_absurd (sym (not_true (is_source_idle phase) h) ∙ ap is_source_idle idle)
 
 -- a destination has run only once the source has stopped
@@ -69,7 +70,7 @@ member_unchanged s message page h =
     (sym (contains-retain s (λ q. not (is_changed_by message q)) page (λ x e. ap (λ q. not (is_changed_by message q)) (sym (nat_cmp-IsAntisymmetric page x e)))) ∙ h) in
     (both.0, not_true (is_changed_by message page) both.1)
 
-read_changed : (world : World) (noted : Noted) (processors : List Processor) (held : List Fault) → IsKept world → world.source.switched ≡ false → not (is_source_idle world.source.phase) ≡ true →
+read_changed : (world : World) (noted : Noted) (processors : List CpuState) (held : List Fault) → IsKept world → world.source.switched ≡ false → not (is_source_idle world.source.phase) ≡ true →
     next_message (space_of world.source).object ≡ Some noted →
     IsChanged world.source (record { space = record (space_of world.source) { object = message_read (space_of world.source).object }; processors = processors; held = held })
     (unchanged world.source.clean noted.message) (unchanged world.source.todo noted.message) world.transcript
@@ -109,9 +110,9 @@ read_next world (Some noted) kept unswitched started is =
     changed world (read_guest world.source.guest noted.cpu noted.message) (unchanged world.source.clean noted.message) (unchanged world.source.todo noted.message) world.source.rounds _ world.transcript
     kept (has_not_run world kept unswitched) unswitched (read_by_message world noted noted.message kept unswitched started is)
 
-pub kept-source_read : (world : World) → IsKept world → refusal_of world SourceRead ≡ None → IsKept (accepted world SourceRead)
+pub kept-source_read : (world : World) → IsKept world → refusal_of world Step.SourceRead ≡ None → IsKept (accepted world Step.SourceRead)
 kept-source_read world kept accepted =
-    let tests = none_refused (reasons world SourceRead) accepted in
+    let tests = none_refused (reasons world Step.SourceRead) accepted in
     let runs = and_parts (not (is_source_idle world.source.phase)) (not world.source.switched) (not_false _ tests.0) in
     read_next world (next_message (space_of world.source).object) kept (not_true world.source.switched runs.1) runs.0 refl
 
@@ -148,7 +149,7 @@ not_in_one : (page q : ℕ) → eqb q page ≡ false → in_range page 1 q ≡ f
 not_in_one page q h = grind (arith, nat_tests)
 
 -- nothing but processors and held faults has changed
-same_changed : (world : World) (processors : List Processor) (held : List Fault) → IsKept world → world.source.switched ≡ false →
+same_changed : (world : World) (processors : List CpuState) (held : List Fault) → IsKept world → world.source.switched ≡ false →
     IsChanged world.source (record { space = space_of world.source; processors = processors; held = held }) world.source.clean world.source.todo world.transcript
 same_changed world processors held kept unswitched =
     record {
@@ -167,7 +168,7 @@ protected_below : (space : Space) (page : ℕ) → IsSoundSpace space → contai
 protected_below space page sound h =
     ltb_true page HIGH_PAGE (registered_below space page sound (or_second (contains space.object.missing page) (contains space.object.protect page) (sound.watched page h)))
 
-unprotected_changed : (world : World) (page : ℕ) (processors : List Processor) (held : List Fault) → IsKept world → world.source.switched ≡ false → not (is_source_idle world.source.phase) ≡ true → IsWatched (space_of world.source) page →
+unprotected_changed : (world : World) (page : ℕ) (processors : List CpuState) (held : List Fault) → IsKept world → world.source.switched ≡ false → not (is_source_idle world.source.phase) ≡ true → IsWatched (space_of world.source) page →
     IsChanged world.source (record { space = protected_in (space_of world.source) page 1 false; processors = processors; held = held }) (remove world.source.clean page) world.source.todo world.transcript
 unprotected_changed world page processors held kept unswitched started watched =
     let space = space_of world.source in
@@ -186,7 +187,7 @@ unprotected_changed world page processors held kept unswitched started watched =
       copies = λ q h u. ((removed q h).1, u, refl);
     }
 
-zeroed_changed : (world : World) (page : ℕ) (processors : List Processor) (held : List Fault) → IsKept world → world.source.switched ≡ false → not (is_source_idle world.source.phase) ≡ true → IsWatched (space_of world.source) page →
+zeroed_changed : (world : World) (page : ℕ) (processors : List CpuState) (held : List Fault) → IsKept world → world.source.switched ≡ false → not (is_source_idle world.source.phase) ≡ true → IsWatched (space_of world.source) page →
     is_present (space_of world.source) page ≡ false →
     IsChanged world.source (record { space = zero_installed (space_of world.source) page; processors = processors; held = held }) world.source.clean world.source.todo world.transcript
 zeroed_changed world page processors held kept unswitched started watched missing =
@@ -232,8 +233,8 @@ acted_first : (world : World) (held : List Fault) → IsKept world → world.sou
 acted_first world [] kept unswitched started = kept
 acted_first world (fault ∷ rest) kept unswitched started = acted world fault (source_act world.source fault) kept unswitched started refl
 
-pub kept-source_act : (world : World) → IsKept world → refusal_of world SourceAct ≡ None → IsKept (accepted world SourceAct)
+pub kept-source_act : (world : World) → IsKept world → refusal_of world Step.SourceAct ≡ None → IsKept (accepted world Step.SourceAct)
 kept-source_act world kept accepted =
-    let tests = none_refused (reasons world SourceAct) accepted in
+    let tests = none_refused (reasons world Step.SourceAct) accepted in
     let runs = and_parts (not (is_source_idle world.source.phase)) (not world.source.switched) (not_false _ tests.0) in
     acted_first world world.source.guest.held kept (not_true world.source.switched runs.1) runs.0

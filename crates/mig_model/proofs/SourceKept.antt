@@ -4,16 +4,17 @@ use Rattle.std.specs.Ordering.{nat_cmp}
 use Rattle.std.specs.FinMap as finmap
 use Rattle.std.specs.FinMap.{FinMap, get, get-empty}
 use Rattle.std.specs.FinSet.{FinSet, contains, contains-empty}
+use Rattle.mig_base.specs.declared.phase.DestPhase.{DestPhase}
+use Rattle.mig_base.specs.declared.phase.SourcePhase.{SourcePhase}
+use Rattle.mig_base.specs.declared.refusal.Refusal.{Refusal}
 use Rattle.mig_base.specs.declared.command.Entry.{Entry}
 use Rattle.mig_base.specs.Flat.{IsFlatRun, memory_of}
 use Rattle.mig_model.specs.Host.{Host, memory}
 use Rattle.mig_model.specs.Space.{IsSoundSpace}
 use Rattle.mig_model.specs.Guest.{Guest, is_present}
 use Rattle.mig_model.specs.Wire.{Sent}
-use Rattle.mig_model.specs.Nodes.{Source, SourcePhase, Destination, DestinationPhase, space_of, no_pages, settled}
-use Rattle.mig_model.specs.Nodes.SourcePhase.{Idle, Precopy, Stopped, Paused, Released}
-use Rattle.mig_model.specs.Nodes.DestinationPhase.{NotAdvised, Advised, Discarding, Runs, Interrupted, HasEnded}
-use Rattle.mig_model.specs.Migration.{World, Refusal, first_of}
+use Rattle.mig_model.specs.Nodes.{Source, Destination, space_of, no_pages, settled}
+use Rattle.mig_model.specs.Migration.{World, first_of}
 use Rattle.mig_model.specs.Invariant.{IsKept, IsPrecopying, Wires, AreRight, AreWhole, AreOf, EpochAt, RanAt, SwitchedAt, is_unread, copies_of, current_by}
 use Rattle.mig_model.proofs.SourceTests.{none_absurd}
 
@@ -49,14 +50,14 @@ pub record IsNext (world : World) (source : Source) (forward : List Sent) (trans
   pub phase : SwitchedAt source.phase source.switched
   pub unswitched : source.switched ≡ false
   pub remaining : source.remaining ≡ no_pages
-  pub unended : source.ended ≢ source.epoch ⊎ (source.phase ≡ Idle)
+  pub unended : source.ended ≢ source.epoch ⊎ (source.phase ≡ SourcePhase.Idle)
   pub before : source.ended ≤ source.epoch
-  pub fresh : world.up ≡ true → source.phase ≡ Paused → source.ended ≢ source.epoch
-  pub idle : source.phase ≡ Idle → (source.clean ≡ no_pages) × (source.todo ≡ no_pages) × (source.sent ≡ no_pages) × ((space_of source).object.events ≡ []) × ((page : ℕ) → contains (space_of source).object.missing page ≡ false)
+  pub fresh : world.up ≡ true → source.phase ≡ SourcePhase.Paused → source.ended ≢ source.epoch
+  pub idle : source.phase ≡ SourcePhase.Idle → (source.clean ≡ no_pages) × (source.todo ≡ no_pages) × (source.sent ≡ no_pages) × ((space_of source).object.events ≡ []) × ((page : ℕ) → contains (space_of source).object.missing page ≡ false)
   pub whole : AreWhole (copies_of forward)
   pub protected : (page : ℕ) → contains source.clean page ≡ true → is_unread (space_of source).object.events page ≡ false → contains (space_of source).protected page ≡ true
   pub sendable : (page : ℕ) → contains source.todo page ≡ true → is_unread (space_of source).object.events page ≡ false → (is_present (space_of source) page ≡ true) × (contains (space_of source).object.protect page ≡ true)
-  pub down : world.up ≡ false → (forward ≡ []) × (world.back ≡ []) × (source.phase ≢ Idle) × (source.phase ≢ Released)
+  pub down : world.up ≡ false → (forward ≡ []) × (world.back ≡ []) × (source.phase ≢ SourcePhase.Idle) × (source.phase ≢ SourcePhase.Released)
   pub wires : world.up ≡ true → Wires source world.destination forward world.back
   pub forward_epoch : AreOf source.epoch forward
   pub back_epoch : AreOf source.epoch world.back
@@ -75,12 +76,12 @@ source_holds world kept bare =
 nothing_owed : {A : Type 0} (owed : FinMap nat_cmp ℕ) (page origin : ℕ) → owed ≡ finmap.empty → get owed page ≡ Some origin → A
 nothing_owed owed page origin none h = let e : None ≡ Some origin = sym (ap (λ m. get m page) none ∙ get-empty nat_cmp page) ∙ h in absurd (cc)
 
-released_switched : {A : Type 0} (phase : SourcePhase) (switched : Bool) → SwitchedAt phase switched → switched ≡ false → phase ≡ Released → A
-released_switched Released switched at h e = none_absurd (sym h ∙ at)
-released_switched Idle switched at h e = absurd (cc)
-released_switched Precopy switched at h e = absurd (cc)
-released_switched Stopped switched at h e = absurd (cc)
-released_switched Paused switched at h e = absurd (cc)
+released_switched : {A : Type 0} (phase : SourcePhase) (switched : Bool) → SwitchedAt phase switched → switched ≡ false → phase ≡ SourcePhase.Released → A
+released_switched SourcePhase.Released switched at h e = none_absurd (sym h ∙ at)
+released_switched SourcePhase.Idle switched at h e = absurd (cc)
+released_switched SourcePhase.Precopy switched at h e = absurd (cc)
+released_switched SourcePhase.Stopped switched at h e = absurd (cc)
+released_switched SourcePhase.Paused switched at h e = absurd (cc)
 
 pub renewed : (world : World) (source : Source) (forward : List Sent) (transcript : List Entry) → IsKept world → world.destination.has_run ≡ false → IsNext world source forward transcript →
     IsKept (record world { source = source; forward = forward; transcript = transcript })
@@ -148,7 +149,7 @@ pub record IsChanged (source : Source) (guest : Guest) (clean todo : FinSet nat_
   pub space : IsSoundSpace guest.space
   pub modes : (page : ℕ) → contains guest.space.object.missing page ≡ contains guest.space.object.protect page
   pub events : AreRight guest.space.object.events
-  pub idle : source.phase ≡ Idle → (clean ≡ no_pages) × (todo ≡ no_pages) × (guest.space.object.events ≡ []) × ((page : ℕ) → contains guest.space.object.missing page ≡ false)
+  pub idle : source.phase ≡ SourcePhase.Idle → (clean ≡ no_pages) × (todo ≡ no_pages) × (guest.space.object.events ≡ []) × ((page : ℕ) → contains guest.space.object.missing page ≡ false)
   pub protected : (page : ℕ) → contains clean page ≡ true → is_unread guest.space.object.events page ≡ false → contains guest.space.protected page ≡ true
   pub sendable : (page : ℕ) → contains todo page ≡ true → is_unread guest.space.object.events page ≡ false → (is_present guest.space page ≡ true) × (contains guest.space.object.protect page ≡ true)
   pub copies : CopiesStay source guest clean
@@ -162,28 +163,28 @@ precopying source guest clean todo rounds faults kept forward stay old =
     }
 
 -- before the switch the destination has not run: while the source is paused, it is paused too, or has answered Resume
-wires_changed : (from : SourcePhase) (to : DestinationPhase) (source : Source) (guest : Guest) (clean todo : FinSet nat_cmp) (rounds faults : ℕ) (destination : Destination) (forward back : List Sent) →
+wires_changed : (from : SourcePhase) (to : DestPhase) (source : Source) (guest : Guest) (clean todo : FinSet nat_cmp) (rounds faults : ℕ) (destination : Destination) (forward back : List Sent) →
     RanAt to destination.has_run destination.ended → destination.has_run ≡ false → (destination.ended ≡ true → destination.has_run ≡ true) → SwitchedAt from source.switched → source.switched ≡ false →
     CopiesStay source guest clean → Wires (record source { phase = from }) (record destination { phase = to }) forward back →
     Wires (with_parts (record source { phase = from }) guest clean todo rounds faults) (record destination { phase = to }) forward back
-wires_changed Idle to source guest clean todo rounds faults destination forward back ran bare after at unswitched stay wires = wires
-wires_changed Precopy NotAdvised source guest clean todo rounds faults destination forward back ran bare after at unswitched stay wires =
-    (wires.0, wires.1, precopying (record source { phase = Precopy }) guest clean todo rounds faults destination.kept forward stay wires.2)
-wires_changed Precopy Advised source guest clean todo rounds faults destination forward back ran bare after at unswitched stay wires =
-    (wires.0, wires.1, precopying (record source { phase = Precopy }) guest clean todo rounds faults destination.kept forward stay wires.2)
-wires_changed Precopy Discarding source guest clean todo rounds faults destination forward back ran bare after at unswitched stay wires = wires
-wires_changed Precopy Runs source guest clean todo rounds faults destination forward back ran bare after at unswitched stay wires = wires
-wires_changed Precopy Interrupted source guest clean todo rounds faults destination forward back ran bare after at unswitched stay wires = wires
-wires_changed Precopy HasEnded source guest clean todo rounds faults destination forward back ran bare after at unswitched stay wires = wires
-wires_changed Stopped to source guest clean todo rounds faults destination forward back ran bare after at unswitched stay wires = none_absurd (sym unswitched ∙ at)
-wires_changed Released to source guest clean todo rounds faults destination forward back ran bare after at unswitched stay wires = wires
-wires_changed Paused NotAdvised source guest clean todo rounds faults destination forward back ran bare after at unswitched stay wires = wires
-wires_changed Paused Advised source guest clean todo rounds faults destination forward back ran bare after at unswitched stay wires =
+wires_changed SourcePhase.Idle to source guest clean todo rounds faults destination forward back ran bare after at unswitched stay wires = wires
+wires_changed SourcePhase.Precopy DestPhase.Idle source guest clean todo rounds faults destination forward back ran bare after at unswitched stay wires =
+    (wires.0, wires.1, precopying (record source { phase = SourcePhase.Precopy }) guest clean todo rounds faults destination.kept forward stay wires.2)
+wires_changed SourcePhase.Precopy DestPhase.Advised source guest clean todo rounds faults destination forward back ran bare after at unswitched stay wires =
+    (wires.0, wires.1, precopying (record source { phase = SourcePhase.Precopy }) guest clean todo rounds faults destination.kept forward stay wires.2)
+wires_changed SourcePhase.Precopy DestPhase.Discarding source guest clean todo rounds faults destination forward back ran bare after at unswitched stay wires = wires
+wires_changed SourcePhase.Precopy DestPhase.Running source guest clean todo rounds faults destination forward back ran bare after at unswitched stay wires = wires
+wires_changed SourcePhase.Precopy DestPhase.Paused source guest clean todo rounds faults destination forward back ran bare after at unswitched stay wires = wires
+wires_changed SourcePhase.Precopy DestPhase.Ended source guest clean todo rounds faults destination forward back ran bare after at unswitched stay wires = wires
+wires_changed SourcePhase.Stopped to source guest clean todo rounds faults destination forward back ran bare after at unswitched stay wires = none_absurd (sym unswitched ∙ at)
+wires_changed SourcePhase.Released to source guest clean todo rounds faults destination forward back ran bare after at unswitched stay wires = wires
+wires_changed SourcePhase.Paused DestPhase.Idle source guest clean todo rounds faults destination forward back ran bare after at unswitched stay wires = wires
+wires_changed SourcePhase.Paused DestPhase.Advised source guest clean todo rounds faults destination forward back ran bare after at unswitched stay wires =
     wires
-wires_changed Paused Discarding source guest clean todo rounds faults destination forward back ran bare after at unswitched stay wires = wires
-wires_changed Paused Runs source guest clean todo rounds faults destination forward back ran bare after at unswitched stay wires = none_absurd (sym bare ∙ ran.0)
-wires_changed Paused Interrupted source guest clean todo rounds faults destination forward back ran bare after at unswitched stay wires = wires
-wires_changed Paused HasEnded source guest clean todo rounds faults destination forward back ran bare after at unswitched stay wires = none_absurd (sym bare ∙ after ran)
+wires_changed SourcePhase.Paused DestPhase.Discarding source guest clean todo rounds faults destination forward back ran bare after at unswitched stay wires = wires
+wires_changed SourcePhase.Paused DestPhase.Running source guest clean todo rounds faults destination forward back ran bare after at unswitched stay wires = none_absurd (sym bare ∙ ran.0)
+wires_changed SourcePhase.Paused DestPhase.Paused source guest clean todo rounds faults destination forward back ran bare after at unswitched stay wires = wires
+wires_changed SourcePhase.Paused DestPhase.Ended source guest clean todo rounds faults destination forward back ran bare after at unswitched stay wires = none_absurd (sym bare ∙ after ran)
 
 pub changed : (world : World) (guest : Guest) (clean todo : FinSet nat_cmp) (rounds faults : ℕ) (transcript : List Entry) → IsKept world → world.destination.has_run ≡ false → world.source.switched ≡ false →
     IsChanged world.source guest clean todo transcript →

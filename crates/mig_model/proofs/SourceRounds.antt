@@ -6,6 +6,9 @@ use Rattle.std.specs.FinMap.{FinMap, get, contains_key, get-empty}
 use Rattle.std.specs.FinSet.{contains, contains-retain, nat_cmp-IsAntisymmetric}
 use Rattle.std.proofs.lemmas.Bool.Decides.{nat_tests}
 use Rattle.std.proofs.lemmas.Bool.{false≢true}
+use Rattle.mig_base.specs.declared.phase.DestPhase.{DestPhase}
+use Rattle.mig_base.specs.declared.phase.SourcePhase.{SourcePhase}
+use Rattle.mig_base.specs.declared.schedule.Step.{Step}
 use Rattle.mig_base.specs.declared.TheConstants.{HIGH_PAGE}
 use Rattle.mig_base.specs.Ranges.{in_range}
 use Rattle.mig_base.specs.Sets.{pages_where}
@@ -16,11 +19,8 @@ use Rattle.mig_model.specs.Ioctls.{is_mapped_in}
 use Rattle.mig_model.specs.Guest.{is_present}
 use Rattle.mig_model.specs.Wire.{Sent}
 use Rattle.mig_model.specs.Wire.Frame.{Advise}
-use Rattle.mig_model.specs.Nodes.{Source, SourcePhase, Destination, DestinationPhase, space_of, no_pages, is_precopy, is_source_idle, present, not_clean, all_registered, for_both, source_started}
-use Rattle.mig_model.specs.Nodes.SourcePhase.{Idle, Precopy, Stopped, Paused, Released}
-use Rattle.mig_model.specs.Nodes.DestinationPhase.{NotAdvised}
+use Rattle.mig_model.specs.Nodes.{Source, Destination, space_of, no_pages, is_precopy, is_source_idle, present, not_clean, all_registered, for_both, source_started}
 use Rattle.mig_model.specs.Migration.{World, reasons, refusal_of, accepted}
-use Rattle.mig_model.specs.Migration.Step.{Start, Round}
 use Rattle.mig_model.specs.Invariant.{IsKept, Wires, PrecopyWires, SwitchedAt, EpochAt, AreOf, AreWhole, flow_after, copies_of, kept_by}
 use Rattle.mig_model.specs.Invariant.Flow.{BeforeAdvise}
 use Rattle.mig_model.proofs.IoctlLemmas.{IsSoundSpace-registered}
@@ -32,10 +32,10 @@ use Rattle.mig_model.proofs.SourceTests.{none_absurd, not_false, and_parts, and_
 -- The source makes rounds of pre-copy
 
 pub precopy_unswitched : (phase : SourcePhase) (switched : Bool) → is_precopy phase ≡ true → SwitchedAt phase switched → switched ≡ false
-precopy_unswitched Precopy switched h at = at
+precopy_unswitched SourcePhase.Precopy switched h at = at
 precopy_unswitched _ switched h at = none_absurd h
 
-pub never_idle : {A : Type 0} (phase : SourcePhase) → is_precopy phase ≡ true → phase ≡ Idle → A
+pub never_idle : {A : Type 0} (phase : SourcePhase) → is_precopy phase ≡ true → phase ≡ SourcePhase.Idle → A
 never_idle phase h idle = none_absurd (sym (ap is_precopy idle) ∙ h)
 
 pub watched_below : (space : Space) (page : ℕ) → IsSoundSpace space → contains space.object.protect page ≡ true → ltb page HIGH_PAGE ≡ true
@@ -105,9 +105,9 @@ round_changed world kept precopy unswitched =
       copies = λ page h u. (h, u, refl);
     }
 
-pub kept-round : (world : World) → IsKept world → refusal_of world Round ≡ None → IsKept (accepted world Round)
+pub kept-round : (world : World) → IsKept world → refusal_of world Step.Round ≡ None → IsKept (accepted world Step.Round)
 kept-round world kept allowed =
-    let tests = none_refused (reasons world Round) allowed in
+    let tests = none_refused (reasons world Step.Round) allowed in
     let precopy = not_false (is_precopy world.source.phase) tests.0 in
     let unswitched = precopy_unswitched world.source.phase world.source.switched precopy kept.source_phase in
     changed world (record world.source.guest { space = all_registered (space_of world.source) }) world.source.clean (not_clean world.source) (world.source.rounds + 1) world.source.faults world.transcript kept
@@ -115,23 +115,23 @@ kept-round world kept allowed =
 
 -- Start
 
-idle_is : (phase : SourcePhase) → not (is_source_idle phase) ≡ false → phase ≡ Idle
-idle_is Idle h = refl
-idle_is Precopy h = none_absurd (sym h)
-idle_is Stopped h = none_absurd (sym h)
-idle_is Paused h = none_absurd (sym h)
-idle_is Released h = none_absurd (sym h)
+idle_is : (phase : SourcePhase) → not (is_source_idle phase) ≡ false → phase ≡ SourcePhase.Idle
+idle_is SourcePhase.Idle h = refl
+idle_is SourcePhase.Precopy h = none_absurd (sym h)
+idle_is SourcePhase.Stopped h = none_absurd (sym h)
+idle_is SourcePhase.Paused h = none_absurd (sym h)
+idle_is SourcePhase.Released h = none_absurd (sym h)
 
-idle_unswitched : (phase : SourcePhase) (switched : Bool) → phase ≡ Idle → SwitchedAt phase switched → switched ≡ false
+idle_unswitched : (phase : SourcePhase) (switched : Bool) → phase ≡ SourcePhase.Idle → SwitchedAt phase switched → switched ≡ false
 idle_unswitched phase switched idle at = subst (λ p. SwitchedAt p switched) idle at
 
 -- nothing is in flight before a migration
-record IsQuiet (to : DestinationPhase) (forward back : List Sent) : Type 0 where
-  not_advised : to ≡ NotAdvised
+record IsQuiet (to : DestPhase) (forward back : List Sent) : Type 0 where
+  not_advised : to ≡ DestPhase.Idle
   forward_none : forward ≡ []
   back_none : back ≡ []
 
-idle_wires : (from : SourcePhase) (source : Source) (destination : Destination) (forward back : List Sent) → from ≡ Idle → Wires (record source { phase = from }) destination forward back → IsQuiet destination.phase forward back
+idle_wires : (from : SourcePhase) (source : Source) (destination : Destination) (forward back : List Sent) → from ≡ SourcePhase.Idle → Wires (record source { phase = from }) destination forward back → IsQuiet destination.phase forward back
 idle_wires from source destination forward back idle wires =
     let now = subst (λ p. Wires (record source { phase = p }) destination forward back) idle wires in
     record { not_advised = now.0; forward_none = now.1; back_none = now.2 }
@@ -142,7 +142,7 @@ no_copy kept page none h = none_absurd (sym (ap is_some (ap (λ m. get m page) n
 abbrev start_wire : World → List Sent
 start_wire world = world.forward ++ record { epoch = world.source.epoch + 1; frame = Advise } ∷ []
 
-start_wires : (to : DestinationPhase) (source : Source) (destination : Destination) (wire back : List Sent) (epoch : ℕ) → to ≡ NotAdvised → wire ≡ record { epoch = epoch; frame = Advise } ∷ [] → back ≡ [] → source.clean ≡ no_pages →
+start_wires : (to : DestPhase) (source : Source) (destination : Destination) (wire back : List Sent) (epoch : ℕ) → to ≡ DestPhase.Idle → wire ≡ record { epoch = epoch; frame = Advise } ∷ [] → back ≡ [] → source.clean ≡ no_pages →
     destination.kept ≡ finmap.empty → PrecopyWires source (record destination { phase = to }) wire back
 start_wires to source destination wire back epoch not_advised one none clean kept =
     subst (λ p. PrecopyWires source (record destination { phase = p }) wire back) (sym not_advised) (
@@ -154,7 +154,7 @@ start_wires to source destination wire back epoch not_advised one none clean kep
       },
     )
 
-started_next : (world : World) → IsKept world → world.source.phase ≡ Idle → world.source.switched ≡ false → world.up ≡ true → IsQuiet world.destination.phase world.forward world.back →
+started_next : (world : World) → IsKept world → world.source.phase ≡ SourcePhase.Idle → world.source.switched ≡ false → world.up ≡ true → IsQuiet world.destination.phase world.forward world.back →
     IsNext world (source_started world.source) (start_wire world) world.transcript
 started_next world kept idle unswitched up quiet =
     let source = world.source in
@@ -188,9 +188,9 @@ started_next world kept idle unswitched up quiet =
       epoch_at = λ h. subst (λ p. EpochAt p world.destination.epoch (source.epoch + 1)) (sym quiet.not_advised) tt;
     }
 
-pub kept-start : (world : World) → IsKept world → refusal_of world Start ≡ None → IsKept (accepted world Start)
+pub kept-start : (world : World) → IsKept world → refusal_of world Step.Start ≡ None → IsKept (accepted world Step.Start)
 kept-start world kept allowed =
-    let tests = none_refused (reasons world Start) allowed in
+    let tests = none_refused (reasons world Step.Start) allowed in
     let idle = idle_is world.source.phase tests.0 in
     let unswitched = idle_unswitched world.source.phase world.source.switched idle kept.source_phase in
     let up = never_false world.up (λ down. (kept.down down).2 idle) in

@@ -5,6 +5,9 @@ use Rattle.std.specs.Ordering.{nat_cmp}
 use Rattle.std.specs.FinMap.{FinMap, get}
 use Rattle.std.specs.FinSet.{contains, insert}
 use Rattle.std.proofs.lemmas.Bool.Decides.{nat_tests}
+use Rattle.mig_base.specs.declared.phase.DestPhase.{DestPhase}
+use Rattle.mig_base.specs.declared.phase.SourcePhase.{SourcePhase}
+use Rattle.mig_base.specs.declared.schedule.Step.{Step}
 use Rattle.mig_base.specs.declared.TheConstants.{HIGH_PAGE}
 use Rattle.mig_base.specs.Bytes.{zero_page}
 use Rattle.mig_base.specs.Ranges.{in_range}
@@ -15,11 +18,8 @@ use Rattle.mig_model.specs.Space.{Space, IsSoundSpace}
 use Rattle.mig_model.specs.Ioctls.{protected_in}
 use Rattle.mig_model.specs.Guest.{is_present}
 use Rattle.mig_model.specs.Wire.{Sent, page_frame}
-use Rattle.mig_model.specs.Nodes.{SourcePhase, DestinationPhase, space_of, bytes_of, is_precopy, least_of, present, page_sent}
-use Rattle.mig_model.specs.Nodes.SourcePhase.{Idle, Precopy, Stopped, Paused, Released}
-use Rattle.mig_model.specs.Nodes.DestinationPhase.{NotAdvised, Advised, Discarding, Runs, Interrupted, HasEnded}
+use Rattle.mig_model.specs.Nodes.{space_of, bytes_of, is_precopy, least_of, present, page_sent}
 use Rattle.mig_model.specs.Migration.{World, reasons, refusal_of, accepted, sent_by}
-use Rattle.mig_model.specs.Migration.Step.{Send}
 use Rattle.mig_model.specs.Invariant.{IsKept, IsPrecopying, Wires, Flow, flow_after, flow_next, kept_by, is_unread}
 use Rattle.mig_model.specs.Invariant.Flow.{BeforeAdvise, Copies}
 use Rattle.mig_model.proofs.IoctlLemmas.{IsSoundSpace-protected}
@@ -116,29 +116,29 @@ flow_sent flow wire epoch page bytes right =
     ∙ ap (λ o. option_and_then (λ next. flow_next next (page_frame page bytes)) o) right
     ∙ flow_next-page_frame page bytes
 
-wires_sent : (from : SourcePhase) (to : DestinationPhase) (world : World) (page : ℕ) → is_precopy from ≡ true → IsSent world page →
+wires_sent : (from : SourcePhase) (to : DestPhase) (world : World) (page : ℕ) → is_precopy from ≡ true → IsSent world page →
     Wires (record world.source { phase = from }) (record world.destination { phase = to }) world.forward world.back →
     Wires (record (page_sent world.source page) { phase = from }) (record world.destination { phase = to }) (page_wire world page) world.back
-wires_sent Precopy NotAdvised world page now is wires = (
+wires_sent SourcePhase.Precopy DestPhase.Idle world page now is wires = (
   flow_sent BeforeAdvise world.forward world.source.epoch page (bytes_of world.source page) wires.0,
   wires.1,
-  sent_copies (record world { source = record world.source { phase = Precopy } }) page BeforeAdvise world.destination.kept
+  sent_copies (record world { source = record world.source { phase = SourcePhase.Precopy } }) page BeforeAdvise world.destination.kept
       (record { present = is.present; watched = is.watched; whole = is.whole; low = is.low }) wires.0 wires.2,
 )
-wires_sent Precopy Advised world page now is wires = (
+wires_sent SourcePhase.Precopy DestPhase.Advised world page now is wires = (
   flow_sent Copies world.forward world.source.epoch page (bytes_of world.source page) wires.0,
   wires.1,
-  sent_copies (record world { source = record world.source { phase = Precopy } }) page Copies world.destination.kept
+  sent_copies (record world { source = record world.source { phase = SourcePhase.Precopy } }) page Copies world.destination.kept
       (record { present = is.present; watched = is.watched; whole = is.whole; low = is.low }) wires.0 wires.2,
 )
-wires_sent Precopy Discarding world page now is wires = wires
-wires_sent Precopy Runs world page now is wires = wires
-wires_sent Precopy Interrupted world page now is wires = wires
-wires_sent Precopy HasEnded world page now is wires = wires
-wires_sent Idle to world page now is wires = none_absurd now
-wires_sent Stopped to world page now is wires = none_absurd now
-wires_sent Paused to world page now is wires = none_absurd now
-wires_sent Released to world page now is wires = none_absurd now
+wires_sent SourcePhase.Precopy DestPhase.Discarding world page now is wires = wires
+wires_sent SourcePhase.Precopy DestPhase.Running world page now is wires = wires
+wires_sent SourcePhase.Precopy DestPhase.Paused world page now is wires = wires
+wires_sent SourcePhase.Precopy DestPhase.Ended world page now is wires = wires
+wires_sent SourcePhase.Idle to world page now is wires = none_absurd now
+wires_sent SourcePhase.Stopped to world page now is wires = none_absurd now
+wires_sent SourcePhase.Paused to world page now is wires = none_absurd now
+wires_sent SourcePhase.Released to world page now is wires = none_absurd now
 
 sent_next : (world : World) (page : ℕ) → IsKept world → is_precopy world.source.phase ≡ true → world.up ≡ true → world.source.switched ≡ false → IsSent world page →
     IsNext world (page_sent world.source page) (page_wire world page) world.transcript
@@ -183,7 +183,7 @@ sent_least world (Some page) kept precopy up quiet found =
     renewed world (page_sent world.source page) (page_wire world page) world.transcript kept (has_not_run world kept unswitched)
     (sent_next world page kept precopy up unswitched (is_sent world page kept unswitched quiet found))
 
-pub kept-send : (world : World) → IsKept world → refusal_of world Send ≡ None → IsKept (accepted world Send)
+pub kept-send : (world : World) → IsKept world → refusal_of world Step.Send ≡ None → IsKept (accepted world Step.Send)
 kept-send world kept allowed =
-    let tests = none_refused (reasons world Send) allowed in
+    let tests = none_refused (reasons world Step.Send) allowed in
     sent_least world (least_of world.source.todo) kept (not_false (is_precopy world.source.phase) tests.0) (not_false world.up tests.1.0) (no_event (space_of world.source).object.events tests.1.1.1.0) refl

@@ -1,17 +1,18 @@
 -- A migration that is complete stays complete.
 use Rattle.std.proofs.Common.{◌≡◌, ℕ, ◌&&◌, ◌||◌, Bool, true, false, not, Option, Some, None, List, [], ◌∷◌, refl, sym, ap, ◌∙◌}
 use Rattle.std.proofs.lemmas.Bool.{false≢true}
+use Rattle.mig_base.specs.declared.phase.SourcePhase.{SourcePhase}
+use Rattle.mig_base.specs.declared.refusal.Refusal.{Refusal}
+use Rattle.mig_base.specs.declared.schedule.Side.{Side}
+use Rattle.mig_base.specs.declared.schedule.Step.{Step}
 use Rattle.mig_base.specs.declared.command.Command.{Command}
 use Rattle.mig_model.specs.World.{is_access}
 use Rattle.mig_model.specs.Userfault.{Noted, next_message}
 use Rattle.mig_model.specs.Guest.{Guest, Fault, processor_at, outstanding, tried}
 use Rattle.mig_model.specs.Wire.{Sent}
-use Rattle.mig_model.specs.Nodes.{Act, SourcePhase, is_source_idle, is_precopy, is_stopped, is_source_paused, is_released, space_of, source_act, source_acted_by}
+use Rattle.mig_model.specs.Nodes.{Act, is_source_idle, is_precopy, is_stopped, is_source_paused, is_released, space_of, source_act, source_acted_by}
 use Rattle.mig_model.specs.Nodes.Act.{Unprotected, Zeroed, Woke, Forgot, Requested}
-use Rattle.mig_model.specs.Nodes.SourcePhase.{Idle, Precopy, Stopped, Paused, Released}
-use Rattle.mig_model.specs.Migration.{World, Step, Refusal, reasons, refusal_of, accepted, next, next_by, guest_of, with_guest_by, command_tried, retried, read_by_source, acted_by_source, delivered, read_by_destination, acted_by_destination, has_started, is_empty}
-use Rattle.mig_model.specs.Migration.Step.{Issue, Retry, Start, Round, Send, SourceRead, SourceAct, Switch, Deliver, DeliverBack, DestRead, DestAct, Install, Push, Serve, SendEnd, Break, Notice, Reconnect}
-use Rattle.mig_model.specs.Migration.Side.{AtSource, AtDestination}
+use Rattle.mig_model.specs.Migration.{World, reasons, refusal_of, accepted, next, next_by, guest_of, with_guest_by, command_tried, retried, read_by_source, acted_by_source, delivered, read_by_destination, acted_by_destination, has_started, is_empty}
 use Rattle.mig_model.specs.Invariant.{IsKept}
 use Rattle.mig_model.specs.Promises.{IsComplete}
 use Rattle.mig_model.proofs.Breaking.{none_applies}
@@ -20,32 +21,32 @@ use Rattle.mig_model.proofs.Stopping.{in_phases, none_absurd, not_none}
 -- A released source is in no other phase
 
 not_idle : (phase : SourcePhase) → is_released phase ≡ true → is_source_idle phase ≡ true → ⊥
-not_idle Released h is = false≢true is
-not_idle Idle h is = false≢true h
-not_idle Precopy h is = false≢true h
-not_idle Stopped h is = false≢true h
-not_idle Paused h is = false≢true h
+not_idle SourcePhase.Released h is = false≢true is
+not_idle SourcePhase.Idle h is = false≢true h
+not_idle SourcePhase.Precopy h is = false≢true h
+not_idle SourcePhase.Stopped h is = false≢true h
+not_idle SourcePhase.Paused h is = false≢true h
 
 not_precopy : (phase : SourcePhase) → is_released phase ≡ true → is_precopy phase ≡ true → ⊥
-not_precopy Released h is = false≢true is
-not_precopy Idle h is = false≢true h
-not_precopy Precopy h is = false≢true h
-not_precopy Stopped h is = false≢true h
-not_precopy Paused h is = false≢true h
+not_precopy SourcePhase.Released h is = false≢true is
+not_precopy SourcePhase.Idle h is = false≢true h
+not_precopy SourcePhase.Precopy h is = false≢true h
+not_precopy SourcePhase.Stopped h is = false≢true h
+not_precopy SourcePhase.Paused h is = false≢true h
 
 not_stopped : (phase : SourcePhase) → is_released phase ≡ true → is_stopped phase ≡ true → ⊥
-not_stopped Released h is = false≢true is
-not_stopped Idle h is = false≢true h
-not_stopped Precopy h is = false≢true h
-not_stopped Stopped h is = false≢true h
-not_stopped Paused h is = false≢true h
+not_stopped SourcePhase.Released h is = false≢true is
+not_stopped SourcePhase.Idle h is = false≢true h
+not_stopped SourcePhase.Precopy h is = false≢true h
+not_stopped SourcePhase.Stopped h is = false≢true h
+not_stopped SourcePhase.Paused h is = false≢true h
 
 not_paused : (phase : SourcePhase) → is_released phase ≡ true → is_source_paused phase ≡ true → ⊥
-not_paused Released h is = false≢true is
-not_paused Idle h is = false≢true h
-not_paused Precopy h is = false≢true h
-not_paused Stopped h is = false≢true h
-not_paused Paused h is = false≢true h
+not_paused SourcePhase.Released h is = false≢true is
+not_paused SourcePhase.Idle h is = false≢true h
+not_paused SourcePhase.Precopy h is = false≢true h
+not_paused SourcePhase.Stopped h is = false≢true h
+not_paused SourcePhase.Paused h is = false≢true h
 
 second_of : (a b : Bool) → (a || b) ≡ false → b ≡ false
 second_of true b h = none_absurd (sym h)
@@ -105,38 +106,38 @@ up_is false h = absurd (h refl)
 
 -- nothing is on the wire back any more
 back_empty_in : (from : SourcePhase) (world : World) → is_released from ≡ true → IsKept (in_phases from world.destination.phase world) → is_empty world.back ≡ true
-back_empty_in Released world released kept = ap is_empty (kept.wires (up_is world.up (λ h. (kept.down h).3 refl))).2
-back_empty_in Idle world released kept = none_absurd released
-back_empty_in Precopy world released kept = none_absurd released
-back_empty_in Stopped world released kept = none_absurd released
-back_empty_in Paused world released kept = none_absurd released
+back_empty_in SourcePhase.Released world released kept = ap is_empty (kept.wires (up_is world.up (λ h. (kept.down h).3 refl))).2
+back_empty_in SourcePhase.Idle world released kept = none_absurd released
+back_empty_in SourcePhase.Precopy world released kept = none_absurd released
+back_empty_in SourcePhase.Stopped world released kept = none_absurd released
+back_empty_in SourcePhase.Paused world released kept = none_absurd released
 
 still : (old new : SourcePhase) → new ≡ old → is_released old ≡ true → is_released new ≡ true
 still old new is h = ap is_released is ∙ h
 
 accepted_complete : (world : World) (step : Step) → IsKept world → IsComplete world → refusal_of world step ≡ None → IsComplete (accepted world step)
-accepted_complete world (Issue cpu command) kept done free = still world.source.phase _ (command_phase world cpu command) done
-accepted_complete world (Retry cpu) kept done free = still world.source.phase _ (retry_phase world cpu (outstanding (processor_at (guest_of world).processors cpu))) done
-accepted_complete world Start kept done free = absurd (not_idle world.source.phase done (not_none _ (none_applies (reasons world Start) free).0))
-accepted_complete world Round kept done free = absurd (not_precopy world.source.phase done (not_none _ (none_applies (reasons world Round) free).0))
-accepted_complete world Send kept done free = absurd (not_precopy world.source.phase done (not_none _ (none_applies (reasons world Send) free).0))
-accepted_complete world SourceRead kept done free = still world.source.phase _ (read_phase world (next_message (space_of world.source).object)) done
-accepted_complete world SourceAct kept done free = still world.source.phase _ (acted_phase world world.source.guest.held) done
-accepted_complete world Switch kept done free = absurd (not_precopy world.source.phase done (not_none _ (none_applies (reasons world Switch) free).0))
-accepted_complete world Deliver kept done free = still world.source.phase _ (delivered_phase world world.forward) done
-accepted_complete world DeliverBack kept done free =
-    absurd (false≢true (sym (none_applies (reasons world DeliverBack) free).1.1.0 ∙ back_empty_in world.source.phase world done kept))
-accepted_complete world DestRead kept done free = still world.source.phase _ (destination_read_phase world (next_message world.destination.guest.space.object)) done
-accepted_complete world DestAct kept done free = still world.source.phase _ (destination_acted_phase world world.destination.guest.held) done
-accepted_complete world Install kept done free = done
-accepted_complete world (Push epoch page) kept done free = absurd (not_stopped world.source.phase done (not_none _ (none_applies (reasons world (Push epoch page)) free).0))
-accepted_complete world Serve kept done free = absurd (not_stopped world.source.phase done (not_none _ (none_applies (reasons world Serve) free).0))
-accepted_complete world SendEnd kept done free = absurd (not_stopped world.source.phase done (not_none _ (first_of_two _ _ (none_applies (reasons world SendEnd) free).0)))
-accepted_complete world Break kept done free = absurd (false≢true (sym (second_of (not (has_started world)) (is_released world.source.phase) (none_applies (reasons world Break) free).0) ∙ done))
-accepted_complete world (Notice AtSource) kept done free =
-    absurd (false≢true (sym (second_of (not (has_started world)) (is_released world.source.phase) (first_of_two _ (is_source_paused world.source.phase) (none_applies (reasons world (Notice AtSource)) free).0)) ∙ done))
-accepted_complete world (Notice AtDestination) kept done free = done
-accepted_complete world Reconnect kept done free = absurd (not_paused world.source.phase done (first_and _ _ (not_none _ (none_applies (reasons world Reconnect) free).0)))
+accepted_complete world (Step.Issue cpu command) kept done free = still world.source.phase _ (command_phase world cpu command) done
+accepted_complete world (Step.Retry cpu) kept done free = still world.source.phase _ (retry_phase world cpu (outstanding (processor_at (guest_of world).processors cpu))) done
+accepted_complete world Step.Start kept done free = absurd (not_idle world.source.phase done (not_none _ (none_applies (reasons world Step.Start) free).0))
+accepted_complete world Step.Round kept done free = absurd (not_precopy world.source.phase done (not_none _ (none_applies (reasons world Step.Round) free).0))
+accepted_complete world Step.Send kept done free = absurd (not_precopy world.source.phase done (not_none _ (none_applies (reasons world Step.Send) free).0))
+accepted_complete world Step.SourceRead kept done free = still world.source.phase _ (read_phase world (next_message (space_of world.source).object)) done
+accepted_complete world Step.SourceAct kept done free = still world.source.phase _ (acted_phase world world.source.guest.held) done
+accepted_complete world Step.Switch kept done free = absurd (not_precopy world.source.phase done (not_none _ (none_applies (reasons world Step.Switch) free).0))
+accepted_complete world Step.Deliver kept done free = still world.source.phase _ (delivered_phase world world.forward) done
+accepted_complete world Step.DeliverBack kept done free =
+    absurd (false≢true (sym (none_applies (reasons world Step.DeliverBack) free).1.1.0 ∙ back_empty_in world.source.phase world done kept))
+accepted_complete world Step.DestRead kept done free = still world.source.phase _ (destination_read_phase world (next_message world.destination.guest.space.object)) done
+accepted_complete world Step.DestAct kept done free = still world.source.phase _ (destination_acted_phase world world.destination.guest.held) done
+accepted_complete world Step.Install kept done free = done
+accepted_complete world (Step.Push ticket) kept done free = absurd (not_stopped world.source.phase done (not_none _ (none_applies (reasons world (Step.Push ticket)) free).0))
+accepted_complete world Step.Serve kept done free = absurd (not_stopped world.source.phase done (not_none _ (none_applies (reasons world Step.Serve) free).0))
+accepted_complete world Step.End kept done free = absurd (not_stopped world.source.phase done (not_none _ (first_of_two _ _ (none_applies (reasons world Step.End) free).0)))
+accepted_complete world Step.Break kept done free = absurd (false≢true (sym (second_of (not (has_started world)) (is_released world.source.phase) (none_applies (reasons world Step.Break) free).0) ∙ done))
+accepted_complete world (Step.Notice Side.Source) kept done free =
+    absurd (false≢true (sym (second_of (not (has_started world)) (is_released world.source.phase) (first_of_two _ (is_source_paused world.source.phase) (none_applies (reasons world (Step.Notice Side.Source)) free).0)) ∙ done))
+accepted_complete world (Step.Notice Side.Destination) kept done free = done
+accepted_complete world Step.Resume kept done free = absurd (not_paused world.source.phase done (first_and _ _ (not_none _ (none_applies (reasons world Step.Resume) free).0)))
 
 complete_by : (refusal : Option Refusal) (old new : World) → IsComplete old → (refusal ≡ None → IsComplete new) → IsComplete (next_by refusal old new)
 complete_by None old new done h = h refl

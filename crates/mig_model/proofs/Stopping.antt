@@ -6,6 +6,10 @@ use Rattle.std.specs.FinSet as finset
 use Rattle.std.specs.FinSet.{FinSet, contains, contains-empty}
 use Rattle.std.proofs.lemmas.Bool.Decides.{nat_tests}
 use Rattle.std.proofs.lemmas.Bool.{false≢true}
+use Rattle.mig_base.specs.declared.phase.DestPhase.{DestPhase}
+use Rattle.mig_base.specs.declared.phase.SourcePhase.{SourcePhase}
+use Rattle.mig_base.specs.declared.schedule.Step.{Step}
+use Rattle.mig_base.specs.declared.schedule.Ticket.{Ticket}
 use Rattle.mig_base.specs.declared.TheConstants.{HIGH_PAGE}
 use Rattle.mig_base.specs.Bytes.{zero_page}
 use Rattle.mig_base.specs.Ranges.{least_below}
@@ -15,18 +19,15 @@ use Rattle.mig_model.specs.Space.{Space}
 use Rattle.mig_model.specs.Wire.{Sent, Copy, page_frame}
 use Rattle.mig_model.specs.Wire.Frame.{End}
 use Rattle.mig_model.specs.Guest.{is_present}
-use Rattle.mig_model.specs.Nodes.{Source, SourcePhase, DestinationPhase, is_stopped, space_of, bytes_of, page_pushed, request_served, no_pages, least_of}
-use Rattle.mig_model.specs.Nodes.SourcePhase.{Idle, Precopy, Stopped, Paused, Released}
-use Rattle.mig_model.specs.Nodes.DestinationPhase.{NotAdvised, Advised, Discarding, Runs, Interrupted, HasEnded}
+use Rattle.mig_model.specs.Nodes.{Source, is_stopped, space_of, bytes_of, page_pushed, request_served, no_pages, least_of}
 use Rattle.mig_model.specs.Migration.{World, reasons, refusal_of, accepted}
-use Rattle.mig_model.specs.Migration.Step.{Push, Serve, SendEnd}
 use Rattle.mig_model.specs.Invariant.{IsKept, StoppedWires, IsSwitching, Flow, flow_after, flow_of, copies_of, has_copy, AreFaithful, AreWhole, behind}
 use Rattle.mig_model.specs.Invariant.Flow.{BeforeAdvise, Copies, BeforePackage, Pushed, AfterEnd}
 use Rattle.mig_model.proofs.Breaking.{none_applies}
 use Rattle.mig_model.proofs.SendingLemmas.{flow_sent, copies_of-append, AreWhole-append, AreFaithful-append, has_copy-append, AreOf-one, has_package, copies_of-page, page_flow}
 
 -- a world in these phases
-abbrev pub in_phases : SourcePhase → DestinationPhase → World → World
+abbrev pub in_phases : SourcePhase → DestPhase → World → World
 in_phases from to world = record world { source = record world.source { phase = from }; destination = record world.destination { phase = to } }
 
 pub none_absurd : {A : Type 0} → false ≡ true → A
@@ -117,16 +118,16 @@ pushed_switching source kept forward page held whole old =
     }
 
 -- a world whose source is stopped
-abbrev pub stopped_at : DestinationPhase → World → World
-stopped_at to world = in_phases Stopped to world
+abbrev pub stopped_at : DestPhase → World → World
+stopped_at to world = in_phases SourcePhase.Stopped to world
 
-pushed_wires : (to : DestinationPhase) (world : World) (page : ℕ) → get (space_of world.source).host.bytes page ≡ Some (bytes_of world.source page) → length (bytes_of world.source page) ≡ 4096 → world.source.ended ≢ world.source.epoch →
+pushed_wires : (to : DestPhase) (world : World) (page : ℕ) → get (space_of world.source).host.bytes page ≡ Some (bytes_of world.source page) → length (bytes_of world.source page) ≡ 4096 → world.source.ended ≢ world.source.epoch →
     ((flow : Flow) → flow_after flow world.forward ≡ Some (flow_of world.source) → flow_after flow (world.forward ++ pushed_frame world.source page ∷ []) ≡ Some (flow_of world.source)) →
     StoppedWires (stopped_at to world).source (stopped_at to world).destination world.forward world.back → StoppedWires (page_pushed (stopped_at to world).source page) (stopped_at to world).destination (world.forward ++ pushed_frame world.source page ∷ []) world.back
-pushed_wires NotAdvised world page held whole other flows old = (flows BeforeAdvise old.0, old.1, pushed_switching (stopped_at NotAdvised world).source world.destination.kept world.forward page held whole old.2)
-pushed_wires Advised world page held whole other flows old = (flows Copies old.0, old.1, pushed_switching (stopped_at Advised world).source world.destination.kept world.forward page held whole old.2)
-pushed_wires Discarding world page held whole other flows old = (flows BeforePackage old.0, old.1, pushed_switching (stopped_at Discarding world).source world.destination.kept world.forward page held whole old.2)
-pushed_wires Runs world page held whole other flows old =
+pushed_wires DestPhase.Idle world page held whole other flows old = (flows BeforeAdvise old.0, old.1, pushed_switching (stopped_at DestPhase.Idle world).source world.destination.kept world.forward page held whole old.2)
+pushed_wires DestPhase.Advised world page held whole other flows old = (flows Copies old.0, old.1, pushed_switching (stopped_at DestPhase.Advised world).source world.destination.kept world.forward page held whole old.2)
+pushed_wires DestPhase.Discarding world page held whole other flows old = (flows BeforePackage old.0, old.1, pushed_switching (stopped_at DestPhase.Discarding world).source world.destination.kept world.forward page held whole old.2)
+pushed_wires DestPhase.Running world page held whole other flows old =
     let more = pushed_frame world.source page ∷ [] in
     let copies : copies_of (world.forward ++ more) ≡ copies_of world.forward ++ record { page = page; bytes = bytes_of world.source page } ∷ [] =
     copies_of-append world.forward more ∙ ap (λ c. copies_of world.forward ++ c) (copies_of-page world.source.epoch page (bytes_of world.source page) whole) in (
@@ -138,10 +139,10 @@ pushed_wires Runs world page held whole other flows old =
             ∙ pushed_flowing world.source.remaining (copies_of world.forward) world.destination.arrivals page origin (bytes_of world.source page) (old.2.whereabouts q origin owed);
       },
     )
-pushed_wires Interrupted world page held whole other flows old = absurd old
-pushed_wires HasEnded world page held whole other flows old = absurd (other old.2)
+pushed_wires DestPhase.Paused world page held whole other flows old = absurd old
+pushed_wires DestPhase.Ended world page held whole other flows old = absurd (other old.2)
 
-pub stopped_not_released : Stopped ≢ Released
+pub stopped_not_released : SourcePhase.Stopped ≢ SourcePhase.Released
 stopped_not_released h = cc
 
 both_true : (a b : Bool) → (not a && b) ≡ true → b ≡ true
@@ -151,10 +152,11 @@ both_true false b h = h
 was_there : (remaining : FinSet nat_cmp) (page q : ℕ) → contains (finset.remove remaining page) q ≡ true → contains remaining q ≡ true
 was_there remaining page q h = both_true (eqb q page) (contains remaining q) (sym (member_removed remaining page q) ∙ h)
 
-pushed_in : (from : SourcePhase) (to : DestinationPhase) (world : World) (epoch page : ℕ) → is_stopped from ≡ true → world.up ≡ true → is_present (space_of world.source) page ≡ true → contains world.source.remaining page ≡ true →
-    IsKept (in_phases from to world) → IsKept (accepted (in_phases from to world) (Push epoch page))
-pushed_in Stopped to world epoch page stopped up present remains kept =
+pushed_in : (from : SourcePhase) (to : DestPhase) (world : World) (ticket : Ticket) → is_stopped from ≡ true → world.up ≡ true → is_present (space_of world.source) ticket.page ≡ true → contains world.source.remaining ticket.page ≡ true →
+    IsKept (in_phases from to world) → IsKept (accepted (in_phases from to world) (Step.Push ticket))
+pushed_in SourcePhase.Stopped to world ticket stopped up present remains kept =
     let source = world.source in
+    let page = ticket.page in
     let bytes = (space_of source).host.bytes in
     let more = pushed_frame source page ∷ [] in
     let held : get bytes page ≡ Some (bytes_of source page) = present_bytes (get bytes page) present in
@@ -208,33 +210,33 @@ pushed_in Stopped to world epoch page stopped up present remains kept =
       epochs = kept.epochs;
       epoch_at = kept.epoch_at;
     }
-pushed_in Idle to world epoch page stopped up present remains kept = none_absurd stopped
-pushed_in Precopy to world epoch page stopped up present remains kept = none_absurd stopped
-pushed_in Paused to world epoch page stopped up present remains kept = none_absurd stopped
-pushed_in Released to world epoch page stopped up present remains kept = none_absurd stopped
+pushed_in SourcePhase.Idle to world ticket stopped up present remains kept = none_absurd stopped
+pushed_in SourcePhase.Precopy to world ticket stopped up present remains kept = none_absurd stopped
+pushed_in SourcePhase.Paused to world ticket stopped up present remains kept = none_absurd stopped
+pushed_in SourcePhase.Released to world ticket stopped up present remains kept = none_absurd stopped
 
 pub not_none : (b : Bool) → not b ≡ false → b ≡ true
 not_none true h = refl
 not_none false h = none_absurd (sym h)
 
-pub kept-push : (world : World) (epoch page : ℕ) → IsKept world → refusal_of world (Push epoch page) ≡ None → IsKept (accepted world (Push epoch page))
-kept-push world epoch page kept free =
-    let told = none_applies (reasons world (Push epoch page)) free in
-    pushed_in world.source.phase world.destination.phase world epoch page (not_none _ told.0) (not_none _ told.1.0) (not_none _ told.1.1.1.0) (not_none _ told.1.1.1.1.0) kept
+pub kept-push : (world : World) (ticket : Ticket) → IsKept world → refusal_of world (Step.Push ticket) ≡ None → IsKept (accepted world (Step.Push ticket))
+kept-push world ticket kept free =
+    let told = none_applies (reasons world (Step.Push ticket)) free in
+    pushed_in world.source.phase world.destination.phase world ticket (not_none _ told.0) (not_none _ told.1.0) (not_none _ told.1.1.1.0) (not_none _ told.1.1.1.1.0) kept
 
 -- Serve
 
-served_wires : (to : DestinationPhase) (world : World) → StoppedWires (stopped_at to world).source (stopped_at to world).destination world.forward world.back →
+served_wires : (to : DestPhase) (world : World) → StoppedWires (stopped_at to world).source (stopped_at to world).destination world.forward world.back →
     StoppedWires (request_served (stopped_at to world).source) (stopped_at to world).destination world.forward world.back
-served_wires NotAdvised world old = (old.0, old.1, record { owed = old.2.owed; plan = old.2.plan; owed_present = old.2.owed_present; kept_rest = old.2.kept_rest; whereabouts = old.2.whereabouts; faithful = old.2.faithful })
-served_wires Advised world old = (old.0, old.1, record { owed = old.2.owed; plan = old.2.plan; owed_present = old.2.owed_present; kept_rest = old.2.kept_rest; whereabouts = old.2.whereabouts; faithful = old.2.faithful })
-served_wires Discarding world old = (old.0, old.1, record { owed = old.2.owed; plan = old.2.plan; owed_present = old.2.owed_present; kept_rest = old.2.kept_rest; whereabouts = old.2.whereabouts; faithful = old.2.faithful })
-served_wires Runs world old = (old.0, old.1, record { whereabouts = old.2.whereabouts })
-served_wires Interrupted world old = absurd old
-served_wires HasEnded world old = old
+served_wires DestPhase.Idle world old = (old.0, old.1, record { owed = old.2.owed; plan = old.2.plan; owed_present = old.2.owed_present; kept_rest = old.2.kept_rest; whereabouts = old.2.whereabouts; faithful = old.2.faithful })
+served_wires DestPhase.Advised world old = (old.0, old.1, record { owed = old.2.owed; plan = old.2.plan; owed_present = old.2.owed_present; kept_rest = old.2.kept_rest; whereabouts = old.2.whereabouts; faithful = old.2.faithful })
+served_wires DestPhase.Discarding world old = (old.0, old.1, record { owed = old.2.owed; plan = old.2.plan; owed_present = old.2.owed_present; kept_rest = old.2.kept_rest; whereabouts = old.2.whereabouts; faithful = old.2.faithful })
+served_wires DestPhase.Running world old = (old.0, old.1, record { whereabouts = old.2.whereabouts })
+served_wires DestPhase.Paused world old = absurd old
+served_wires DestPhase.Ended world old = old
 
-served_in : (from : SourcePhase) (to : DestinationPhase) (world : World) → is_stopped from ≡ true → IsKept (in_phases from to world) → IsKept (accepted (in_phases from to world) Serve)
-served_in Stopped to world stopped kept =
+served_in : (from : SourcePhase) (to : DestPhase) (world : World) → is_stopped from ≡ true → IsKept (in_phases from to world) → IsKept (accepted (in_phases from to world) Step.Serve)
+served_in SourcePhase.Stopped to world stopped kept =
     record {
       flat = kept.flat;
       holds = kept.holds;
@@ -279,14 +281,14 @@ served_in Stopped to world stopped kept =
       epochs = kept.epochs;
       epoch_at = kept.epoch_at;
     }
-served_in Idle to world stopped kept = none_absurd stopped
-served_in Precopy to world stopped kept = none_absurd stopped
-served_in Paused to world stopped kept = none_absurd stopped
-served_in Released to world stopped kept = none_absurd stopped
+served_in SourcePhase.Idle to world stopped kept = none_absurd stopped
+served_in SourcePhase.Precopy to world stopped kept = none_absurd stopped
+served_in SourcePhase.Paused to world stopped kept = none_absurd stopped
+served_in SourcePhase.Released to world stopped kept = none_absurd stopped
 
-pub kept-serve : (world : World) → IsKept world → refusal_of world Serve ≡ None → IsKept (accepted world Serve)
+pub kept-serve : (world : World) → IsKept world → refusal_of world Step.Serve ≡ None → IsKept (accepted world Step.Serve)
 kept-serve world kept free =
-    let told = none_applies (reasons world Serve) free in
+    let told = none_applies (reasons world Step.Serve) free in
     served_in world.source.phase world.destination.phase world (not_none _ told.0) kept
 
 -- SendEnd
@@ -300,7 +302,7 @@ end_sent_by source = record source { ended = source.epoch }
 eqb-is : (a b : ℕ) → a ≡ b → eqb a b ≡ true
 eqb-is a b h = grind (arith, nat_tests)
 
-pub stopped_not_paused : Stopped ≢ Paused
+pub stopped_not_paused : SourcePhase.Stopped ≢ SourcePhase.Paused
 stopped_not_paused h = cc
 
 pub append-nil : {A : Type 0} (xs : List A) → xs ++ [] ≡ xs
@@ -360,13 +362,13 @@ ended_switching source kept forward old =
       faithful = subst (λ c. AreFaithful (space_of source).host.bytes c) (sym copies) old.faithful;
     }
 
-ended_wires : (to : DestinationPhase) (world : World) → eqb world.source.ended world.source.epoch ≡ false →
+ended_wires : (to : DestPhase) (world : World) → eqb world.source.ended world.source.epoch ≡ false →
     ((flow : Flow) → flow_after flow world.forward ≡ Some (flow_of world.source) → flow_after flow (world.forward ++ end_frame world.source ∷ []) ≡ Some (flow_of (end_sent_by world.source))) →
     StoppedWires (stopped_at to world).source (stopped_at to world).destination world.forward world.back → StoppedWires (end_sent_by (stopped_at to world).source) (stopped_at to world).destination (world.forward ++ end_frame world.source ∷ []) world.back
-ended_wires NotAdvised world other flows old = (flows BeforeAdvise old.0, old.1, ended_switching (stopped_at NotAdvised world).source world.destination.kept world.forward old.2)
-ended_wires Advised world other flows old = (flows Copies old.0, old.1, ended_switching (stopped_at Advised world).source world.destination.kept world.forward old.2)
-ended_wires Discarding world other flows old = (flows BeforePackage old.0, old.1, ended_switching (stopped_at Discarding world).source world.destination.kept world.forward old.2)
-ended_wires Runs world other flows old =
+ended_wires DestPhase.Idle world other flows old = (flows BeforeAdvise old.0, old.1, ended_switching (stopped_at DestPhase.Idle world).source world.destination.kept world.forward old.2)
+ended_wires DestPhase.Advised world other flows old = (flows Copies old.0, old.1, ended_switching (stopped_at DestPhase.Advised world).source world.destination.kept world.forward old.2)
+ended_wires DestPhase.Discarding world other flows old = (flows BeforePackage old.0, old.1, ended_switching (stopped_at DestPhase.Discarding world).source world.destination.kept world.forward old.2)
+ended_wires DestPhase.Running world other flows old =
     let copies : copies_of (world.forward ++ end_frame world.source ∷ []) ≡ copies_of world.forward = copies_of-append world.forward (end_frame world.source ∷ []) ∙ append-nil (copies_of world.forward) in (
       flows Pushed old.0,
       old.1,
@@ -374,14 +376,14 @@ ended_wires Runs world other flows old =
         whereabouts = λ q origin owed. ap (λ c. contains world.source.remaining origin || has_copy c origin || has_copy world.destination.arrivals origin) copies ∙ old.2.whereabouts q origin owed;
       },
     )
-ended_wires Interrupted world other flows old = absurd old
-ended_wires HasEnded world other flows old = absurd (false≢true (sym other ∙ eqb-is world.source.ended world.source.epoch old.2))
+ended_wires DestPhase.Paused world other flows old = absurd old
+ended_wires DestPhase.Ended world other flows old = absurd (false≢true (sym other ∙ eqb-is world.source.ended world.source.epoch old.2))
 
-ended_in : (from : SourcePhase) (to : DestinationPhase) (world : World) → is_stopped from ≡ true → world.up ≡ true → eqb world.source.ended world.source.epoch ≡ false → least_of world.source.remaining ≡ None → IsKept (in_phases from to world) → IsKept (accepted (in_phases from to world) SendEnd)
-ended_in Stopped to world stopped up other none kept =
+ended_in : (from : SourcePhase) (to : DestPhase) (world : World) → is_stopped from ≡ true → world.up ≡ true → eqb world.source.ended world.source.epoch ≡ false → least_of world.source.remaining ≡ None → IsKept (in_phases from to world) → IsKept (accepted (in_phases from to world) Step.End)
+ended_in SourcePhase.Stopped to world stopped up other none kept =
     let source = world.source in
     let bytes = (space_of source).host.bytes in
-    let nothing = nothing_remains (in_phases Stopped to world) kept none in
+    let nothing = nothing_remains (in_phases SourcePhase.Stopped to world) kept none in
     let before : flow_of source ≡ Pushed = ap (λ b. cond b AfterEnd Pushed) other in
     let after : flow_of (end_sent_by source) ≡ AfterEnd = ap (λ b. cond b AfterEnd Pushed) (eqb-refl source.epoch) in
     let copies : copies_of (world.forward ++ end_frame source ∷ []) ≡ copies_of world.forward = copies_of-append world.forward (end_frame source ∷ []) ∙ append-nil (copies_of world.forward) in
@@ -430,17 +432,17 @@ ended_in Stopped to world stopped up other none kept =
       epochs = kept.epochs;
       epoch_at = kept.epoch_at;
     }
-ended_in Idle to world stopped up other none kept = none_absurd stopped
-ended_in Precopy to world stopped up other none kept = none_absurd stopped
-ended_in Paused to world stopped up other none kept = none_absurd stopped
-ended_in Released to world stopped up other none kept = none_absurd stopped
+ended_in SourcePhase.Idle to world stopped up other none kept = none_absurd stopped
+ended_in SourcePhase.Precopy to world stopped up other none kept = none_absurd stopped
+ended_in SourcePhase.Paused to world stopped up other none kept = none_absurd stopped
+ended_in SourcePhase.Released to world stopped up other none kept = none_absurd stopped
 
 or_none : (a b : Bool) → (a || b) ≡ false → (a ≡ false) × (b ≡ false)
 or_none true b h = none_absurd (sym h)
 or_none false b h = (refl, h)
 
-pub kept-send_end : (world : World) → IsKept world → refusal_of world SendEnd ≡ None → IsKept (accepted world SendEnd)
+pub kept-send_end : (world : World) → IsKept world → refusal_of world Step.End ≡ None → IsKept (accepted world Step.End)
 kept-send_end world kept free =
-    let told = none_applies (reasons world SendEnd) free in
+    let told = none_applies (reasons world Step.End) free in
     let phases = or_none (not (is_stopped world.source.phase)) (eqb world.source.ended world.source.epoch) told.0 in
     ended_in world.source.phase world.destination.phase world (not_none _ phases.0) (not_none _ told.1.0) phases.1 (found_some (least_of world.source.remaining) told.1.1.0) kept

@@ -7,17 +7,17 @@ use Rattle.std.specs.FinSet.{FinSet, contains, contains-retain}
 use Rattle.std.proofs.lemmas.Bool.Decides.{nat_tests}
 use Rattle.std.proofs.lemmas.Bool.{false≢true}
 use Rattle.std.proofs.lemmas.List.{append_assoc}
+use Rattle.mig_base.specs.declared.phase.DestPhase.{DestPhase}
+use Rattle.mig_base.specs.declared.phase.SourcePhase.{SourcePhase}
+use Rattle.mig_base.specs.declared.schedule.Step.{Step}
 use Rattle.mig_base.specs.declared.TheConstants.{HIGH_PAGE}
 use Rattle.mig_base.proofs.SetLemmas.{member_below}
 use Rattle.mig_model.specs.Userfault.{Noted}
 use Rattle.mig_model.specs.Wire.{Sent, kept_after}
 use Rattle.mig_model.specs.Wire.Frame.{Discard, Package}
 use Rattle.mig_model.specs.Guest.{is_present}
-use Rattle.mig_model.specs.Nodes.{Source, SourcePhase, DestinationPhase, is_precopy, space_of, less, present, not_clean, commands_of, switch_made}
-use Rattle.mig_model.specs.Nodes.SourcePhase.{Idle, Precopy, Stopped, Paused, Released}
-use Rattle.mig_model.specs.Nodes.DestinationPhase.{NotAdvised, Advised, Discarding, Runs, Interrupted, HasEnded}
+use Rattle.mig_model.specs.Nodes.{Source, is_precopy, space_of, less, present, not_clean, commands_of, switch_made}
 use Rattle.mig_model.specs.Migration.{World, reasons, refusal_of, accepted}
-use Rattle.mig_model.specs.Migration.Step.{Switch}
 use Rattle.mig_model.specs.Invariant.{IsKept, PrecopyWires, StoppedWires, IsPrecopying, IsSwitching, Flow, flow_after, flow_of, copies_of, has_copy, AreFaithful, AreWhole, is_unread, kept_by, behind, package_in}
 use Rattle.mig_model.specs.Invariant.Flow.{BeforeAdvise, Copies, BeforePackage, Pushed}
 use Rattle.mig_model.proofs.Breaking.{none_applies}
@@ -131,29 +131,29 @@ flows_on flow world h other =
     flow_sent flow BeforePackage Pushed (world.forward ++ discard_frame world.source ∷ []) (package_frame world.source) (flow_sent flow Copies BeforePackage world.forward (discard_frame world.source) h refl) refl
     ∙ ap (λ f. Some f) (sym (flow_open world.source other))
 
-switched_wires : (to : DestinationPhase) (world : World) → IsKept (in_phases Precopy to world) → (space_of world.source).object.events ≡ [] → world.source.ended ≢ world.source.epoch →
-    PrecopyWires (in_phases Precopy to world).source (in_phases Precopy to world).destination world.forward world.back →
-    StoppedWires (switch_made (in_phases Precopy to world).source) (in_phases Precopy to world).destination (switched_wire world.source world.forward) world.back
-switched_wires NotAdvised world kept quiet other old =
-    (flows_on BeforeAdvise world old.0 other, old.1, switching BeforeAdvise (in_phases Precopy NotAdvised world) kept quiet old.0 old.2)
-switched_wires Advised world kept quiet other old =
-    (flows_on Copies world old.0 other, old.1, switching Copies (in_phases Precopy Advised world) kept quiet old.0 old.2)
-switched_wires Discarding world kept quiet other old = absurd old
-switched_wires Runs world kept quiet other old = absurd old
-switched_wires Interrupted world kept quiet other old = absurd old
-switched_wires HasEnded world kept quiet other old = absurd old
+switched_wires : (to : DestPhase) (world : World) → IsKept (in_phases SourcePhase.Precopy to world) → (space_of world.source).object.events ≡ [] → world.source.ended ≢ world.source.epoch →
+    PrecopyWires (in_phases SourcePhase.Precopy to world).source (in_phases SourcePhase.Precopy to world).destination world.forward world.back →
+    StoppedWires (switch_made (in_phases SourcePhase.Precopy to world).source) (in_phases SourcePhase.Precopy to world).destination (switched_wire world.source world.forward) world.back
+switched_wires DestPhase.Idle world kept quiet other old =
+    (flows_on BeforeAdvise world old.0 other, old.1, switching BeforeAdvise (in_phases SourcePhase.Precopy DestPhase.Idle world) kept quiet old.0 old.2)
+switched_wires DestPhase.Advised world kept quiet other old =
+    (flows_on Copies world old.0 other, old.1, switching Copies (in_phases SourcePhase.Precopy DestPhase.Advised world) kept quiet old.0 old.2)
+switched_wires DestPhase.Discarding world kept quiet other old = absurd old
+switched_wires DestPhase.Running world kept quiet other old = absurd old
+switched_wires DestPhase.Paused world kept quiet other old = absurd old
+switched_wires DestPhase.Ended world kept quiet other old = absurd old
 
-stopped_not_idle : Stopped ≢ Idle
+stopped_not_idle : SourcePhase.Stopped ≢ SourcePhase.Idle
 stopped_not_idle h = cc
 
-precopy_not_idle : Precopy ≢ Idle
+precopy_not_idle : SourcePhase.Precopy ≢ SourcePhase.Idle
 precopy_not_idle h = cc
 
-was_not_ended : (A : Type 0) → (A ⊎ (Precopy ≡ Idle)) → A
+was_not_ended : (A : Type 0) → (A ⊎ (SourcePhase.Precopy ≡ SourcePhase.Idle)) → A
 was_not_ended A told = ⊎_elim (λ a. a) (λ idle. absurd (precopy_not_idle idle)) told
 
-switched_in : (from : SourcePhase) (to : DestinationPhase) (world : World) → is_precopy from ≡ true → world.up ≡ true → (space_of world.source).object.events ≡ [] → IsKept (in_phases from to world) → IsKept (accepted (in_phases from to world) Switch)
-switched_in Precopy to world precopy up quiet kept =
+switched_in : (from : SourcePhase) (to : DestPhase) (world : World) → is_precopy from ≡ true → world.up ≡ true → (space_of world.source).object.events ≡ [] → IsKept (in_phases from to world) → IsKept (accepted (in_phases from to world) Step.Switch)
+switched_in SourcePhase.Precopy to world precopy up quiet kept =
     let source = world.source in
     let other : source.ended ≢ source.epoch = was_not_ended _ (kept.before_switch kept.source_phase).1 in
     let copies : copies_of (switched_wire source world.forward) ≡ copies_of world.forward =
@@ -204,12 +204,12 @@ switched_in Precopy to world precopy up quiet kept =
       epochs = kept.epochs;
       epoch_at = kept.epoch_at;
     }
-switched_in Idle to world precopy up quiet kept = none_absurd precopy
-switched_in Stopped to world precopy up quiet kept = none_absurd precopy
-switched_in Paused to world precopy up quiet kept = none_absurd precopy
-switched_in Released to world precopy up quiet kept = none_absurd precopy
+switched_in SourcePhase.Idle to world precopy up quiet kept = none_absurd precopy
+switched_in SourcePhase.Stopped to world precopy up quiet kept = none_absurd precopy
+switched_in SourcePhase.Paused to world precopy up quiet kept = none_absurd precopy
+switched_in SourcePhase.Released to world precopy up quiet kept = none_absurd precopy
 
-pub kept-switch : (world : World) → IsKept world → refusal_of world Switch ≡ None → IsKept (accepted world Switch)
+pub kept-switch : (world : World) → IsKept world → refusal_of world Step.Switch ≡ None → IsKept (accepted world Step.Switch)
 kept-switch world kept free =
-    let told = none_applies (reasons world Switch) free in
+    let told = none_applies (reasons world Step.Switch) free in
     switched_in world.source.phase world.destination.phase world (not_none _ told.0) (not_none _ told.1.0) (no_events (space_of world.source).object.events told.1.1.0) kept

@@ -2,6 +2,10 @@
 use Rattle.std.proofs.Common.{◌≡◌, ℕ, zero, suc, Bool, true, false, eqb, Option, Some, None, List, [], ◌∷◌, refl, sym, ap, ◌∙◌, subst, if◌then◌else◌}
 use Rattle.std.specs.Prelude.{map, set, length}
 use lib.ListN.{length-map}
+use Rattle.mig_base.specs.declared.cpu_state.CpuState.{CpuState}
+use Rattle.mig_base.specs.declared.phase.Received.{Received}
+use Rattle.mig_base.specs.declared.schedule.Side.{Side}
+use Rattle.mig_base.specs.declared.schedule.Step.{Step}
 use Rattle.mig_base.specs.declared.command.Command.{Command}
 use Rattle.mig_base.specs.declared.command.Reply.{Reply}
 use Rattle.mig_base.specs.declared.command.Access.{Access}
@@ -13,16 +17,12 @@ use Rattle.mig_model.specs.Host.{memory}
 use Rattle.mig_model.specs.World.{is_access}
 use Rattle.mig_model.specs.Userfault.{Noted, next_message}
 use Rattle.mig_model.specs.Space.{Space, access_of, queued_by}
-use Rattle.mig_model.specs.Guest.{woken_if, Guest, Fault, Processor, idle_processors, processor_at, processor_after, outstanding, taken_over, all_woken, is_left_by, message_less, read_guest, took_by, access_took, call_took, tried}
-use Rattle.mig_model.specs.Guest.Processor.{Idle, Asleep, Woken, InCall}
-use Rattle.mig_model.specs.Wire.{Frame, Sent, Received, Copy}
+use Rattle.mig_model.specs.Guest.{woken_if, Guest, Fault, idle_processors, processor_at, processor_after, outstanding, taken_over, all_woken, is_left_by, message_less, read_guest, took_by, access_took, call_took, tried}
+use Rattle.mig_model.specs.Wire.{Frame, Sent, Copy}
 use Rattle.mig_model.specs.Wire.Frame.{Advise, Page, Zero, Discard, Package, End, Resume, Request, Recv, Done}
-use Rattle.mig_model.specs.Wire.Received.{NotRun, Running, Ended}
 use Rattle.mig_model.specs.Nodes.{Source, Destination, Act, commands_of, home, install_by, install_made, least_of, space_of, source_act, source_acted_by, source_took, destination_act, destination_acted_by, destination_took, copy_came, resumed_by, received_of}
 use Rattle.mig_model.specs.Nodes.Act.{Unprotected, Zeroed, Woke, Forgot, Requested}
-use Rattle.mig_model.specs.Migration.{World, Step, first_world_with, reasons, refusal_of, accepted, next, after_steps, guest_by, guest_of, with_guest_by, command_tried, retried, sent_by, read_by_source, acted_by_source, delivered, delivered_back, read_by_destination, acted_by_destination}
-use Rattle.mig_model.specs.Migration.Step.{Issue, Retry, Start, Round, Send, SourceRead, SourceAct, Switch, Deliver, DeliverBack, DestRead, DestAct, Install, Push, Serve, SendEnd, Break, Notice, Reconnect}
-use Rattle.mig_model.specs.Migration.Side.{AtSource, AtDestination}
+use Rattle.mig_model.specs.Migration.{World, first_world_with, reasons, refusal_of, accepted, next, after_steps, guest_by, guest_of, with_guest_by, command_tried, retried, sent_by, read_by_source, acted_by_source, delivered, delivered_back, read_by_destination, acted_by_destination}
 use Rattle.mig_model.specs.Invariant.{IsKept}
 use Rattle.mig_model.specs.Promises.{IsReached, AllAccess, AreAccesses}
 use Rattle.mig_model.proofs.Breaking.{none_applies}
@@ -34,14 +34,14 @@ use Rattle.mig_model.proofs.EveryStep.{kept-next, by_refusal}
 use Rattle.mig_model.proofs.FirstWorld.{kept-first}
 
 -- the second are as many as the first, and have to make what the first have to, and nothing else
-record IsLike (old new : List Processor) : Type 0 where
+record IsLike (old new : List CpuState) : Type 0 where
   waits : (k : ℕ) → outstanding (processor_at new k) ≡ outstanding (processor_at old k)
   many : length new ≡ length old
 
-all_like : (old new : List Processor) → IsLike old new → AllAccess old → AllAccess new
+all_like : (old new : List CpuState) → IsLike old new → AllAccess old → AllAccess new
 all_like old new like all k command h = all k command (sym (like.waits k) ∙ h)
 
-unchanged : (processors : List Processor) → IsLike processors processors
+unchanged : (processors : List CpuState) → IsLike processors processors
 unchanged processors = record { waits = λ k. refl; many = refl }
 
 none_some : {A : Type 0} (x : A) → None ≡ Some x → ⊥
@@ -65,7 +65,7 @@ tried_access : (access : Bool) (space : Space) (command other : Command) → acc
 tried_access true space command other is h = ap is_access (sym (answered_waits (access_of space command) command other h)) ∙ sym is
 tried_access false space command other is h = absurd (called_waits (reply_of (memory space.host) command) (queued_by space command) command other h)
 
-set_access : (processors : List Processor) (i : ℕ) (new : Processor) → ((command : Command) → outstanding new ≡ Some command → is_access command ≡ true) → AllAccess processors → AllAccess (set processors i new)
+set_access : (processors : List CpuState) (i : ℕ) (new : CpuState) → ((command : Command) → outstanding new ≡ Some command → is_access command ≡ true) → AllAccess processors → AllAccess (set processors i new)
 set_access [] i new one all k command h = all k command h
 set_access (p ∷ ps) zero new one all zero command h = one command h
 set_access (p ∷ ps) zero new one all (suc k) command h = all (suc k) command h
@@ -77,23 +77,23 @@ guest_access guest cpu command all = set_access guest.processors cpu _ (λ other
 
 -- A message that is read
 
-less_same : (p : Processor) → outstanding (message_less p) ≡ outstanding p
-less_same Idle = refl
-less_same (Asleep command) = refl
-less_same (Woken command) = refl
-less_same (InCall reply zero) = refl
-less_same (InCall reply (suc zero)) = refl
-less_same (InCall reply (suc (suc left))) = refl
+less_same : (p : CpuState) → outstanding (message_less p) ≡ outstanding p
+less_same CpuState.Idle = refl
+less_same (CpuState.Asleep command) = refl
+less_same (CpuState.Woken command) = refl
+less_same (CpuState.InCall reply zero) = refl
+less_same (CpuState.InCall reply (suc zero)) = refl
+less_same (CpuState.InCall reply (suc (suc left))) = refl
 
-woken_like : (test : ℕ → Bool) (processors : List Processor) → IsLike processors (all_woken test processors)
+woken_like : (test : ℕ → Bool) (processors : List CpuState) → IsLike processors (all_woken test processors)
 woken_like test processors = record { waits = woken_keeps test processors; many = length-map processors (woken_if test) }
 
-set_many : (processors : List Processor) (i : ℕ) (new : Processor) → length (set processors i new) ≡ length processors
+set_many : (processors : List CpuState) (i : ℕ) (new : CpuState) → length (set processors i new) ≡ length processors
 set_many [] i new = refl
 set_many (p ∷ ps) zero new = refl
 set_many (p ∷ ps) (suc i) new = ap suc (set_many ps i new)
 
-set_same : (processors : List Processor) (i : ℕ) (new : Processor) → outstanding new ≡ outstanding (processor_at processors i) → (k : ℕ) →
+set_same : (processors : List CpuState) (i : ℕ) (new : CpuState) → outstanding new ≡ outstanding (processor_at processors i) → (k : ℕ) →
     outstanding (processor_at (set processors i new) k) ≡ outstanding (processor_at processors k)
 set_same [] i new same k = refl
 set_same (p ∷ ps) zero new same zero = same
@@ -117,10 +117,10 @@ read_like guest cpu (Remove start end) = event_like guest cpu (Remove start end)
 read_like guest cpu (Unmap start end) = event_like guest cpu (Unmap start end)
 
 -- what a destination takes over
-taken_many : (processors : List Processor) → length (map taken_over (commands_of processors)) ≡ length processors
+taken_many : (processors : List CpuState) → length (map taken_over (commands_of processors)) ≡ length processors
 taken_many processors = length-map (commands_of processors) taken_over ∙ length-map processors outstanding
 
-taken_like : (processors : List Processor) → IsLike processors (map taken_over (commands_of processors))
+taken_like : (processors : List CpuState) → IsLike processors (map taken_over (commands_of processors))
 taken_like processors = record { waits = taken_keeps processors; many = taken_many processors }
 
 -- The nodes
@@ -148,9 +148,9 @@ rebuilt_like true a b node one two = one
 rebuilt_like false a b node one two = two
 
 took_like : (frame : Frame) (node : Source) → IsLike node.guest.processors (source_took node frame).guest.processors
-took_like (Recv NotRun owed) node = rebuilt_like node.switched _ _ node (unchanged node.guest.processors) (unchanged node.guest.processors)
-took_like (Recv Running owed) node = unchanged node.guest.processors
-took_like (Recv Ended owed) node = unchanged node.guest.processors
+took_like (Recv Received.NotRun owed) node = rebuilt_like node.switched _ _ node (unchanged node.guest.processors) (unchanged node.guest.processors)
+took_like (Recv Received.Running owed) node = unchanged node.guest.processors
+took_like (Recv Received.Ended owed) node = unchanged node.guest.processors
 took_like Done node = unchanged node.guest.processors
 took_like (Request page) node = unchanged node.guest.processors
 took_like Advise node = unchanged node.guest.processors
@@ -166,9 +166,9 @@ came_like true node copy = unchanged node.guest.processors
 came_like false node copy = unchanged node.guest.processors
 
 resumed_like : (state : Received) (node : Destination) → IsLike node.guest.processors (resumed_by state node).guest.processors
-resumed_like NotRun node = unchanged node.guest.processors
-resumed_like Running node = unchanged node.guest.processors
-resumed_like Ended node = unchanged node.guest.processors
+resumed_like Received.NotRun node = unchanged node.guest.processors
+resumed_like Received.Running node = unchanged node.guest.processors
+resumed_like Received.Ended node = unchanged node.guest.processors
 
 -- Steps: what both nodes' processors still have to make
 
@@ -178,10 +178,10 @@ record Wait (world : World) : Type 0 where
   destination : AllAccess world.destination.guest.processors
   many : length world.destination.guest.processors ≡ length world.source.guest.processors
 
-source_like : (world : World) (processors : List Processor) → IsLike world.source.guest.processors processors → Wait world → AllAccess processors × (length world.destination.guest.processors ≡ length processors)
+source_like : (world : World) (processors : List CpuState) → IsLike world.source.guest.processors processors → Wait world → AllAccess processors × (length world.destination.guest.processors ≡ length processors)
 source_like world processors like all = (all_like world.source.guest.processors processors like all.source, all.many ∙ sym like.many)
 
-destination_like : (world : World) (processors : List Processor) → IsLike world.destination.guest.processors processors → Wait world → AllAccess processors × (length processors ≡ length world.source.guest.processors)
+destination_like : (world : World) (processors : List CpuState) → IsLike world.destination.guest.processors processors → Wait world → AllAccess processors × (length processors ≡ length world.source.guest.processors)
 destination_like world processors like all = (all_like world.destination.guest.processors processors like all.destination, like.many ∙ all.many)
 
 by_guest : (ran : Bool) (world : World) (cpu : ℕ) (command : Command) → Wait world → Wait (with_guest_by ran world (tried (is_access command) (guest_by ran world.source.guest world.destination.guest) cpu command))
@@ -228,7 +228,7 @@ delivered_back_all [] world all = all
 delivered_back_all (sent ∷ rest) world all = let new = source_like world _ (took_like sent.frame world.source) all in record { source = new.0; destination = all.destination; many = new.1 }
 
 -- the destination's processors and those of the source, after a frame
-abbrev pub AfterFrame : World → List Processor → Type 0
+abbrev pub AfterFrame : World → List CpuState → Type 0
 AfterFrame world processors = AllAccess processors × (length processors ≡ length world.source.guest.processors)
 
 unmoved : (world : World) → Wait world → AfterFrame world world.destination.guest.processors
@@ -259,26 +259,26 @@ delivered_all [] world kept up first all = all
 delivered_all (sent ∷ rest) world kept up first all = let new = frame_all sent.frame sent.epoch rest world kept up first all in record { source = all.source; destination = new.0; many = new.1 }
 
 accepted_all : (world : World) (step : Step) → IsKept world → Wait world → refusal_of world step ≡ None → Wait (accepted world step)
-accepted_all world (Issue cpu command) kept all free = tried_all world cpu command all
-accepted_all world (Retry cpu) kept all free = retried_all (outstanding (processor_at (guest_of world).processors cpu)) world cpu all
-accepted_all world Send kept all free = sent_all (least_of world.source.todo) world all
-accepted_all world SourceRead kept all free = read_source_all (next_message (space_of world.source).object) world all
-accepted_all world SourceAct kept all free = acted_source_all world.source.guest.held world all
-accepted_all world Deliver kept all free = delivered_all world.forward world kept (not_none _ (none_applies (reasons world Deliver) free).1.0) refl all
-accepted_all world DeliverBack kept all free = delivered_back_all world.back world all
-accepted_all world DestRead kept all free = read_destination_all (next_message world.destination.guest.space.object) world all
-accepted_all world DestAct kept all free = acted_destination_all world.destination.guest.held world all
-accepted_all world Install kept all free = install_all world.destination.arrivals world all
-accepted_all world Start kept all free = record { source = all.source; destination = all.destination; many = all.many }
-accepted_all world Round kept all free = record { source = all.source; destination = all.destination; many = all.many }
-accepted_all world Switch kept all free = record { source = all.source; destination = all.destination; many = all.many }
-accepted_all world (Push epoch page) kept all free = record { source = all.source; destination = all.destination; many = all.many }
-accepted_all world Serve kept all free = record { source = all.source; destination = all.destination; many = all.many }
-accepted_all world SendEnd kept all free = record { source = all.source; destination = all.destination; many = all.many }
-accepted_all world Break kept all free = record { source = all.source; destination = all.destination; many = all.many }
-accepted_all world (Notice AtSource) kept all free = record { source = all.source; destination = all.destination; many = all.many }
-accepted_all world (Notice AtDestination) kept all free = record { source = all.source; destination = all.destination; many = all.many }
-accepted_all world Reconnect kept all free = record { source = all.source; destination = all.destination; many = all.many }
+accepted_all world (Step.Issue cpu command) kept all free = tried_all world cpu command all
+accepted_all world (Step.Retry cpu) kept all free = retried_all (outstanding (processor_at (guest_of world).processors cpu)) world cpu all
+accepted_all world Step.Send kept all free = sent_all (least_of world.source.todo) world all
+accepted_all world Step.SourceRead kept all free = read_source_all (next_message (space_of world.source).object) world all
+accepted_all world Step.SourceAct kept all free = acted_source_all world.source.guest.held world all
+accepted_all world Step.Deliver kept all free = delivered_all world.forward world kept (not_none _ (none_applies (reasons world Step.Deliver) free).1.0) refl all
+accepted_all world Step.DeliverBack kept all free = delivered_back_all world.back world all
+accepted_all world Step.DestRead kept all free = read_destination_all (next_message world.destination.guest.space.object) world all
+accepted_all world Step.DestAct kept all free = acted_destination_all world.destination.guest.held world all
+accepted_all world Step.Install kept all free = install_all world.destination.arrivals world all
+accepted_all world Step.Start kept all free = record { source = all.source; destination = all.destination; many = all.many }
+accepted_all world Step.Round kept all free = record { source = all.source; destination = all.destination; many = all.many }
+accepted_all world Step.Switch kept all free = record { source = all.source; destination = all.destination; many = all.many }
+accepted_all world (Step.Push ticket) kept all free = record { source = all.source; destination = all.destination; many = all.many }
+accepted_all world Step.Serve kept all free = record { source = all.source; destination = all.destination; many = all.many }
+accepted_all world Step.End kept all free = record { source = all.source; destination = all.destination; many = all.many }
+accepted_all world Step.Break kept all free = record { source = all.source; destination = all.destination; many = all.many }
+accepted_all world (Step.Notice Side.Source) kept all free = record { source = all.source; destination = all.destination; many = all.many }
+accepted_all world (Step.Notice Side.Destination) kept all free = record { source = all.source; destination = all.destination; many = all.many }
+accepted_all world Step.Resume kept all free = record { source = all.source; destination = all.destination; many = all.many }
 
 idle_all : (count : ℕ) → AllAccess (idle_processors count)
 idle_all zero k command h = absurd (none_some command h)

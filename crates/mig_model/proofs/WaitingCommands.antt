@@ -6,6 +6,13 @@ use Rattle.std.specs.FinMap.{FinMap}
 use Rattle.std.specs.FinSet.{FinSet}
 use Rattle.std.proofs.lemmas.Bool.Decides.{nat_tests}
 use Rattle.std.proofs.lemmas.Bool.{false≢true}
+use Rattle.mig_base.specs.declared.cpu_state.CpuState.{CpuState}
+use Rattle.mig_base.specs.declared.phase.DestPhase.{DestPhase}
+use Rattle.mig_base.specs.declared.phase.Received.{Received}
+use Rattle.mig_base.specs.declared.phase.SourcePhase.{SourcePhase}
+use Rattle.mig_base.specs.declared.refusal.Refusal.{Refusal}
+use Rattle.mig_base.specs.declared.schedule.Side.{Side}
+use Rattle.mig_base.specs.declared.schedule.Step.{Step}
 use Rattle.mig_base.specs.declared.Prot.{Prot}
 use Rattle.mig_base.specs.declared.command.Command.{Command}
 use Rattle.mig_base.specs.declared.message.Message.{Message}
@@ -13,18 +20,12 @@ use Rattle.mig_base.specs.declared.message.Message.TheVariants.{PageFault, Remap
 use Rattle.mig_model.specs.World.{is_access}
 use Rattle.mig_model.specs.Userfault.{Noted, next_message}
 use Rattle.mig_model.specs.Space.{page_of}
-use Rattle.mig_model.specs.Guest.{Guest, Fault, Processor, processor_at, processor_after, is_idle, is_left_by, outstanding, taken_over, woken_if, all_woken, message_less, read_guest, took_by, tried}
-use Rattle.mig_model.specs.Guest.Processor.{Idle, Asleep, Woken, InCall}
-use Rattle.mig_model.specs.Wire.{Frame, Sent, Received, Copy}
+use Rattle.mig_model.specs.Guest.{Guest, Fault, processor_at, processor_after, is_idle, is_left_by, outstanding, taken_over, woken_if, all_woken, message_less, read_guest, took_by, tried}
+use Rattle.mig_model.specs.Wire.{Frame, Sent, Copy}
 use Rattle.mig_model.specs.Wire.Frame.{Advise, Page, Zero, Discard, Package, End, Resume, Request, Recv, Done}
-use Rattle.mig_model.specs.Wire.Received.{NotRun, Running, Ended}
-use Rattle.mig_model.specs.Nodes.{Source, SourcePhase, Destination, DestinationPhase, Act, commands_of, least_of, space_of, home, install_by, install_made, received_of, resumed_by, source_act, source_acted, source_acted_by, source_read, page_sent, destination_read, destination_acted, source_took, destination_act, destination_acted_by, destination_took, copy_came}
+use Rattle.mig_model.specs.Nodes.{Source, Destination, Act, commands_of, least_of, space_of, home, install_by, install_made, received_of, resumed_by, source_act, source_acted, source_acted_by, source_read, page_sent, destination_read, destination_acted, source_took, destination_act, destination_acted_by, destination_took, copy_came}
 use Rattle.mig_model.specs.Nodes.Act.{Unprotected, Zeroed, Woke, Forgot, Requested}
-use Rattle.mig_model.specs.Migration.{World, Step, Refusal, reasons, refusal_of, accepted, next, next_by, guest_by, guest_of, with_guest_by, command_tried, retried, sent_by, read_by_source, acted_by_source, delivered, delivered_back, read_by_destination, acted_by_destination}
-use Rattle.mig_model.specs.Migration.Step.{Issue, Retry, Start, Round, Send, SourceRead, SourceAct, Switch, Deliver, DeliverBack, DestRead, DestAct, Install, Push, Serve, SendEnd, Break, Notice, Reconnect}
-use Rattle.mig_model.specs.Migration.Side.{AtSource, AtDestination}
-use Rattle.mig_model.specs.Nodes.SourcePhase.{Precopy, Stopped, Paused}
-use Rattle.mig_model.specs.Nodes.DestinationPhase.{NotAdvised, Discarding, Interrupted}
+use Rattle.mig_model.specs.Migration.{World, reasons, refusal_of, accepted, next, next_by, guest_by, guest_of, with_guest_by, command_tried, retried, sent_by, read_by_source, acted_by_source, delivered, delivered_back, read_by_destination, acted_by_destination}
 use Rattle.mig_model.specs.Invariant.{IsKept, is_package}
 use Rattle.mig_model.specs.Promises.{is_retry_of}
 use Rattle.mig_model.proofs.Breaking.{none_applies}
@@ -35,52 +36,52 @@ use Rattle.mig_model.proofs.FramesTaken.{with_first, commands_in}
 -- Processors
 
 -- what the processor of a number still has to make
-pub waits_at : List Processor → ℕ → Option Command
+pub waits_at : List CpuState → ℕ → Option Command
 waits_at processors k = outstanding (processor_at processors k)
 
-set_keeps : (processors : List Processor) (i k : ℕ) (new : Processor) (command : Command) → outstanding (processor_at processors k) ≡ Some command → (i ≡ k → outstanding new ≡ Some command) → outstanding (processor_at (set processors i new) k) ≡ Some command
+set_keeps : (processors : List CpuState) (i k : ℕ) (new : CpuState) (command : Command) → outstanding (processor_at processors k) ≡ Some command → (i ≡ k → outstanding new ≡ Some command) → outstanding (processor_at (set processors i new) k) ≡ Some command
 set_keeps [] i k new command h same = h
 set_keeps (p ∷ ps) zero zero new command h same = same refl
 set_keeps (p ∷ ps) zero (suc k) new command h same = h
 set_keeps (p ∷ ps) (suc i) zero new command h same = h
 set_keeps (p ∷ ps) (suc i) (suc k) new command h same = set_keeps ps i k new command h (λ e. same (ap suc e))
 
-map_at : (f : Processor → Processor) (ps : List Processor) (k : ℕ) → f Idle ≡ Idle → processor_at (map f ps) k ≡ f (processor_at ps k)
+map_at : (f : CpuState → CpuState) (ps : List CpuState) (k : ℕ) → f CpuState.Idle ≡ CpuState.Idle → processor_at (map f ps) k ≡ f (processor_at ps k)
 map_at f [] k idle = sym idle
 map_at f (p ∷ ps) zero idle = refl
 map_at f (p ∷ ps) (suc k) idle = map_at f ps k idle
 
-woken_by : (here : Bool) (command : Command) → outstanding (if here then Woken command else Asleep command) ≡ Some command
+woken_by : (here : Bool) (command : Command) → outstanding (if here then CpuState.Woken command else CpuState.Asleep command) ≡ Some command
 woken_by true command = refl
 woken_by false command = refl
 
-woken_outstanding : (test : ℕ → Bool) (p : Processor) → outstanding (woken_if test p) ≡ outstanding p
-woken_outstanding test Idle = refl
-woken_outstanding test (Asleep command) = woken_by (test (page_of command)) command
-woken_outstanding test (Woken command) = refl
-woken_outstanding test (InCall reply left) = refl
+woken_outstanding : (test : ℕ → Bool) (p : CpuState) → outstanding (woken_if test p) ≡ outstanding p
+woken_outstanding test CpuState.Idle = refl
+woken_outstanding test (CpuState.Asleep command) = woken_by (test (page_of command)) command
+woken_outstanding test (CpuState.Woken command) = refl
+woken_outstanding test (CpuState.InCall reply left) = refl
 
 -- waking leaves what waits
-pub woken_keeps : (test : ℕ → Bool) (ps : List Processor) (k : ℕ) → outstanding (processor_at (all_woken test ps) k) ≡ outstanding (processor_at ps k)
+pub woken_keeps : (test : ℕ → Bool) (ps : List CpuState) (k : ℕ) → outstanding (processor_at (all_woken test ps) k) ≡ outstanding (processor_at ps k)
 woken_keeps test ps k = ap outstanding (map_at (woken_if test) ps k refl) ∙ woken_outstanding test (processor_at ps k)
 
 none_some : {A : Type 0} (x : A) → None ≡ Some x → ⊥
 none_some x h = cc
 
-less_keeps : (p : Processor) (command : Command) → outstanding p ≡ Some command → outstanding (message_less p) ≡ Some command
-less_keeps Idle command h = h
-less_keeps (Asleep other) command h = h
-less_keeps (Woken other) command h = h
-less_keeps (InCall reply left) command h = absurd (none_some command h)
+less_keeps : (p : CpuState) (command : Command) → outstanding p ≡ Some command → outstanding (message_less p) ≡ Some command
+less_keeps CpuState.Idle command h = h
+less_keeps (CpuState.Asleep other) command h = h
+less_keeps (CpuState.Woken other) command h = h
+less_keeps (CpuState.InCall reply left) command h = absurd (none_some command h)
 
-taken_outstanding : (p : Processor) → outstanding (taken_over (outstanding p)) ≡ outstanding p
-taken_outstanding Idle = refl
-taken_outstanding (Asleep command) = refl
-taken_outstanding (Woken command) = refl
-taken_outstanding (InCall reply left) = refl
+taken_outstanding : (p : CpuState) → outstanding (taken_over (outstanding p)) ≡ outstanding p
+taken_outstanding CpuState.Idle = refl
+taken_outstanding (CpuState.Asleep command) = refl
+taken_outstanding (CpuState.Woken command) = refl
+taken_outstanding (CpuState.InCall reply left) = refl
 
 -- the destination takes over what waits
-pub taken_keeps : (ps : List Processor) (k : ℕ) → outstanding (processor_at (map taken_over (commands_of ps)) k) ≡ outstanding (processor_at ps k)
+pub taken_keeps : (ps : List CpuState) (k : ℕ) → outstanding (processor_at (map taken_over (commands_of ps)) k) ≡ outstanding (processor_at ps k)
 taken_keeps [] k = refl
 taken_keeps (p ∷ ps) zero = taken_outstanding p
 taken_keeps (p ∷ ps) (suc k) = taken_keeps ps k
@@ -160,11 +161,11 @@ tried_keeps world cpu tries k command other h =
     ap (λ g. outstanding (processor_at g.processors k)) (tried_guest world cpu tries)
     ∙ set_keeps (guest_of world).processors cpu k (processor_after tries (took_by (is_access tries) (guest_of world).space tries)) command h (λ e. absurd (other e))
 
-idle_none : (p : Processor) (command : Command) → is_idle p ≡ true → outstanding p ≡ Some command → ⊥
-idle_none Idle command h e = none_some command e
-idle_none (Asleep other) command h e = false≢true h
-idle_none (Woken other) command h e = false≢true h
-idle_none (InCall reply left) command h e = false≢true h
+idle_none : (p : CpuState) (command : Command) → is_idle p ≡ true → outstanding p ≡ Some command → ⊥
+idle_none CpuState.Idle command h e = none_some command e
+idle_none (CpuState.Asleep other) command h e = false≢true h
+idle_none (CpuState.Woken other) command h e = false≢true h
+idle_none (CpuState.InCall reply left) command h e = false≢true h
 
 eqb-is : (a b : ℕ) → a ≡ b → eqb a b ≡ true
 eqb-is a b h = grind (arith, nat_tests)
@@ -229,9 +230,9 @@ same_came true node copy = record { guest = refl; ran = refl }
 same_came false node copy = record { guest = refl; ran = refl }
 
 same_resumed : (state : Received) (node new : Destination) → IsSame node new → IsSame node (resumed_by state new)
-same_resumed NotRun node new is = record { guest = is.guest; ran = is.ran }
-same_resumed Running node new is = record { guest = is.guest; ran = is.ran }
-same_resumed Ended node new is = record { guest = is.guest; ran = is.ran }
+same_resumed Received.NotRun node new is = record { guest = is.guest; ran = is.ran }
+same_resumed Received.Running node new is = record { guest = is.guest; ran = is.ran }
+same_resumed Received.Ended node new is = record { guest = is.guest; ran = is.ran }
 
 same_took : (frame : Frame) (node : Destination) (epoch : ℕ) → is_package frame ≡ false → IsSame node (destination_took node epoch frame)
 same_took Advise node epoch h = record { guest = refl; ran = refl }
@@ -246,15 +247,15 @@ same_took (Recv state owed) node epoch h = record { guest = refl; ran = refl }
 same_took Done node epoch h = record { guest = refl; ran = refl }
 
 -- a Package that comes next has the outstanding commands of the source, and the destination has not run
-pub package_told : (from : SourcePhase) (to : DestinationPhase) (epoch : ℕ) (areas : FinMap nat_cmp Prot) (owed : FinSet nat_cmp) (commands : List (Option Command)) (rest : List Sent) (world : World) →
+pub package_told : (from : SourcePhase) (to : DestPhase) (epoch : ℕ) (areas : FinMap nat_cmp Prot) (owed : FinSet nat_cmp) (commands : List (Option Command)) (rest : List Sent) (world : World) →
     comes from to (Package areas owed commands) ≡ true → world.up ≡ true → IsKept (with_first from to epoch (Package areas owed commands) rest world) →
     (commands ≡ commands_of world.source.guest.processors) × (world.destination.has_run ≡ false)
 unfolding commands_in
-package_told Stopped Discarding epoch areas owed commands rest world is up kept =
+package_told SourcePhase.Stopped DestPhase.Discarding epoch areas owed commands rest world is up kept =
     let told = (kept.wires up).2 in
     (ap (λ o. elim o [ None ↦ commands | Some frame ↦ commands_in frame commands ]) told.plan, kept.destination_phase)
-package_told Precopy NotAdvised epoch areas owed commands rest world is up kept = absurd (false≢true is)
-package_told Paused Interrupted epoch areas owed commands rest world is up kept = absurd (false≢true is)
+package_told SourcePhase.Precopy DestPhase.Idle epoch areas owed commands rest world is up kept = absurd (false≢true is)
+package_told SourcePhase.Paused DestPhase.Paused epoch areas owed commands rest world is up kept = absurd (false≢true is)
 package_told _ _ epoch areas owed commands rest world is up kept = absurd (false≢true is)
 
 package_keeps : (epoch : ℕ) (areas : FinMap nat_cmp Prot) (owed : FinSet nat_cmp) (commands : List (Option Command)) (rest : List Sent) (world : World) → world.up ≡ true → world.forward ≡ record { epoch = epoch; frame = Package areas owed commands } ∷ rest → IsKept world →
@@ -298,9 +299,9 @@ rebuilt_by false a b node one two = two
 
 took_keeps : (frame : Frame) (node : Source) → StillWaits node.guest (source_took node frame).guest
 took_keeps (Request page) node k command h = h
-took_keeps (Recv NotRun owed) node k command h = rebuilt_by node.switched _ _ node (λ i c e. e) (λ i c e. e) k command h
-took_keeps (Recv Running owed) node k command h = h
-took_keeps (Recv Ended owed) node k command h = h
+took_keeps (Recv Received.NotRun owed) node k command h = rebuilt_by node.switched _ _ node (λ i c e. e) (λ i c e. e) k command h
+took_keeps (Recv Received.Running owed) node k command h = h
+took_keeps (Recv Received.Ended owed) node k command h = h
 took_keeps Done node k command h = h
 took_keeps Advise node k command h = h
 took_keeps (Page page bytes) node k command h = h
@@ -320,29 +321,29 @@ same_source world new still k command h = waits_source world.destination.has_run
 
 accepted_keeps : (world : World) (step : Step) (k : ℕ) (command : Command) → IsKept world → is_retry_of step k ≡ false → refusal_of world step ≡ None → outstanding (processor_at (guest_of world).processors k) ≡ Some command →
     outstanding (processor_at (guest_of (accepted world step)).processors k) ≡ Some command
-accepted_keeps world (Issue cpu tries) k command kept other free h =
-    let told = none_applies (reasons world (Issue cpu tries)) free in
+accepted_keeps world (Step.Issue cpu tries) k command kept other free h =
+    let told = none_applies (reasons world (Step.Issue cpu tries)) free in
     tried_keeps world cpu tries k command (λ e. idle_none (processor_at (guest_of world).processors cpu) command (not_none _ told.1.0) (ap (λ i. outstanding (processor_at (guest_of world).processors i)) e ∙ h)) h
-accepted_keeps world (Retry cpu) k command kept other free h =
+accepted_keeps world (Step.Retry cpu) k command kept other free h =
     retried_keeps (outstanding (processor_at (guest_of world).processors cpu)) world cpu k command (λ e. false≢true (sym other ∙ eqb-is cpu k e)) h
-accepted_keeps world Start k command kept other free h = same_source world _ (λ i c e. e) k command h
-accepted_keeps world Round k command kept other free h = same_source world _ (λ i c e. e) k command h
-accepted_keeps world Send k command kept other free h = sent_keeps (least_of world.source.todo) world k command h
-accepted_keeps world SourceRead k command kept other free h = read_source_keeps (next_message (space_of world.source).object) world k command h
-accepted_keeps world SourceAct k command kept other free h = acted_source_keeps world.source.guest.held world k command h
-accepted_keeps world Switch k command kept other free h = same_source world _ (λ i c e. e) k command h
-accepted_keeps world Deliver k command kept other free h = delivered_keeps world.forward world (not_none _ (none_applies (reasons world Deliver) free).1.0) refl kept k command h
-accepted_keeps world DeliverBack k command kept other free h = delivered_back_keeps world.back world k command h
-accepted_keeps world DestRead k command kept other free h = read_destination_keeps (next_message world.destination.guest.space.object) world k command h
-accepted_keeps world DestAct k command kept other free h = acted_destination_keeps world.destination.guest.held world k command h
-accepted_keeps world Install k command kept other free h = installed_keeps world.destination.arrivals world k command h
-accepted_keeps world (Push epoch page) k command kept other free h = same_source world _ (λ i c e. e) k command h
-accepted_keeps world Serve k command kept other free h = same_source world _ (λ i c e. e) k command h
-accepted_keeps world SendEnd k command kept other free h = same_source world _ (λ i c e. e) k command h
-accepted_keeps world Break k command kept other free h = h
-accepted_keeps world (Notice AtSource) k command kept other free h = h
-accepted_keeps world (Notice AtDestination) k command kept other free h = h
-accepted_keeps world Reconnect k command kept other free h = same_source world _ (λ i c e. e) k command h
+accepted_keeps world Step.Start k command kept other free h = same_source world _ (λ i c e. e) k command h
+accepted_keeps world Step.Round k command kept other free h = same_source world _ (λ i c e. e) k command h
+accepted_keeps world Step.Send k command kept other free h = sent_keeps (least_of world.source.todo) world k command h
+accepted_keeps world Step.SourceRead k command kept other free h = read_source_keeps (next_message (space_of world.source).object) world k command h
+accepted_keeps world Step.SourceAct k command kept other free h = acted_source_keeps world.source.guest.held world k command h
+accepted_keeps world Step.Switch k command kept other free h = same_source world _ (λ i c e. e) k command h
+accepted_keeps world Step.Deliver k command kept other free h = delivered_keeps world.forward world (not_none _ (none_applies (reasons world Step.Deliver) free).1.0) refl kept k command h
+accepted_keeps world Step.DeliverBack k command kept other free h = delivered_back_keeps world.back world k command h
+accepted_keeps world Step.DestRead k command kept other free h = read_destination_keeps (next_message world.destination.guest.space.object) world k command h
+accepted_keeps world Step.DestAct k command kept other free h = acted_destination_keeps world.destination.guest.held world k command h
+accepted_keeps world Step.Install k command kept other free h = installed_keeps world.destination.arrivals world k command h
+accepted_keeps world (Step.Push ticket) k command kept other free h = same_source world _ (λ i c e. e) k command h
+accepted_keeps world Step.Serve k command kept other free h = same_source world _ (λ i c e. e) k command h
+accepted_keeps world Step.End k command kept other free h = same_source world _ (λ i c e. e) k command h
+accepted_keeps world Step.Break k command kept other free h = h
+accepted_keeps world (Step.Notice Side.Source) k command kept other free h = h
+accepted_keeps world (Step.Notice Side.Destination) k command kept other free h = h
+accepted_keeps world Step.Resume k command kept other free h = same_source world _ (λ i c e. e) k command h
 
 kept_by_refusal : (refusal : Option Refusal) (old new : World) (k : ℕ) (command : Command) → outstanding (processor_at (guest_of old).processors k) ≡ Some command → (refusal ≡ None → outstanding (processor_at (guest_of new).processors k) ≡ Some command) →
     outstanding (processor_at (guest_of (next_by refusal old new)).processors k) ≡ Some command
@@ -357,16 +358,16 @@ waiting_command world step k command kept other h =
 
 -- What a Retry makes of its processor
 
-set_here : (processors : List Processor) (i : ℕ) (new : Processor) (command : Command) → outstanding (processor_at processors i) ≡ Some command → processor_at (set processors i new) i ≡ new
+set_here : (processors : List CpuState) (i : ℕ) (new : CpuState) (command : Command) → outstanding (processor_at processors i) ≡ Some command → processor_at (set processors i new) i ≡ new
 set_here [] i new command h = absurd (none_some command h)
 set_here (p ∷ ps) zero new command h = refl
 set_here (p ∷ ps) (suc i) new command h = set_here ps i new command h
 
-pub retried_at : (world : World) (cpu : ℕ) (command : Command) → refusal_of world (Retry cpu) ≡ None → outstanding (processor_at (guest_of world).processors cpu) ≡ Some command →
-    processor_at (guest_of (next world (Retry cpu))).processors cpu ≡ processor_after command (took_by (is_access command) (guest_of world).space command)
+pub retried_at : (world : World) (cpu : ℕ) (command : Command) → refusal_of world (Step.Retry cpu) ≡ None → outstanding (processor_at (guest_of world).processors cpu) ≡ Some command →
+    processor_at (guest_of (next world (Step.Retry cpu))).processors cpu ≡ processor_after command (took_by (is_access command) (guest_of world).space command)
 unfolding next
 retried_at world cpu command free waits =
-    ap (λ o. processor_at (guest_of (next_by o world (accepted world (Retry cpu)))).processors cpu) free
+    ap (λ o. processor_at (guest_of (next_by o world (accepted world (Step.Retry cpu)))).processors cpu) free
     ∙ ap (λ o. processor_at (guest_of (retried world cpu o)).processors cpu) waits
     ∙ ap (λ g. processor_at g.processors cpu) (tried_guest world cpu command)
     ∙ set_here (guest_of world).processors cpu (processor_after command (took_by (is_access command) (guest_of world).space command)) command waits

@@ -2,6 +2,7 @@
 -- not worked yet.
 use Rattle.std.specs.Prelude.{ℕ, zero, suc, ◌+◌, ◌-◌, ◌/◌, ◌==◌, ◌||◌, not, Bool, true, false, if◌then◌else◌, Option, Some, None, List, [], ◌∷◌, ◌++◌, map, set, get_or, replicate}
 use Rattle.std.specs.FinMap.{contains_key}
+use Rattle.mig_base.specs.declared.cpu_state.CpuState.{CpuState}
 use Rattle.mig_base.specs.declared.TheConstants.{PAGE_SIZE}
 use Rattle.mig_base.specs.declared.command.Command.{Command}
 use Rattle.mig_base.specs.declared.command.Reply.{Reply}
@@ -20,63 +21,55 @@ use Rattle.mig_model.specs.Ioctls.{installed}
 
 -- Processors
 
--- what a processor does: nothing; it sleeps on a page; it has been woken and has to try its command again; or it is in a map call
--- until so many of the call's messages are read
-pub data Processor : Type 0 where
-  Idle : Processor
-  Asleep : (command : Command) → Processor
-  Woken : (command : Command) → Processor
-  InCall : (reply : Reply) → (left : ℕ) → Processor
-
 -- so many idle processors
-abbrev pub idle_processors : ℕ → List Processor
-idle_processors count = replicate count Idle
+abbrev pub idle_processors : ℕ → List CpuState
+idle_processors count = replicate count CpuState.Idle
 
 -- the processor of a number; one that the guest does not have does nothing
-abbrev pub processor_at : List Processor → ℕ → Processor
-processor_at processors k = get_or processors k Idle
+abbrev pub processor_at : List CpuState → ℕ → CpuState
+processor_at processors k = get_or processors k CpuState.Idle
 
-abbrev pub is_idle : Processor → Bool
-is_idle Idle = true
+abbrev pub is_idle : CpuState → Bool
+is_idle CpuState.Idle = true
 is_idle _ = false
 
-abbrev pub is_asleep : Processor → Bool
-is_asleep (Asleep command) = true
+abbrev pub is_asleep : CpuState → Bool
+is_asleep (CpuState.Asleep command) = true
 is_asleep _ = false
 
-abbrev pub is_woken : Processor → Bool
-is_woken (Woken command) = true
+abbrev pub is_woken : CpuState → Bool
+is_woken (CpuState.Woken command) = true
 is_woken _ = false
 
 -- the command that it still has to make
-abbrev pub outstanding : Processor → Option Command
-outstanding Idle = None
-outstanding (Asleep command) = Some command
-outstanding (Woken command) = Some command
-outstanding (InCall reply left) = None
+abbrev pub outstanding : CpuState → Option Command
+outstanding CpuState.Idle = None
+outstanding (CpuState.Asleep command) = Some command
+outstanding (CpuState.Woken command) = Some command
+outstanding (CpuState.InCall reply left) = None
 
 -- the processor of the other node that takes it over
-abbrev pub taken_over : Option Command → Processor
-taken_over None = Idle
-taken_over (Some command) = Woken command
+abbrev pub taken_over : Option Command → CpuState
+taken_over None = CpuState.Idle
+taken_over (Some command) = CpuState.Woken command
 
 -- a processor, woken where it sleeps on a page that passes the test
-abbrev pub woken_if : (ℕ → Bool) → Processor → Processor
-woken_if test (Asleep command) = if test (page_of command) then Woken command else Asleep command
+abbrev pub woken_if : (ℕ → Bool) → CpuState → CpuState
+woken_if test (CpuState.Asleep command) = if test (page_of command) then CpuState.Woken command else CpuState.Asleep command
 woken_if test processor = processor
 
-abbrev pub all_woken : (ℕ → Bool) → List Processor → List Processor
+abbrev pub all_woken : (ℕ → Bool) → List CpuState → List CpuState
 all_woken test processors = map (woken_if test) processors
 
 -- a processor in a call, once one more of its messages is read
-abbrev pub message_less : Processor → Processor
-message_less (InCall reply (suc (suc left))) = InCall reply (suc left)
-message_less (InCall reply (suc zero)) = Idle
+abbrev pub message_less : CpuState → CpuState
+message_less (CpuState.InCall reply (suc (suc left))) = CpuState.InCall reply (suc left)
+message_less (CpuState.InCall reply (suc zero)) = CpuState.Idle
 message_less processor = processor
 
 -- the reply that is handed over with its last message
-abbrev pub handed_over : Processor → Option Reply
-handed_over (InCall reply (suc zero)) = Some reply
+abbrev pub handed_over : CpuState → Option Reply
+handed_over (CpuState.InCall reply (suc zero)) = Some reply
 handed_over processor = None
 
 -- The guest at a node
@@ -88,7 +81,7 @@ pub record Fault : Type 0 where
 
 pub record Guest : Type 0 where
   pub space : Space
-  pub processors : List Processor
+  pub processors : List CpuState
   -- the faults that were read and not worked yet, in the order in which they were read
   pub held : List Fault
 
@@ -107,10 +100,10 @@ access_took Missing = Sleep
 access_took Protected = Sleep
 
 -- the processor then
-abbrev pub processor_after : Command → Took → Processor
-processor_after command (Answer reply) = Idle
-processor_after command Sleep = Asleep command
-processor_after command (Call reply left) = InCall reply left
+abbrev pub processor_after : Command → Took → CpuState
+processor_after command (Answer reply) = CpuState.Idle
+processor_after command Sleep = CpuState.Asleep command
+processor_after command (Call reply left) = CpuState.InCall reply left
 
 -- what a map call comes to, by its reply and how many messages it has queued
 abbrev pub call_took : Reply → ℕ → Took

@@ -6,6 +6,9 @@ use Rattle.std.specs.Ordering.{nat_cmp}
 use Rattle.std.specs.FinMap as finmap
 use Rattle.std.specs.FinMap.{FinMap, get, contains_key}
 use Rattle.std.specs.FinSet.{FinSet, contains}
+use Rattle.mig_base.specs.declared.phase.DestPhase.{DestPhase}
+use Rattle.mig_base.specs.declared.phase.Received.{Received}
+use Rattle.mig_base.specs.declared.phase.SourcePhase.{SourcePhase}
 use Rattle.mig_base.specs.declared.TheConstants.{PAGE_SIZE, HIGH_PAGE}
 use Rattle.mig_base.specs.declared.message.Message.{Message}
 use Rattle.mig_base.specs.declared.message.Message.TheVariants.{PageFault, Remap, Remove, Unmap}
@@ -15,12 +18,9 @@ use Rattle.mig_model.specs.Host.{Host, memory}
 use Rattle.mig_model.specs.Userfault.{Noted}
 use Rattle.mig_model.specs.Space.{fresh_space, IsSoundSpace}
 use Rattle.mig_model.specs.Guest.{is_changed_by, is_present}
-use Rattle.mig_model.specs.Wire.{Frame, Sent, Copy, Received, copy_in, kept_after}
+use Rattle.mig_model.specs.Wire.{Frame, Sent, Copy, copy_in, kept_after}
 use Rattle.mig_model.specs.Wire.Frame.{Advise, Page, Zero, Discard, Package, End, Resume, Request, Recv, Done}
-use Rattle.mig_model.specs.Wire.Received.{NotRun, Running, Ended}
-use Rattle.mig_model.specs.Nodes.{Source, SourcePhase, Destination, DestinationPhase, space_of, settled, no_pages, commands_of}
-use Rattle.mig_model.specs.Nodes.SourcePhase.{Idle, Precopy, Stopped, Paused, Released}
-use Rattle.mig_model.specs.Nodes.DestinationPhase.{NotAdvised, Advised, Discarding, Runs, Interrupted, HasEnded}
+use Rattle.mig_model.specs.Nodes.{Source, Destination, space_of, settled, no_pages, commands_of}
 use Rattle.mig_model.specs.Migration.{World}
 
 -- The memory that the guest sees
@@ -100,13 +100,13 @@ flow_after flow [] = Some flow
 flow_after flow (sent ∷ rest) = option_and_then (λ next. flow_after next rest) (flow_next flow sent.frame)
 
 -- where the destination is in it, if it is
-abbrev pub flow_at : DestinationPhase → Option Flow
-flow_at NotAdvised = Some BeforeAdvise
-flow_at Advised = Some Copies
-flow_at Discarding = Some BeforePackage
-flow_at Runs = Some Pushed
-flow_at Interrupted = None
-flow_at HasEnded = Some AfterEnd
+abbrev pub flow_at : DestPhase → Option Flow
+flow_at DestPhase.Idle = Some BeforeAdvise
+flow_at DestPhase.Advised = Some Copies
+flow_at DestPhase.Discarding = Some BeforePackage
+flow_at DestPhase.Running = Some Pushed
+flow_at DestPhase.Paused = None
+flow_at DestPhase.Ended = Some AfterEnd
 
 -- the copies that frames carry
 abbrev pub copies_of : List Sent → List Copy
@@ -205,12 +205,12 @@ pub record IsFlowing (source : Source) (destination : Destination) (forward : Li
 -- the wires of a stopped source, by the phase of the destination
 abbrev pub StoppedWires : Source → Destination → List Sent → List Sent → Type 0
 StoppedWires source destination forward back = elim destination.phase [
-  | NotAdvised ↦ (flow_after BeforeAdvise forward ≡ Some (flow_of source)) × (back ≡ []) × IsSwitching source destination.kept forward
-  | Advised ↦ (flow_after Copies forward ≡ Some (flow_of source)) × (back ≡ []) × IsSwitching source destination.kept forward
-  | Discarding ↦ (flow_after BeforePackage forward ≡ Some (flow_of source)) × (back ≡ []) × IsSwitching source destination.kept forward
-  | Runs ↦ (flow_after Pushed forward ≡ Some (flow_of source)) × (are_requests back ≡ true) × IsFlowing source destination forward
-  | Interrupted ↦ ⊥
-  | HasEnded ↦ (forward ≡ []) × (are_requests_and_done back ≡ true) × (source.ended ≡ source.epoch)
+  | DestPhase.Idle ↦ (flow_after BeforeAdvise forward ≡ Some (flow_of source)) × (back ≡ []) × IsSwitching source destination.kept forward
+  | DestPhase.Advised ↦ (flow_after Copies forward ≡ Some (flow_of source)) × (back ≡ []) × IsSwitching source destination.kept forward
+  | DestPhase.Discarding ↦ (flow_after BeforePackage forward ≡ Some (flow_of source)) × (back ≡ []) × IsSwitching source destination.kept forward
+  | DestPhase.Running ↦ (flow_after Pushed forward ≡ Some (flow_of source)) × (are_requests back ≡ true) × IsFlowing source destination forward
+  | DestPhase.Paused ↦ ⊥
+  | DestPhase.Ended ↦ (forward ≡ []) × (are_requests_and_done back ≡ true) × (source.ended ≡ source.epoch)
 ]
 
 -- the first frame of a wire back is a Recv of this state, whose pages are those that the destination still needs at least, all of
@@ -222,70 +222,70 @@ pub record IsReceiving (source : Source) (destination : Destination) (state : Re
   pub first : back ≡ record { epoch = epoch; frame = Recv state owed } ∷ rest
   pub requests : are_requests rest ≡ true
   -- where the destination does not run none come behind it, and it lists no page
-  pub alone : state ≢ Running → rest ≡ []
-  pub none_listed : state ≢ Running → owed ≡ no_pages
+  pub alone : state ≢ Received.Running → rest ≡ []
+  pub none_listed : state ≢ Received.Running → owed ≡ no_pages
   pub needed : (page origin : ℕ) → get destination.owed page ≡ Some origin → contains owed origin ≡ true
   pub owed_present : (page : ℕ) → contains owed page ≡ true → is_present (space_of source) page ≡ true
 
 -- the wires of a paused source
 abbrev pub PausedWires : Source → Destination → List Sent → List Sent → Type 0
 PausedWires source destination forward back = elim destination.phase [
-  | NotAdvised ↦ ⊥
-  | Advised ↦ (forward ≡ []) × (back ≡ record { epoch = source.epoch; frame = Recv NotRun no_pages } ∷ []) × (destination.kept ≡ finmap.empty) × (destination.has_run ≡ false)
-  | Discarding ↦ ⊥
-  | Runs ↦ (forward ≡ []) × IsReceiving source destination Running back
-  | Interrupted ↦ (forward ≡ record { epoch = source.epoch; frame = Resume } ∷ []) × (back ≡ [])
-  | HasEnded ↦ (forward ≡ []) × IsReceiving source destination Ended back
+  | DestPhase.Idle ↦ ⊥
+  | DestPhase.Advised ↦ (forward ≡ []) × (back ≡ record { epoch = source.epoch; frame = Recv Received.NotRun no_pages } ∷ []) × (destination.kept ≡ finmap.empty) × (destination.has_run ≡ false)
+  | DestPhase.Discarding ↦ ⊥
+  | DestPhase.Running ↦ (forward ≡ []) × IsReceiving source destination Received.Running back
+  | DestPhase.Paused ↦ (forward ≡ record { epoch = source.epoch; frame = Resume } ∷ []) × (back ≡ [])
+  | DestPhase.Ended ↦ (forward ≡ []) × IsReceiving source destination Received.Ended back
 ]
 
 -- the wires of a source that makes rounds of pre-copy
 abbrev pub PrecopyWires : Source → Destination → List Sent → List Sent → Type 0
 PrecopyWires source destination forward back = elim destination.phase [
-  | NotAdvised ↦ (flow_after BeforeAdvise forward ≡ Some Copies) × (back ≡ []) × IsPrecopying source destination.kept forward
-  | Advised ↦ (flow_after Copies forward ≡ Some Copies) × (back ≡ []) × IsPrecopying source destination.kept forward
-  | Discarding ↦ ⊥
-  | Runs ↦ ⊥
-  | Interrupted ↦ ⊥
-  | HasEnded ↦ ⊥
+  | DestPhase.Idle ↦ (flow_after BeforeAdvise forward ≡ Some Copies) × (back ≡ []) × IsPrecopying source destination.kept forward
+  | DestPhase.Advised ↦ (flow_after Copies forward ≡ Some Copies) × (back ≡ []) × IsPrecopying source destination.kept forward
+  | DestPhase.Discarding ↦ ⊥
+  | DestPhase.Running ↦ ⊥
+  | DestPhase.Paused ↦ ⊥
+  | DestPhase.Ended ↦ ⊥
 ]
 
 -- every pair of phases that occurs while the link is up, with what is in flight then
 abbrev pub Wires : Source → Destination → List Sent → List Sent → Type 0
 Wires source destination forward back = elim source.phase [
-  | Idle ↦ (destination.phase ≡ NotAdvised) × (forward ≡ []) × (back ≡ [])
-  | Precopy ↦ PrecopyWires source destination forward back
-  | Stopped ↦ StoppedWires source destination forward back
-  | Paused ↦ PausedWires source destination forward back
-  | Released ↦ (destination.phase ≡ HasEnded) × (forward ≡ []) × (back ≡ [])
+  | SourcePhase.Idle ↦ (destination.phase ≡ DestPhase.Idle) × (forward ≡ []) × (back ≡ [])
+  | SourcePhase.Precopy ↦ PrecopyWires source destination forward back
+  | SourcePhase.Stopped ↦ StoppedWires source destination forward back
+  | SourcePhase.Paused ↦ PausedWires source destination forward back
+  | SourcePhase.Released ↦ (destination.phase ≡ DestPhase.Ended) × (forward ≡ []) × (back ≡ [])
 ]
 
 -- Phases
 
 -- the phases that tell whether Switch was made
 abbrev pub SwitchedAt : SourcePhase → Bool → Type 0
-SwitchedAt Idle switched = switched ≡ false
-SwitchedAt Precopy switched = switched ≡ false
-SwitchedAt Stopped switched = switched ≡ true
-SwitchedAt Paused switched = Unit {0}
-SwitchedAt Released switched = switched ≡ true
+SwitchedAt SourcePhase.Idle switched = switched ≡ false
+SwitchedAt SourcePhase.Precopy switched = switched ≡ false
+SwitchedAt SourcePhase.Stopped switched = switched ≡ true
+SwitchedAt SourcePhase.Paused switched = Unit {0}
+SwitchedAt SourcePhase.Released switched = switched ≡ true
 
 -- the phases that tell whether the destination has run and ended
-abbrev pub RanAt : DestinationPhase → Bool → Bool → Type 0
-RanAt NotAdvised ran ended = ran ≡ false
-RanAt Advised ran ended = ran ≡ false
-RanAt Discarding ran ended = ran ≡ false
-RanAt Runs ran ended = (ran ≡ true) × (ended ≡ false)
-RanAt Interrupted ran ended = Unit {0}
-RanAt HasEnded ran ended = ended ≡ true
+abbrev pub RanAt : DestPhase → Bool → Bool → Type 0
+RanAt DestPhase.Idle ran ended = ran ≡ false
+RanAt DestPhase.Advised ran ended = ran ≡ false
+RanAt DestPhase.Discarding ran ended = ran ≡ false
+RanAt DestPhase.Running ran ended = (ran ≡ true) × (ended ≡ false)
+RanAt DestPhase.Paused ran ended = Unit {0}
+RanAt DestPhase.Ended ran ended = ended ≡ true
 
 -- the epoch of a destination, while the link is up
-abbrev pub EpochAt : DestinationPhase → ℕ → ℕ → Type 0
-EpochAt NotAdvised epoch source_epoch = Unit {0}
-EpochAt Advised epoch source_epoch = epoch ≡ source_epoch
-EpochAt Discarding epoch source_epoch = epoch ≡ source_epoch
-EpochAt Runs epoch source_epoch = epoch ≡ source_epoch
-EpochAt Interrupted epoch source_epoch = epoch < source_epoch
-EpochAt HasEnded epoch source_epoch = epoch ≡ source_epoch
+abbrev pub EpochAt : DestPhase → ℕ → ℕ → Type 0
+EpochAt DestPhase.Idle epoch source_epoch = Unit {0}
+EpochAt DestPhase.Advised epoch source_epoch = epoch ≡ source_epoch
+EpochAt DestPhase.Discarding epoch source_epoch = epoch ≡ source_epoch
+EpochAt DestPhase.Running epoch source_epoch = epoch ≡ source_epoch
+EpochAt DestPhase.Paused epoch source_epoch = epoch < source_epoch
+EpochAt DestPhase.Ended epoch source_epoch = epoch ≡ source_epoch
 
 -- The invariant
 
@@ -313,21 +313,21 @@ pub record IsKept (world : World) : Type 0 where
   -- a source that has stopped has no unread event
   pub source_quiet : world.source.switched ≡ true → (space_of world.source).object.events ≡ []
   -- before Switch nothing remains, and End was not sent
-  pub before_switch : world.source.switched ≡ false → (world.source.remaining ≡ no_pages) × (world.source.ended ≢ world.source.epoch ⊎ (world.source.phase ≡ Idle))
+  pub before_switch : world.source.switched ≡ false → (world.source.remaining ≡ no_pages) × (world.source.ended ≢ world.source.epoch ⊎ (world.source.phase ≡ SourcePhase.Idle))
   -- once End is sent nothing remains
   pub end_sent : world.source.ended ≡ world.source.epoch → world.source.remaining ≡ no_pages
   -- what remains is present
   pub remaining_present : (page : ℕ) → contains world.source.remaining page ≡ true → is_present (space_of world.source) page ≡ true
   pub ended_before : world.source.ended ≤ world.source.epoch
   -- after a resumption End was not sent again before the source knows what the destination needs
-  pub paused_fresh : world.up ≡ true → world.source.phase ≡ Paused → world.source.ended ≢ world.source.epoch
+  pub paused_fresh : world.up ≡ true → world.source.phase ≡ SourcePhase.Paused → world.source.ended ≢ world.source.epoch
   -- a source that has not started watches nothing and has sent nothing
-  pub idle_source : world.source.phase ≡ Idle → (world.source.clean ≡ no_pages) × (world.source.todo ≡ no_pages) × (world.source.sent ≡ no_pages) × ((space_of world.source).object.events ≡ []) × ((page : ℕ) → contains (space_of world.source).object.missing page ≡ false)
+  pub idle_source : world.source.phase ≡ SourcePhase.Idle → (world.source.clean ≡ no_pages) × (world.source.todo ≡ no_pages) × (world.source.sent ≡ no_pages) × ((space_of world.source).object.events ≡ []) × ((page : ℕ) → contains (space_of world.source).object.missing page ≡ false)
   -- a destination that has not run owes nothing, and holds no event and no arrival
   pub not_run : world.destination.has_run ≡ false → (world.destination.owed ≡ finmap.empty) × (world.destination.guest.space ≡ fresh_space) × (world.destination.arrivals ≡ [])
   -- only a destination that was advised and has not run keeps copies
   pub kept_none : world.destination.has_run ≡ true → world.destination.kept ≡ finmap.empty
-  pub kept_advised : world.destination.phase ≡ NotAdvised → world.destination.kept ≡ finmap.empty
+  pub kept_advised : world.destination.phase ≡ DestPhase.Idle → world.destination.kept ≡ finmap.empty
   pub kept_whole : (page : ℕ) (bytes : List ℕ) → get world.destination.kept page ≡ Some bytes → length bytes ≡ PAGE_SIZE
   pub copies_whole : AreWhole (copies_of world.forward)
   -- a clean page is present, registered and protected, and a page to be sent is present and registered, unless an unread event has
@@ -346,9 +346,9 @@ pub record IsKept (world : World) : Type 0 where
   -- a destination that has ended is owed nothing, and no copy waits
   pub ended_empty : world.destination.ended ≡ true → (world.destination.owed ≡ finmap.empty) × (world.destination.arrivals ≡ [])
   -- a released source holds nothing
-  pub released_empty : world.source.phase ≡ Released → (space_of world.source ≡ fresh_space) × (world.source.remaining ≡ no_pages)
+  pub released_empty : world.source.phase ≡ SourcePhase.Released → (space_of world.source ≡ fresh_space) × (world.source.remaining ≡ no_pages)
   -- the link
-  pub down : world.up ≡ false → (world.forward ≡ []) × (world.back ≡ []) × (world.source.phase ≢ Idle) × (world.source.phase ≢ Released)
+  pub down : world.up ≡ false → (world.forward ≡ []) × (world.back ≡ []) × (world.source.phase ≢ SourcePhase.Idle) × (world.source.phase ≢ SourcePhase.Released)
   pub wires : world.up ≡ true → Wires world.source world.destination world.forward world.back
   -- every frame in flight is of the source's epoch, and the destination's is no later
   pub forward_epoch : AreOf world.source.epoch world.forward

@@ -3,6 +3,12 @@
 use Rattle.std.specs.Prelude.{ℕ, ◌+◌, ◌-◌, ◌*◌, ◌^◌, ◌==◌, ◌&&◌, ◌||◌, not, nat_lt, Bool, true, false, if◌then◌else◌, Option, Some, None, is_some, Result, Ok, Err, List, [], ◌∷◌, ◌++◌, length}
 use Rattle.std.specs.FinSet as finset
 use Rattle.std.specs.FinSet.{contains}
+use Rattle.mig_base.specs.declared.schedule.Step.{Step}
+use Rattle.mig_base.specs.declared.schedule.Side.{Side}
+use Rattle.mig_base.specs.declared.effect.Effect.{Effect}
+use Rattle.mig_base.specs.declared.refusal.Refusal.{Refusal}
+use Rattle.mig_base.specs.declared.phase.DestPhase.{DestPhase}
+use Rattle.mig_base.specs.declared.phase.SourcePhase.{SourcePhase}
 use Rattle.mig_base.specs.declared.TheConstants.{PAGE_SIZE}
 use Rattle.mig_base.specs.declared.command.Command.{Command}
 use Rattle.mig_base.specs.declared.command.Reply.{Reply}
@@ -14,10 +20,9 @@ use Rattle.mig_model.specs.Userfault.{Noted, next_message, changing}
 use Rattle.mig_model.specs.Guest.{Guest, Fault, Took, is_idle, is_woken, outstanding, processor_at, handed_over, took_by, tried, entries_of, is_present}
 use Rattle.mig_model.specs.Guest.Took.{Answer, Sleep, Call}
 use Rattle.mig_model.specs.Wire.{Frame, Sent, Copy, page_frame, sending, sending_if}
-use Rattle.mig_model.specs.Wire.Frame.{Advise, Page, Zero, End, Resume}
+use Rattle.mig_model.specs.Wire.Frame.{Advise, Page, Zero, Discard, Package, End, Resume, Request, Recv, Done}
+use Rattle.mig_model.specs.Nodes.Act.{Unprotected, Zeroed, Woke, Forgot, Requested}
 use Rattle.mig_model.specs.Nodes.{Source, Destination, Act, first_source, first_destination, is_source_idle, is_precopy, is_stopped, is_source_paused, is_released, is_interrupted, least_of, not_clean, less, space_of, bytes_of, source_started, round_made, page_sent, source_read, source_act, source_acted, switch_made, switch_frames, page_pushed, request_served, source_took, source_answers, destination_took, destination_answers, destination_read, destination_act, destination_acted, act_frames, home, install_made}
-use Rattle.mig_model.specs.Nodes.SourcePhase.{Paused}
-use Rattle.mig_model.specs.Nodes.DestinationPhase.{Interrupted}
 
 -- A world
 
@@ -39,82 +44,6 @@ first_world_with cpus epoch rounds =
 -- a world in which nothing has happened
 abbrev pub first_world : ℕ → World
 first_world cpus = first_world_with cpus 0 0
-
--- Steps
-
-pub data Side : Type 0 where
-  AtSource : Side
-  AtDestination : Side
-
-pub data Step : Type 0 where
-  -- a processor makes a command, or tries again the one for which it was woken
-  Issue : (cpu : ℕ) → (command : Command) → Step
-  Retry : (cpu : ℕ) → Step
-  -- the source begins a migration, begins a round of pre-copy, and sends the next page of it
-  Start : Step
-  Round : Step
-  Send : Step
-  -- the source's handler reads a message, or works the fault that it has read first
-  SourceRead : Step
-  SourceAct : Step
-  -- the source stops its processors, and sends word of what is to be discarded and what is owed
-  Switch : Step
-  -- a node takes the next frame of its wire
-  Deliver : Step
-  DeliverBack : Step
-  -- the destination's handler reads a message, or works the fault that it has read first; and the next copy that came is installed
-  DestRead : Step
-  DestAct : Step
-  Install : Step
-  -- the source sends an owed page, takes the next request, and says that nothing more is sent
-  Push : (epoch : ℕ) → (page : ℕ) → Step
-  Serve : Step
-  SendEnd : Step
-  -- the channel breaks; a side notices it; and both go on over a new one
-  Break : Step
-  Notice : (side : Side) → Step
-  Reconnect : Step
-
--- what an accepted step did
-pub data Effect : Type 0 where
-  Answered : (cpu : ℕ) → (reply : Reply) → Effect
-  Slept : (cpu : ℕ) → Effect
-  Calls : (cpu : ℕ) → (left : ℕ) → Effect
-  Started : (epoch : ℕ) → Effect
-  RoundMade : (round : ℕ) → (todo : ℕ) → Effect
-  SentPage : (addr : ℕ) → Effect
-  SentZero : (addr : ℕ) → Effect
-  ReadFault : (addr : ℕ) → (wp : Bool) → Effect
-  -- an event, and the processor with its reply where it was the last of its call
-  ReadEvent : (message : Message) → (cpu : ℕ) → (reply : Option Reply) → Effect
-  Acted : (act : Act) → (addr : ℕ) → Effect
-  Switched : (discarded : ℕ) → (owed : ℕ) → Effect
-  TookFrame : (frame : Frame) → Effect
-  Installed : (addr : ℕ) → (source : ℕ) → Effect
-  Dropped : (source : ℕ) → Effect
-  Asked : (addr : ℕ) → Effect
-  EndSent : Effect
-  Broken : Effect
-  Noticed : (side : Side) → Effect
-  Resumed : (epoch : ℕ) → Effect
-
--- why a step was refused, in the order in which the reasons are looked for
-pub data Refusal : Type 0 where
-  NoCpu : Refusal
-  Busy : Refusal
-  NotAsleep : Refusal
-  NotWoken : Refusal
-  Phase : Refusal
-  LinkBroken : Refusal
-  NotBroken : Refusal
-  StaleEpoch : Refusal
-  NothingThere : Refusal
-  Changing : Refusal
-  InstallFirst : Refusal
-  PageNotSendable : Refusal
-  NotRemaining : Refusal
-  PagesLeft : Refusal
-  CountUsed : Refusal
 
 -- Which node runs the processors
 
@@ -170,8 +99,8 @@ is_end_next (sent ∷ rest) = is_end sent.frame
 
 -- whether a side has noticed that the channel is broken
 abbrev pub is_paused_at : World → Side → Bool
-is_paused_at world AtSource = is_source_paused world.source.phase
-is_paused_at world AtDestination = is_interrupted world.destination.phase
+is_paused_at world Side.Source = is_source_paused world.source.phase
+is_paused_at world Side.Destination = is_interrupted world.destination.phase
 
 -- whether a count is at its greatest
 abbrev pub is_used : ℕ → Bool
@@ -184,33 +113,33 @@ first_of (refusal ∷ refusals) = if refusal.0 then Some refusal.1 else first_of
 
 -- the reasons for which a step may be refused, in order
 abbrev pub reasons : World → Step → List (Bool × Refusal)
-reasons world (Issue cpu command) =
-    (not (nat_lt cpu (length (guest_of world).processors)), NoCpu) ∷ (not (is_idle (processor_at (guest_of world).processors cpu)), Busy) ∷ (not (runs world), Phase) ∷ []
-reasons world (Retry cpu) =
+reasons world (Step.Issue cpu command) =
+    (not (nat_lt cpu (length (guest_of world).processors)), Refusal.NoCpu) ∷ (not (is_idle (processor_at (guest_of world).processors cpu)), Refusal.Busy) ∷ (not (runs world), Refusal.Phase) ∷ []
+reasons world (Step.Retry cpu) =
     let processor = processor_at (guest_of world).processors cpu in
-    (not (nat_lt cpu (length (guest_of world).processors)), NoCpu) ∷ (not (is_some (outstanding processor)), NotAsleep) ∷ (not (is_woken processor), NotWoken) ∷ (not (runs world), Phase) ∷ []
-reasons world Start = (has_started world, Phase) ∷ (is_used world.source.epoch, CountUsed) ∷ []
-reasons world Round = (not (is_precopy world.source.phase), Phase) ∷ (is_changing world.source.guest, Changing) ∷ (is_used world.source.rounds, CountUsed) ∷ []
-reasons world Send =
-    (not (is_precopy world.source.phase), Phase) ∷ (not world.up, LinkBroken) ∷ (not (is_some (least_of world.source.todo)), NothingThere) ∷ (is_changing world.source.guest, Changing) ∷ []
-reasons world SourceRead = (not (runs_source world), Phase) ∷ (not (has_message world.source.guest), NothingThere) ∷ []
-reasons world SourceAct = (not (runs_source world), Phase) ∷ (is_empty world.source.guest.held, NothingThere) ∷ (is_changing world.source.guest, Changing) ∷ []
-reasons world Switch = (not (is_precopy world.source.phase), Phase) ∷ (not world.up, LinkBroken) ∷ (is_changing world.source.guest, Changing) ∷ []
-reasons world Deliver =
-    (not (has_started world), Phase) ∷ (not world.up, LinkBroken) ∷ (is_empty world.forward, NothingThere) ∷ (is_end_next world.forward && not (is_empty world.destination.arrivals), InstallFirst) ∷ []
-reasons world DeliverBack = (not (has_started world), Phase) ∷ (not world.up, LinkBroken) ∷ (is_empty world.back, NothingThere) ∷ []
-reasons world DestRead = (not world.destination.has_run, Phase) ∷ (not (has_message world.destination.guest), NothingThere) ∷ []
-reasons world DestAct = (not world.destination.has_run, Phase) ∷ (is_empty world.destination.guest.held, NothingThere) ∷ (is_changing world.destination.guest, Changing) ∷ []
-reasons world Install = (not world.destination.has_run, Phase) ∷ (is_empty world.destination.arrivals, NothingThere) ∷ (is_changing world.destination.guest, Changing) ∷ []
-reasons world (Push epoch page) =
-    (not (is_stopped world.source.phase), Phase) ∷ (not world.up, LinkBroken) ∷ (not (epoch == world.source.epoch), StaleEpoch) ∷ (not (is_present (space_of world.source) page), PageNotSendable)
-    ∷ (not (contains world.source.remaining page), NotRemaining) ∷ []
-reasons world Serve = (not (is_stopped world.source.phase), Phase) ∷ (not world.up, LinkBroken) ∷ (is_empty world.source.asked, NothingThere) ∷ []
-reasons world SendEnd =
-    (not (is_stopped world.source.phase) || world.source.ended == world.source.epoch, Phase) ∷ (not world.up, LinkBroken) ∷ (is_some (least_of world.source.remaining), PagesLeft) ∷ []
-reasons world Break = (not (has_started world) || is_released world.source.phase, Phase) ∷ (not world.up, LinkBroken) ∷ []
-reasons world (Notice side) = (not (has_started world) || is_released world.source.phase || is_paused_at world side, Phase) ∷ (world.up, NotBroken) ∷ []
-reasons world Reconnect = (not (is_source_paused world.source.phase && is_interrupted world.destination.phase), Phase) ∷ (world.up, NotBroken) ∷ (is_used world.source.epoch, CountUsed) ∷ []
+    (not (nat_lt cpu (length (guest_of world).processors)), Refusal.NoCpu) ∷ (not (is_some (outstanding processor)), Refusal.NotAsleep) ∷ (not (is_woken processor), Refusal.NotWoken) ∷ (not (runs world), Refusal.Phase) ∷ []
+reasons world Step.Start = (has_started world, Refusal.Phase) ∷ (is_used world.source.epoch, Refusal.CountUsed) ∷ []
+reasons world Step.Round = (not (is_precopy world.source.phase), Refusal.Phase) ∷ (is_changing world.source.guest, Refusal.Changing) ∷ (is_used world.source.rounds, Refusal.CountUsed) ∷ []
+reasons world Step.Send =
+    (not (is_precopy world.source.phase), Refusal.Phase) ∷ (not world.up, Refusal.Broken) ∷ (not (is_some (least_of world.source.todo)), Refusal.NothingThere) ∷ (is_changing world.source.guest, Refusal.Changing) ∷ []
+reasons world Step.SourceRead = (not (runs_source world), Refusal.Phase) ∷ (not (has_message world.source.guest), Refusal.NothingThere) ∷ []
+reasons world Step.SourceAct = (not (runs_source world), Refusal.Phase) ∷ (is_empty world.source.guest.held, Refusal.NothingThere) ∷ (is_changing world.source.guest, Refusal.Changing) ∷ []
+reasons world Step.Switch = (not (is_precopy world.source.phase), Refusal.Phase) ∷ (not world.up, Refusal.Broken) ∷ (is_changing world.source.guest, Refusal.Changing) ∷ []
+reasons world Step.Deliver =
+    (not (has_started world), Refusal.Phase) ∷ (not world.up, Refusal.Broken) ∷ (is_empty world.forward, Refusal.NothingThere) ∷ (is_end_next world.forward && not (is_empty world.destination.arrivals), Refusal.InstallFirst) ∷ []
+reasons world Step.DeliverBack = (not (has_started world), Refusal.Phase) ∷ (not world.up, Refusal.Broken) ∷ (is_empty world.back, Refusal.NothingThere) ∷ []
+reasons world Step.DestRead = (not world.destination.has_run, Refusal.Phase) ∷ (not (has_message world.destination.guest), Refusal.NothingThere) ∷ []
+reasons world Step.DestAct = (not world.destination.has_run, Refusal.Phase) ∷ (is_empty world.destination.guest.held, Refusal.NothingThere) ∷ (is_changing world.destination.guest, Refusal.Changing) ∷ []
+reasons world Step.Install = (not world.destination.has_run, Refusal.Phase) ∷ (is_empty world.destination.arrivals, Refusal.NothingThere) ∷ (is_changing world.destination.guest, Refusal.Changing) ∷ []
+reasons world (Step.Push ticket) =
+    (not (is_stopped world.source.phase), Refusal.Phase) ∷ (not world.up, Refusal.Broken) ∷ (not (ticket.epoch == world.source.epoch), Refusal.StaleEpoch) ∷ (not (is_present (space_of world.source) ticket.page), Refusal.PageNotSendable)
+    ∷ (not (contains world.source.remaining ticket.page), Refusal.NotRemaining) ∷ []
+reasons world Step.Serve = (not (is_stopped world.source.phase), Refusal.Phase) ∷ (not world.up, Refusal.Broken) ∷ (is_empty world.source.asked, Refusal.NothingThere) ∷ []
+reasons world Step.End =
+    (not (is_stopped world.source.phase) || world.source.ended == world.source.epoch, Refusal.Phase) ∷ (not world.up, Refusal.Broken) ∷ (is_some (least_of world.source.remaining), Refusal.PagesLeft) ∷ []
+reasons world Step.Break = (not (has_started world) || is_released world.source.phase, Refusal.Phase) ∷ (not world.up, Refusal.Broken) ∷ []
+reasons world (Step.Notice side) = (not (has_started world) || is_released world.source.phase || is_paused_at world side, Refusal.Phase) ∷ (world.up, Refusal.NotBroken) ∷ []
+reasons world Step.Resume = (not (is_source_paused world.source.phase && is_interrupted world.destination.phase), Refusal.Phase) ∷ (world.up, Refusal.NotBroken) ∷ (is_used world.source.epoch, Refusal.CountUsed) ∷ []
 
 -- why a step is refused, if it is
 abbrev pub refusal_of : World → Step → Option Refusal
@@ -268,107 +197,133 @@ acted_by_destination world (fault ∷ rest) =
     destination_sends world (destination_acted world.destination fault) (act_frames (destination_act world.destination fault) world.destination)
 
 abbrev pub noticed : World → Side → World
-noticed world AtSource = record world { source = record world.source { phase = Paused } }
-noticed world AtDestination = record world { destination = record world.destination { phase = Interrupted } }
+noticed world Side.Source = record world { source = record world.source { phase = SourcePhase.Paused } }
+noticed world Side.Destination = record world { destination = record world.destination { phase = DestPhase.Paused } }
 
 abbrev pub reconnected : World → World
 reconnected world = source_sends (record world { up = true }) (record world.source { epoch = world.source.epoch + 1 }) (Resume ∷ [])
 
 -- the world after a step that is not refused
 abbrev pub accepted : World → Step → World
-accepted world (Issue cpu command) = command_tried world cpu command
-accepted world (Retry cpu) = retried world cpu (outstanding (processor_at (guest_of world).processors cpu))
-accepted world Start = source_sends world (source_started world.source) (Advise ∷ [])
-accepted world Round = record world { source = round_made world.source }
-accepted world Send = sent_by world (least_of world.source.todo)
-accepted world SourceRead = read_by_source world (next_message (space_of world.source).object)
-accepted world SourceAct = acted_by_source world world.source.guest.held
-accepted world Switch = source_sends world (switch_made world.source) (switch_frames world.source)
-accepted world Deliver = delivered world world.forward
-accepted world DeliverBack = delivered_back world world.back
-accepted world DestRead = read_by_destination world (next_message world.destination.guest.space.object)
-accepted world DestAct = acted_by_destination world world.destination.guest.held
-accepted world Install = record world { destination = install_made world.destination world.destination.arrivals }
-accepted world (Push epoch page) = source_sends world (page_pushed world.source page) (page_frame page (bytes_of world.source page) ∷ [])
-accepted world Serve = record world { source = request_served world.source }
-accepted world SendEnd = source_sends world (record world.source { ended = world.source.epoch }) (End ∷ [])
-accepted world Break = record world { forward = []; back = []; up = false }
-accepted world (Notice side) = noticed world side
-accepted world Reconnect = reconnected world
+accepted world (Step.Issue cpu command) = command_tried world cpu command
+accepted world (Step.Retry cpu) = retried world cpu (outstanding (processor_at (guest_of world).processors cpu))
+accepted world Step.Start = source_sends world (source_started world.source) (Advise ∷ [])
+accepted world Step.Round = record world { source = round_made world.source }
+accepted world Step.Send = sent_by world (least_of world.source.todo)
+accepted world Step.SourceRead = read_by_source world (next_message (space_of world.source).object)
+accepted world Step.SourceAct = acted_by_source world world.source.guest.held
+accepted world Step.Switch = source_sends world (switch_made world.source) (switch_frames world.source)
+accepted world Step.Deliver = delivered world world.forward
+accepted world Step.DeliverBack = delivered_back world world.back
+accepted world Step.DestRead = read_by_destination world (next_message world.destination.guest.space.object)
+accepted world Step.DestAct = acted_by_destination world world.destination.guest.held
+accepted world Step.Install = record world { destination = install_made world.destination world.destination.arrivals }
+accepted world (Step.Push ticket) = source_sends world (page_pushed world.source ticket.page) (page_frame ticket.page (bytes_of world.source ticket.page) ∷ [])
+accepted world Step.Serve = record world { source = request_served world.source }
+accepted world Step.End = source_sends world (record world.source { ended = world.source.epoch }) (End ∷ [])
+accepted world Step.Break = record world { forward = []; back = []; up = false }
+accepted world (Step.Notice side) = noticed world side
+accepted world Step.Resume = reconnected world
 
 -- What it is called
 
 abbrev pub effect_of_try : ℕ → Took → Effect
-effect_of_try cpu (Answer reply) = Answered cpu reply
-effect_of_try cpu Sleep = Slept cpu
-effect_of_try cpu (Call reply left) = Calls cpu left
+effect_of_try cpu (Answer reply) = Effect.Answered cpu reply
+effect_of_try cpu Sleep = Effect.Asleep cpu
+effect_of_try cpu (Call reply left) = Effect.InCall cpu left
 
 abbrev pub try_effect : World → ℕ → Command → Effect
 try_effect world cpu command = effect_of_try cpu (took_by (is_access command) (guest_of world).space command)
 
 abbrev pub retry_effect : World → ℕ → Option Command → Effect
-retry_effect world cpu None = Slept cpu
+retry_effect world cpu None = Effect.Asleep cpu
 retry_effect world cpu (Some command) = try_effect world cpu command
 
 -- a page that was sent, or a page of zeros
 abbrev pub sent_effect : Frame → Effect
-sent_effect (Zero page) = SentZero (PAGE_SIZE * page)
-sent_effect (Page page bytes) = SentPage (PAGE_SIZE * page)
-sent_effect frame = EndSent
+sent_effect (Zero page) = Effect.SentZero (PAGE_SIZE * page)
+sent_effect (Page page bytes) = Effect.SentPage (PAGE_SIZE * page)
+sent_effect frame = Effect.EndSent
 
 abbrev pub send_effect : World → Option ℕ → Effect
-send_effect world None = EndSent
+send_effect world None = Effect.EndSent
 send_effect world (Some page) = sent_effect (page_frame page (bytes_of world.source page))
 
+-- an event that was read, with the reply of its call where it was the last of that
+abbrev pub event_effect : Message → ℕ → Option Reply → Effect
+event_effect event cpu None = Effect.ReadEvent event
+event_effect event cpu (Some reply) = Effect.ReadLast event cpu reply
+
 abbrev pub message_effect : Guest → ℕ → Message → Effect
-message_effect guest cpu (PageFault addr write wp) = ReadFault addr wp
-message_effect guest cpu message = ReadEvent message cpu (handed_over (processor_at guest.processors cpu))
+message_effect guest cpu (PageFault addr write wp) = Effect.ReadFault addr wp
+message_effect guest cpu message = event_effect message cpu (handed_over (processor_at guest.processors cpu))
 
 abbrev pub read_effect : Guest → Option Noted → Effect
-read_effect guest None = EndSent
+read_effect guest None = Effect.EndSent
 read_effect guest (Some noted) = message_effect guest noted.cpu noted.message
 
+-- what a handler has made of a fault at an address
+abbrev pub effect_of_act : Act → ℕ → Effect
+effect_of_act Unprotected addr = Effect.Unprotected addr
+effect_of_act Zeroed addr = Effect.Zeroed addr
+effect_of_act Woke addr = Effect.Woke addr
+effect_of_act Forgot addr = Effect.Forgot addr
+effect_of_act (Requested origin) addr = Effect.Requested (PAGE_SIZE * origin) addr
+
 abbrev pub act_effect : (Fault → Act) → List Fault → Effect
-act_effect act [] = EndSent
-act_effect act (fault ∷ rest) = Acted (act fault) (PAGE_SIZE * fault.page)
+act_effect act [] = Effect.EndSent
+act_effect act (fault ∷ rest) = effect_of_act (act fault) (PAGE_SIZE * fault.page)
+
+-- what the taking of a frame is called
+abbrev pub effect_of_frame : Frame → Effect
+effect_of_frame Advise = Effect.TookAdvise
+effect_of_frame (Page page bytes) = Effect.TookPage (PAGE_SIZE * page)
+effect_of_frame (Zero page) = Effect.TookZero (PAGE_SIZE * page)
+effect_of_frame (Discard pages) = Effect.TookDiscard (finset.len pages)
+effect_of_frame (Package areas owed commands) = Effect.TookPackage (finset.len owed)
+effect_of_frame End = Effect.TookEnd
+effect_of_frame Resume = Effect.TookResume
+effect_of_frame (Request page) = Effect.TookRequest (PAGE_SIZE * page)
+effect_of_frame (Recv state owed) = Effect.TookRecv state (finset.len owed)
+effect_of_frame Done = Effect.TookDone
 
 abbrev pub took_effect : List Sent → Effect
-took_effect [] = EndSent
-took_effect (sent ∷ rest) = TookFrame sent.frame
+took_effect [] = Effect.EndSent
+took_effect (sent ∷ rest) = effect_of_frame sent.frame
 
 abbrev pub install_effect_by : Option ℕ → ℕ → Effect
-install_effect_by None source = Dropped (PAGE_SIZE * source)
-install_effect_by (Some page) source = Installed (PAGE_SIZE * page) (PAGE_SIZE * source)
+install_effect_by None origin = Effect.Dropped (PAGE_SIZE * origin)
+install_effect_by (Some page) origin = Effect.Installed (PAGE_SIZE * page) (PAGE_SIZE * origin)
 
 abbrev pub install_effect : Destination → List Copy → Effect
-install_effect node [] = EndSent
+install_effect node [] = Effect.EndSent
 install_effect node (copy ∷ rest) = install_effect_by (home node.owed copy.page) copy.page
 
 abbrev pub serve_effect : List ℕ → Effect
-serve_effect [] = EndSent
-serve_effect (page ∷ pages) = Asked (PAGE_SIZE * page)
+serve_effect [] = Effect.EndSent
+serve_effect (page ∷ pages) = Effect.Asked (PAGE_SIZE * page)
 
 -- what a step that is not refused is called
 abbrev pub effect_of : World → Step → Effect
-effect_of world (Issue cpu command) = try_effect world cpu command
-effect_of world (Retry cpu) = retry_effect world cpu (outstanding (processor_at (guest_of world).processors cpu))
-effect_of world Start = Started (world.source.epoch + 1)
-effect_of world Round = RoundMade (world.source.rounds + 1) (finset.len (not_clean world.source))
-effect_of world Send = send_effect world (least_of world.source.todo)
-effect_of world SourceRead = read_effect world.source.guest (next_message (space_of world.source).object)
-effect_of world SourceAct = act_effect (source_act world.source) world.source.guest.held
-effect_of world Switch = Switched (finset.len (less world.source.sent world.source.clean)) (finset.len (not_clean world.source))
-effect_of world Deliver = took_effect world.forward
-effect_of world DeliverBack = took_effect world.back
-effect_of world DestRead = read_effect world.destination.guest (next_message world.destination.guest.space.object)
-effect_of world DestAct = act_effect (destination_act world.destination) world.destination.guest.held
-effect_of world Install = install_effect world.destination world.destination.arrivals
-effect_of world (Push epoch page) = sent_effect (page_frame page (bytes_of world.source page))
-effect_of world Serve = serve_effect world.source.asked
-effect_of world SendEnd = EndSent
-effect_of world Break = Broken
-effect_of world (Notice side) = Noticed side
-effect_of world Reconnect = Resumed (world.source.epoch + 1)
+effect_of world (Step.Issue cpu command) = try_effect world cpu command
+effect_of world (Step.Retry cpu) = retry_effect world cpu (outstanding (processor_at (guest_of world).processors cpu))
+effect_of world Step.Start = Effect.Started (world.source.epoch + 1)
+effect_of world Step.Round = Effect.RoundMade (world.source.rounds + 1) (finset.len (not_clean world.source))
+effect_of world Step.Send = send_effect world (least_of world.source.todo)
+effect_of world Step.SourceRead = read_effect world.source.guest (next_message (space_of world.source).object)
+effect_of world Step.SourceAct = act_effect (source_act world.source) world.source.guest.held
+effect_of world Step.Switch = Effect.Switched (finset.len (less world.source.sent world.source.clean)) (finset.len (not_clean world.source))
+effect_of world Step.Deliver = took_effect world.forward
+effect_of world Step.DeliverBack = took_effect world.back
+effect_of world Step.DestRead = read_effect world.destination.guest (next_message world.destination.guest.space.object)
+effect_of world Step.DestAct = act_effect (destination_act world.destination) world.destination.guest.held
+effect_of world Step.Install = install_effect world.destination world.destination.arrivals
+effect_of world (Step.Push ticket) = sent_effect (page_frame ticket.page (bytes_of world.source ticket.page))
+effect_of world Step.Serve = serve_effect world.source.asked
+effect_of world Step.End = Effect.EndSent
+effect_of world Step.Break = Effect.Broken
+effect_of world (Step.Notice side) = Effect.Noticed side
+effect_of world Step.Resume = Effect.Resumed (world.source.epoch + 1)
 
 -- Runs
 

@@ -6,6 +6,10 @@ use Rattle.std.specs.FinMap as finmap
 use Rattle.std.specs.FinMap.{FinMap, get, contains_key}
 use Rattle.std.specs.FinSet as finset
 use Rattle.std.specs.FinSet.{FinSet, contains}
+use Rattle.mig_base.specs.declared.phase.SourcePhase.{SourcePhase}
+use Rattle.mig_base.specs.declared.phase.DestPhase.{DestPhase}
+use Rattle.mig_base.specs.declared.cpu_state.CpuState.{CpuState}
+use Rattle.mig_base.specs.declared.phase.Received.{Received}
 use Rattle.mig_base.specs.declared.TheConstants.{PAGE_SIZE, HIGH_PAGE}
 use Rattle.mig_base.specs.declared.Prot.{Prot}
 use Rattle.mig_base.specs.declared.command.Command.{Command}
@@ -18,10 +22,9 @@ use Rattle.mig_base.specs.Bytes.{contents, zero_page}
 use Rattle.mig_model.specs.Userfault.{Noted, Mode, fresh_object, enabled_with, registered_where}
 use Rattle.mig_model.specs.Space.{Space, fresh_space}
 use Rattle.mig_model.specs.Ioctls.{all_features, event_features, registered_in, installed as pages_installed, protected_in}
-use Rattle.mig_model.specs.Guest.{Guest, Fault, Processor, idle_processors, all_woken, rest_held, outstanding, taken_over, is_changed_by, read_guest, worked, zero_installed, is_forgotten, is_present}
-use Rattle.mig_model.specs.Wire.{Frame, Received, Copy, kept_after}
+use Rattle.mig_model.specs.Guest.{Guest, Fault, idle_processors, all_woken, rest_held, outstanding, taken_over, is_changed_by, read_guest, worked, zero_installed, is_forgotten, is_present}
+use Rattle.mig_model.specs.Wire.{Frame, Copy, kept_after}
 use Rattle.mig_model.specs.Wire.Frame.{Advise, Page, Zero, Discard, Package, End, Resume, Request, Recv, Done}
-use Rattle.mig_model.specs.Wire.Received.{NotRun, Running, Ended}
 
 -- Sets of pages
 
@@ -53,13 +56,6 @@ for_both = record { missing = true; protect = true }
 
 -- The source
 
-pub data SourcePhase : Type 0 where
-  Idle : SourcePhase
-  Precopy : SourcePhase
-  Stopped : SourcePhase
-  Paused : SourcePhase
-  Released : SourcePhase
-
 pub record Source : Type 0 where
   pub phase : SourcePhase
   -- whether it has stopped its processors for good
@@ -89,7 +85,7 @@ enabled_space = record fresh_space { object = enabled_with fresh_object all_feat
 abbrev pub first_source : ℕ → ℕ → ℕ → Source
 first_source cpus epoch rounds =
     record {
-      phase = Idle;
+      phase = SourcePhase.Idle;
       switched = false;
       epoch = epoch;
       ended = 0;
@@ -106,23 +102,23 @@ first_source cpus epoch rounds =
     }
 
 abbrev pub is_source_idle : SourcePhase → Bool
-is_source_idle Idle = true
+is_source_idle SourcePhase.Idle = true
 is_source_idle _ = false
 
 abbrev pub is_precopy : SourcePhase → Bool
-is_precopy Precopy = true
+is_precopy SourcePhase.Precopy = true
 is_precopy _ = false
 
 abbrev pub is_stopped : SourcePhase → Bool
-is_stopped Stopped = true
+is_stopped SourcePhase.Stopped = true
 is_stopped _ = false
 
 abbrev pub is_source_paused : SourcePhase → Bool
-is_source_paused Paused = true
+is_source_paused SourcePhase.Paused = true
 is_source_paused _ = false
 
 abbrev pub is_released : SourcePhase → Bool
-is_released Released = true
+is_released SourcePhase.Released = true
 is_released _ = false
 
 abbrev pub in_space : Source → Space → Source
@@ -137,7 +133,7 @@ abbrev pub all_registered : Space → Space
 all_registered space = registered_in space 0 HIGH_PAGE for_both
 
 abbrev pub source_started : Source → Source
-source_started node = record (in_space node (all_registered (space_of node))) { phase = Precopy; epoch = node.epoch + 1 }
+source_started node = record (in_space node (all_registered (space_of node))) { phase = SourcePhase.Precopy; epoch = node.epoch + 1 }
 
 -- the present pages that are not clean
 abbrev pub not_clean : Source → FinSet nat_cmp
@@ -204,7 +200,7 @@ abbrev pub source_acted : Source → Fault → Source
 source_acted node fault = source_acted_by (source_act node fault) node fault.page
 
 -- the outstanding commands of the processors
-abbrev pub commands_of : List Processor → List (Option Command)
+abbrev pub commands_of : List CpuState → List (Option Command)
 commands_of processors = map outstanding processors
 
 -- the two frames with which a destination can run
@@ -215,7 +211,7 @@ package_frames node discarded owed = Discard discarded ∷ Package (space_of nod
 abbrev pub switch_made : Source → Source
 switch_made node =
     record node {
-      phase = Stopped;
+      phase = SourcePhase.Stopped;
       switched = true;
       remaining = not_clean node;
       packaged = finset.len (not_clean node);
@@ -235,7 +231,7 @@ request_served node = record node { asked = elim node.asked [ [] ↦ [] | page �
 abbrev pub released : Source → Source
 released node =
     record node {
-      phase = Released;
+      phase = SourcePhase.Released;
       clean = no_pages;
       todo = no_pages;
       sent = no_pages;
@@ -246,18 +242,18 @@ released node =
 
 -- what the destination has received decides what is done after a break
 abbrev pub source_rebuilt : Received → FinSet nat_cmp → Source → Source
-source_rebuilt NotRun owed node =
+source_rebuilt Received.NotRun owed node =
     if node.switched
-    then record node { phase = Stopped; asked = []; remaining = present (space_of node); packaged = finset.len (present (space_of node)) }
-    else record node { phase = Precopy; asked = []; clean = no_pages; todo = no_pages; sent = no_pages }
-source_rebuilt Running owed node = record node { phase = Stopped; asked = []; remaining = owed }
-source_rebuilt Ended owed node = released node
+    then record node { phase = SourcePhase.Stopped; asked = []; remaining = present (space_of node); packaged = finset.len (present (space_of node)) }
+    else record node { phase = SourcePhase.Precopy; asked = []; clean = no_pages; todo = no_pages; sent = no_pages }
+source_rebuilt Received.Running owed node = record node { phase = SourcePhase.Stopped; asked = []; remaining = owed }
+source_rebuilt Received.Ended owed node = released node
 
 -- what it sends then
 abbrev pub rebuild_frames : Received → Source → List Frame
-rebuild_frames NotRun node = if node.switched then package_frames node no_pages (present (space_of node)) else []
-rebuild_frames Running node = []
-rebuild_frames Ended node = []
+rebuild_frames Received.NotRun node = if node.switched then package_frames node no_pages (present (space_of node)) else []
+rebuild_frames Received.Running node = []
+rebuild_frames Received.Ended node = []
 
 abbrev pub source_took : Source → Frame → Source
 source_took node (Request page) = record node { asked = node.asked ++ page ∷ [] }
@@ -271,16 +267,8 @@ source_answers node _ = []
 
 -- The destination
 
-pub data DestinationPhase : Type 0 where
-  NotAdvised : DestinationPhase
-  Advised : DestinationPhase
-  Discarding : DestinationPhase
-  Runs : DestinationPhase
-  Interrupted : DestinationPhase
-  HasEnded : DestinationPhase
-
 pub record Destination : Type 0 where
-  pub phase : DestinationPhase
+  pub phase : DestPhase
   -- whether it has run processors, and whether it has been told that nothing more is sent
   pub has_run : Bool
   pub ended : Bool
@@ -302,7 +290,7 @@ pub record Destination : Type 0 where
 abbrev pub first_destination : ℕ → Destination
 first_destination cpus =
     record {
-      phase = NotAdvised;
+      phase = DestPhase.Idle;
       has_run = false;
       ended = false;
       epoch = 0;
@@ -316,12 +304,12 @@ first_destination cpus =
       faults = 0;
     }
 
-abbrev pub is_interrupted : DestinationPhase → Bool
-is_interrupted Interrupted = true
+abbrev pub is_interrupted : DestPhase → Bool
+is_interrupted DestPhase.Paused = true
 is_interrupted _ = false
 
-abbrev pub is_running : DestinationPhase → Bool
-is_running Runs = true
+abbrev pub is_running : DestPhase → Bool
+is_running DestPhase.Running = true
 is_running _ = false
 
 -- The owed table
@@ -382,7 +370,7 @@ own_places owed (suc bound) = put (own_places owed bound) bound (if contains owe
 abbrev pub destination_ran : Destination → FinMap nat_cmp Prot → FinSet nat_cmp → List (Option Command) → Destination
 destination_ran node areas owed commands =
     record node {
-      phase = Runs;
+      phase = DestPhase.Running;
       has_run = true;
       kept = finmap.empty;
       owed = own_places owed HIGH_PAGE;
@@ -391,23 +379,23 @@ destination_ran node areas owed commands =
 
 -- how far it came, which it tells once the channel is up again
 abbrev pub received_by : Bool → Bool → Received
-received_by false ended = NotRun
-received_by true false = Running
-received_by true true = Ended
+received_by false ended = Received.NotRun
+received_by true false = Received.Running
+received_by true true = Received.Ended
 
 abbrev pub received_of : Destination → Received
 received_of node = received_by node.has_run node.ended
 
 abbrev pub resumed_by : Received → Destination → Destination
-resumed_by NotRun node = record node { phase = Advised; kept = finmap.empty }
-resumed_by Running node = record node { phase = Runs }
-resumed_by Ended node = record node { phase = HasEnded }
+resumed_by Received.NotRun node = record node { phase = DestPhase.Advised; kept = finmap.empty }
+resumed_by Received.Running node = record node { phase = DestPhase.Running }
+resumed_by Received.Ended node = record node { phase = DestPhase.Ended }
 
 -- the answer to Resume: how far it came, with the source pages that it still needs, and then its requests once more
 abbrev pub recv_by : Received → Destination → List Frame
-recv_by NotRun node = Recv NotRun no_pages ∷ []
-recv_by Running node = Recv Running (origins node.owed) ∷ map Request node.requests
-recv_by Ended node = Recv Ended no_pages ∷ []
+recv_by Received.NotRun node = Recv Received.NotRun no_pages ∷ []
+recv_by Received.Running node = Recv Received.Running (origins node.owed) ∷ map Request node.requests
+recv_by Received.Ended node = Recv Received.Ended no_pages ∷ []
 
 abbrev pub arrived : Destination → Copy → Destination
 arrived node copy = record node { arrivals = node.arrivals ++ copy ∷ [] }
@@ -419,12 +407,12 @@ copy_came false node copy = record node { kept = finmap.insert node.kept copy.pa
 
 -- the destination after a frame that is in place
 abbrev pub destination_took : Destination → ℕ → Frame → Destination
-destination_took node epoch Advise = record node { phase = Advised; epoch = epoch }
+destination_took node epoch Advise = record node { phase = DestPhase.Advised; epoch = epoch }
 destination_took node epoch (Page page bytes) = copy_came node.has_run node (record { page = page; bytes = bytes })
 destination_took node epoch (Zero page) = copy_came node.has_run node (record { page = page; bytes = zero_page })
-destination_took node epoch (Discard pages) = record node { phase = Discarding; kept = kept_after node.kept (Discard pages) }
+destination_took node epoch (Discard pages) = record node { phase = DestPhase.Discarding; kept = kept_after node.kept (Discard pages) }
 destination_took node epoch (Package areas owed commands) = destination_ran node areas owed commands
-destination_took node epoch End = record node { phase = HasEnded; ended = true }
+destination_took node epoch End = record node { phase = DestPhase.Ended; ended = true }
 destination_took node epoch Resume = resumed_by (received_of node) (record node { epoch = epoch })
 destination_took node epoch _ = node
 

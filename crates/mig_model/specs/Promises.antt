@@ -3,6 +3,10 @@ use Rattle.std.specs.Prelude.{length, ◌≢◌, ◌≡◌, ℕ, ◌+◌, ◌-�
 use Rattle.std.specs.FinMap as finmap
 use Rattle.std.specs.FinMap.{get, contains_key}
 use Rattle.std.specs.FinSet.{contains}
+use Rattle.mig_base.specs.declared.cpu_state.CpuState.{CpuState}
+use Rattle.mig_base.specs.declared.phase.DestPhase.{DestPhase}
+use Rattle.mig_base.specs.declared.phase.Received.{Received}
+use Rattle.mig_base.specs.declared.schedule.Step.{Step}
 use Rattle.mig_base.specs.declared.TheConstants.{PAGE_SIZE}
 use Rattle.mig_base.specs.declared.command.Errno.TheVariants.{Enomem}
 use Rattle.mig_base.specs.declared.command.Command.{Command}
@@ -15,14 +19,11 @@ use Rattle.mig_base.specs.Flat.{memory_of}
 use Rattle.mig_model.specs.Host.{memory}
 use Rattle.mig_model.specs.World.{is_access}
 use Rattle.mig_model.specs.Space.{Space, fresh_space}
-use Rattle.mig_model.specs.Guest.{Processor, is_present, outstanding, processor_at}
+use Rattle.mig_model.specs.Guest.{is_present, outstanding, processor_at}
 use Rattle.mig_model.specs.Wire.{Frame, Sent}
-use Rattle.mig_model.specs.Wire.Received.{NotRun, Running}
 use Rattle.mig_model.specs.Wire.Frame.{Advise, Page, Zero, Discard, Package, End, Resume, Request, Recv, Done}
-use Rattle.mig_model.specs.Nodes.{Source, Destination, DestinationPhase, no_pages, space_of, settled, is_released, is_stopped, is_source_paused}
-use Rattle.mig_model.specs.Nodes.DestinationPhase.{NotAdvised, Advised, Discarding, Runs, Interrupted}
-use Rattle.mig_model.specs.Migration.{World, Step, first_world_with, after_steps}
-use Rattle.mig_model.specs.Migration.Step.{Issue, Retry, Install, Start, Switch, Deliver, DeliverBack, SendEnd}
+use Rattle.mig_model.specs.Nodes.{Source, Destination, no_pages, space_of, settled, is_released, is_stopped, is_source_paused}
+use Rattle.mig_model.specs.Migration.{World, first_world_with, after_steps}
 use Rattle.mig_model.specs.Invariant.{copies_of, has_copy, AreFaithful}
 
 -- a world that some list of steps leads to, from a first world with some counts
@@ -83,23 +84,23 @@ pub record IsZeroed (old new : Space) (page : ℕ) : Type 0 where
 
 -- the steps by which no page comes to remain: all but Switch and the taking of a frame that comes back
 abbrev pub keeps_remaining : Step → Bool
-keeps_remaining Switch = false
-keeps_remaining DeliverBack = false
+keeps_remaining Step.Switch = false
+keeps_remaining Step.DeliverBack = false
 keeps_remaining step = true
 
 -- Frames
 
 -- the frames that a destination takes in a phase; any other is out of place
-abbrev pub is_in_place : DestinationPhase → Frame → Bool
-is_in_place NotAdvised Advise = true
-is_in_place Advised (Page page bytes) = true
-is_in_place Advised (Zero page) = true
-is_in_place Advised (Discard pages) = true
-is_in_place Discarding (Package areas owed commands) = true
-is_in_place Runs (Page page bytes) = true
-is_in_place Runs (Zero page) = true
-is_in_place Runs End = true
-is_in_place Interrupted Resume = true
+abbrev pub is_in_place : DestPhase → Frame → Bool
+is_in_place DestPhase.Idle Advise = true
+is_in_place DestPhase.Advised (Page page bytes) = true
+is_in_place DestPhase.Advised (Zero page) = true
+is_in_place DestPhase.Advised (Discard pages) = true
+is_in_place DestPhase.Discarding (Package areas owed commands) = true
+is_in_place DestPhase.Running (Page page bytes) = true
+is_in_place DestPhase.Running (Zero page) = true
+is_in_place DestPhase.Running End = true
+is_in_place DestPhase.Paused Resume = true
 is_in_place phase frame = false
 
 -- the epoch that a frame has to be of: Advise may be of any, Resume of a later one than the destination's, and any other of its own
@@ -132,8 +133,8 @@ IsInPlaceBack node (Request page) = is_stopped node.phase ≡ true
 IsInPlaceBack node Done = (is_stopped node.phase ≡ true) × (node.ended ≡ node.epoch)
 IsInPlaceBack node (Recv state owed) =
     (is_source_paused node.phase ≡ true) × ((page : ℕ) → contains owed page ≡ true → is_present (space_of node) page ≡ true)
-    × (state ≢ Running → owed ≡ no_pages)
-    × (state ≢ NotRun → node.switched ≡ true)
+    × (state ≢ Received.Running → owed ≡ no_pages)
+    × (state ≢ Received.NotRun → node.switched ≡ true)
 IsInPlaceBack node frame = ⊥
 
 -- The settled relation
@@ -159,20 +160,20 @@ owed_changed owed _ _ = owed
 
 -- the steps that are neither a map call, an install, nor a Retry, whose command is told apart
 abbrev pub leaves_settled : Step → Bool
-leaves_settled (Issue cpu command) = is_access command
-leaves_settled (Retry cpu) = false
-leaves_settled Install = false
+leaves_settled (Step.Issue cpu command) = is_access command
+leaves_settled (Step.Retry cpu) = false
+leaves_settled Step.Install = false
 leaves_settled step = true
 
 -- Waiting commands
 
 -- whether a step is the Retry of a processor
 abbrev pub is_retry_of : Step → ℕ → Bool
-is_retry_of (Retry cpu) k = cpu == k
+is_retry_of (Step.Retry cpu) k = cpu == k
 is_retry_of step k = false
 
 -- each command that a processor still has to make is a load or a store
-abbrev pub AllAccess : List Processor → Type 0
+abbrev pub AllAccess : List CpuState → Type 0
 AllAccess processors = (k : ℕ) (command : Command) → outstanding (processor_at processors k) ≡ Some command → is_access command ≡ true
 
 -- so on both nodes: only a load or a store waits
@@ -184,4 +185,4 @@ pub record AreAccesses (world : World) : Type 0 where
 
 -- the steps of a migration in which nothing is owed
 abbrev pub story : List Step
-story = Start ∷ Switch ∷ Deliver ∷ Deliver ∷ Deliver ∷ SendEnd ∷ Deliver ∷ DeliverBack ∷ []
+story = Step.Start ∷ Step.Switch ∷ Step.Deliver ∷ Step.Deliver ∷ Step.Deliver ∷ Step.End ∷ Step.Deliver ∷ Step.DeliverBack ∷ []

@@ -5,15 +5,10 @@ use Rattle.std.specs.List.{list_all}
 use Rattle.std.specs.Ordering.{nat_cmp}
 use Rattle.std.specs.FinMap.{FinMap, insert, retain_keys}
 use Rattle.std.specs.FinSet.{FinSet, contains}
+use Rattle.mig_base.specs.declared.phase.Received.{Received}
 use Rattle.mig_base.specs.declared.Prot.{Prot}
 use Rattle.mig_base.specs.declared.command.Command.{Command}
 use Rattle.mig_base.specs.Bytes.{zero_page}
-
--- how far a destination came before a break: it has not run, it runs, or it has ended
-pub data Received : Type 0 where
-  NotRun : Received
-  Running : Received
-  Ended : Received
 
 -- a message of one node to the other
 pub data Frame : Type 0 where

@@ -4,18 +4,18 @@
 
 ghost use Rattle.std.specs.Prelude.{◌≡◌, ℕ, ◌/◌, ◌∷◌, ◌++◌, ◌==◌, ◌&&◌, not, true, false, if◌then◌else◌, None, Some, Ok, List};
 ghost use Rattle.std.specs.FinSet.{contains};
+ghost use Rattle.mig_base.specs.declared.effect.Effect.{Effect};
+ghost use Rattle.mig_base.specs.declared.phase.Received.{Received};
+ghost use Rattle.mig_base.specs.declared.schedule.Step.{Step};
+ghost use Rattle.mig_base.specs.declared.schedule.Ticket.{Ticket};
 ghost use Rattle.mig_base.specs.declared.command.Command.{Command};
 ghost use Rattle.mig_base.specs.Flat.{IsFlatRun, memory_of, reply_of};
 ghost use Rattle.mig_model.specs.Host.{memory};
 ghost use Rattle.mig_model.specs.World.{is_access};
 ghost use Rattle.mig_model.specs.Guest.{outstanding, processor_at, processor_after, entries_of, took_by};
 ghost use Rattle.mig_model.specs.Wire.{Sent};
-ghost use Rattle.mig_model.specs.Wire.Received.{Running};
 ghost use Rattle.mig_model.specs.Nodes.{space_of, settled, is_precopy, is_stopped, is_source_paused, is_running};
-ghost use Rattle.mig_model.specs.Nodes.Act.{Zeroed};
-ghost use Rattle.mig_model.specs.Migration.{World, Step, guest_of, refusal_of, command_tried, outcome, accepted, next, first_world, after_steps};
-ghost use Rattle.mig_model.specs.Migration.Step.{Issue, Retry, SourceAct, DestAct, Install, Push};
-ghost use Rattle.mig_model.specs.Migration.Effect.{Installed, Dropped, Acted};
+ghost use Rattle.mig_model.specs.Migration.{World, guest_of, refusal_of, command_tried, outcome, accepted, next, first_world, after_steps};
 ghost use Rattle.mig_model.specs.Invariant.{IsKept, IsPrecopying, IsSwitching, IsReceiving, current_host};
 ghost use Rattle.mig_model.specs.Parts.{ChangesParts};
 ghost use Rattle.mig_model.specs.Promises.{AreAccesses, IsReached, IsComplete, IsAlone, ArePaired, AreUnderWay, IsPut, IsZeroed, IsTaken, keeps_remaining, IsInPlaceBack, owed_changed, leaves_settled, is_retry_of, story};
@@ -54,7 +54,7 @@ pub fn a_package_tells_the_source()
 /// After a resumption, until the source has taken Recv: its list has each page that the destination still needs, and the source has
 /// all of them.
 pub fn a_recv_lists_what_is_needed()
-    ensures { (world : World) → IsReached world → world.up ≡ true → is_source_paused world.source.phase ≡ true → is_running world.destination.phase ≡ true → IsReceiving world.source world.destination Running world.back }
+    ensures { (world : World) → IsReached world → world.up ≡ true → is_source_paused world.source.phase ≡ true → is_running world.destination.phase ≡ true → IsReceiving world.source world.destination Received.Running world.back }
 {}
 
 /// The pairs of pages that are owed are one to one, and what they need is there: the source page is present at the source, and the
@@ -74,10 +74,10 @@ pub fn owed_pages_are_under_way()
 /// pair away. A copy that is given up, a load or store, tried for the first time or again, and every other step leave the relation.
 pub fn the_settled_relation()
     ensures call { (world : World) (cpu : ℕ) (command : Command) (page : ℕ) → IsReached world → world.destination.has_run ≡ true → is_access command ≡ false →
-        settled (accepted world (Issue cpu command)).destination page ≡ owed_changed (settled world.destination) command (reply_of (memory world.destination.guest.space.host) command) page }
-    ensures install { (world : World) (addr source page : ℕ) → outcome world Install ≡ Ok (Installed addr source) →
-        settled (next world Install).destination page ≡ (if page == addr / 4096 then None else settled world.destination page) }
-    ensures dropped { (world : World) (source page : ℕ) → outcome world Install ≡ Ok (Dropped source) → settled (next world Install).destination page ≡ settled world.destination page }
+        settled (accepted world (Step.Issue cpu command)).destination page ≡ owed_changed (settled world.destination) command (reply_of (memory world.destination.guest.space.host) command) page }
+    ensures install { (world : World) (addr source page : ℕ) → outcome world Step.Install ≡ Ok (Effect.Installed addr source) →
+        settled (next world Step.Install).destination page ≡ (if page == addr / 4096 then None else settled world.destination page) }
+    ensures dropped { (world : World) (source page : ℕ) → outcome world Step.Install ≡ Ok (Effect.Dropped source) → settled (next world Step.Install).destination page ≡ settled world.destination page }
     ensures access { (world : World) (cpu : ℕ) (command : Command) (page : ℕ) → world.destination.has_run ≡ true → is_access command ≡ true →
         settled (command_tried world cpu command).destination page ≡ settled world.destination page }
     ensures others { (world : World) (step : Step) (page : ℕ) → IsReached world → world.destination.has_run ≡ true → leaves_settled step ≡ true →
@@ -87,9 +87,9 @@ pub fn the_settled_relation()
 /// No page is installed over one that is present: a copy that is installed, and a page of zeros that either handler puts, find the
 /// page missing. A copy that is installed is that of the page from which it was owed.
 pub fn no_page_is_installed_over_another()
-    ensures install { (world : World) (addr source : ℕ) → IsReached world → outcome world Install ≡ Ok (Installed addr source) → IsPut world (next world Install) (addr / 4096) (source / 4096) }
-    ensures source_zero { (world : World) (addr : ℕ) → outcome world SourceAct ≡ Ok (Acted Zeroed addr) → IsZeroed (space_of world.source) (space_of (next world SourceAct).source) (addr / 4096) }
-    ensures destination_zero { (world : World) (addr : ℕ) → outcome world DestAct ≡ Ok (Acted Zeroed addr) → IsZeroed world.destination.guest.space (next world DestAct).destination.guest.space (addr / 4096) }
+    ensures install { (world : World) (addr source : ℕ) → IsReached world → outcome world Step.Install ≡ Ok (Effect.Installed addr source) → IsPut world (next world Step.Install) (addr / 4096) (source / 4096) }
+    ensures source_zero { (world : World) (addr : ℕ) → outcome world Step.SourceAct ≡ Ok (Effect.Zeroed addr) → IsZeroed (space_of world.source) (space_of (next world Step.SourceAct).source) (addr / 4096) }
+    ensures destination_zero { (world : World) (addr : ℕ) → outcome world Step.DestAct ≡ Ok (Effect.Zeroed addr) → IsZeroed world.destination.guest.space (next world Step.DestAct).destination.guest.space (addr / 4096) }
 {}
 
 /// No frame is refused, after any number of resumptions: while the link is up the first frame of each wire is in place, of the right
@@ -106,8 +106,8 @@ pub fn no_frame_is_refused()
 pub fn a_waiting_command()
     ensures kept { (world : World) (step : Step) (cpu : ℕ) (command : Command) → IsReached world → is_retry_of step cpu ≡ false →
         outstanding (processor_at (guest_of world).processors cpu) ≡ Some command → outstanding (processor_at (guest_of (next world step)).processors cpu) ≡ Some command }
-    ensures retry { (world : World) (cpu : ℕ) (command : Command) → refusal_of world (Retry cpu) ≡ None → outstanding (processor_at (guest_of world).processors cpu) ≡ Some command →
-        processor_at (guest_of (next world (Retry cpu))).processors cpu ≡ processor_after command (took_by (is_access command) (guest_of world).space command) }
+    ensures retry { (world : World) (cpu : ℕ) (command : Command) → refusal_of world (Step.Retry cpu) ≡ None → outstanding (processor_at (guest_of world).processors cpu) ≡ Some command →
+        processor_at (guest_of (next world (Step.Retry cpu))).processors cpu ≡ processor_after command (took_by (is_access command) (guest_of world).space command) }
 {}
 
 /// A command that waits is a load or a store, on either node: a map call waits only for its messages to be read, and has taken effect.
@@ -118,16 +118,16 @@ pub fn waiting_commands_are_accesses()
 /// A command that takes effect is entered with its processor and its reply, at its first try or at a Retry; one that sleeps is not. That
 /// no other step enters anything is among the parts that a step may change.
 pub fn what_is_entered()
-    ensures issue { (world : World) (cpu : ℕ) (command : Command) → refusal_of world (Issue cpu command) ≡ None →
-        (next world (Issue cpu command)).transcript ≡ world.transcript ++ entries_of cpu command (took_by (is_access command) (guest_of world).space command) }
-    ensures retry { (world : World) (cpu : ℕ) (command : Command) → refusal_of world (Retry cpu) ≡ None → outstanding (processor_at (guest_of world).processors cpu) ≡ Some command →
-        (next world (Retry cpu)).transcript ≡ world.transcript ++ entries_of cpu command (took_by (is_access command) (guest_of world).space command) }
+    ensures issue { (world : World) (cpu : ℕ) (command : Command) → refusal_of world (Step.Issue cpu command) ≡ None →
+        (next world (Step.Issue cpu command)).transcript ≡ world.transcript ++ entries_of cpu command (took_by (is_access command) (guest_of world).space command) }
+    ensures retry { (world : World) (cpu : ℕ) (command : Command) → refusal_of world (Step.Retry cpu) ≡ None → outstanding (processor_at (guest_of world).processors cpu) ≡ Some command →
+        (next world (Step.Retry cpu)).transcript ≡ world.transcript ++ entries_of cpu command (took_by (is_access command) (guest_of world).space command) }
 {}
 
 /// A page that is pushed remains no longer, and no page comes to remain but by Switch and by a frame that the source takes.
 pub fn pages_that_remain()
-    ensures push { (world : World) (epoch page q : ℕ) → refusal_of world (Push epoch page) ≡ None →
-        contains (next world (Push epoch page)).source.remaining q ≡ (not (q == page) && contains world.source.remaining q) }
+    ensures push { (world : World) (ticket : Ticket) (q : ℕ) → refusal_of world (Step.Push ticket) ≡ None →
+        contains (next world (Step.Push ticket)).source.remaining q ≡ (not (q == ticket.page) && contains world.source.remaining q) }
     ensures shrinks { (world : World) (step : Step) (q : ℕ) → keeps_remaining step ≡ true → contains (next world step).source.remaining q ≡ true → contains world.source.remaining q ≡ true }
 {}
 

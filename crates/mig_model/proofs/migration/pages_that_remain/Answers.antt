@@ -2,7 +2,7 @@ use Rattle.mig_model.proofs.StepPromises.{remaining_push, remaining_shrinks}
 use Rattle.mig_model.proofs.migration.pages_that_remain.Goals as goal
 
 pub returns-clause-push : goal.returns-clause-push
-returns-clause-push c world epoch page q free = remaining_push world epoch page q free
+returns-clause-push c world ticket q free = remaining_push world ticket q free
 
 pub returns-clause-shrinks : goal.returns-clause-shrinks
 returns-clause-shrinks c world step q keeps is = remaining_shrinks world step q keeps is
