@@ -1,4 +1,4 @@
--- Break, Notice and Reconnect keep what every world of the whole migration keeps.
+-- Break, Notice and Resume keep what every world of the whole migration keeps.
 use Rattle.std.proofs.Common.{◌≡◌, ◌≢◌, ℕ, ◌+◌, ◌&&◌, ◌||◌, Bool, true, false, cond, not, Option, Some, None, List, [], ◌∷◌, ◌++◌, refl, sym, ap, ◌∙◌, subst, ◌⊎◌, inl, ⊎_elim, arith}
 use Rattle.std.proofs.lemmas.Bool.{false≢true}
 use Rattle.mig_base.specs.declared.phase.DestPhase.{DestPhase}
@@ -8,38 +8,12 @@ use Rattle.mig_base.specs.declared.schedule.Side.{Side}
 use Rattle.mig_base.specs.declared.schedule.Step.{Step}
 use Rattle.mig_model.specs.Wire.{Sent}
 use Rattle.mig_model.specs.Wire.Frame.{Resume}
-use Rattle.mig_model.specs.Nodes.{is_source_idle, is_source_paused, is_released, is_interrupted}
-use Rattle.mig_model.specs.Migration.{World, first_of, reasons, refusal_of, accepted, has_started}
+use Rattle.mig_model.specs.Nodes.{is_source_idle, is_source_paused, is_released, is_dest_paused}
+use Rattle.mig_model.specs.Migration.{World, has_started, after_break, after_notice, after_resume}
 use Rattle.mig_model.specs.Invariant.{IsKept, AreWhole, copies_of, AreFaithful, AreOf}
 
--- no reason of the list holds
-abbrev pub NoneApplies : List (Bool × Refusal) → Type 0
-NoneApplies [] = Unit {0}
-NoneApplies (reason ∷ reasons) = (reason.0 ≡ false) × NoneApplies reasons
-
-refused_none : (test : Bool) (refusal : Refusal) (rest : Option Refusal) → cond test (Some refusal) rest ≡ None → (test ≡ false) × (rest ≡ None)
-refused_none true refusal rest h = absurd (cc)
-refused_none false refusal rest h = (refl, h)
-
--- a step that is not refused has no reason to be
-pub none_applies : (list : List (Bool × Refusal)) → first_of list ≡ None → NoneApplies list
-none_applies [] h = tt
-none_applies (reason ∷ list) h = let one = refused_none reason.0 reason.1 (first_of list) h in (one.0, none_applies list one.1)
-
-or_none : (a b : Bool) → (a || b) ≡ false → (a ≡ false) × (b ≡ false)
-or_none true b h = absurd (false≢true (sym h))
-or_none false b h = (refl, h)
-
-not_none : (b : Bool) → not b ≡ false → b ≡ true
-not_none true h = refl
-not_none false h = absurd (false≢true (sym h))
-
-and_both : (a b : Bool) → (a && b) ≡ true → (a ≡ true) × (b ≡ true)
-and_both true b h = (refl, h)
-and_both false b h = absurd (false≢true h)
-
-started_not_idle : (phase : SourcePhase) → not (not (is_source_idle phase)) ≡ false → phase ≢ SourcePhase.Idle
-started_not_idle SourcePhase.Idle h e = false≢true (sym h)
+started_not_idle : (phase : SourcePhase) → not (is_source_idle phase) ≡ true → phase ≢ SourcePhase.Idle
+started_not_idle SourcePhase.Idle h e = false≢true h
 started_not_idle SourcePhase.Precopy h e = cc
 started_not_idle SourcePhase.Stopped h e = cc
 started_not_idle SourcePhase.Paused h e = cc
@@ -52,10 +26,8 @@ not_released SourcePhase.Precopy h e = cc
 not_released SourcePhase.Stopped h e = cc
 not_released SourcePhase.Paused h e = cc
 
-pub kept-break : (world : World) → IsKept world → refusal_of world Step.Break ≡ None → IsKept (accepted world Step.Break)
-kept-break world kept free =
-    let told = none_applies (reasons world Step.Break) free in
-    let phases = or_none (not (has_started world)) (is_released world.source.phase) told.0 in
+pub kept-break : (world : World) → IsKept world → has_started world ≡ true → is_released world.source.phase ≡ false → IsKept (after_break world)
+kept-break world kept started unreleased =
     record {
       flat = kept.flat;
       holds = kept.holds;
@@ -93,7 +65,7 @@ kept-break world kept free =
       flight_faithful = λ ran. tt;
       ended_empty = kept.ended_empty;
       released_empty = kept.released_empty;
-      down = λ up. (refl, refl, started_not_idle world.source.phase phases.0, not_released world.source.phase phases.1);
+      down = λ up. (refl, refl, started_not_idle world.source.phase started, not_released world.source.phase unreleased);
       wires = λ up. absurd (false≢true up);
       forward_epoch = tt;
       back_epoch = tt;
@@ -117,13 +89,9 @@ interrupted_advised h = cc
 link_down : {A : Type 0} (up : Bool) → up ≡ false → up ≡ true → A
 link_down up down h = absurd (false≢true (sym down ∙ h))
 
-pub kept-notice_source : (world : World) → IsKept world → refusal_of world (Step.Notice Side.Source) ≡ None → IsKept (accepted world (Step.Notice Side.Source))
-kept-notice_source world kept free =
-    let told = none_applies (reasons world (Step.Notice Side.Source)) free in
-    let phases = or_none (not (has_started world) || is_released world.source.phase) (is_source_paused world.source.phase) told.0 in
-    let two = or_none (not (has_started world)) (is_released world.source.phase) phases.0 in
-    let not_idle = started_not_idle world.source.phase two.0 in
-    let down : world.up ≡ false = told.1.0 in
+pub kept-notice_source : (world : World) → IsKept world → has_started world ≡ true → world.up ≡ false → IsKept (after_notice world Side.Source)
+kept-notice_source world kept started down =
+    let not_idle = started_not_idle world.source.phase started in
     record {
       flat = kept.flat;
       holds = kept.holds;
@@ -169,10 +137,8 @@ kept-notice_source world kept free =
       epoch_at = kept.epoch_at;
     }
 
-pub kept-notice_destination : (world : World) → IsKept world → refusal_of world (Step.Notice Side.Destination) ≡ None → IsKept (accepted world (Step.Notice Side.Destination))
-kept-notice_destination world kept free =
-    let told = none_applies (reasons world (Step.Notice Side.Destination)) free in
-    let down : world.up ≡ false = told.1.0 in
+pub kept-notice_destination : (world : World) → IsKept world → world.up ≡ false → IsKept (after_notice world Side.Destination)
+kept-notice_destination world kept down =
     record {
       flat = kept.flat;
       holds = kept.holds;
@@ -218,7 +184,7 @@ kept-notice_destination world kept free =
       epoch_at = λ up. link_down world.up down up;
     }
 
--- Reconnect: both sides have noticed that the link is down, and nothing is in flight
+-- Resume: both sides have noticed that the link is down, and nothing is in flight
 
 -- a world in these phases
 abbrev in_phases : SourcePhase → DestPhase → World → World
@@ -227,14 +193,14 @@ in_phases from to world = record world { source = record world.source { phase = 
 resume_sent : List Sent → ℕ → List Sent
 resume_sent forward epoch = forward ++ record { epoch = epoch; frame = Resume } ∷ []
 
-reconnected_in : (from : SourcePhase) (to : DestPhase) (world : World) → is_source_paused from ≡ true → is_interrupted to ≡ true → world.up ≡ false → IsKept (in_phases from to world) → IsKept (accepted (in_phases from to world) Step.Resume)
-reconnected_in SourcePhase.Paused DestPhase.Paused world is_from is_to down kept =
+resumed_in : (from : SourcePhase) (to : DestPhase) (world : World) → is_source_paused from ≡ true → is_dest_paused to ≡ true → world.up ≡ false → IsKept (in_phases from to world) → IsKept (after_resume (in_phases from to world))
+resumed_in SourcePhase.Paused DestPhase.Paused world is_from is_to down kept =
     let nothing = kept.down down in
     let epoch = world.source.epoch + 1 in
     let before = kept.ended_before in
     let late = kept.epochs in
     let one : world.forward ++ record { epoch = epoch; frame = Resume } ∷ [] ≡ record { epoch = epoch; frame = Resume } ∷ [] = ap (λ f. f ++ record { epoch = epoch; frame = Resume } ∷ []) nothing.0 in
-    let ended : world.source.ended ≢ epoch = λ h. absurd (omega (arith, before, h)) in
+    let ended : world.source.end_epoch ≢ epoch = λ h. absurd (omega (arith, before, h)) in
     record {
       flat = kept.flat;
       holds = kept.holds;
@@ -279,18 +245,15 @@ reconnected_in SourcePhase.Paused DestPhase.Paused world is_from is_to down kept
       epochs = omega (arith, late);
       epoch_at = λ up. omega (arith, late);
     }
-reconnected_in SourcePhase.Idle to world is_from is_to down kept = absurd (false≢true is_from)
-reconnected_in SourcePhase.Precopy to world is_from is_to down kept = absurd (false≢true is_from)
-reconnected_in SourcePhase.Stopped to world is_from is_to down kept = absurd (false≢true is_from)
-reconnected_in SourcePhase.Released to world is_from is_to down kept = absurd (false≢true is_from)
-reconnected_in SourcePhase.Paused DestPhase.Idle world is_from is_to down kept = absurd (false≢true is_to)
-reconnected_in SourcePhase.Paused DestPhase.Advised world is_from is_to down kept = absurd (false≢true is_to)
-reconnected_in SourcePhase.Paused DestPhase.Discarding world is_from is_to down kept = absurd (false≢true is_to)
-reconnected_in SourcePhase.Paused DestPhase.Running world is_from is_to down kept = absurd (false≢true is_to)
-reconnected_in SourcePhase.Paused DestPhase.Ended world is_from is_to down kept = absurd (false≢true is_to)
+resumed_in SourcePhase.Idle to world is_from is_to down kept = absurd (false≢true is_from)
+resumed_in SourcePhase.Precopy to world is_from is_to down kept = absurd (false≢true is_from)
+resumed_in SourcePhase.Stopped to world is_from is_to down kept = absurd (false≢true is_from)
+resumed_in SourcePhase.Released to world is_from is_to down kept = absurd (false≢true is_from)
+resumed_in SourcePhase.Paused DestPhase.Idle world is_from is_to down kept = absurd (false≢true is_to)
+resumed_in SourcePhase.Paused DestPhase.Advised world is_from is_to down kept = absurd (false≢true is_to)
+resumed_in SourcePhase.Paused DestPhase.Discarding world is_from is_to down kept = absurd (false≢true is_to)
+resumed_in SourcePhase.Paused DestPhase.Running world is_from is_to down kept = absurd (false≢true is_to)
+resumed_in SourcePhase.Paused DestPhase.Ended world is_from is_to down kept = absurd (false≢true is_to)
 
-pub kept-reconnect : (world : World) → IsKept world → refusal_of world Step.Resume ≡ None → IsKept (accepted world Step.Resume)
-kept-reconnect world kept free =
-    let told = none_applies (reasons world Step.Resume) free in
-    let phases = and_both (is_source_paused world.source.phase) (is_interrupted world.destination.phase) (not_none _ told.0) in
-    reconnected_in world.source.phase world.destination.phase world phases.0 phases.1 told.1.0 kept
+pub kept-resume : (world : World) → IsKept world → is_source_paused world.source.phase ≡ true → is_dest_paused world.destination.phase ≡ true → world.up ≡ false → IsKept (after_resume world)
+kept-resume world kept from to down = resumed_in world.source.phase world.destination.phase world from to down kept

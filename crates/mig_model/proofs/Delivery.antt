@@ -14,12 +14,12 @@ use Rattle.mig_model.specs.Space.{fresh_space}
 use Rattle.mig_model.specs.Wire.{Frame, Sent, Copy, kept_after}
 use Rattle.mig_model.specs.Wire.Frame.{Advise, Page, Zero, Discard, Package, End, Resume}
 use Rattle.mig_model.specs.Nodes.{Source, Destination}
-use Rattle.mig_model.specs.Migration.{World, delivered, accepted, refusal_of, has_started, is_empty, is_end, is_end_next}
+use Rattle.mig_model.specs.Migration.{World, is_empty, is_end, after_deliver}
 use Rattle.mig_model.specs.Invariant.{Wires, IsKept, AreOf, AreWhole, AreFaithful, copies_of, has_copy, flow_of, EpochAt}
 use Rattle.mig_model.specs.Invariant.Flow.{Copies}
 use Rattle.mig_model.proofs.HostLemmas.{get-put}
 use Rattle.mig_model.proofs.WireLemmas.{has_copy-append, AreFaithful-append}
-use Rattle.mig_model.proofs.FirstFrame.{at_state, first_in_place, not_refused, ends_late, none_some}
+use Rattle.mig_model.proofs.FirstFrame.{at_state, first_in_place, ends_late, none_some, delivered}
 use Rattle.mig_model.proofs.PackageTaken.{package_taken}
 use Rattle.mig_model.proofs.EndTaken.{end_taken}
 use Rattle.mig_model.proofs.ResumeTaken.{resume_taken}
@@ -266,21 +266,10 @@ delivered_in SourcePhase.Stopped DestPhase.Running false sent rest world free ke
 delivered_in SourcePhase.Paused DestPhase.Paused ran sent rest world free kept = paused_interrupted ran sent.epoch sent.frame rest world (is_resume_first sent.frame sent.epoch world.source.epoch rest (kept.wires refl).0) kept
 delivered_in from to ran sent rest world free kept = absurd (false≢true (first_in_place (record world.source { phase = from }) (record world.destination { phase = to; has_run = ran }) sent rest world.back (kept.wires refl)))
 
-delivered_by : (up : Bool) (wire : List Sent) (world : World) → up ≡ true → (is_end_next wire && not (is_empty world.destination.arrivals)) ≡ false →
-    IsKept (record world { up = up; forward = wire }) → IsKept (delivered (record world { up = up; forward = wire }) wire)
-delivered_by true [] world h free kept = kept
-delivered_by true (sent ∷ rest) world h free kept = delivered_in world.source.phase world.destination.phase world.destination.has_run sent rest world free kept
-delivered_by false wire world h free kept = absurd (false≢true h)
+delivered_by : (up : Bool) (sent : Sent) (rest : List Sent) (world : World) → up ≡ true → IsFree sent.frame world →
+    IsKept (record world { up = up; forward = sent ∷ rest }) → IsKept (after_deliver (record world { up = up; forward = sent ∷ rest }) sent rest)
+delivered_by true sent rest world h free kept = delivered_in world.source.phase world.destination.phase world.destination.has_run sent rest world free kept
+delivered_by false sent rest world h free kept = absurd (false≢true h)
 
-not_not : (b : Bool) → not b ≡ false → b ≡ true
-not_not true h = refl
-not_not false h = absurd (not_up h)
-
-pub kept-deliver : (world : World) → IsKept world → refusal_of world Step.Deliver ≡ None → IsKept (accepted world Step.Deliver)
-kept-deliver world kept allowed =
-    let waits = is_end_next world.forward && not (is_empty world.destination.arrivals) in
-    let started = not_refused (not (has_started world)) Refusal.Phase ((not world.up, Refusal.Broken) ∷ (is_empty world.forward, Refusal.NothingThere) ∷ (waits, Refusal.InstallFirst) ∷ []) allowed in
-    let linked = not_refused (not world.up) Refusal.Broken ((is_empty world.forward, Refusal.NothingThere) ∷ (waits, Refusal.InstallFirst) ∷ []) started.1 in
-    let some = not_refused (is_empty world.forward) Refusal.NothingThere ((waits, Refusal.InstallFirst) ∷ []) linked.1 in
-    let free = not_refused waits Refusal.InstallFirst [] some.1 in
-    delivered_by world.up world.forward world (not_not world.up linked.0) free.0 kept
+pub kept-deliver : (world : World) (sent : Sent) (rest : List Sent) → IsKept world → world.forward ≡ sent ∷ rest → world.up ≡ true → IsFree sent.frame world → IsKept (after_deliver world sent rest)
+kept-deliver world sent rest kept first up free = delivered_by world.up sent rest world up free (subst (λ wire. IsKept (record world { forward = wire })) first kept)

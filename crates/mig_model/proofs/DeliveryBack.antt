@@ -11,9 +11,9 @@ use Rattle.mig_base.specs.declared.schedule.Step.{Step}
 use Rattle.mig_model.specs.Wire.{Frame, Sent}
 use Rattle.mig_model.specs.Wire.Frame.{Request, Recv, Done}
 use Rattle.mig_model.specs.Nodes.{no_pages}
-use Rattle.mig_model.specs.Migration.{World, delivered_back, accepted, refusal_of, has_started, is_empty}
+use Rattle.mig_model.specs.Migration.{World, after_deliver_back}
 use Rattle.mig_model.specs.Invariant.{IsKept, IsReceiving, is_none, are_requests_and_done}
-use Rattle.mig_model.proofs.FirstFrame.{empty_not, not_refused}
+use Rattle.mig_model.proofs.FirstFrame.{empty_not, delivered_back}
 use Rattle.mig_model.proofs.FramesBack.{at_back, not_up, request_taken, released_kept, recv_precopy, recv_switched, recv_running}
 
 -- The frames in their phases
@@ -105,17 +105,9 @@ back_in SourcePhase.Paused DestPhase.Ended ran switched sent rest world kept = a
 back_in SourcePhase.Released to ran switched sent rest world kept = absurd (empty_not sent rest (kept.wires refl).2)
 back_in from to ran switched sent rest world kept = absurd (kept.wires refl)
 
-back_by : (up : Bool) (back : List Sent) (world : World) → up ≡ true → IsKept (record world { up = up; back = back }) → IsKept (delivered_back (record world { up = up; back = back }) back)
-back_by true [] world h kept = kept
-back_by true (sent ∷ rest) world h kept = back_in world.source.phase world.destination.phase world.destination.has_run world.source.switched sent rest world kept
-back_by false back world h kept = absurd (false≢true h)
+back_by : (up : Bool) (sent : Sent) (rest : List Sent) (world : World) → up ≡ true → IsKept (record world { up = up; back = sent ∷ rest }) → IsKept (after_deliver_back (record world { up = up; back = sent ∷ rest }) sent rest)
+back_by true sent rest world h kept = back_in world.source.phase world.destination.phase world.destination.has_run world.source.switched sent rest world kept
+back_by false sent rest world h kept = absurd (false≢true h)
 
-not_not : (b : Bool) → not b ≡ false → b ≡ true
-not_not true h = refl
-not_not false h = absurd (not_up h)
-
-pub kept-deliver_back : (world : World) → IsKept world → refusal_of world Step.DeliverBack ≡ None → IsKept (accepted world Step.DeliverBack)
-kept-deliver_back world kept allowed =
-    let started = not_refused (not (has_started world)) Refusal.Phase ((not world.up, Refusal.Broken) ∷ (is_empty world.back, Refusal.NothingThere) ∷ []) allowed in
-    let linked = not_refused (not world.up) Refusal.Broken ((is_empty world.back, Refusal.NothingThere) ∷ []) started.1 in
-    back_by world.up world.back world (not_not world.up linked.0) kept
+pub kept-deliver_back : (world : World) (sent : Sent) (rest : List Sent) → IsKept world → world.back ≡ sent ∷ rest → world.up ≡ true → IsKept (after_deliver_back world sent rest)
+kept-deliver_back world sent rest kept first up = back_by world.up sent rest world up (subst (λ wire. IsKept (record world { back = wire })) first kept)

@@ -1,5 +1,5 @@
 -- A fault that the destination's handler works keeps what every world keeps.
-use Rattle.std.proofs.Common.{◌≡◌, ℕ, ◌/◌, ◌%◌, ◌&&◌, ◌||◌, Bool, true, false, cond, not, eqb, ltb, Option, Some, None, List, [], ◌∷◌, ◌++◌, refl, sym, ap, ◌∙◌, length, get_or, unwrap_or, if◌then◌else◌}
+use Rattle.std.proofs.Common.{◌≡◌, ℕ, ◌/◌, ◌%◌, ◌&&◌, ◌||◌, Bool, true, false, cond, not, eqb, ltb, Option, Some, None, List, [], ◌∷◌, ◌++◌, refl, sym, ap, ◌∙◌, length, get_or, unwrap_or, if◌then◌else◌, subst}
 use Rattle.std.specs.Option.{option_map, option_and_then}
 use Rattle.std.specs.Ordering.{nat_cmp}
 use Rattle.std.specs.FinMap.{FinMap, get, contains_key}
@@ -21,13 +21,13 @@ use Rattle.mig_model.specs.Ioctls.{put_pages}
 use Rattle.mig_model.specs.Guest.{Fault, all_woken, is_forgotten, is_present, worked, zero_installed}
 use Rattle.mig_model.specs.Wire.{Sent, sending_if}
 use Rattle.mig_model.specs.Wire.Frame.{Request}
-use Rattle.mig_model.specs.Nodes.{Source, Destination, space_of, is_running, is_requested, requesting, destination_act_by, destination_acted_by, act_frames}
+use Rattle.mig_model.specs.Nodes.{Source, Destination, space_of, is_running, is_requested, requesting, destination_act_by, destination_acted_by, act_frames, present}
 use Rattle.mig_model.specs.Nodes.Act.{Zeroed, Woke, Forgot, Requested}
-use Rattle.mig_model.specs.Migration.{World, accepted, refusal_of, destination_sends}
+use Rattle.mig_model.specs.Migration.{World, destination_sends, after_dest_act, is_changing, runs}
 use Rattle.mig_model.specs.Invariant.{IsKept, Wires, AreOf, EpochAt, are_requests, is_request, seen_host, seen_bytes}
 use Rattle.mig_model.proofs.HostLemmas.{memory-at, same_memory}
 use Rattle.mig_model.proofs.SettledLemmas.{none_some, none_absurd, eqb_true}
-use Rattle.mig_model.proofs.DestinationRead.{kept-handled, first_holds_not, not_false}
+use Rattle.mig_model.proofs.DestinationRead.{kept-handled}
 use Rattle.mig_model.proofs.Installing.{missing_none, seen_by, get-put_one, put-unprotected, put-sound, put-missing, none_changing}
 
 -- A page of zeros
@@ -278,15 +278,13 @@ act_in false false None fault rest world kept runs f p h =
     let new : World = record old { destination = destination_acted_by Zeroed old.destination fault.page } in
     nothing_sent world.up new refl (zeros_put fault rest world kept runs (not_or (contains_key world.destination.guest.space.host.areas fault.page) (is_registered world.destination.guest.space.object fault.page) f) p h)
 
-acted_in : (events : List Noted) (held : List Fault) (world : World) → IsKept (at_held events held world) → world.destination.has_run ≡ true → ltb 0 (length events) ≡ false → IsKept (accepted (at_held events held world) Step.DestAct)
-acted_in (noted ∷ events) held world kept runs quiet = absurd (none_changing (length events) quiet)
-acted_in [] [] world kept runs quiet = kept
-acted_in [] (fault ∷ rest) world kept runs quiet =
+acted_in : (events : List Noted) (fault : Fault) (rest : List Fault) (world : World) → IsKept (at_held events (fault ∷ rest) world) → world.destination.has_run ≡ true → ltb 0 (length events) ≡ false →
+    IsKept (after_dest_act (at_held events (fault ∷ rest) world) fault)
+acted_in (noted ∷ events) fault rest world kept runs quiet = absurd (none_changing (length events) quiet)
+acted_in [] fault rest world kept runs quiet =
     act_in (is_forgotten world.destination.guest.space fault.page) (is_present world.destination.guest.space fault.page) (get world.destination.owed fault.page) fault rest world kept runs refl refl refl
 
-pub kept-dest_act : (world : World) → IsKept world → refusal_of world Step.DestAct ≡ None → IsKept (accepted world Step.DestAct)
-kept-dest_act world kept none =
-    let ran = first_holds_not (not world.destination.has_run) Refusal.Phase _ none in
-    let some = first_holds_not _ Refusal.NothingThere _ ran.1 in
-    let quiet = first_holds_not (ltb 0 (length world.destination.guest.space.object.events)) Refusal.Changing _ some.1 in
-    acted_in world.destination.guest.space.object.events world.destination.guest.held world kept (not_false world.destination.has_run ran.0) quiet.0
+pub kept-dest_act : (world : World) (fault : Fault) (rest : List Fault) → IsKept world → world.destination.guest.held ≡ fault ∷ rest → world.destination.has_run ≡ true → is_changing world.destination.guest ≡ false → IsKept (after_dest_act world fault)
+kept-dest_act world fault rest kept first runs quiet =
+    let events = world.destination.guest.space.object.events in
+    subst (λ held. IsKept (at_held events held world) → IsKept (after_dest_act (at_held events held world) fault)) (sym first) (λ now. acted_in events fault rest world now runs quiet) kept

@@ -14,10 +14,10 @@ use Rattle.mig_base.specs.Flat.{IsFlatRun, memory_of}
 use Rattle.mig_model.specs.Host.{Host, memory, IsSound}
 use Rattle.mig_model.specs.World.{is_access}
 use Rattle.mig_model.specs.Space.{IsSoundSpace, fresh_space}
-use Rattle.mig_model.specs.Guest.{Guest, is_present, Took, took_by, tried, entries_of, outstanding, processor_at}
+use Rattle.mig_model.specs.Guest.{Guest, is_present, Took, took_by, tried, entries_of}
 use Rattle.mig_model.specs.Wire.{Sent}
 use Rattle.mig_model.specs.Nodes.{Source, Destination, space_of, settled}
-use Rattle.mig_model.specs.Migration.{World, guest_by, guest_of, with_guest_by, command_tried, retried, refusal_of, accepted}
+use Rattle.mig_model.specs.Migration.{World, guest_by, with_guest_by, after_command, runs}
 use Rattle.mig_model.specs.Invariant.{IsKept, AreFaults, AreRight, Wires, IsReceiving, current_by, current_host, seen_host}
 use Rattle.mig_model.proofs.FaultLemmas.{AreFaults-tried}
 use Rattle.mig_model.proofs.WorldLemmas.{holds_after, flat_after}
@@ -118,17 +118,5 @@ kept-tried_at true world cpu command is ran kept =
     λ up. wires-with_guest world.source world.destination new.destination.guest world.forward world.back (kept.wires up) in
     assumption
 
-pub kept-command_at_destination : (world : World) (cpu : ℕ) (command : Command) → world.destination.has_run ≡ true → IsKept world → IsKept (command_tried world cpu command)
+pub kept-command_at_destination : (world : World) (cpu : ℕ) (command : Command) → world.destination.has_run ≡ true → IsKept world → IsKept (after_command world cpu command)
 kept-command_at_destination world cpu command ran kept = kept-tried_at world.destination.has_run world cpu command ran ran kept
-
--- The steps, where the destination has run
-
-pub kept-issue_at_destination : (world : World) (cpu : ℕ) (command : Command) → world.destination.has_run ≡ true → IsKept world → refusal_of world (Step.Issue cpu command) ≡ None → IsKept (accepted world (Step.Issue cpu command))
-kept-issue_at_destination world cpu command ran kept taken = kept-command_at_destination world cpu command ran kept
-
-retried_kept : (o : Option Command) (world : World) (cpu : ℕ) → world.destination.has_run ≡ true → IsKept world → IsKept (retried world cpu o)
-retried_kept None world cpu ran kept = kept
-retried_kept (Some command) world cpu ran kept = kept-command_at_destination world cpu command ran kept
-
-pub kept-retry_at_destination : (world : World) (cpu : ℕ) → world.destination.has_run ≡ true → IsKept world → refusal_of world (Step.Retry cpu) ≡ None → IsKept (accepted world (Step.Retry cpu))
-kept-retry_at_destination world cpu ran kept taken = retried_kept (outstanding (processor_at (guest_of world).processors cpu)) world cpu ran kept

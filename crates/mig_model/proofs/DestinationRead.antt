@@ -1,5 +1,5 @@
 -- What a step of the destination's handler has to show, and that a message that is read keeps what every world keeps.
-use Rattle.std.proofs.Common.{◌≡◌, set, ℕ, ◌+◌, ◌/◌, ◌<◌, ◌||◌, Bool, true, false, not, Option, Some, None, List, [], ◌∷◌, ◌++◌, refl, sym, ap, ◌∙◌, if◌then◌else◌}
+use Rattle.std.proofs.Common.{◌≡◌, set, ℕ, ◌+◌, ◌/◌, ◌<◌, ◌||◌, Bool, true, false, not, Option, Some, None, List, [], ◌∷◌, ◌++◌, refl, sym, ap, ◌∙◌, if◌then◌else◌, subst}
 use Rattle.std.specs.Ordering.{nat_cmp}
 use Rattle.std.specs.FinMap as finmap
 use Rattle.std.specs.FinMap.{FinMap, get, get-empty}
@@ -16,12 +16,12 @@ use Rattle.mig_base.specs.declared.message.Message.{Message}
 use Rattle.mig_base.specs.declared.message.Message.TheVariants.{PageFault, Remap, Remove, Unmap}
 use Rattle.mig_base.proofs.PageLemmas.{same_pages}
 use Rattle.mig_model.specs.Host.{memory}
-use Rattle.mig_model.specs.Userfault.{Noted}
+use Rattle.mig_model.specs.Userfault.{Noted, next_message, next_of}
 use Rattle.mig_model.specs.Space.{IsSoundSpace}
 use Rattle.mig_model.specs.Guest.{Guest, Fault, all_woken, is_left_by, is_present, message_less, processor_at}
 use Rattle.mig_model.specs.Wire.{Sent, Copy}
 use Rattle.mig_model.specs.Nodes.{Source, Destination, space_of, settled_by, owed_table_after}
-use Rattle.mig_model.specs.Migration.{World, accepted, refusal_of}
+use Rattle.mig_model.specs.Migration.{World, after_dest_read, next, runs, start}
 use Rattle.mig_model.specs.Invariant.{IsKept, Wires, IsReceiving, IsFlowing, AreRight, AreFaults, AreFaithful, has_copy, copies_of, seen_host, current_host}
 use Rattle.mig_model.proofs.IoctlLemmas.{IsSoundSpace-read}
 use Rattle.mig_model.proofs.SettledLemmas.{get-owed_table_after, settled_by-applied, values-after, none-after, IsOneToOne-after, owed_below-after}
@@ -242,7 +242,7 @@ fault_read noted faults events world held count kept runs =
     })
 
 event_in : (message : Message) (cpu : ℕ) (events : List Noted) (world : World) → IsKept (at_queues [] (record { message = message; cpu = cpu } ∷ events) world) → world.destination.has_run ≡ true →
-    IsKept (accepted (at_queues [] (record { message = message; cpu = cpu } ∷ events) world) Step.DestRead)
+    IsKept (after_dest_read (at_queues [] (record { message = message; cpu = cpu } ∷ events) world) (record { message = message; cpu = cpu }))
 event_in (PageFault addr write wp) cpu events world kept runs = absurd (kept.destination_events.0)
 event_in (Remap from to len) cpu events world kept runs =
     event_read (Remap from to len) cpu events world (all_woken (is_left_by (Remap from to len)) (set world.destination.guest.processors cpu (message_less (processor_at world.destination.guest.processors cpu)))) (world.destination.faults + 0) kept runs
@@ -252,28 +252,24 @@ event_in (Unmap start end) cpu events world kept runs =
     event_read (Unmap start end) cpu events world (all_woken (is_left_by (Unmap start end)) (set world.destination.guest.processors cpu (message_less (processor_at world.destination.guest.processors cpu)))) (world.destination.faults + 0) kept runs
 
 fault_in : (message : Message) (cpu : ℕ) (faults events : List Noted) (world : World) → IsKept (at_queues (record { message = message; cpu = cpu } ∷ faults) events world) → world.destination.has_run ≡ true →
-    IsKept (accepted (at_queues (record { message = message; cpu = cpu } ∷ faults) events world) Step.DestRead)
+    IsKept (after_dest_read (at_queues (record { message = message; cpu = cpu } ∷ faults) events world) (record { message = message; cpu = cpu }))
 fault_in (PageFault addr write wp) cpu faults events world kept runs =
     fault_read (record { message = PageFault addr write wp; cpu = cpu }) faults events world (world.destination.guest.held ++ record { page = addr / 4096; wp = wp } ∷ []) (world.destination.faults + 1) kept runs
 fault_in (Remap from to len) cpu faults events world kept runs = absurd kept.destination_faults.0
 fault_in (Remove start end) cpu faults events world kept runs = absurd kept.destination_faults.0
 fault_in (Unmap start end) cpu faults events world kept runs = absurd kept.destination_faults.0
 
-read_in : (faults events : List Noted) (world : World) → IsKept (at_queues faults events world) → world.destination.has_run ≡ true → IsKept (accepted (at_queues faults events world) Step.DestRead)
-read_in [] [] world kept runs = kept
-read_in [] (noted ∷ events) world kept runs = event_in noted.message noted.cpu events world kept runs
-read_in (noted ∷ faults) events world kept runs = fault_in noted.message noted.cpu faults events world kept runs
+pub some_is : (a b : Noted) → Some a ≡ Some b → a ≡ b
+some_is a b h = cc
 
--- the first test of the reasons does not hold
-pub first_holds_not : (test : Bool) (refusal : Refusal) (rest : Option Refusal) → (if test then Some refusal else rest) ≡ None → (test ≡ false) × (rest ≡ None)
-first_holds_not true refusal rest h = absurd (cc)
-first_holds_not false refusal rest h = (refl, h)
+pub none_is : (b : Noted) → None ≡ Some b → ⊥
+none_is b h = cc
 
-pub not_false : (b : Bool) → not b ≡ false → b ≡ true
-not_false true h = refl
-not_false false h = absurd (false≢true (sym h))
+read_in : (faults events : List Noted) (noted : Noted) (world : World) → next_of faults events ≡ Some noted → IsKept (at_queues faults events world) → world.destination.has_run ≡ true → IsKept (after_dest_read (at_queues faults events world) noted)
+read_in [] [] noted world is kept runs = absurd (none_is noted is)
+read_in [] (first ∷ events) noted world is kept runs = subst (λ m. IsKept (after_dest_read (at_queues [] (first ∷ events) world) m)) (some_is first noted is) (event_in first.message first.cpu events world kept runs)
+read_in (first ∷ faults) events noted world is kept runs =
+    subst (λ m. IsKept (after_dest_read (at_queues (first ∷ faults) events world) m)) (some_is first noted is) (fault_in first.message first.cpu faults events world kept runs)
 
-pub kept-dest_read : (world : World) → IsKept world → refusal_of world Step.DestRead ≡ None → IsKept (accepted world Step.DestRead)
-kept-dest_read world kept none =
-    let told = first_holds_not (not world.destination.has_run) Refusal.Phase _ none in
-    read_in world.destination.guest.space.object.faults world.destination.guest.space.object.events world kept (not_false world.destination.has_run told.0)
+pub kept-dest_read : (world : World) (noted : Noted) → IsKept world → next_message world.destination.guest.space.object ≡ Some noted → world.destination.has_run ≡ true → IsKept (after_dest_read world noted)
+kept-dest_read world noted kept is runs = read_in world.destination.guest.space.object.faults world.destination.guest.space.object.events noted world is kept runs

@@ -12,11 +12,11 @@ use Rattle.mig_base.proofs.PageLemmas.{same_pages}
 use Rattle.mig_model.specs.Wire.{Sent, Copy}
 use Rattle.mig_model.specs.Wire.Frame.{End, Done}
 use Rattle.mig_model.specs.Nodes.{Source, no_pages}
-use Rattle.mig_model.specs.Migration.{World, delivered}
+use Rattle.mig_model.specs.Migration.{World}
 use Rattle.mig_model.specs.Invariant.{Wires, IsKept, IsFlowing, AreOf, copies_of, has_copy, flow_of, RanAt}
 use Rattle.mig_model.specs.Invariant.Flow.{Pushed, AfterEnd}
 use Rattle.mig_model.proofs.WireLemmas.{AreOf-append, are_requests_and_done-push}
-use Rattle.mig_model.proofs.FirstFrame.{at_state, nothing_behind}
+use Rattle.mig_model.proofs.FirstFrame.{at_state, nothing_behind, delivered}
 
 eqb_true : (a b : ℕ) → eqb a b ≡ true → a ≡ b
 eqb_true a b h = grind (arith, nat_tests)
@@ -26,8 +26,8 @@ ends_by true h = refl
 ends_by false h = absurd (let e : Pushed ≡ AfterEnd = h in cc)
 
 -- a wire that gets past End is that of a source that has sent it in this epoch
-pub ended_now : (source : Source) → flow_of source ≡ AfterEnd → source.ended ≡ source.epoch
-ended_now source h = eqb_true source.ended source.epoch (ends_by (eqb source.ended source.epoch) h)
+pub ended_now : (source : Source) → flow_of source ≡ AfterEnd → source.end_epoch ≡ source.epoch
+ended_now source h = eqb_true source.end_epoch source.epoch (ends_by (eqb source.end_epoch source.epoch) h)
 
 -- no page remains, none is in flight and none waits
 pub nowhere : (remaining : FinSet nat_cmp) (rest : List Sent) (arrivals : List Copy) (origin : ℕ) → remaining ≡ no_pages → rest ≡ [] → arrivals ≡ [] →
@@ -49,7 +49,7 @@ end_taken epoch rest world free kept =
     let new : World = delivered old old.forward in
     let w = kept.wires refl in
     let last = nothing_behind rest (flow_of old.source) w.0 in
-    let ended : old.source.ended ≡ old.source.epoch = ended_now old.source last.1 in
+    let ended : old.source.end_epoch ≡ old.source.epoch = ended_now old.source last.1 in
     let flowing : IsFlowing old.source old.destination old.forward = w.2 in
     let no_pair : world.destination.owed ≡ finmap.empty =
     same_pages world.destination.owed finmap.empty (λ page.

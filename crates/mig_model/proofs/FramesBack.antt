@@ -22,12 +22,12 @@ use Rattle.mig_model.specs.Guest.{is_present, is_changed_by}
 use Rattle.mig_model.specs.Wire.{Sent, kept_after}
 use Rattle.mig_model.specs.Wire.Frame.{Discard, Request, Recv}
 use Rattle.mig_model.specs.Nodes.{Source, no_pages, owed_after, settled_by, settled, released, space_of, present}
-use Rattle.mig_model.specs.Migration.{World, delivered_back}
+use Rattle.mig_model.specs.Migration.{World, start}
 use Rattle.mig_model.specs.Invariant.{Wires, IsKept, IsPrecopying, IsSwitching, IsFlowing, AreOf, AreRight, AreFaithful, SwitchedAt, copies_of, has_copy, is_unread, are_requests, seen_host, current_host, flow_of}
 use Rattle.mig_model.specs.Invariant.Flow.{AfterEnd, Pushed}
 use Rattle.mig_model.proofs.FrameLemmas.{discard_none}
 use Rattle.mig_model.proofs.SpaceLemmas.{IsSoundSpace-fresh}
-use Rattle.mig_model.proofs.FirstFrame.{none_some}
+use Rattle.mig_model.proofs.FirstFrame.{none_some, delivered_back}
 
 -- a world with these phases and this wire back, whose link is up
 abbrev pub at_back : SourcePhase → DestPhase → (ran switched : Bool) → (forward back : List Sent) → World → World
@@ -95,10 +95,10 @@ released_kept from forward back rest world kept none last =
     let source_events : AreRight (space_of new.source).object.events = tt in
     let source_phase : SwitchedAt new.source.phase new.source.switched = refl in
     let source_quiet : new.source.switched ≡ true → (space_of new.source).object.events ≡ [] = λ h. refl in
-    let before_switch : new.source.switched ≡ false → (new.source.remaining ≡ no_pages) × (new.source.ended ≢ new.source.epoch ⊎ (new.source.phase ≡ SourcePhase.Idle)) = λ h. absurd (not_up h) in
-    let end_sent : new.source.ended ≡ new.source.epoch → new.source.remaining ≡ no_pages = λ h. refl in
+    let before_switch : new.source.switched ≡ false → (new.source.remaining ≡ no_pages) × (new.source.end_epoch ≢ new.source.epoch ⊎ (new.source.phase ≡ SourcePhase.Idle)) = λ h. absurd (not_up h) in
+    let end_sent : new.source.end_epoch ≡ new.source.epoch → new.source.remaining ≡ no_pages = λ h. refl in
     let remaining_present : (page : ℕ) → contains new.source.remaining page ≡ true → is_present (space_of new.source) page ≡ true = λ page h. none_in page h in
-    let paused_fresh : new.up ≡ true → new.source.phase ≡ SourcePhase.Paused → new.source.ended ≢ new.source.epoch = λ u h. absurd (let e : SourcePhase.Released ≡ SourcePhase.Paused = h in cc) in
+    let paused_fresh : new.up ≡ true → new.source.phase ≡ SourcePhase.Paused → new.source.end_epoch ≢ new.source.epoch = λ u h. absurd (let e : SourcePhase.Released ≡ SourcePhase.Paused = h in cc) in
     let idle_source : new.source.phase ≡ SourcePhase.Idle → (new.source.clean ≡ no_pages) × (new.source.todo ≡ no_pages) × (new.source.sent ≡ no_pages) × ((space_of new.source).object.events ≡ []) × ((page : ℕ) → contains (space_of new.source).object.missing page ≡ false) =
     λ h. absurd (let e : SourcePhase.Released ≡ SourcePhase.Idle = h in cc) in
     let clean_protected : new.source.switched ≡ false → (page : ℕ) → contains new.source.clean page ≡ true → is_unread (space_of new.source).object.events page ≡ false → contains (space_of new.source).protected page ≡ true = λ h. absurd (not_up h) in
@@ -127,9 +127,9 @@ recv_precopy owed epoch rest world kept last =
     let new : World = delivered_back old old.back in
     let w = kept.wires refl in
     let source_phase : SwitchedAt new.source.phase new.source.switched = refl in
-    let before_switch : new.source.switched ≡ false → (new.source.remaining ≡ no_pages) × (new.source.ended ≢ new.source.epoch ⊎ (new.source.phase ≡ SourcePhase.Idle)) =
+    let before_switch : new.source.switched ≡ false → (new.source.remaining ≡ no_pages) × (new.source.end_epoch ≢ new.source.epoch ⊎ (new.source.phase ≡ SourcePhase.Idle)) =
     λ h. ((kept.before_switch refl).0, inl (kept.paused_fresh refl refl)) in
-    let paused_fresh : new.up ≡ true → new.source.phase ≡ SourcePhase.Paused → new.source.ended ≢ new.source.epoch = λ u h. kept.paused_fresh refl refl in
+    let paused_fresh : new.up ≡ true → new.source.phase ≡ SourcePhase.Paused → new.source.end_epoch ≢ new.source.epoch = λ u h. kept.paused_fresh refl refl in
     let idle_source : new.source.phase ≡ SourcePhase.Idle → (new.source.clean ≡ no_pages) × (new.source.todo ≡ no_pages) × (new.source.sent ≡ no_pages) × ((space_of new.source).object.events ≡ []) × ((page : ℕ) → contains (space_of new.source).object.missing page ≡ false) =
     λ h. absurd (let e : SourcePhase.Precopy ≡ SourcePhase.Idle = h in cc) in
     let clean_protected : new.source.switched ≡ false → (page : ℕ) → contains new.source.clean page ≡ true → is_unread (space_of new.source).object.events page ≡ false → contains (space_of new.source).protected page ≡ true = λ s page h. none_in page h in
@@ -149,8 +149,8 @@ eqb_other : (a b : ℕ) → a ≢ b → eqb a b ≡ false
 eqb_other a b h = grind (arith, nat_tests)
 
 -- where End was not sent in this epoch
-flow_pushed : (source : Source) → source.ended ≢ source.epoch → Some Pushed ≡ Some (flow_of source)
-flow_pushed source h = sym (ap (λ t. Some (cond t AfterEnd Pushed)) (eqb_other source.ended source.epoch h))
+flow_pushed : (source : Source) → source.end_epoch ≢ source.epoch → Some Pushed ≡ Some (flow_of source)
+flow_pushed source h = sym (ap (λ t. Some (cond t AfterEnd Pushed)) (eqb_other source.end_epoch source.epoch h))
 
 -- what is present, and what is not
 present_tells : (low some : Bool) → (low && some) ≡ true → some ≡ true
@@ -181,13 +181,13 @@ recv_switched owed epoch rest world kept last =
     let old : World = at_back SourcePhase.Paused DestPhase.Advised false true [] (record { epoch = epoch; frame = Recv Received.NotRun owed } ∷ rest) world in
     let new : World = delivered_back old old.back in
     let w = kept.wires refl in
-    let fresh : world.source.ended ≢ world.source.epoch = kept.paused_fresh refl refl in
+    let fresh : world.source.end_epoch ≢ world.source.epoch = kept.paused_fresh refl refl in
     let sound : IsSound world.source.guest.space.host = kept.source_space.host in
     let here : (page : ℕ) → contains (present world.source.guest.space) page ≡ (ltb page HIGH_PAGE && is_present world.source.guest.space page) = λ page. member_below _ HIGH_PAGE page in
     let source_phase : SwitchedAt new.source.phase new.source.switched = refl in
-    let before_switch : new.source.switched ≡ false → (new.source.remaining ≡ no_pages) × (new.source.ended ≢ new.source.epoch ⊎ (new.source.phase ≡ SourcePhase.Idle)) = λ h. absurd (not_up h) in
-    let end_sent : new.source.ended ≡ new.source.epoch → new.source.remaining ≡ no_pages = λ h. absurd (fresh h) in
-    let paused_fresh : new.up ≡ true → new.source.phase ≡ SourcePhase.Paused → new.source.ended ≢ new.source.epoch = λ u h. fresh in
+    let before_switch : new.source.switched ≡ false → (new.source.remaining ≡ no_pages) × (new.source.end_epoch ≢ new.source.epoch ⊎ (new.source.phase ≡ SourcePhase.Idle)) = λ h. absurd (not_up h) in
+    let end_sent : new.source.end_epoch ≡ new.source.epoch → new.source.remaining ≡ no_pages = λ h. absurd (fresh h) in
+    let paused_fresh : new.up ≡ true → new.source.phase ≡ SourcePhase.Paused → new.source.end_epoch ≢ new.source.epoch = λ u h. fresh in
     let idle_source : new.source.phase ≡ SourcePhase.Idle → (new.source.clean ≡ no_pages) × (new.source.todo ≡ no_pages) × (new.source.sent ≡ no_pages) × ((space_of new.source).object.events ≡ []) × ((page : ℕ) → contains (space_of new.source).object.missing page ≡ false) =
     λ h. absurd (let e : SourcePhase.Stopped ≡ SourcePhase.Idle = h in cc) in
     let released_empty : new.source.phase ≡ SourcePhase.Released → (space_of new.source ≡ fresh_space) × (new.source.remaining ≡ no_pages) = λ h. absurd (let e : SourcePhase.Stopped ≡ SourcePhase.Released = h in cc) in
@@ -218,11 +218,11 @@ pub recv_running : (owed : FinSet nat_cmp) (epoch : ℕ) (rest : List Sent) (wor
 recv_running owed epoch rest world kept requests needed owed_present =
     let old : World = at_back SourcePhase.Paused DestPhase.Running true true [] (record { epoch = epoch; frame = Recv Received.Running owed } ∷ rest) world in
     let new : World = delivered_back old old.back in
-    let fresh : world.source.ended ≢ world.source.epoch = kept.paused_fresh refl refl in
+    let fresh : world.source.end_epoch ≢ world.source.epoch = kept.paused_fresh refl refl in
     let source_phase : SwitchedAt new.source.phase new.source.switched = refl in
-    let before_switch : new.source.switched ≡ false → (new.source.remaining ≡ no_pages) × (new.source.ended ≢ new.source.epoch ⊎ (new.source.phase ≡ SourcePhase.Idle)) = λ h. absurd (not_up h) in
-    let end_sent : new.source.ended ≡ new.source.epoch → new.source.remaining ≡ no_pages = λ h. absurd (fresh h) in
-    let paused_fresh : new.up ≡ true → new.source.phase ≡ SourcePhase.Paused → new.source.ended ≢ new.source.epoch = λ u h. fresh in
+    let before_switch : new.source.switched ≡ false → (new.source.remaining ≡ no_pages) × (new.source.end_epoch ≢ new.source.epoch ⊎ (new.source.phase ≡ SourcePhase.Idle)) = λ h. absurd (not_up h) in
+    let end_sent : new.source.end_epoch ≡ new.source.epoch → new.source.remaining ≡ no_pages = λ h. absurd (fresh h) in
+    let paused_fresh : new.up ≡ true → new.source.phase ≡ SourcePhase.Paused → new.source.end_epoch ≢ new.source.epoch = λ u h. fresh in
     let idle_source : new.source.phase ≡ SourcePhase.Idle → (new.source.clean ≡ no_pages) × (new.source.todo ≡ no_pages) × (new.source.sent ≡ no_pages) × ((space_of new.source).object.events ≡ []) × ((page : ℕ) → contains (space_of new.source).object.missing page ≡ false) =
     λ h. absurd (let e : SourcePhase.Stopped ≡ SourcePhase.Idle = h in cc) in
     let released_empty : new.source.phase ≡ SourcePhase.Released → (space_of new.source ≡ fresh_space) × (new.source.remaining ≡ no_pages) = λ h. absurd (let e : SourcePhase.Stopped ≡ SourcePhase.Released = h in cc) in

@@ -112,7 +112,7 @@ end_good epoch rest world up kept free =
     let old = with_first SourcePhase.Stopped DestPhase.Running epoch End rest world in
     let w = kept.wires up in
     let last = nothing_behind rest (flow_of old.source) w.0 in
-    let ended : old.source.ended ≡ old.source.epoch = ended_now old.source last.1 in
+    let ended : old.source.end_epoch ≡ old.source.epoch = ended_now old.source last.1 in
     let flowing : IsFlowing old.source old.destination old.forward = w.2 in
     same_pages world.destination.owed finmap.empty (λ page.
     none_owed (get world.destination.owed page) (λ origin h. nowhere world.source.remaining rest world.destination.arrivals origin (kept.end_sent ended) last.0 free (flowing.whereabouts page origin h))
@@ -165,7 +165,7 @@ request_place : (frame : Frame) (node : Source) → is_stopped node.phase ≡ tr
 request_place (Request page) node stopped h = stopped
 request_place _ node stopped h = none_absurd h
 
-done_place : (frame : Frame) (node : Source) (more last : Bool) → is_stopped node.phase ≡ true → node.ended ≡ node.epoch → (is_request frame && more || is_done frame && last) ≡ true → IsInPlaceBack node frame
+done_place : (frame : Frame) (node : Source) (more last : Bool) → is_stopped node.phase ≡ true → node.end_epoch ≡ node.epoch → (is_request frame && more || is_done frame && last) ≡ true → IsInPlaceBack node frame
 done_place (Request page) node more last stopped ended h = stopped
 done_place Done node more last stopped ended h = (stopped, ended)
 done_place _ node more last stopped ended h = none_absurd h

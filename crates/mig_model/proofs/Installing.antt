@@ -18,16 +18,19 @@ use Rattle.mig_base.proofs.SetLemmas.{member_below}
 use Rattle.mig_model.specs.Host.{Host, memory}
 use Rattle.mig_model.specs.Userfault.{Noted}
 use Rattle.mig_model.specs.Space.{Space, IsSoundSpace}
+use Rattle.mig_model.specs.Ioctls.{put_pages}
 use Rattle.mig_model.specs.Ioctls.{put_pages, installed as pages_installed}
 use Rattle.mig_model.specs.Guest.{Guest, all_woken, is_present}
 use Rattle.mig_model.specs.Wire.{Copy}
-use Rattle.mig_model.specs.Nodes.{space_of, home, install_by, without_request}
-use Rattle.mig_model.specs.Migration.{World, accepted, effect_of, refusal_of, install_effect_by, outcome, outcome_by, next, next_by}
+use Rattle.mig_model.specs.Nodes.{space_of, home, install_by, without_request, present}
+use Rattle.mig_model.specs.Migration.{World, outcome, next, after_install, install_effect, is_changing, runs}
 use Rattle.mig_model.specs.Invariant.{IsKept, AreFaithful, has_copy, seen_host, seen_bytes}
 use Rattle.mig_model.specs.Promises.{IsPut}
 use Rattle.mig_model.proofs.IoctlLemmas.{IsSoundSpace-installed, get-put_pages}
 use Rattle.mig_model.proofs.SettledLemmas.{none_some, none_absurd, eqb_true, eqb-refl, home_tells, home-none}
-use Rattle.mig_model.proofs.DestinationRead.{kept-handled, first_holds_not, not_false}
+use Rattle.mig_model.proofs.DestinationRead.{kept-handled}
+use Rattle.mig_model.proofs.StepLemmas.{holds-effect}
+use Rattle.mig_model.proofs.StepCases.{made-install}
 
 -- One page put
 
@@ -210,17 +213,15 @@ install_at (Some page) copy rest world kept runs found = put_there copy rest wor
 pub none_changing : (n : ℕ) → ltb 0 (suc n) ≡ false → ⊥
 none_changing n h = grind (arith, nat_tests)
 
-install_in : (events : List Noted) (arrivals : List Copy) (world : World) → IsKept (at_copies events arrivals world) → world.destination.has_run ≡ true → ltb 0 (length events) ≡ false → IsKept (accepted (at_copies events arrivals world) Step.Install)
-install_in (noted ∷ events) arrivals world kept runs quiet = absurd (none_changing (length events) quiet)
-install_in [] [] world kept runs quiet = kept
-install_in [] (copy ∷ rest) world kept runs quiet = install_at (home world.destination.owed copy.page) copy rest world kept runs refl
+install_in : (events : List Noted) (copy : Copy) (rest : List Copy) (world : World) → IsKept (at_copies events (copy ∷ rest) world) → world.destination.has_run ≡ true → ltb 0 (length events) ≡ false →
+    IsKept (after_install (at_copies events (copy ∷ rest) world) copy rest)
+install_in (noted ∷ events) copy rest world kept runs quiet = absurd (none_changing (length events) quiet)
+install_in [] copy rest world kept runs quiet = install_at (home world.destination.owed copy.page) copy rest world kept runs refl
 
-pub kept-install : (world : World) → IsKept world → refusal_of world Step.Install ≡ None → IsKept (accepted world Step.Install)
-kept-install world kept none =
-    let ran = first_holds_not (not world.destination.has_run) Refusal.Phase _ none in
-    let some = first_holds_not _ Refusal.NothingThere _ ran.1 in
-    let quiet = first_holds_not (ltb 0 (length world.destination.guest.space.object.events)) Refusal.Changing _ some.1 in
-    install_in world.destination.guest.space.object.events world.destination.arrivals world kept (not_false world.destination.has_run ran.0) quiet.0
+pub kept-install : (world : World) (copy : Copy) (rest : List Copy) → IsKept world → world.destination.arrivals ≡ copy ∷ rest → world.destination.has_run ≡ true → is_changing world.destination.guest ≡ false → IsKept (after_install world copy rest)
+kept-install world copy rest kept first runs quiet =
+    let events = world.destination.guest.space.object.events in
+    subst (λ arrivals. IsKept (at_copies events arrivals world) → IsKept (after_install (at_copies events arrivals world) copy rest)) (sym first) (λ now. install_in events copy rest world now runs quiet) kept
 
 -- What was put
 
@@ -230,14 +231,11 @@ same_effect a b c d h = (cc, cc)
 dropped_not : (a c d : ℕ) → Effect.Dropped a ≡ Effect.Installed c d → ⊥
 dropped_not a c d h = cc
 
-end_not : (c d : ℕ) → Effect.EndSent ≡ Effect.Installed c d → ⊥
-end_not c d h = cc
-
 page_again : (addr page : ℕ) → 4096 * page ≡ addr → page ≡ addr / 4096
 page_again addr page h = omega arith
 
 put_at : (o : Option ℕ) (copy : Copy) (rest : List Copy) (world : World) (addr source : ℕ) → IsKept (at_copies [] (copy ∷ rest) world) → world.destination.has_run ≡ true → home world.destination.owed copy.page ≡ o →
-    install_effect_by o copy.page ≡ Effect.Installed addr source →
+    install_effect o copy.page ≡ Effect.Installed addr source →
     IsPut (at_copies [] (copy ∷ rest) world) (record (at_copies [] (copy ∷ rest) world) { destination = install_by o (at_copies [] (copy ∷ rest) world).destination copy rest }) (addr / 4096) (source / 4096)
 put_at None copy rest world addr source kept runs found same = absurd (dropped_not (4096 * copy.page) addr source same)
 put_at (Some page) copy rest world addr source kept runs found same =
@@ -259,27 +257,21 @@ put_at (Some page) copy rest world addr source kept runs found same =
     } in
     subst (λ p. IsPut old new p (source / 4096)) (page_again addr page both.0) (subst (λ p. IsPut old new page p) (page_again source copy.page both.1) put)
 
-put_in : (events : List Noted) (arrivals : List Copy) (world : World) (addr source : ℕ) → IsKept (at_copies events arrivals world) → world.destination.has_run ≡ true → ltb 0 (length events) ≡ false →
-    effect_of (at_copies events arrivals world) Step.Install ≡ Effect.Installed addr source → IsPut (at_copies events arrivals world) (accepted (at_copies events arrivals world) Step.Install) (addr / 4096) (source / 4096)
-put_in (noted ∷ events) arrivals world addr source kept runs quiet same = absurd (none_changing (length events) quiet)
-put_in [] [] world addr source kept runs quiet same = absurd (end_not addr source same)
-put_in [] (copy ∷ rest) world addr source kept runs quiet same = put_at (home world.destination.owed copy.page) copy rest world addr source kept runs refl same
+put_in : (events : List Noted) (copy : Copy) (rest : List Copy) (world : World) (addr source : ℕ) → IsKept (at_copies events (copy ∷ rest) world) → world.destination.has_run ≡ true → ltb 0 (length events) ≡ false →
+    install_effect (home world.destination.owed copy.page) copy.page ≡ Effect.Installed addr source →
+    IsPut (at_copies events (copy ∷ rest) world) (after_install (at_copies events (copy ∷ rest) world) copy rest) (addr / 4096) (source / 4096)
+put_in (noted ∷ events) copy rest world addr source kept runs quiet same = absurd (none_changing (length events) quiet)
+put_in [] copy rest world addr source kept runs quiet same = put_at (home world.destination.owed copy.page) copy rest world addr source kept runs refl same
+
+install_put : (world : World) (copy : Copy) (rest : List Copy) (addr source : ℕ) → IsKept world → world.destination.arrivals ≡ copy ∷ rest → world.destination.has_run ≡ true → is_changing world.destination.guest ≡ false →
+    install_effect (home world.destination.owed copy.page) copy.page ≡ Effect.Installed addr source → IsPut world (after_install world copy rest) (addr / 4096) (source / 4096)
+install_put world copy rest addr source kept first runs quiet same =
+    let events = world.destination.guest.space.object.events in
+    subst (λ arrivals. IsKept (at_copies events arrivals world) → IsPut (at_copies events arrivals world) (after_install (at_copies events arrivals world) copy rest) (addr / 4096) (source / 4096)) (sym first)
+    (λ now. put_in events copy rest world addr source now runs quiet same) kept
 
 -- an Install that answers Installed has put a page that was missing just before
-pub install_put : (world : World) (addr source : ℕ) → IsKept world → refusal_of world Step.Install ≡ None → effect_of world Step.Install ≡ Effect.Installed addr source → IsPut world (accepted world Step.Install) (addr / 4096) (source / 4096)
-install_put world addr source kept none same =
-    let ran = first_holds_not (not world.destination.has_run) Refusal.Phase _ none in
-    let some = first_holds_not _ Refusal.NothingThere _ ran.1 in
-    let quiet = first_holds_not (ltb 0 (length world.destination.guest.space.object.events)) Refusal.Changing _ some.1 in
-    put_in world.destination.guest.space.object.events world.destination.arrivals world addr source kept (not_false world.destination.has_run ran.0) quiet.0 same
-
-outcome_told : (o : Option Refusal) (effect other : Effect) → outcome_by o effect ≡ Ok other → (o ≡ None) × (effect ≡ other)
-outcome_told None effect other h = (refl, cc)
-outcome_told (Some refusal) effect other h = absurd (cc)
-
--- the same for what a step answers, and the world after it
 pub install_put_next : (world : World) (addr source : ℕ) → IsKept world → outcome world Step.Install ≡ Ok (Effect.Installed addr source) → IsPut world (next world Step.Install) (addr / 4096) (source / 4096)
-unfolding outcome next
 install_put_next world addr source kept answered =
-    let told = outcome_told (refusal_of world Step.Install) (effect_of world Step.Install) (Effect.Installed addr source) answered in
-    subst (λ o. IsPut world (next_by o world (accepted world Step.Install)) (addr / 4096) (source / 4096)) (sym told.0) (install_put world addr source kept told.0 told.1)
+    holds-effect (λ effect new. effect ≡ Effect.Installed addr source → IsPut world new (addr / 4096) (source / 4096)) world Step.Install (Effect.Installed addr source)
+    (made-install _ world (λ copy rest first runs quiet same. install_put world copy rest addr source kept first runs quiet same)) answered refl

@@ -3,6 +3,8 @@ pub mod HostLemmas
 pub mod CommandLemmas
 pub mod SpaceLemmas
 pub mod IoctlLemmas
+pub mod StepLemmas
+pub mod StepCases
 pub mod Breaking
 pub mod SendingLemmas
 pub mod Stopping

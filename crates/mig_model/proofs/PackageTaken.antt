@@ -21,10 +21,10 @@ use Rattle.mig_model.specs.Space.{fresh_space, IsSoundSpace}
 use Rattle.mig_model.specs.Guest.{is_present}
 use Rattle.mig_model.specs.Wire.{Sent}
 use Rattle.mig_model.specs.Wire.Frame.{Package}
-use Rattle.mig_model.specs.Nodes.{Source, no_pages, assembled, own_places, settled, space_of, commands_of}
-use Rattle.mig_model.specs.Migration.{World, delivered}
+use Rattle.mig_model.specs.Nodes.{Source, no_pages, assembled, own_places, settled, space_of, commands_of, present}
+use Rattle.mig_model.specs.Migration.{World}
 use Rattle.mig_model.specs.Invariant.{Wires, IsKept, IsSwitching, AreOf, AreRight, AreFaults, AreFaithful, copies_of, has_copy, RanAt, are_requests, seen_host, seen_bytes, current_host}
-use Rattle.mig_model.proofs.FirstFrame.{at_state, none_some}
+use Rattle.mig_model.proofs.FirstFrame.{at_state, none_some, delivered}
 
 -- Owed pages at their own places
 

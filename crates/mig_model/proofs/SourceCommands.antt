@@ -20,18 +20,18 @@ use Rattle.mig_model.specs.Host.{Host, memory, host_changed, host_after, IsSound
 use Rattle.mig_model.specs.World.{is_access}
 use Rattle.mig_model.specs.Userfault.{Object, fault_queued, waits_fault}
 use Rattle.mig_model.specs.Space.{Space, IsSoundSpace, is_made, access_of, accessed_by, called, queued_by, call_messages, modes_after}
-use Rattle.mig_model.specs.Guest.{access_took, call_took, took_by, tried, entries_of, outstanding, processor_at}
+use Rattle.mig_model.specs.Guest.{access_took, call_took, took_by, tried, entries_of}
 use Rattle.mig_model.specs.Nodes.{space_of}
-use Rattle.mig_model.specs.Migration.{World, reasons, refusal_of, accepted, runs, guest_of, retried, command_tried}
+use Rattle.mig_model.specs.Migration.{World, after_command, answer, made}
 use Rattle.mig_model.specs.Invariant.{IsKept, AreRight, is_unread}
 use Rattle.mig_model.proofs.HostLemmas.{get-put}
 use Rattle.mig_model.proofs.CommandLemmas.{memory-changed}
 use Rattle.mig_model.proofs.SpaceLemmas.{IsSoundSpace-accessed, IsSoundSpace-called, access_reply}
-use Rattle.mig_model.proofs.SourceKept.{none_refused, source_holds, IsChanged, changed}
+use Rattle.mig_model.proofs.SourceKept.{source_holds, IsChanged, changed}
 use Rattle.mig_model.proofs.SourceMessages.{noted_all, events_queued, tells, is_unread-append, AreRight-append}
 use Rattle.mig_model.proofs.SourceCalls.{untouched}
 use Rattle.mig_model.proofs.SourceEvents.{IsUnregistered, right_messages, no_messages, modes_same, none_missing, modes_events, queued_missing, queued_protect}
-use Rattle.mig_model.proofs.SourceTests.{not_false, none_absurd, never_true, and_both, or_second, or_none, some_either, append_nil, eqb_tells}
+use Rattle.mig_model.proofs.SourceTests.{none_absurd, never_true, and_both, or_second, or_none, some_either, append_nil, eqb_tells}
 
 -- The transcript
 
@@ -230,33 +230,12 @@ tried_at_source world cpu command =
       transcript = world.transcript ++ entries_of cpu command (took_by (is_access command) (space_of world.source) command);
     }
 
-command_at_source : (world : World) (cpu : ℕ) (command : Command) → world.destination.has_run ≡ false → tried_at_source world cpu command ≡ command_tried world cpu command
+command_at_source : (world : World) (cpu : ℕ) (command : Command) → world.destination.has_run ≡ false → tried_at_source world cpu command ≡ after_command world cpu command
 command_at_source world cpu command bare = rw bare refl
 
-pub kept-command_at_source : (world : World) (cpu : ℕ) (command : Command) → world.destination.has_run ≡ false → world.source.switched ≡ false → IsKept world → IsKept (command_tried world cpu command)
+pub kept-command_at_source : (world : World) (cpu : ℕ) (command : Command) → world.destination.has_run ≡ false → world.source.switched ≡ false → IsKept world → IsKept (after_command world cpu command)
 kept-command_at_source world cpu command bare unswitched kept =
     subst IsKept (command_at_source world cpu command bare)
     (changed world (tried (is_access command) world.source.guest cpu command) world.source.clean world.source.todo world.source.rounds world.source.faults
     (world.transcript ++ entries_of cpu command (took_by (is_access command) (space_of world.source) command)) kept bare unswitched
     (tried_changed world cpu command (is_access command) kept bare unswitched refl))
-
--- Issue and Retry
-
-runs_not_switched : (switched ran : Bool) → ran ≡ false → (not switched || ran) ≡ true → switched ≡ false
-runs_not_switched true true bare h = bare
-runs_not_switched true false bare h = none_absurd h
-runs_not_switched false ran bare h = refl
-
-retried_at_source : (world : World) (cpu : ℕ) (o : Option Command) → world.destination.has_run ≡ false → world.source.switched ≡ false → IsKept world → IsKept (retried world cpu o)
-retried_at_source world cpu None bare unswitched kept = kept
-retried_at_source world cpu (Some command) bare unswitched kept = kept-command_at_source world cpu command bare unswitched kept
-
-pub kept-issue_at_source : (world : World) (cpu : ℕ) (command : Command) → world.destination.has_run ≡ false → IsKept world → refusal_of world (Step.Issue cpu command) ≡ None → IsKept (accepted world (Step.Issue cpu command))
-kept-issue_at_source world cpu command bare kept allowed =
-    let tests = none_refused (reasons world (Step.Issue cpu command)) allowed in
-    kept-command_at_source world cpu command bare (runs_not_switched world.source.switched world.destination.has_run bare (not_false (runs world) tests.1.1.0)) kept
-
-pub kept-retry_at_source : (world : World) (cpu : ℕ) → world.destination.has_run ≡ false → IsKept world → refusal_of world (Step.Retry cpu) ≡ None → IsKept (accepted world (Step.Retry cpu))
-kept-retry_at_source world cpu bare kept allowed =
-    let tests = none_refused (reasons world (Step.Retry cpu)) allowed in
-    retried_at_source world cpu (outstanding (processor_at (guest_of world).processors cpu)) bare (runs_not_switched world.source.switched world.destination.has_run bare (not_false (runs world) tests.1.1.1.0)) kept

@@ -19,12 +19,12 @@ use Rattle.mig_model.specs.Userfault.{Noted, Object, is_registered, next_of, nex
 use Rattle.mig_model.specs.Space.{Space, IsSoundSpace}
 use Rattle.mig_model.specs.Ioctls.{protected_in}
 use Rattle.mig_model.specs.Guest.{Fault, is_changed_by, read_guest, zero_installed, is_forgotten, is_present}
-use Rattle.mig_model.specs.Nodes.{Act, space_of, unchanged, is_source_idle, source_act, source_act_by, source_acted_by}
+use Rattle.mig_model.specs.Nodes.{Act, space_of, unchanged, is_source_idle, source_act, source_act_by, source_acted_by, present}
 use Rattle.mig_model.specs.Nodes.Act.{Unprotected, Zeroed, Woke, Forgot, Requested}
-use Rattle.mig_model.specs.Migration.{World, reasons, refusal_of, accepted, read_by_source, acted_by_source}
+use Rattle.mig_model.specs.Migration.{World, after_source_act, after_source_read, next, start}
 use Rattle.mig_model.specs.Invariant.{IsKept, AreRight, is_unread}
 use Rattle.mig_model.proofs.IoctlLemmas.{IsSoundSpace-read, IsSoundSpace-protected, IsSoundSpace-installed, CanPut}
-use Rattle.mig_model.proofs.SourceKept.{none_refused, source_holds, IsChanged, changed}
+use Rattle.mig_model.proofs.SourceKept.{source_holds, IsChanged, changed}
 use Rattle.mig_model.proofs.SourceCalls.{registered_below}
 use Rattle.mig_model.proofs.SourceZeros.{memory_zeroed, missing_none, more_present, elsewhere}
 use Rattle.mig_model.proofs.SourceTests.{in_one_is, none_absurd, not_false, not_true, never_true, and_parts, or_first, or_second, or_none, ltb_true}
@@ -104,17 +104,10 @@ read_by_message world noted (Remap from to len) kept unswitched started next = r
 read_by_message world noted (Remove start end) kept unswitched started next = read_changed world noted _ _ kept unswitched started next
 read_by_message world noted (Unmap start end) kept unswitched started next = read_changed world noted _ _ kept unswitched started next
 
-read_next : (world : World) (next : Option Noted) → IsKept world → world.source.switched ≡ false → not (is_source_idle world.source.phase) ≡ true → next_message (space_of world.source).object ≡ next → IsKept (read_by_source world next)
-read_next world None kept unswitched started is = kept
-read_next world (Some noted) kept unswitched started is =
+pub kept-source_read : (world : World) (noted : Noted) → IsKept world → next_message (space_of world.source).object ≡ Some noted → is_source_idle world.source.phase ≡ false → world.source.switched ≡ false → IsKept (after_source_read world noted)
+kept-source_read world noted kept is started unswitched =
     changed world (read_guest world.source.guest noted.cpu noted.message) (unchanged world.source.clean noted.message) (unchanged world.source.todo noted.message) world.source.rounds _ world.transcript
-    kept (has_not_run world kept unswitched) unswitched (read_by_message world noted noted.message kept unswitched started is)
-
-pub kept-source_read : (world : World) → IsKept world → refusal_of world Step.SourceRead ≡ None → IsKept (accepted world Step.SourceRead)
-kept-source_read world kept accepted =
-    let tests = none_refused (reasons world Step.SourceRead) accepted in
-    let runs = and_parts (not (is_source_idle world.source.phase)) (not world.source.switched) (not_false _ tests.0) in
-    read_next world (next_message (space_of world.source).object) kept (not_true world.source.switched runs.1) runs.0 refl
+    kept (has_not_run world kept unswitched) unswitched (read_by_message world noted noted.message kept unswitched (ap not started) is)
 
 -- A fault is worked
 
@@ -229,12 +222,5 @@ acted world fault Forgot kept unswitched started is =
 acted world fault (Requested source) kept unswitched started is =
     changed world _ _ _ world.source.rounds world.source.faults world.transcript kept (has_not_run world kept unswitched) unswitched (same_changed world _ _ kept unswitched)
 
-acted_first : (world : World) (held : List Fault) → IsKept world → world.source.switched ≡ false → not (is_source_idle world.source.phase) ≡ true → IsKept (acted_by_source world held)
-acted_first world [] kept unswitched started = kept
-acted_first world (fault ∷ rest) kept unswitched started = acted world fault (source_act world.source fault) kept unswitched started refl
-
-pub kept-source_act : (world : World) → IsKept world → refusal_of world Step.SourceAct ≡ None → IsKept (accepted world Step.SourceAct)
-kept-source_act world kept accepted =
-    let tests = none_refused (reasons world Step.SourceAct) accepted in
-    let runs = and_parts (not (is_source_idle world.source.phase)) (not world.source.switched) (not_false _ tests.0) in
-    acted_first world world.source.guest.held kept (not_true world.source.switched runs.1) runs.0
+pub kept-source_act : (world : World) (fault : Fault) → IsKept world → is_source_idle world.source.phase ≡ false → world.source.switched ≡ false → IsKept (after_source_act world fault)
+kept-source_act world fault kept started unswitched = acted world fault (source_act world.source fault) kept unswitched (ap not started) refl

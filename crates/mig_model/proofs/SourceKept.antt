@@ -14,7 +14,7 @@ use Rattle.mig_model.specs.Space.{IsSoundSpace}
 use Rattle.mig_model.specs.Guest.{Guest, is_present}
 use Rattle.mig_model.specs.Wire.{Sent}
 use Rattle.mig_model.specs.Nodes.{Source, Destination, space_of, no_pages, settled}
-use Rattle.mig_model.specs.Migration.{World, first_of}
+use Rattle.mig_model.specs.Migration.{World, next}
 use Rattle.mig_model.specs.Invariant.{IsKept, IsPrecopying, Wires, AreRight, AreWhole, AreOf, EpochAt, RanAt, SwitchedAt, is_unread, copies_of, current_by}
 use Rattle.mig_model.proofs.SourceTests.{none_absurd}
 
@@ -23,21 +23,6 @@ no_page page = contains-empty nat_cmp page
 
 pub no_page_absurd : {A : Type 0} (set : FinSet nat_cmp) (page : ℕ) → set ≡ no_pages → contains set page ≡ true → A
 no_page_absurd set page none h = none_absurd (sym (ap (λ s. contains s page) none ∙ no_page page) ∙ h)
-
--- A step that is not refused
-
--- no reason of the list holds
-abbrev pub NoneRefused : List (Bool × Refusal) → Type 0
-NoneRefused [] = Unit {0}
-NoneRefused (refusal ∷ refusals) = (refusal.0 ≡ false) × NoneRefused refusals
-
-one_refused : (test : Bool) (refusal : Refusal) (rest : Option Refusal) → (if test then Some refusal else rest) ≡ None → (test ≡ false) × (rest ≡ None)
-one_refused true refusal rest h = absurd (cc)
-one_refused false refusal rest h = (refl, h)
-
-pub none_refused : (refusals : List (Bool × Refusal)) → first_of refusals ≡ None → NoneRefused refusals
-none_refused [] h = tt
-none_refused (refusal ∷ refusals) h = let one = one_refused refusal.0 refusal.1 (first_of refusals) h in (one.0, none_refused refusals one.1)
 
 -- A world whose source, forward wire and transcript have changed before the switch
 
@@ -50,9 +35,9 @@ pub record IsNext (world : World) (source : Source) (forward : List Sent) (trans
   pub phase : SwitchedAt source.phase source.switched
   pub unswitched : source.switched ≡ false
   pub remaining : source.remaining ≡ no_pages
-  pub unended : source.ended ≢ source.epoch ⊎ (source.phase ≡ SourcePhase.Idle)
-  pub before : source.ended ≤ source.epoch
-  pub fresh : world.up ≡ true → source.phase ≡ SourcePhase.Paused → source.ended ≢ source.epoch
+  pub unended : source.end_epoch ≢ source.epoch ⊎ (source.phase ≡ SourcePhase.Idle)
+  pub before : source.end_epoch ≤ source.epoch
+  pub fresh : world.up ≡ true → source.phase ≡ SourcePhase.Paused → source.end_epoch ≢ source.epoch
   pub idle : source.phase ≡ SourcePhase.Idle → (source.clean ≡ no_pages) × (source.todo ≡ no_pages) × (source.sent ≡ no_pages) × ((space_of source).object.events ≡ []) × ((page : ℕ) → contains (space_of source).object.missing page ≡ false)
   pub whole : AreWhole (copies_of forward)
   pub protected : (page : ℕ) → contains source.clean page ≡ true → is_unread (space_of source).object.events page ≡ false → contains (space_of source).protected page ≡ true

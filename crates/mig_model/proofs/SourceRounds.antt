@@ -16,18 +16,18 @@ use Rattle.mig_base.proofs.SetLemmas.{member_below, same_members}
 use Rattle.mig_model.specs.Userfault.{has_modes}
 use Rattle.mig_model.specs.Space.{Space, IsSoundSpace}
 use Rattle.mig_model.specs.Ioctls.{is_mapped_in}
-use Rattle.mig_model.specs.Guest.{is_present}
+use Rattle.mig_model.specs.Guest.{is_present, is_idle}
 use Rattle.mig_model.specs.Wire.{Sent}
 use Rattle.mig_model.specs.Wire.Frame.{Advise}
 use Rattle.mig_model.specs.Nodes.{Source, Destination, space_of, no_pages, is_precopy, is_source_idle, present, not_clean, all_registered, for_both, source_started}
-use Rattle.mig_model.specs.Migration.{World, reasons, refusal_of, accepted}
+use Rattle.mig_model.specs.Migration.{World, after_round, after_start}
 use Rattle.mig_model.specs.Invariant.{IsKept, Wires, PrecopyWires, SwitchedAt, EpochAt, AreOf, AreWhole, flow_after, copies_of, kept_by}
 use Rattle.mig_model.specs.Invariant.Flow.{BeforeAdvise}
 use Rattle.mig_model.proofs.IoctlLemmas.{IsSoundSpace-registered}
-use Rattle.mig_model.proofs.SourceKept.{no_page_absurd, none_refused, source_holds, IsNext, renewed, IsChanged, changed}
+use Rattle.mig_model.proofs.SourceKept.{no_page_absurd, source_holds, IsNext, renewed, IsChanged, changed}
 use Rattle.mig_model.proofs.SourceCalls.{registered_below}
 use Rattle.mig_model.proofs.SourceHandler.{has_not_run}
-use Rattle.mig_model.proofs.SourceTests.{none_absurd, not_false, and_parts, and_both, and_true, or_second, ltb_true, never_false}
+use Rattle.mig_model.proofs.SourceTests.{none_absurd, and_parts, and_both, and_true, or_second, ltb_true, never_false}
 
 -- The source makes rounds of pre-copy
 
@@ -105,22 +105,20 @@ round_changed world kept precopy unswitched =
       copies = λ page h u. (h, u, refl);
     }
 
-pub kept-round : (world : World) → IsKept world → refusal_of world Step.Round ≡ None → IsKept (accepted world Step.Round)
-kept-round world kept allowed =
-    let tests = none_refused (reasons world Step.Round) allowed in
-    let precopy = not_false (is_precopy world.source.phase) tests.0 in
+pub kept-round : (world : World) → IsKept world → is_precopy world.source.phase ≡ true → IsKept (after_round world)
+kept-round world kept precopy =
     let unswitched = precopy_unswitched world.source.phase world.source.switched precopy kept.source_phase in
     changed world (record world.source.guest { space = all_registered (space_of world.source) }) world.source.clean (not_clean world.source) (world.source.rounds + 1) world.source.faults world.transcript kept
     (has_not_run world kept unswitched) unswitched (round_changed world kept precopy unswitched)
 
 -- Start
 
-idle_is : (phase : SourcePhase) → not (is_source_idle phase) ≡ false → phase ≡ SourcePhase.Idle
+idle_is : (phase : SourcePhase) → is_source_idle phase ≡ true → phase ≡ SourcePhase.Idle
 idle_is SourcePhase.Idle h = refl
-idle_is SourcePhase.Precopy h = none_absurd (sym h)
-idle_is SourcePhase.Stopped h = none_absurd (sym h)
-idle_is SourcePhase.Paused h = none_absurd (sym h)
-idle_is SourcePhase.Released h = none_absurd (sym h)
+idle_is SourcePhase.Precopy h = none_absurd h
+idle_is SourcePhase.Stopped h = none_absurd h
+idle_is SourcePhase.Paused h = none_absurd h
+idle_is SourcePhase.Released h = none_absurd h
 
 idle_unswitched : (phase : SourcePhase) (switched : Bool) → phase ≡ SourcePhase.Idle → SwitchedAt phase switched → switched ≡ false
 idle_unswitched phase switched idle at = subst (λ p. SwitchedAt p switched) idle at
@@ -188,10 +186,9 @@ started_next world kept idle unswitched up quiet =
       epoch_at = λ h. subst (λ p. EpochAt p world.destination.epoch (source.epoch + 1)) (sym quiet.not_advised) tt;
     }
 
-pub kept-start : (world : World) → IsKept world → refusal_of world Step.Start ≡ None → IsKept (accepted world Step.Start)
-kept-start world kept allowed =
-    let tests = none_refused (reasons world Step.Start) allowed in
-    let idle = idle_is world.source.phase tests.0 in
+pub kept-start : (world : World) → IsKept world → is_source_idle world.source.phase ≡ true → IsKept (after_start world)
+kept-start world kept is_idle =
+    let idle = idle_is world.source.phase is_idle in
     let unswitched = idle_unswitched world.source.phase world.source.switched idle kept.source_phase in
     let up = never_false world.up (λ down. (kept.down down).2 idle) in
     renewed world (source_started world.source) (start_wire world) world.transcript kept (has_not_run world kept unswitched)

@@ -19,14 +19,14 @@ use Rattle.mig_model.specs.Ioctls.{protected_in}
 use Rattle.mig_model.specs.Guest.{is_present}
 use Rattle.mig_model.specs.Wire.{Sent, page_frame}
 use Rattle.mig_model.specs.Nodes.{space_of, bytes_of, is_precopy, least_of, present, page_sent}
-use Rattle.mig_model.specs.Migration.{World, reasons, refusal_of, accepted, sent_by}
+use Rattle.mig_model.specs.Migration.{World, after_send, is_changing, next}
 use Rattle.mig_model.specs.Invariant.{IsKept, IsPrecopying, Wires, Flow, flow_after, flow_next, kept_by, is_unread}
 use Rattle.mig_model.specs.Invariant.Flow.{BeforeAdvise, Copies}
 use Rattle.mig_model.proofs.IoctlLemmas.{IsSoundSpace-protected}
-use Rattle.mig_model.proofs.SourceKept.{none_refused, source_holds, IsNext, renewed}
+use Rattle.mig_model.proofs.SourceKept.{source_holds, IsNext, renewed}
 use Rattle.mig_model.proofs.SourceFrames.{copy_in-page_frame, flow_next-page_frame, flow_after-push, AreOf-push, copies_whole-push, kept_by-page}
 use Rattle.mig_model.proofs.SourceHandler.{has_not_run}
-use Rattle.mig_model.proofs.SourceTests.{in_one_is, none_absurd, not_false, and_parts, or_second, eqb_tells, in_one, or_either}
+use Rattle.mig_model.proofs.SourceTests.{in_one_is, none_absurd, and_parts, or_second, eqb_tells, in_one, or_either}
 use Rattle.mig_model.proofs.SourceRounds.{precopy_unswitched, never_idle, watched_below}
 
 present_bytes : {X : Type 0} (o : Option X) (zeros : X) → is_some o ≡ true → Some (unwrap_or o zeros) ≡ o
@@ -176,14 +176,8 @@ no_event : (events : List Noted) → ltb 0 (length events) ≡ false → events 
 no_event [] h = refl
 no_event (noted ∷ events) h = absurd (grind (arith, nat_tests))
 
-sent_least : (world : World) (o : Option ℕ) → IsKept world → is_precopy world.source.phase ≡ true → world.up ≡ true → (space_of world.source).object.events ≡ [] → least_of world.source.todo ≡ o → IsKept (sent_by world o)
-sent_least world None kept precopy up quiet found = kept
-sent_least world (Some page) kept precopy up quiet found =
+pub kept-send : (world : World) (page : ℕ) → IsKept world → least_of world.source.todo ≡ Some page → is_precopy world.source.phase ≡ true → world.up ≡ true → is_changing world.source.guest ≡ false → IsKept (after_send world page)
+kept-send world page kept found precopy up quiet =
     let unswitched = precopy_unswitched world.source.phase world.source.switched precopy kept.source_phase in
     renewed world (page_sent world.source page) (page_wire world page) world.transcript kept (has_not_run world kept unswitched)
-    (sent_next world page kept precopy up unswitched (is_sent world page kept unswitched quiet found))
-
-pub kept-send : (world : World) → IsKept world → refusal_of world Step.Send ≡ None → IsKept (accepted world Step.Send)
-kept-send world kept allowed =
-    let tests = none_refused (reasons world Step.Send) allowed in
-    sent_least world (least_of world.source.todo) kept (not_false (is_precopy world.source.phase) tests.0) (not_false world.up tests.1.0) (no_event (space_of world.source).object.events tests.1.1.1.0) refl
+    (sent_next world page kept precopy up unswitched (is_sent world page kept unswitched (no_event (space_of world.source).object.events quiet) found))

@@ -1,4 +1,4 @@
--- Push, Serve and SendEnd keep what every world of the whole migration keeps: a stopped source sends.
+-- Push, Serve and End keep what every world of the whole migration keeps: a stopped source sends.
 use Rattle.std.proofs.Common.{◌≡◌, ◌≢◌, ℕ, zero, suc, ◌<◌, ◌≤◌, ◌&&◌, ◌||◌, Bool, true, false, cond, not, eqb, Option, Some, None, List, [], ◌∷◌, ◌++◌, refl, sym, ap, ◌∙◌, subst, ◌⊎◌, inl, inr, ⊎_elim, arith, length, is_some, unwrap_or}
 use Rattle.std.specs.Ordering.{nat_cmp}
 use Rattle.std.specs.FinMap.{FinMap, get}
@@ -19,11 +19,10 @@ use Rattle.mig_model.specs.Space.{Space}
 use Rattle.mig_model.specs.Wire.{Sent, Copy, page_frame}
 use Rattle.mig_model.specs.Wire.Frame.{End}
 use Rattle.mig_model.specs.Guest.{is_present}
-use Rattle.mig_model.specs.Nodes.{Source, is_stopped, space_of, bytes_of, page_pushed, request_served, no_pages, least_of}
-use Rattle.mig_model.specs.Migration.{World, reasons, refusal_of, accepted}
+use Rattle.mig_model.specs.Nodes.{Source, is_stopped, space_of, bytes_of, page_pushed, request_served, no_pages, least_of, present}
+use Rattle.mig_model.specs.Migration.{World, after_end, after_push, after_serve}
 use Rattle.mig_model.specs.Invariant.{IsKept, StoppedWires, IsSwitching, Flow, flow_after, flow_of, copies_of, has_copy, AreFaithful, AreWhole, behind}
 use Rattle.mig_model.specs.Invariant.Flow.{BeforeAdvise, Copies, BeforePackage, Pushed, AfterEnd}
-use Rattle.mig_model.proofs.Breaking.{none_applies}
 use Rattle.mig_model.proofs.SendingLemmas.{flow_sent, copies_of-append, AreWhole-append, AreFaithful-append, has_copy-append, AreOf-one, has_package, copies_of-page, page_flow}
 
 -- a world in these phases
@@ -37,14 +36,14 @@ pub no_member : (page : ℕ) → contains no_pages page ≡ false
 no_member page = contains-empty nat_cmp page
 
 -- as long as a page remains End was not sent
-not_ended : (source : Source) (page : ℕ) → (source.ended ≡ source.epoch → source.remaining ≡ no_pages) → contains source.remaining page ≡ true → source.ended ≢ source.epoch
+not_ended : (source : Source) (page : ℕ) → (source.end_epoch ≡ source.epoch → source.remaining ≡ no_pages) → contains source.remaining page ≡ true → source.end_epoch ≢ source.epoch
 not_ended source page rest remains ended = false≢true (sym (ap (λ s. contains s page) (rest ended) ∙ no_member page) ∙ remains)
 
 eqb-other : (a b : ℕ) → a ≢ b → eqb a b ≡ false
 eqb-other a b h = grind (arith, nat_tests)
 
-pub flow_open : (source : Source) → source.ended ≢ source.epoch → flow_of source ≡ Pushed
-flow_open source other = ap (λ b. cond b AfterEnd Pushed) (eqb-other source.ended source.epoch other)
+pub flow_open : (source : Source) → source.end_epoch ≢ source.epoch → flow_of source ≡ Pushed
+flow_open source other = ap (λ b. cond b AfterEnd Pushed) (eqb-other source.end_epoch source.epoch other)
 
 present_bytes : (o : Option (List ℕ)) → is_some o ≡ true → o ≡ Some (unwrap_or o zero_page)
 present_bytes None h = none_absurd h
@@ -121,7 +120,7 @@ pushed_switching source kept forward page held whole old =
 abbrev pub stopped_at : DestPhase → World → World
 stopped_at to world = in_phases SourcePhase.Stopped to world
 
-pushed_wires : (to : DestPhase) (world : World) (page : ℕ) → get (space_of world.source).host.bytes page ≡ Some (bytes_of world.source page) → length (bytes_of world.source page) ≡ 4096 → world.source.ended ≢ world.source.epoch →
+pushed_wires : (to : DestPhase) (world : World) (page : ℕ) → get (space_of world.source).host.bytes page ≡ Some (bytes_of world.source page) → length (bytes_of world.source page) ≡ 4096 → world.source.end_epoch ≢ world.source.epoch →
     ((flow : Flow) → flow_after flow world.forward ≡ Some (flow_of world.source) → flow_after flow (world.forward ++ pushed_frame world.source page ∷ []) ≡ Some (flow_of world.source)) →
     StoppedWires (stopped_at to world).source (stopped_at to world).destination world.forward world.back → StoppedWires (page_pushed (stopped_at to world).source page) (stopped_at to world).destination (world.forward ++ pushed_frame world.source page ∷ []) world.back
 pushed_wires DestPhase.Idle world page held whole other flows old = (flows BeforeAdvise old.0, old.1, pushed_switching (stopped_at DestPhase.Idle world).source world.destination.kept world.forward page held whole old.2)
@@ -152,11 +151,10 @@ both_true false b h = h
 was_there : (remaining : FinSet nat_cmp) (page q : ℕ) → contains (finset.remove remaining page) q ≡ true → contains remaining q ≡ true
 was_there remaining page q h = both_true (eqb q page) (contains remaining q) (sym (member_removed remaining page q) ∙ h)
 
-pushed_in : (from : SourcePhase) (to : DestPhase) (world : World) (ticket : Ticket) → is_stopped from ≡ true → world.up ≡ true → is_present (space_of world.source) ticket.page ≡ true → contains world.source.remaining ticket.page ≡ true →
-    IsKept (in_phases from to world) → IsKept (accepted (in_phases from to world) (Step.Push ticket))
-pushed_in SourcePhase.Stopped to world ticket stopped up present remains kept =
+pushed_in : (from : SourcePhase) (to : DestPhase) (world : World) (page : ℕ) → is_stopped from ≡ true → world.up ≡ true → is_present (space_of world.source) page ≡ true → contains world.source.remaining page ≡ true →
+    IsKept (in_phases from to world) → IsKept (after_push (in_phases from to world) page)
+pushed_in SourcePhase.Stopped to world page stopped up present remains kept =
     let source = world.source in
-    let page = ticket.page in
     let bytes = (space_of source).host.bytes in
     let more = pushed_frame source page ∷ [] in
     let held : get bytes page ≡ Some (bytes_of source page) = present_bytes (get bytes page) present in
@@ -210,33 +208,27 @@ pushed_in SourcePhase.Stopped to world ticket stopped up present remains kept =
       epochs = kept.epochs;
       epoch_at = kept.epoch_at;
     }
-pushed_in SourcePhase.Idle to world ticket stopped up present remains kept = none_absurd stopped
-pushed_in SourcePhase.Precopy to world ticket stopped up present remains kept = none_absurd stopped
-pushed_in SourcePhase.Paused to world ticket stopped up present remains kept = none_absurd stopped
-pushed_in SourcePhase.Released to world ticket stopped up present remains kept = none_absurd stopped
+pushed_in SourcePhase.Idle to world page stopped up present remains kept = none_absurd stopped
+pushed_in SourcePhase.Precopy to world page stopped up present remains kept = none_absurd stopped
+pushed_in SourcePhase.Paused to world page stopped up present remains kept = none_absurd stopped
+pushed_in SourcePhase.Released to world page stopped up present remains kept = none_absurd stopped
 
-pub not_none : (b : Bool) → not b ≡ false → b ≡ true
-not_none true h = refl
-not_none false h = none_absurd (sym h)
-
-pub kept-push : (world : World) (ticket : Ticket) → IsKept world → refusal_of world (Step.Push ticket) ≡ None → IsKept (accepted world (Step.Push ticket))
-kept-push world ticket kept free =
-    let told = none_applies (reasons world (Step.Push ticket)) free in
-    pushed_in world.source.phase world.destination.phase world ticket (not_none _ told.0) (not_none _ told.1.0) (not_none _ told.1.1.1.0) (not_none _ told.1.1.1.1.0) kept
+pub kept-push : (world : World) (page : ℕ) → IsKept world → is_stopped world.source.phase ≡ true → world.up ≡ true → is_present (space_of world.source) page ≡ true → contains world.source.remaining page ≡ true → IsKept (after_push world page)
+kept-push world page kept stopped up present remains = pushed_in world.source.phase world.destination.phase world page stopped up present remains kept
 
 -- Serve
 
-served_wires : (to : DestPhase) (world : World) → StoppedWires (stopped_at to world).source (stopped_at to world).destination world.forward world.back →
-    StoppedWires (request_served (stopped_at to world).source) (stopped_at to world).destination world.forward world.back
-served_wires DestPhase.Idle world old = (old.0, old.1, record { owed = old.2.owed; plan = old.2.plan; owed_present = old.2.owed_present; kept_rest = old.2.kept_rest; whereabouts = old.2.whereabouts; faithful = old.2.faithful })
-served_wires DestPhase.Advised world old = (old.0, old.1, record { owed = old.2.owed; plan = old.2.plan; owed_present = old.2.owed_present; kept_rest = old.2.kept_rest; whereabouts = old.2.whereabouts; faithful = old.2.faithful })
-served_wires DestPhase.Discarding world old = (old.0, old.1, record { owed = old.2.owed; plan = old.2.plan; owed_present = old.2.owed_present; kept_rest = old.2.kept_rest; whereabouts = old.2.whereabouts; faithful = old.2.faithful })
-served_wires DestPhase.Running world old = (old.0, old.1, record { whereabouts = old.2.whereabouts })
-served_wires DestPhase.Paused world old = absurd old
-served_wires DestPhase.Ended world old = old
+served_wires : (to : DestPhase) (world : World) (pages : List ℕ) → StoppedWires (stopped_at to world).source (stopped_at to world).destination world.forward world.back →
+    StoppedWires (request_served (stopped_at to world).source pages) (stopped_at to world).destination world.forward world.back
+served_wires DestPhase.Idle world pages old = (old.0, old.1, record { owed = old.2.owed; plan = old.2.plan; owed_present = old.2.owed_present; kept_rest = old.2.kept_rest; whereabouts = old.2.whereabouts; faithful = old.2.faithful })
+served_wires DestPhase.Advised world pages old = (old.0, old.1, record { owed = old.2.owed; plan = old.2.plan; owed_present = old.2.owed_present; kept_rest = old.2.kept_rest; whereabouts = old.2.whereabouts; faithful = old.2.faithful })
+served_wires DestPhase.Discarding world pages old = (old.0, old.1, record { owed = old.2.owed; plan = old.2.plan; owed_present = old.2.owed_present; kept_rest = old.2.kept_rest; whereabouts = old.2.whereabouts; faithful = old.2.faithful })
+served_wires DestPhase.Running world pages old = (old.0, old.1, record { whereabouts = old.2.whereabouts })
+served_wires DestPhase.Paused world pages old = absurd old
+served_wires DestPhase.Ended world pages old = old
 
-served_in : (from : SourcePhase) (to : DestPhase) (world : World) → is_stopped from ≡ true → IsKept (in_phases from to world) → IsKept (accepted (in_phases from to world) Step.Serve)
-served_in SourcePhase.Stopped to world stopped kept =
+served_in : (from : SourcePhase) (to : DestPhase) (world : World) (pages : List ℕ) → is_stopped from ≡ true → IsKept (in_phases from to world) → IsKept (after_serve (in_phases from to world) pages)
+served_in SourcePhase.Stopped to world pages stopped kept =
     record {
       flat = kept.flat;
       holds = kept.holds;
@@ -275,29 +267,27 @@ served_in SourcePhase.Stopped to world stopped kept =
       ended_empty = kept.ended_empty;
       released_empty = kept.released_empty;
       down = kept.down;
-      wires = λ up. served_wires to world (kept.wires up);
+      wires = λ up. served_wires to world pages (kept.wires up);
       forward_epoch = kept.forward_epoch;
       back_epoch = kept.back_epoch;
       epochs = kept.epochs;
       epoch_at = kept.epoch_at;
     }
-served_in SourcePhase.Idle to world stopped kept = none_absurd stopped
-served_in SourcePhase.Precopy to world stopped kept = none_absurd stopped
-served_in SourcePhase.Paused to world stopped kept = none_absurd stopped
-served_in SourcePhase.Released to world stopped kept = none_absurd stopped
+served_in SourcePhase.Idle to world pages stopped kept = none_absurd stopped
+served_in SourcePhase.Precopy to world pages stopped kept = none_absurd stopped
+served_in SourcePhase.Paused to world pages stopped kept = none_absurd stopped
+served_in SourcePhase.Released to world pages stopped kept = none_absurd stopped
 
-pub kept-serve : (world : World) → IsKept world → refusal_of world Step.Serve ≡ None → IsKept (accepted world Step.Serve)
-kept-serve world kept free =
-    let told = none_applies (reasons world Step.Serve) free in
-    served_in world.source.phase world.destination.phase world (not_none _ told.0) kept
+pub kept-serve : (world : World) (pages : List ℕ) → IsKept world → is_stopped world.source.phase ≡ true → IsKept (after_serve world pages)
+kept-serve world pages kept stopped = served_in world.source.phase world.destination.phase world pages stopped kept
 
--- SendEnd
+-- End
 
 abbrev end_frame : Source → Sent
 end_frame source = record { epoch = source.epoch; frame = End }
 
 abbrev end_sent_by : Source → Source
-end_sent_by source = record source { ended = source.epoch }
+end_sent_by source = record source { end_epoch = source.epoch }
 
 eqb-is : (a b : ℕ) → a ≡ b → eqb a b ≡ true
 eqb-is a b h = grind (arith, nat_tests)
@@ -362,7 +352,7 @@ ended_switching source kept forward old =
       faithful = subst (λ c. AreFaithful (space_of source).host.bytes c) (sym copies) old.faithful;
     }
 
-ended_wires : (to : DestPhase) (world : World) → eqb world.source.ended world.source.epoch ≡ false →
+ended_wires : (to : DestPhase) (world : World) → eqb world.source.end_epoch world.source.epoch ≡ false →
     ((flow : Flow) → flow_after flow world.forward ≡ Some (flow_of world.source) → flow_after flow (world.forward ++ end_frame world.source ∷ []) ≡ Some (flow_of (end_sent_by world.source))) →
     StoppedWires (stopped_at to world).source (stopped_at to world).destination world.forward world.back → StoppedWires (end_sent_by (stopped_at to world).source) (stopped_at to world).destination (world.forward ++ end_frame world.source ∷ []) world.back
 ended_wires DestPhase.Idle world other flows old = (flows BeforeAdvise old.0, old.1, ended_switching (stopped_at DestPhase.Idle world).source world.destination.kept world.forward old.2)
@@ -377,9 +367,9 @@ ended_wires DestPhase.Running world other flows old =
       },
     )
 ended_wires DestPhase.Paused world other flows old = absurd old
-ended_wires DestPhase.Ended world other flows old = absurd (false≢true (sym other ∙ eqb-is world.source.ended world.source.epoch old.2))
+ended_wires DestPhase.Ended world other flows old = absurd (false≢true (sym other ∙ eqb-is world.source.end_epoch world.source.epoch old.2))
 
-ended_in : (from : SourcePhase) (to : DestPhase) (world : World) → is_stopped from ≡ true → world.up ≡ true → eqb world.source.ended world.source.epoch ≡ false → least_of world.source.remaining ≡ None → IsKept (in_phases from to world) → IsKept (accepted (in_phases from to world) Step.End)
+ended_in : (from : SourcePhase) (to : DestPhase) (world : World) → is_stopped from ≡ true → world.up ≡ true → eqb world.source.end_epoch world.source.epoch ≡ false → least_of world.source.remaining ≡ None → IsKept (in_phases from to world) → IsKept (after_end (in_phases from to world))
 ended_in SourcePhase.Stopped to world stopped up other none kept =
     let source = world.source in
     let bytes = (space_of source).host.bytes in
@@ -437,12 +427,5 @@ ended_in SourcePhase.Precopy to world stopped up other none kept = none_absurd s
 ended_in SourcePhase.Paused to world stopped up other none kept = none_absurd stopped
 ended_in SourcePhase.Released to world stopped up other none kept = none_absurd stopped
 
-or_none : (a b : Bool) → (a || b) ≡ false → (a ≡ false) × (b ≡ false)
-or_none true b h = none_absurd (sym h)
-or_none false b h = (refl, h)
-
-pub kept-send_end : (world : World) → IsKept world → refusal_of world Step.End ≡ None → IsKept (accepted world Step.End)
-kept-send_end world kept free =
-    let told = none_applies (reasons world Step.End) free in
-    let phases = or_none (not (is_stopped world.source.phase)) (eqb world.source.ended world.source.epoch) told.0 in
-    ended_in world.source.phase world.destination.phase world (not_none _ phases.0) (not_none _ told.1.0) phases.1 (found_some (least_of world.source.remaining) told.1.1.0) kept
+pub kept-end : (world : World) → IsKept world → is_stopped world.source.phase ≡ true → world.up ≡ true → eqb world.source.end_epoch world.source.epoch ≡ false → least_of world.source.remaining ≡ None → IsKept (after_end world)
+kept-end world kept stopped up other none = ended_in world.source.phase world.destination.phase world stopped up other none kept

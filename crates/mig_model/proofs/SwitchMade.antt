@@ -17,12 +17,12 @@ use Rattle.mig_model.specs.Wire.{Sent, kept_after}
 use Rattle.mig_model.specs.Wire.Frame.{Discard, Package}
 use Rattle.mig_model.specs.Guest.{is_present}
 use Rattle.mig_model.specs.Nodes.{Source, is_precopy, space_of, less, present, not_clean, commands_of, switch_made}
-use Rattle.mig_model.specs.Migration.{World, reasons, refusal_of, accepted}
+use Rattle.mig_model.specs.Migration.{World, after_switch, is_changing}
 use Rattle.mig_model.specs.Invariant.{IsKept, PrecopyWires, StoppedWires, IsPrecopying, IsSwitching, Flow, flow_after, flow_of, copies_of, has_copy, AreFaithful, AreWhole, is_unread, kept_by, behind, package_in}
 use Rattle.mig_model.specs.Invariant.Flow.{BeforeAdvise, Copies, BeforePackage, Pushed}
-use Rattle.mig_model.proofs.Breaking.{none_applies}
 use Rattle.mig_model.proofs.SendingLemmas.{flow_sent, copies_of-append, AreOf-one, has_no_package}
-use Rattle.mig_model.proofs.Stopping.{in_phases, none_absurd, flow_open, append-nil, present_below, not_none, stopped_not_paused, stopped_not_released}
+use Rattle.mig_model.proofs.Stopping.{in_phases, none_absurd, flow_open, append-nil, present_below, stopped_not_paused, stopped_not_released}
+use Rattle.mig_model.proofs.FirstFrame.{nothing_behind}
 
 pub member_less : (set other : FinSet nat_cmp) (q : ℕ) → contains (less set other) q ≡ (contains set q && not (contains other q))
 member_less set other q = contains-retain set (λ page. not (contains other page)) q (λ x e. ap (λ k. not (contains other k)) (sym (nat_cmp-IsAntisymmetric q x e)))
@@ -126,12 +126,12 @@ switching flow world kept quiet flows old =
       faithful = subst (λ c. AreFaithful (space_of source).host.bytes c) (sym nothing_behind) tt;
     }
 
-flows_on : (flow : Flow) (world : World) → flow_after flow world.forward ≡ Some Copies → world.source.ended ≢ world.source.epoch → flow_after flow (switched_wire world.source world.forward) ≡ Some (flow_of world.source)
+flows_on : (flow : Flow) (world : World) → flow_after flow world.forward ≡ Some Copies → world.source.end_epoch ≢ world.source.epoch → flow_after flow (switched_wire world.source world.forward) ≡ Some (flow_of world.source)
 flows_on flow world h other =
     flow_sent flow BeforePackage Pushed (world.forward ++ discard_frame world.source ∷ []) (package_frame world.source) (flow_sent flow Copies BeforePackage world.forward (discard_frame world.source) h refl) refl
     ∙ ap (λ f. Some f) (sym (flow_open world.source other))
 
-switched_wires : (to : DestPhase) (world : World) → IsKept (in_phases SourcePhase.Precopy to world) → (space_of world.source).object.events ≡ [] → world.source.ended ≢ world.source.epoch →
+switched_wires : (to : DestPhase) (world : World) → IsKept (in_phases SourcePhase.Precopy to world) → (space_of world.source).object.events ≡ [] → world.source.end_epoch ≢ world.source.epoch →
     PrecopyWires (in_phases SourcePhase.Precopy to world).source (in_phases SourcePhase.Precopy to world).destination world.forward world.back →
     StoppedWires (switch_made (in_phases SourcePhase.Precopy to world).source) (in_phases SourcePhase.Precopy to world).destination (switched_wire world.source world.forward) world.back
 switched_wires DestPhase.Idle world kept quiet other old =
@@ -152,10 +152,10 @@ precopy_not_idle h = cc
 was_not_ended : (A : Type 0) → (A ⊎ (SourcePhase.Precopy ≡ SourcePhase.Idle)) → A
 was_not_ended A told = ⊎_elim (λ a. a) (λ idle. absurd (precopy_not_idle idle)) told
 
-switched_in : (from : SourcePhase) (to : DestPhase) (world : World) → is_precopy from ≡ true → world.up ≡ true → (space_of world.source).object.events ≡ [] → IsKept (in_phases from to world) → IsKept (accepted (in_phases from to world) Step.Switch)
+switched_in : (from : SourcePhase) (to : DestPhase) (world : World) → is_precopy from ≡ true → world.up ≡ true → (space_of world.source).object.events ≡ [] → IsKept (in_phases from to world) → IsKept (after_switch (in_phases from to world))
 switched_in SourcePhase.Precopy to world precopy up quiet kept =
     let source = world.source in
-    let other : source.ended ≢ source.epoch = was_not_ended _ (kept.before_switch kept.source_phase).1 in
+    let other : source.end_epoch ≢ source.epoch = was_not_ended _ (kept.before_switch kept.source_phase).1 in
     let copies : copies_of (switched_wire source world.forward) ≡ copies_of world.forward =
     copies_of-append (world.forward ++ discard_frame source ∷ []) (package_frame source ∷ []) ∙ append-nil (copies_of (world.forward ++ discard_frame source ∷ []))
     ∙ copies_of-append world.forward (discard_frame source ∷ []) ∙ append-nil (copies_of world.forward) in
@@ -209,7 +209,5 @@ switched_in SourcePhase.Stopped to world precopy up quiet kept = none_absurd pre
 switched_in SourcePhase.Paused to world precopy up quiet kept = none_absurd precopy
 switched_in SourcePhase.Released to world precopy up quiet kept = none_absurd precopy
 
-pub kept-switch : (world : World) → IsKept world → refusal_of world Step.Switch ≡ None → IsKept (accepted world Step.Switch)
-kept-switch world kept free =
-    let told = none_applies (reasons world Step.Switch) free in
-    switched_in world.source.phase world.destination.phase world (not_none _ told.0) (not_none _ told.1.0) (no_events (space_of world.source).object.events told.1.1.0) kept
+pub kept-switch : (world : World) → IsKept world → is_precopy world.source.phase ≡ true → world.up ≡ true → is_changing world.source.guest ≡ false → IsKept (after_switch world)
+kept-switch world kept precopy up quiet = switched_in world.source.phase world.destination.phase world precopy up (no_events (space_of world.source).object.events quiet) kept

@@ -15,23 +15,22 @@ use Rattle.mig_base.specs.declared.message.Message.TheVariants.{PageFault, Remap
 use Rattle.mig_base.specs.Flat.{reply_of}
 use Rattle.mig_model.specs.Host.{memory}
 use Rattle.mig_model.specs.World.{is_access}
-use Rattle.mig_model.specs.Userfault.{Noted, next_message}
 use Rattle.mig_model.specs.Space.{Space, access_of, queued_by}
-use Rattle.mig_model.specs.Guest.{woken_if, Guest, Fault, idle_processors, processor_at, processor_after, outstanding, taken_over, all_woken, is_left_by, message_less, read_guest, took_by, access_took, call_took, tried}
+use Rattle.mig_model.specs.Guest.{woken_if, Guest, idle_processors, processor_at, processor_after, outstanding, taken_over, all_woken, is_left_by, message_less, read_guest, took_by, access_took, call_took, tried}
 use Rattle.mig_model.specs.Wire.{Frame, Sent, Copy}
 use Rattle.mig_model.specs.Wire.Frame.{Advise, Page, Zero, Discard, Package, End, Resume, Request, Recv, Done}
-use Rattle.mig_model.specs.Nodes.{Source, Destination, Act, commands_of, home, install_by, install_made, least_of, space_of, source_act, source_acted_by, source_took, destination_act, destination_acted_by, destination_took, copy_came, resumed_by, received_of}
+use Rattle.mig_model.specs.Nodes.{Source, Destination, Act, commands_of, home, install_by, source_act, source_acted_by, source_took, destination_act, destination_acted_by, destination_took, copy_came, resumed_by, received_of, less, present}
 use Rattle.mig_model.specs.Nodes.Act.{Unprotected, Zeroed, Woke, Forgot, Requested}
-use Rattle.mig_model.specs.Migration.{World, first_world_with, reasons, refusal_of, accepted, next, after_steps, guest_by, guest_of, with_guest_by, command_tried, retried, sent_by, read_by_source, acted_by_source, delivered, delivered_back, read_by_destination, acted_by_destination}
+use Rattle.mig_model.specs.Migration.{World, first_world_with, next, after_steps, guest_by, with_guest_by, after_command, answer, start}
 use Rattle.mig_model.specs.Invariant.{IsKept}
 use Rattle.mig_model.specs.Promises.{IsReached, AllAccess, AreAccesses}
-use Rattle.mig_model.proofs.Breaking.{none_applies}
-use Rattle.mig_model.proofs.Stopping.{not_none}
 use Rattle.mig_model.proofs.FirstFrame.{first_in_place}
 use Rattle.mig_model.proofs.FramesTaken.{with_first}
 use Rattle.mig_model.proofs.WaitingCommands.{woken_keeps, taken_keeps, package_told}
-use Rattle.mig_model.proofs.EveryStep.{kept-next, by_refusal}
+use Rattle.mig_model.proofs.EveryStep.{kept-next}
 use Rattle.mig_model.proofs.FirstWorld.{kept-first}
+use Rattle.mig_model.proofs.StepLemmas.{Leaves, leaves-next}
+use Rattle.mig_model.proofs.StepCases.{made-break, made-deliver, made-deliver_back, made-dest_act, made-dest_read, made-end, made-install, made-issue, made-notice, made-push, made-resume, made-retry, made-round, made-send, made-serve, made-source_act, made-source_read, made-start, made-switch}
 
 -- the second are as many as the first, and have to make what the first have to, and nothing else
 record IsLike (old new : List CpuState) : Type 0 where
@@ -190,42 +189,8 @@ by_guest true world cpu command all =
 by_guest false world cpu command all =
     record { source = guest_access world.source.guest cpu command all.source; destination = all.destination; many = all.many ∙ sym (set_many world.source.guest.processors cpu _) }
 
-tried_all : (world : World) (cpu : ℕ) (command : Command) → Wait world → Wait (command_tried world cpu command)
+tried_all : (world : World) (cpu : ℕ) (command : Command) → Wait world → Wait (after_command world cpu command)
 tried_all world cpu command all = let new = by_guest world.destination.has_run world cpu command all in record { source = new.source; destination = new.destination; many = new.many }
-
-retried_all : (o : Option Command) (world : World) (cpu : ℕ) → Wait world → Wait (retried world cpu o)
-retried_all None world cpu all = all
-retried_all (Some command) world cpu all = tried_all world cpu command all
-
-sent_all : (o : Option ℕ) (world : World) → Wait world → Wait (sent_by world o)
-sent_all None world all = all
-sent_all (Some page) world all = record { source = all.source; destination = all.destination; many = all.many }
-
-read_source_all : (o : Option Noted) (world : World) → Wait world → Wait (read_by_source world o)
-read_source_all None world all = all
-read_source_all (Some noted) world all = let new = source_like world _ (read_like world.source.guest noted.cpu noted.message) all in record { source = new.0; destination = all.destination; many = new.1 }
-
-acted_source_all : (held : List Fault) (world : World) → Wait world → Wait (acted_by_source world held)
-acted_source_all [] world all = all
-acted_source_all (fault ∷ rest) world all =
-    let new = source_like world _ (source_act_like (source_act world.source fault) world.source fault.page) all in record { source = new.0; destination = all.destination; many = new.1 }
-
-read_destination_all : (o : Option Noted) (world : World) → Wait world → Wait (read_by_destination world o)
-read_destination_all None world all = all
-read_destination_all (Some noted) world all = let new = destination_like world _ (read_like world.destination.guest noted.cpu noted.message) all in record { source = all.source; destination = new.0; many = new.1 }
-
-acted_destination_all : (held : List Fault) (world : World) → Wait world → Wait (acted_by_destination world held)
-acted_destination_all [] world all = all
-acted_destination_all (fault ∷ rest) world all =
-    let new = destination_like world _ (destination_act_like (destination_act world.destination fault) world.destination fault.page) all in record { source = all.source; destination = new.0; many = new.1 }
-
-install_all : (copies : List Copy) (world : World) → Wait world → Wait (record world { destination = install_made world.destination copies })
-install_all [] world all = all
-install_all (copy ∷ rest) world all = let new = destination_like world _ (install_like (home world.destination.owed copy.page) world.destination copy rest) all in record { source = all.source; destination = new.0; many = new.1 }
-
-delivered_back_all : (wire : List Sent) (world : World) → Wait world → Wait (delivered_back world wire)
-delivered_back_all [] world all = all
-delivered_back_all (sent ∷ rest) world all = let new = source_like world _ (took_like sent.frame world.source) all in record { source = new.0; destination = all.destination; many = new.1 }
 
 -- the destination's processors and those of the source, after a frame
 abbrev pub AfterFrame : World → List CpuState → Type 0
@@ -254,31 +219,41 @@ frame_all (Request page) epoch rest world kept up first all = unmoved world all
 frame_all (Recv state owed) epoch rest world kept up first all = unmoved world all
 frame_all Done epoch rest world kept up first all = unmoved world all
 
-delivered_all : (wire : List Sent) (world : World) → IsKept world → world.up ≡ true → world.forward ≡ wire → Wait world → Wait (delivered world wire)
-delivered_all [] world kept up first all = all
-delivered_all (sent ∷ rest) world kept up first all = let new = frame_all sent.frame sent.epoch rest world kept up first all in record { source = all.source; destination = new.0; many = new.1 }
-
-accepted_all : (world : World) (step : Step) → IsKept world → Wait world → refusal_of world step ≡ None → Wait (accepted world step)
-accepted_all world (Step.Issue cpu command) kept all free = tried_all world cpu command all
-accepted_all world (Step.Retry cpu) kept all free = retried_all (outstanding (processor_at (guest_of world).processors cpu)) world cpu all
-accepted_all world Step.Send kept all free = sent_all (least_of world.source.todo) world all
-accepted_all world Step.SourceRead kept all free = read_source_all (next_message (space_of world.source).object) world all
-accepted_all world Step.SourceAct kept all free = acted_source_all world.source.guest.held world all
-accepted_all world Step.Deliver kept all free = delivered_all world.forward world kept (not_none _ (none_applies (reasons world Step.Deliver) free).1.0) refl all
-accepted_all world Step.DeliverBack kept all free = delivered_back_all world.back world all
-accepted_all world Step.DestRead kept all free = read_destination_all (next_message world.destination.guest.space.object) world all
-accepted_all world Step.DestAct kept all free = acted_destination_all world.destination.guest.held world all
-accepted_all world Step.Install kept all free = install_all world.destination.arrivals world all
-accepted_all world Step.Start kept all free = record { source = all.source; destination = all.destination; many = all.many }
-accepted_all world Step.Round kept all free = record { source = all.source; destination = all.destination; many = all.many }
-accepted_all world Step.Switch kept all free = record { source = all.source; destination = all.destination; many = all.many }
-accepted_all world (Step.Push ticket) kept all free = record { source = all.source; destination = all.destination; many = all.many }
-accepted_all world Step.Serve kept all free = record { source = all.source; destination = all.destination; many = all.many }
-accepted_all world Step.End kept all free = record { source = all.source; destination = all.destination; many = all.many }
-accepted_all world Step.Break kept all free = record { source = all.source; destination = all.destination; many = all.many }
-accepted_all world (Step.Notice Side.Source) kept all free = record { source = all.source; destination = all.destination; many = all.many }
-accepted_all world (Step.Notice Side.Destination) kept all free = record { source = all.source; destination = all.destination; many = all.many }
-accepted_all world Step.Resume kept all free = record { source = all.source; destination = all.destination; many = all.many }
+waits_answer : (world : World) (step : Step) → IsKept world → Wait world → Leaves Wait (answer world step)
+waits_answer world (Step.Issue cpu command) kept all = made-issue _ world cpu command (λ idle may. tried_all world cpu command all)
+waits_answer world (Step.Retry cpu) kept all = made-retry _ world cpu (λ command waits woken may. tried_all world cpu command all)
+waits_answer world Step.Start kept all = made-start _ world (λ idle. record { source = all.source; destination = all.destination; many = all.many })
+waits_answer world Step.Round kept all = made-round _ world (λ precopy quiet. record { source = all.source; destination = all.destination; many = all.many })
+waits_answer world Step.Send kept all = made-send _ world (λ page is precopy up quiet. record { source = all.source; destination = all.destination; many = all.many })
+waits_answer world Step.SourceRead kept all =
+    made-source_read _ world (λ noted is started unswitched.
+    let new = source_like world _ (read_like world.source.guest noted.cpu noted.message) all in record { source = new.0; destination = all.destination; many = new.1 })
+waits_answer world Step.SourceAct kept all =
+    made-source_act _ world (λ fault rest is started unswitched quiet.
+    let new = source_like world _ (source_act_like (source_act world.source fault) world.source fault.page) all in record { source = new.0; destination = all.destination; many = new.1 })
+waits_answer world Step.Switch kept all = made-switch _ world (λ precopy up quiet. record { source = all.source; destination = all.destination; many = all.many })
+waits_answer world Step.Deliver kept all =
+    made-deliver _ world (λ sent rest is started up free.
+    let new = frame_all sent.frame sent.epoch rest world kept up is all in record { source = all.source; destination = new.0; many = new.1 })
+waits_answer world Step.DeliverBack kept all =
+    made-deliver_back _ world (λ sent rest is started up.
+    let new = source_like world _ (took_like sent.frame world.source) all in record { source = new.0; destination = all.destination; many = new.1 })
+waits_answer world Step.DestRead kept all =
+    made-dest_read _ world (λ noted is ran.
+    let new = destination_like world _ (read_like world.destination.guest noted.cpu noted.message) all in record { source = all.source; destination = new.0; many = new.1 })
+waits_answer world Step.DestAct kept all =
+    made-dest_act _ world (λ fault rest is ran quiet.
+    let new = destination_like world _ (destination_act_like (destination_act world.destination fault) world.destination fault.page) all in record { source = all.source; destination = new.0; many = new.1 })
+waits_answer world Step.Install kept all =
+    made-install _ world (λ copy rest is ran quiet.
+    let new = destination_like world _ (install_like (home world.destination.owed copy.page) world.destination copy rest) all in record { source = all.source; destination = new.0; many = new.1 })
+waits_answer world (Step.Push ticket) kept all = made-push _ world ticket (λ stopped up own present remains. record { source = all.source; destination = all.destination; many = all.many })
+waits_answer world Step.Serve kept all = made-serve _ world (λ page pages is stopped up. record { source = all.source; destination = all.destination; many = all.many })
+waits_answer world Step.End kept all = made-end _ world (λ stopped other up none. record { source = all.source; destination = all.destination; many = all.many })
+waits_answer world Step.Break kept all = made-break _ world (λ started unreleased up. record { source = all.source; destination = all.destination; many = all.many })
+waits_answer world (Step.Notice Side.Source) kept all = made-notice _ world Side.Source (λ started unreleased down. record { source = all.source; destination = all.destination; many = all.many })
+waits_answer world (Step.Notice Side.Destination) kept all = made-notice _ world Side.Destination (λ started unreleased down. record { source = all.source; destination = all.destination; many = all.many })
+waits_answer world Step.Resume kept all = made-resume _ world (λ from to down. record { source = all.source; destination = all.destination; many = all.many })
 
 idle_all : (count : ℕ) → AllAccess (idle_processors count)
 idle_all zero k command h = absurd (none_some command h)
@@ -286,8 +261,7 @@ idle_all (suc count) zero command h = absurd (none_some command h)
 idle_all (suc count) (suc k) command h = idle_all count k command h
 
 next_all : (world : World) (step : Step) → IsKept world → Wait world → Wait (next world step)
-unfolding next
-next_all world step kept all = by_refusal Wait (refusal_of world step) world (accepted world step) all (accepted_all world step kept all)
+next_all world step kept all = leaves-next Wait world step all (waits_answer world step kept all)
 
 steps_all : (world : World) (steps : List Step) → IsKept world → Wait world → Wait (after_steps world steps)
 steps_all world [] kept all = all

@@ -1,5 +1,5 @@
 -- A command that waits is changed by no step but the Retry that answers it.
-use Rattle.std.proofs.Common.{◌≡◌, ℕ, zero, suc, Bool, true, false, eqb, Option, Some, None, List, [], ◌∷◌, refl, sym, ap, ◌∙◌, subst, arith, if◌then◌else◌}
+use Rattle.std.proofs.Common.{◌≡◌, ℕ, zero, suc, Bool, true, false, eqb, Option, Some, None, List, [], ◌∷◌, refl, sym, ap, ◌∙◌, subst, arith, if◌then◌else◌, IsOk}
 use Rattle.std.specs.Prelude.{map, set}
 use Rattle.std.specs.Ordering.{nat_cmp}
 use Rattle.std.specs.FinMap.{FinMap}
@@ -18,20 +18,19 @@ use Rattle.mig_base.specs.declared.command.Command.{Command}
 use Rattle.mig_base.specs.declared.message.Message.{Message}
 use Rattle.mig_base.specs.declared.message.Message.TheVariants.{PageFault, Remap, Remove, Unmap}
 use Rattle.mig_model.specs.World.{is_access}
-use Rattle.mig_model.specs.Userfault.{Noted, next_message}
 use Rattle.mig_model.specs.Space.{page_of}
 use Rattle.mig_model.specs.Guest.{Guest, Fault, processor_at, processor_after, is_idle, is_left_by, outstanding, taken_over, woken_if, all_woken, message_less, read_guest, took_by, tried}
 use Rattle.mig_model.specs.Wire.{Frame, Sent, Copy}
 use Rattle.mig_model.specs.Wire.Frame.{Advise, Page, Zero, Discard, Package, End, Resume, Request, Recv, Done}
-use Rattle.mig_model.specs.Nodes.{Source, Destination, Act, commands_of, least_of, space_of, home, install_by, install_made, received_of, resumed_by, source_act, source_acted, source_acted_by, source_read, page_sent, destination_read, destination_acted, source_took, destination_act, destination_acted_by, destination_took, copy_came}
+use Rattle.mig_model.specs.Nodes.{Source, Destination, Act, commands_of, home, install_by, received_of, resumed_by, source_act, source_acted_by, destination_read, destination_acted, source_took, destination_act, destination_acted_by, destination_took, copy_came, present}
 use Rattle.mig_model.specs.Nodes.Act.{Unprotected, Zeroed, Woke, Forgot, Requested}
-use Rattle.mig_model.specs.Migration.{World, reasons, refusal_of, accepted, next, next_by, guest_by, guest_of, with_guest_by, command_tried, retried, sent_by, read_by_source, acted_by_source, delivered, delivered_back, read_by_destination, acted_by_destination}
+use Rattle.mig_model.specs.Migration.{World, next, guest_by, guest_of, with_guest_by, after_command, after_dest_act, after_install, answer, outcome, start}
 use Rattle.mig_model.specs.Invariant.{IsKept, is_package}
 use Rattle.mig_model.specs.Promises.{is_retry_of}
-use Rattle.mig_model.proofs.Breaking.{none_applies}
-use Rattle.mig_model.proofs.Stopping.{not_none}
-use Rattle.mig_model.proofs.FirstFrame.{comes, first_in_place}
+use Rattle.mig_model.proofs.FirstFrame.{comes, first_in_place, delivered}
 use Rattle.mig_model.proofs.FramesTaken.{with_first, commands_in}
+use Rattle.mig_model.proofs.StepLemmas.{Leaves, leaves-next, leaves-ok}
+use Rattle.mig_model.proofs.StepCases.{made-break, made-deliver, made-deliver_back, made-dest_act, made-dest_read, made-end, made-install, made-issue, made-notice, made-push, made-resume, made-retry, made-round, made-send, made-serve, made-source_act, made-source_read, made-start, made-switch}
 
 -- Processors
 
@@ -133,10 +132,6 @@ install_waits : (o : Option ℕ) (node : Destination) (copy : Copy) (rest : List
 install_waits None node copy rest k command h = h
 install_waits (Some page) node copy rest k command h = woken_keeps (λ q. eqb q page) node.guest.processors k ∙ h
 
-pub waits_install : (node : Destination) (copies : List Copy) → StillWaits node.guest (install_made node copies).guest
-waits_install node [] k command h = h
-waits_install node (copy ∷ rest) k command h = install_waits (home node.owed copy.page) node copy rest k command h
-
 -- Steps
 
 same_guest : (ran : Bool) (world : World) (guest : Guest) → guest_by ran (with_guest_by ran world guest).source.guest (with_guest_by ran world guest).destination.guest ≡ guest
@@ -148,7 +143,7 @@ same_ran true world guest = refl
 same_ran false world guest = refl
 
 -- the guest once a command was tried
-tried_guest : (world : World) (cpu : ℕ) (command : Command) → guest_of (command_tried world cpu command) ≡ tried (is_access command) (guest_of world) cpu command
+tried_guest : (world : World) (cpu : ℕ) (command : Command) → guest_of (after_command world cpu command) ≡ tried (is_access command) (guest_of world) cpu command
 tried_guest world cpu command =
     let ran = world.destination.has_run in
     let guest = tried (is_access command) (guest_of world) cpu command in
@@ -156,7 +151,7 @@ tried_guest world cpu command =
 
 -- another processor has tried a command
 tried_keeps : (world : World) (cpu : ℕ) (tries : Command) (k : ℕ) (command : Command) → (cpu ≡ k → ⊥) → outstanding (processor_at (guest_of world).processors k) ≡ Some command →
-    outstanding (processor_at (guest_of (command_tried world cpu tries)).processors k) ≡ Some command
+    outstanding (processor_at (guest_of (after_command world cpu tries)).processors k) ≡ Some command
 tried_keeps world cpu tries k command other h =
     ap (λ g. outstanding (processor_at g.processors k)) (tried_guest world cpu tries)
     ∙ set_keeps (guest_of world).processors cpu k (processor_after tries (took_by (is_access tries) (guest_of world).space tries)) command h (λ e. absurd (other e))
@@ -170,29 +165,6 @@ idle_none (CpuState.InCall reply left) command h e = false≢true h
 eqb-is : (a b : ℕ) → a ≡ b → eqb a b ≡ true
 eqb-is a b h = grind (arith, nat_tests)
 
-retried_keeps : (o : Option Command) (world : World) (cpu k : ℕ) (command : Command) → (cpu ≡ k → ⊥) → outstanding (processor_at (guest_of world).processors k) ≡ Some command →
-    outstanding (processor_at (guest_of (retried world cpu o)).processors k) ≡ Some command
-retried_keeps None world cpu k command other h = h
-retried_keeps (Some tries) world cpu k command other h = tried_keeps world cpu tries k command other h
-
-sent_keeps : (o : Option ℕ) (world : World) → StillWaits (guest_of world) (guest_of (sent_by world o))
-sent_keeps None world k command h = h
-sent_keeps (Some page) world k command h = waits_source world.destination.has_run world.source.guest (page_sent world.source page).guest world.destination.guest (λ i c e. e) k command h
-
-read_source_keeps : (o : Option Noted) (world : World) → StillWaits (guest_of world) (guest_of (read_by_source world o))
-read_source_keeps None world k command h = h
-read_source_keeps (Some noted) world k command h = waits_source world.destination.has_run world.source.guest (source_read world.source noted).guest world.destination.guest (waits_read world.source.guest noted.cpu noted.message) k command h
-
-acted_source_keeps : (held : List Fault) (world : World) → StillWaits (guest_of world) (guest_of (acted_by_source world held))
-acted_source_keeps [] world k command h = h
-acted_source_keeps (fault ∷ rest) world k command h =
-    waits_source world.destination.has_run world.source.guest (source_acted world.source fault).guest world.destination.guest (waits_source_act (source_act world.source fault) world.source fault.page) k command h
-
-read_destination_keeps : (o : Option Noted) (world : World) → StillWaits (guest_of world) (guest_of (read_by_destination world o))
-read_destination_keeps None world k command h = h
-read_destination_keeps (Some noted) world k command h =
-    waits_destination world.destination.has_run world.source.guest world.destination.guest (destination_read world.destination noted).guest (waits_read world.destination.guest noted.cpu noted.message) k command h
-
 acted_ran : (act : Act) (node : Destination) (page : ℕ) → (destination_acted_by act node page).has_run ≡ node.has_run
 acted_ran Unprotected node page = refl
 acted_ran Zeroed node page = refl
@@ -204,17 +176,14 @@ installed_ran : (o : Option ℕ) (node : Destination) (copy : Copy) (rest : List
 installed_ran None node copy rest = refl
 installed_ran (Some page) node copy rest = refl
 
-installed_keeps : (copies : List Copy) (world : World) (k : ℕ) (command : Command) → outstanding (processor_at (guest_of world).processors k) ≡ Some command →
-    outstanding (processor_at (guest_by (install_made world.destination copies).has_run world.source.guest (install_made world.destination copies).guest).processors k) ≡ Some command
-installed_keeps [] world k command h = h
-installed_keeps (copy ∷ rest) world k command h =
+installed_keeps : (copy : Copy) (rest : List Copy) (world : World) → StillWaits (guest_of world) (guest_of (after_install world copy rest))
+installed_keeps copy rest world k command h =
     let o = home world.destination.owed copy.page in
     ap (λ b. outstanding (processor_at (guest_by b world.source.guest (install_by o world.destination copy rest).guest).processors k)) (installed_ran o world.destination copy rest)
     ∙ waits_destination world.destination.has_run world.source.guest world.destination.guest (install_by o world.destination copy rest).guest (install_waits o world.destination copy rest) k command h
 
-acted_destination_keeps : (held : List Fault) (world : World) → StillWaits (guest_of world) (guest_of (acted_by_destination world held))
-acted_destination_keeps [] world k command h = h
-acted_destination_keeps (fault ∷ rest) world k command h =
+acted_destination_keeps : (fault : Fault) (world : World) → StillWaits (guest_of world) (guest_of (after_dest_act world fault))
+acted_destination_keeps fault world k command h =
     ap (λ b. outstanding (processor_at (guest_by b world.source.guest (destination_acted world.destination fault).guest).processors k)) (acted_ran (destination_act world.destination fault) world.destination fault.page)
     ∙ waits_destination world.destination.has_run world.source.guest world.destination.guest (destination_acted world.destination fault).guest (waits_destination_act (destination_act world.destination fault) world.destination fault.page) k command h
 
@@ -289,10 +258,6 @@ delivered_first epoch (Request page) rest world up first kept k command h = same
 delivered_first epoch (Recv state owed) rest world up first kept k command h = same_keeps world _ (same_took (Recv state owed) world.destination epoch refl) k command h
 delivered_first epoch Done rest world up first kept k command h = same_keeps world _ (same_took Done world.destination epoch refl) k command h
 
-delivered_keeps : (wire : List Sent) (world : World) → world.up ≡ true → world.forward ≡ wire → IsKept world → StillWaits (guest_of world) (guest_of (delivered world wire))
-delivered_keeps [] world up first kept k command h = h
-delivered_keeps (sent ∷ rest) world up first kept k command h = delivered_first sent.epoch sent.frame rest world up first kept k command h
-
 rebuilt_by : (switched : Bool) (a b node : Source) → StillWaits node.guest a.guest → StillWaits node.guest b.guest → StillWaits node.guest (if switched then a else b).guest
 rebuilt_by true a b node one two = one
 rebuilt_by false a b node one two = two
@@ -311,50 +276,43 @@ took_keeps (Package areas owed commands) node k command h = h
 took_keeps End node k command h = h
 took_keeps Resume node k command h = h
 
-delivered_back_keeps : (wire : List Sent) (world : World) → StillWaits (guest_of world) (guest_of (delivered_back world wire))
-delivered_back_keeps [] world k command h = h
-delivered_back_keeps (sent ∷ rest) world k command h =
-    waits_source world.destination.has_run world.source.guest (source_took world.source sent.frame).guest world.destination.guest (took_keeps sent.frame world.source) k command h
-
 same_source : (world : World) (new : Guest) → StillWaits world.source.guest new → StillWaits (guest_of world) (guest_by world.destination.has_run new world.destination.guest)
 same_source world new still k command h = waits_source world.destination.has_run world.source.guest new world.destination.guest still k command h
 
-accepted_keeps : (world : World) (step : Step) (k : ℕ) (command : Command) → IsKept world → is_retry_of step k ≡ false → refusal_of world step ≡ None → outstanding (processor_at (guest_of world).processors k) ≡ Some command →
-    outstanding (processor_at (guest_of (accepted world step)).processors k) ≡ Some command
-accepted_keeps world (Step.Issue cpu tries) k command kept other free h =
-    let told = none_applies (reasons world (Step.Issue cpu tries)) free in
-    tried_keeps world cpu tries k command (λ e. idle_none (processor_at (guest_of world).processors cpu) command (not_none _ told.1.0) (ap (λ i. outstanding (processor_at (guest_of world).processors i)) e ∙ h)) h
-accepted_keeps world (Step.Retry cpu) k command kept other free h =
-    retried_keeps (outstanding (processor_at (guest_of world).processors cpu)) world cpu k command (λ e. false≢true (sym other ∙ eqb-is cpu k e)) h
-accepted_keeps world Step.Start k command kept other free h = same_source world _ (λ i c e. e) k command h
-accepted_keeps world Step.Round k command kept other free h = same_source world _ (λ i c e. e) k command h
-accepted_keeps world Step.Send k command kept other free h = sent_keeps (least_of world.source.todo) world k command h
-accepted_keeps world Step.SourceRead k command kept other free h = read_source_keeps (next_message (space_of world.source).object) world k command h
-accepted_keeps world Step.SourceAct k command kept other free h = acted_source_keeps world.source.guest.held world k command h
-accepted_keeps world Step.Switch k command kept other free h = same_source world _ (λ i c e. e) k command h
-accepted_keeps world Step.Deliver k command kept other free h = delivered_keeps world.forward world (not_none _ (none_applies (reasons world Step.Deliver) free).1.0) refl kept k command h
-accepted_keeps world Step.DeliverBack k command kept other free h = delivered_back_keeps world.back world k command h
-accepted_keeps world Step.DestRead k command kept other free h = read_destination_keeps (next_message world.destination.guest.space.object) world k command h
-accepted_keeps world Step.DestAct k command kept other free h = acted_destination_keeps world.destination.guest.held world k command h
-accepted_keeps world Step.Install k command kept other free h = installed_keeps world.destination.arrivals world k command h
-accepted_keeps world (Step.Push ticket) k command kept other free h = same_source world _ (λ i c e. e) k command h
-accepted_keeps world Step.Serve k command kept other free h = same_source world _ (λ i c e. e) k command h
-accepted_keeps world Step.End k command kept other free h = same_source world _ (λ i c e. e) k command h
-accepted_keeps world Step.Break k command kept other free h = h
-accepted_keeps world (Step.Notice Side.Source) k command kept other free h = h
-accepted_keeps world (Step.Notice Side.Destination) k command kept other free h = h
-accepted_keeps world Step.Resume k command kept other free h = same_source world _ (λ i c e. e) k command h
+-- a processor of a number still has to make its command
+abbrev WaitsIn : ℕ → Command → World → Type 0
+WaitsIn k command world = outstanding (processor_at (guest_of world).processors k) ≡ Some command
 
-kept_by_refusal : (refusal : Option Refusal) (old new : World) (k : ℕ) (command : Command) → outstanding (processor_at (guest_of old).processors k) ≡ Some command → (refusal ≡ None → outstanding (processor_at (guest_of new).processors k) ≡ Some command) →
-    outstanding (processor_at (guest_of (next_by refusal old new)).processors k) ≡ Some command
-kept_by_refusal None old new k command h more = more refl
-kept_by_refusal (Some refusal) old new k command h more = h
+waiting_answer : (world : World) (step : Step) (k : ℕ) (command : Command) → IsKept world → is_retry_of step k ≡ false → WaitsIn k command world → Leaves (WaitsIn k command) (answer world step)
+waiting_answer world (Step.Issue cpu tries) k command kept other h =
+    made-issue _ world cpu tries (λ idle may.
+    tried_keeps world cpu tries k command (λ e. idle_none (processor_at (guest_of world).processors cpu) command idle (ap (λ i. outstanding (processor_at (guest_of world).processors i)) e ∙ h)) h)
+waiting_answer world (Step.Retry cpu) k command kept other h = made-retry _ world cpu (λ tries is woken may. tried_keeps world cpu tries k command (λ e. false≢true (sym other ∙ eqb-is cpu k e)) h)
+waiting_answer world Step.Start k command kept other h = made-start _ world (λ idle. same_source world _ (λ i c e. e) k command h)
+waiting_answer world Step.Round k command kept other h = made-round _ world (λ precopy quiet. same_source world _ (λ i c e. e) k command h)
+waiting_answer world Step.Send k command kept other h = made-send _ world (λ page is precopy up quiet. same_source world _ (λ i c e. e) k command h)
+waiting_answer world Step.SourceRead k command kept other h = made-source_read _ world (λ noted is started unswitched. same_source world _ (waits_read world.source.guest noted.cpu noted.message) k command h)
+waiting_answer world Step.SourceAct k command kept other h =
+    made-source_act _ world (λ fault rest is started unswitched quiet. same_source world _ (waits_source_act (source_act world.source fault) world.source fault.page) k command h)
+waiting_answer world Step.Switch k command kept other h = made-switch _ world (λ precopy up quiet. same_source world _ (λ i c e. e) k command h)
+waiting_answer world Step.Deliver k command kept other h = made-deliver _ world (λ sent rest is started up free. delivered_first sent.epoch sent.frame rest world up is kept k command h)
+waiting_answer world Step.DeliverBack k command kept other h = made-deliver_back _ world (λ sent rest is started up. same_source world _ (took_keeps sent.frame world.source) k command h)
+waiting_answer world Step.DestRead k command kept other h =
+    made-dest_read _ world (λ noted is ran.
+    waits_destination world.destination.has_run world.source.guest world.destination.guest (destination_read world.destination noted).guest (waits_read world.destination.guest noted.cpu noted.message) k command h)
+waiting_answer world Step.DestAct k command kept other h = made-dest_act _ world (λ fault rest is ran quiet. acted_destination_keeps fault world k command h)
+waiting_answer world Step.Install k command kept other h = made-install _ world (λ copy rest is ran quiet. installed_keeps copy rest world k command h)
+waiting_answer world (Step.Push ticket) k command kept other h = made-push _ world ticket (λ stopped up own present remains. same_source world _ (λ i c e. e) k command h)
+waiting_answer world Step.Serve k command kept other h = made-serve _ world (λ page pages is stopped up. same_source world _ (λ i c e. e) k command h)
+waiting_answer world Step.End k command kept other h = made-end _ world (λ stopped ended up none. same_source world _ (λ i c e. e) k command h)
+waiting_answer world Step.Break k command kept other h = made-break _ world (λ started unreleased up. h)
+waiting_answer world (Step.Notice Side.Source) k command kept other h = made-notice _ world Side.Source (λ started unreleased down. h)
+waiting_answer world (Step.Notice Side.Destination) k command kept other h = made-notice _ world Side.Destination (λ started unreleased down. h)
+waiting_answer world Step.Resume k command kept other h = made-resume _ world (λ from to down. same_source world _ (λ i c e. e) k command h)
 
 pub waiting_command : (world : World) (step : Step) (k : ℕ) (command : Command) → IsKept world → is_retry_of step k ≡ false → outstanding (processor_at (guest_of world).processors k) ≡ Some command →
     outstanding (processor_at (guest_of (next world step)).processors k) ≡ Some command
-unfolding next
-waiting_command world step k command kept other h =
-    kept_by_refusal (refusal_of world step) world (accepted world step) k command h (λ free. accepted_keeps world step k command kept other free h)
+waiting_command world step k command kept other h = leaves-next (WaitsIn k command) world step h (waiting_answer world step k command kept other h)
 
 -- What a Retry makes of its processor
 
@@ -363,11 +321,15 @@ set_here [] i new command h = absurd (none_some command h)
 set_here (p ∷ ps) zero new command h = refl
 set_here (p ∷ ps) (suc i) new command h = set_here ps i new command h
 
-pub retried_at : (world : World) (cpu : ℕ) (command : Command) → refusal_of world (Step.Retry cpu) ≡ None → outstanding (processor_at (guest_of world).processors cpu) ≡ Some command →
+some_command : (a b : Command) → Some a ≡ Some b → a ≡ b
+some_command a b h = cc
+
+pub retried_at : (world : World) (cpu : ℕ) (command : Command) → IsOk (outcome world (Step.Retry cpu)) → outstanding (processor_at (guest_of world).processors cpu) ≡ Some command →
     processor_at (guest_of (next world (Step.Retry cpu))).processors cpu ≡ processor_after command (took_by (is_access command) (guest_of world).space command)
-unfolding next
-retried_at world cpu command free waits =
-    ap (λ o. processor_at (guest_of (next_by o world (accepted world (Step.Retry cpu)))).processors cpu) free
-    ∙ ap (λ o. processor_at (guest_of (retried world cpu o)).processors cpu) waits
-    ∙ ap (λ g. processor_at g.processors cpu) (tried_guest world cpu command)
-    ∙ set_here (guest_of world).processors cpu (processor_after command (took_by (is_access command) (guest_of world).space command)) command waits
+retried_at world cpu command ok waits =
+    leaves-ok (λ new. processor_at (guest_of new).processors cpu ≡ processor_after command (took_by (is_access command) (guest_of world).space command)) world (Step.Retry cpu)
+    (made-retry _ world cpu (λ other is woken may.
+    let same = some_command other command (sym is ∙ waits) in
+    ap (λ g. processor_at g.processors cpu) (tried_guest world cpu other)
+    ∙ set_here (guest_of world).processors cpu (processor_after other (took_by (is_access other) (guest_of world).space other)) command waits
+    ∙ ap (λ c. processor_after c (took_by (is_access c) (guest_of world).space c)) same)) ok

@@ -178,7 +178,7 @@ are_requests_and_done (sent ∷ rest) = is_request sent.frame && are_requests_an
 
 -- how far the wire gets, once Switch was made: End is the last frame on it, or was taken, if it was sent in this epoch
 abbrev pub flow_of : Source → Flow
-flow_of source = if source.ended == source.epoch then AfterEnd else Pushed
+flow_of source = if source.end_epoch == source.epoch then AfterEnd else Pushed
 
 pub record IsSwitching (source : Source) (kept : FinMap nat_cmp (List ℕ)) (forward : List Sent) : Type 0 where
   pub owed : FinSet nat_cmp
@@ -210,7 +210,7 @@ StoppedWires source destination forward back = elim destination.phase [
   | DestPhase.Discarding ↦ (flow_after BeforePackage forward ≡ Some (flow_of source)) × (back ≡ []) × IsSwitching source destination.kept forward
   | DestPhase.Running ↦ (flow_after Pushed forward ≡ Some (flow_of source)) × (are_requests back ≡ true) × IsFlowing source destination forward
   | DestPhase.Paused ↦ ⊥
-  | DestPhase.Ended ↦ (forward ≡ []) × (are_requests_and_done back ≡ true) × (source.ended ≡ source.epoch)
+  | DestPhase.Ended ↦ (forward ≡ []) × (are_requests_and_done back ≡ true) × (source.end_epoch ≡ source.epoch)
 ]
 
 -- the first frame of a wire back is a Recv of this state, whose pages are those that the destination still needs at least, all of
@@ -313,14 +313,14 @@ pub record IsKept (world : World) : Type 0 where
   -- a source that has stopped has no unread event
   pub source_quiet : world.source.switched ≡ true → (space_of world.source).object.events ≡ []
   -- before Switch nothing remains, and End was not sent
-  pub before_switch : world.source.switched ≡ false → (world.source.remaining ≡ no_pages) × (world.source.ended ≢ world.source.epoch ⊎ (world.source.phase ≡ SourcePhase.Idle))
+  pub before_switch : world.source.switched ≡ false → (world.source.remaining ≡ no_pages) × (world.source.end_epoch ≢ world.source.epoch ⊎ (world.source.phase ≡ SourcePhase.Idle))
   -- once End is sent nothing remains
-  pub end_sent : world.source.ended ≡ world.source.epoch → world.source.remaining ≡ no_pages
+  pub end_sent : world.source.end_epoch ≡ world.source.epoch → world.source.remaining ≡ no_pages
   -- what remains is present
   pub remaining_present : (page : ℕ) → contains world.source.remaining page ≡ true → is_present (space_of world.source) page ≡ true
-  pub ended_before : world.source.ended ≤ world.source.epoch
+  pub ended_before : world.source.end_epoch ≤ world.source.epoch
   -- after a resumption End was not sent again before the source knows what the destination needs
-  pub paused_fresh : world.up ≡ true → world.source.phase ≡ SourcePhase.Paused → world.source.ended ≢ world.source.epoch
+  pub paused_fresh : world.up ≡ true → world.source.phase ≡ SourcePhase.Paused → world.source.end_epoch ≢ world.source.epoch
   -- a source that has not started watches nothing and has sent nothing
   pub idle_source : world.source.phase ≡ SourcePhase.Idle → (world.source.clean ≡ no_pages) × (world.source.todo ≡ no_pages) × (world.source.sent ≡ no_pages) × ((space_of world.source).object.events ≡ []) × ((page : ℕ) → contains (space_of world.source).object.missing page ≡ false)
   -- a destination that has not run owes nothing, and holds no event and no arrival

@@ -62,7 +62,7 @@ pub record Source : Type 0 where
   pub switched : Bool
   pub epoch : ℕ
   -- the epoch in which End was sent last: no migration has epoch 0
-  pub ended : ℕ
+  pub end_epoch : ℕ
   pub guest : Guest
   -- pages whose newest copy under way is right as far as the source knows; pages that this round still has to send; pages sent in this epoch
   pub clean : FinSet nat_cmp
@@ -88,7 +88,7 @@ first_source cpus epoch rounds =
       phase = SourcePhase.Idle;
       switched = false;
       epoch = epoch;
-      ended = 0;
+      end_epoch = 0;
       guest = record { space = enabled_space; processors = idle_processors cpus; held = [] };
       clean = no_pages;
       todo = no_pages;
@@ -224,8 +224,8 @@ switch_frames node = package_frames node (less node.sent node.clean) (not_clean 
 abbrev pub page_pushed : Source → ℕ → Source
 page_pushed node page = record node { remaining = finset.remove node.remaining page; pages_sent = node.pages_sent + 1 }
 
-abbrev pub request_served : Source → Source
-request_served node = record node { asked = elim node.asked [ [] ↦ [] | page ∷ pages ↦ pages ] }
+abbrev pub request_served : Source → List ℕ → Source
+request_served node pages = record node { asked = pages }
 
 -- a source whose migration is complete holds nothing
 abbrev pub released : Source → Source
@@ -304,9 +304,9 @@ first_destination cpus =
       faults = 0;
     }
 
-abbrev pub is_interrupted : DestPhase → Bool
-is_interrupted DestPhase.Paused = true
-is_interrupted _ = false
+abbrev pub is_dest_paused : DestPhase → Bool
+is_dest_paused DestPhase.Paused = true
+is_dest_paused _ = false
 
 abbrev pub is_running : DestPhase → Bool
 is_running DestPhase.Running = true
@@ -493,6 +493,3 @@ abbrev pub install_by : Option ℕ → Destination → Copy → List Copy → De
 install_by (Some page) node copy rest = installed_at node copy rest page
 install_by None node copy rest = copy_dropped node rest
 
-abbrev pub install_made : Destination → List Copy → Destination
-install_made node [] = node
-install_made node (copy ∷ rest) = install_by (home node.owed copy.page) node copy rest

@@ -130,7 +130,7 @@ pub record IsTaken (node : Destination) (sent : Sent) : Type 0 where
 -- pages it has. Only a destination that runs lists pages, and one runs or has ended only after the switch
 abbrev pub IsInPlaceBack : Source → Frame → Type 0
 IsInPlaceBack node (Request page) = is_stopped node.phase ≡ true
-IsInPlaceBack node Done = (is_stopped node.phase ≡ true) × (node.ended ≡ node.epoch)
+IsInPlaceBack node Done = (is_stopped node.phase ≡ true) × (node.end_epoch ≡ node.epoch)
 IsInPlaceBack node (Recv state owed) =
     (is_source_paused node.phase ≡ true) × ((page : ℕ) → contains owed page ≡ true → is_present (space_of node) page ≡ true)
     × (state ≢ Received.Running → owed ≡ no_pages)
@@ -158,10 +158,9 @@ owed_changed owed (DontNeed addr len) Done = gone owed (addr / PAGE_SIZE) (pages
 owed_changed owed (DontNeed addr len) (Refused Enomem) = gone owed (addr / PAGE_SIZE) (pages_of len)
 owed_changed owed _ _ = owed
 
--- the steps that are neither a map call, an install, nor a Retry, whose command is told apart
+-- the steps that are neither a map call nor an install
 abbrev pub leaves_settled : Step → Bool
 leaves_settled (Step.Issue cpu command) = is_access command
-leaves_settled (Step.Retry cpu) = false
 leaves_settled Step.Install = false
 leaves_settled step = true
 

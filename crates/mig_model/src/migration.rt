@@ -2,10 +2,11 @@
 //! and resumptions, in any order, those that are refused among them. Each law is a function with an empty body, whose contract is
 //! the law.
 
-ghost use Rattle.std.specs.Prelude.{◌≡◌, ℕ, ◌/◌, ◌∷◌, ◌++◌, ◌==◌, ◌&&◌, not, true, false, if◌then◌else◌, None, Some, Ok, List};
+ghost use Rattle.std.specs.Prelude.{◌≡◌, ℕ, ◌/◌, ◌∷◌, ◌++◌, ◌==◌, ◌&&◌, not, true, false, if◌then◌else◌, Some, Ok, Err, IsOk, List};
 ghost use Rattle.std.specs.FinSet.{contains};
 ghost use Rattle.mig_base.specs.declared.effect.Effect.{Effect};
 ghost use Rattle.mig_base.specs.declared.phase.Received.{Received};
+ghost use Rattle.mig_base.specs.declared.refusal.Refusal.{Refusal};
 ghost use Rattle.mig_base.specs.declared.schedule.Step.{Step};
 ghost use Rattle.mig_base.specs.declared.schedule.Ticket.{Ticket};
 ghost use Rattle.mig_base.specs.declared.command.Command.{Command};
@@ -15,7 +16,7 @@ ghost use Rattle.mig_model.specs.World.{is_access};
 ghost use Rattle.mig_model.specs.Guest.{outstanding, processor_at, processor_after, entries_of, took_by};
 ghost use Rattle.mig_model.specs.Wire.{Sent};
 ghost use Rattle.mig_model.specs.Nodes.{space_of, settled, is_precopy, is_stopped, is_source_paused, is_running};
-ghost use Rattle.mig_model.specs.Migration.{World, guest_of, refusal_of, command_tried, outcome, accepted, next, first_world, after_steps};
+ghost use Rattle.mig_model.specs.Migration.{World, guest_of, outcome, next, first_world, after_steps};
 ghost use Rattle.mig_model.specs.Invariant.{IsKept, IsPrecopying, IsSwitching, IsReceiving, current_host};
 ghost use Rattle.mig_model.specs.Parts.{ChangesParts};
 ghost use Rattle.mig_model.specs.Promises.{AreAccesses, IsReached, IsComplete, IsAlone, ArePaired, AreUnderWay, IsPut, IsZeroed, IsTaken, keeps_remaining, IsInPlaceBack, owed_changed, leaves_settled, is_retry_of, story};
@@ -71,15 +72,16 @@ pub fn owed_pages_are_under_way()
 
 /// Once the destination has run: what a map call does to the settled relation is what it does to the pages. Of a range that it
 /// unmaps, replaces or makes zeros the pairs are gone, and of one that it moves they stand at the new place. An install takes its own
-/// pair away. A copy that is given up, a load or store, tried for the first time or again, and every other step leave the relation.
+/// pair away. A copy that is given up, a load or store, tried for the first time or again, and every other step leave the relation;
+/// so does a step that is refused.
 pub fn the_settled_relation()
-    ensures call { (world : World) (cpu : ℕ) (command : Command) (page : ℕ) → IsReached world → world.destination.has_run ≡ true → is_access command ≡ false →
-        settled (accepted world (Step.Issue cpu command)).destination page ≡ owed_changed (settled world.destination) command (reply_of (memory world.destination.guest.space.host) command) page }
+    ensures call { (world : World) (cpu : ℕ) (command : Command) (page : ℕ) → IsReached world → world.destination.has_run ≡ true → is_access command ≡ false → IsOk (outcome world (Step.Issue cpu command)) →
+        settled (next world (Step.Issue cpu command)).destination page ≡ owed_changed (settled world.destination) command (reply_of (memory world.destination.guest.space.host) command) page }
     ensures install { (world : World) (addr source page : ℕ) → outcome world Step.Install ≡ Ok (Effect.Installed addr source) →
         settled (next world Step.Install).destination page ≡ (if page == addr / 4096 then None else settled world.destination page) }
     ensures dropped { (world : World) (source page : ℕ) → outcome world Step.Install ≡ Ok (Effect.Dropped source) → settled (next world Step.Install).destination page ≡ settled world.destination page }
     ensures access { (world : World) (cpu : ℕ) (command : Command) (page : ℕ) → world.destination.has_run ≡ true → is_access command ≡ true →
-        settled (command_tried world cpu command).destination page ≡ settled world.destination page }
+        settled (next world (Step.Issue cpu command)).destination page ≡ settled world.destination page }
     ensures others { (world : World) (step : Step) (page : ℕ) → IsReached world → world.destination.has_run ≡ true → leaves_settled step ≡ true →
         settled (next world step).destination page ≡ settled world.destination page }
 {}
@@ -106,7 +108,7 @@ pub fn no_frame_is_refused()
 pub fn a_waiting_command()
     ensures kept { (world : World) (step : Step) (cpu : ℕ) (command : Command) → IsReached world → is_retry_of step cpu ≡ false →
         outstanding (processor_at (guest_of world).processors cpu) ≡ Some command → outstanding (processor_at (guest_of (next world step)).processors cpu) ≡ Some command }
-    ensures retry { (world : World) (cpu : ℕ) (command : Command) → refusal_of world (Step.Retry cpu) ≡ None → outstanding (processor_at (guest_of world).processors cpu) ≡ Some command →
+    ensures retry { (world : World) (cpu : ℕ) (command : Command) → IsOk (outcome world (Step.Retry cpu)) → outstanding (processor_at (guest_of world).processors cpu) ≡ Some command →
         processor_at (guest_of (next world (Step.Retry cpu))).processors cpu ≡ processor_after command (took_by (is_access command) (guest_of world).space command) }
 {}
 
@@ -118,22 +120,24 @@ pub fn waiting_commands_are_accesses()
 /// A command that takes effect is entered with its processor and its reply, at its first try or at a Retry; one that sleeps is not. That
 /// no other step enters anything is among the parts that a step may change.
 pub fn what_is_entered()
-    ensures issue { (world : World) (cpu : ℕ) (command : Command) → refusal_of world (Step.Issue cpu command) ≡ None →
+    ensures issue { (world : World) (cpu : ℕ) (command : Command) → IsOk (outcome world (Step.Issue cpu command)) →
         (next world (Step.Issue cpu command)).transcript ≡ world.transcript ++ entries_of cpu command (took_by (is_access command) (guest_of world).space command) }
-    ensures retry { (world : World) (cpu : ℕ) (command : Command) → refusal_of world (Step.Retry cpu) ≡ None → outstanding (processor_at (guest_of world).processors cpu) ≡ Some command →
+    ensures retry { (world : World) (cpu : ℕ) (command : Command) → IsOk (outcome world (Step.Retry cpu)) → outstanding (processor_at (guest_of world).processors cpu) ≡ Some command →
         (next world (Step.Retry cpu)).transcript ≡ world.transcript ++ entries_of cpu command (took_by (is_access command) (guest_of world).space command) }
 {}
 
 /// A page that is pushed remains no longer, and no page comes to remain but by Switch and by a frame that the source takes.
 pub fn pages_that_remain()
-    ensures push { (world : World) (ticket : Ticket) (q : ℕ) → refusal_of world (Step.Push ticket) ≡ None →
+    ensures push { (world : World) (ticket : Ticket) (q : ℕ) → IsOk (outcome world (Step.Push ticket)) →
         contains (next world (Step.Push ticket)).source.remaining q ≡ (not (q == ticket.page) && contains world.source.remaining q) }
     ensures shrinks { (world : World) (step : Step) (q : ℕ) → keeps_remaining step ≡ true → contains (next world step).source.remaining q ≡ true → contains world.source.remaining q ≡ true }
 {}
 
-/// Each step changes only its own parts. No step of the source puts anything at the destination but by the wire.
+/// Each step changes only its own parts. No step of the source puts anything at the destination but by the wire. A step that is
+/// refused changes nothing.
 pub fn each_step_changes_its_parts()
-    ensures { (world : World) (step : Step) → ChangesParts world step (next world step) }
+    ensures refused { (world : World) (step : Step) (refusal : Refusal) → outcome world step ≡ Err refusal → next world step ≡ world }
+    ensures parts { (world : World) (step : Step) → ChangesParts world step (next world step) }
 {}
 
 /// What every world keeps, clause by clause.
