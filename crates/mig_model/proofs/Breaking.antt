@@ -8,9 +8,10 @@ use Rattle.mig_base.specs.declared.schedule.Side.{Side}
 use Rattle.mig_base.specs.declared.schedule.Step.{Step}
 use Rattle.mig_model.specs.Wire.{Sent}
 use Rattle.mig_model.specs.Wire.Frame.{Resume}
-use Rattle.mig_model.specs.Nodes.{is_source_idle, is_source_paused, is_released, is_dest_paused}
 use Rattle.mig_model.specs.Migration.{World, has_started, after_break, after_notice, after_resume}
 use Rattle.mig_model.specs.Invariant.{IsKept, AreWhole, copies_of, AreFaithful, AreOf}
+use Rattle.mig_model.specs.Source.{is_released, is_source_idle, is_source_paused}
+use Rattle.mig_model.specs.Destination.{is_dest_paused}
 
 started_not_idle : (phase : SourcePhase) → not (is_source_idle phase) ≡ true → phase ≢ SourcePhase.Idle
 started_not_idle SourcePhase.Idle h e = false≢true h

@@ -13,7 +13,6 @@ use Rattle.mig_base.specs.Bytes.{zero_page}
 use Rattle.mig_model.specs.Space.{fresh_space}
 use Rattle.mig_model.specs.Wire.{Frame, Sent, Copy, kept_after}
 use Rattle.mig_model.specs.Wire.Frame.{Advise, Page, Zero, Discard, Package, End, Resume}
-use Rattle.mig_model.specs.Nodes.{Source, Destination}
 use Rattle.mig_model.specs.Migration.{World, is_empty, is_end, after_deliver}
 use Rattle.mig_model.specs.Invariant.{Wires, IsKept, AreOf, AreWhole, AreFaithful, copies_of, has_copy, flow_of, EpochAt}
 use Rattle.mig_model.specs.Invariant.Flow.{Copies}
@@ -23,6 +22,8 @@ use Rattle.mig_model.proofs.FirstFrame.{at_state, first_in_place, ends_late, non
 use Rattle.mig_model.proofs.PackageTaken.{package_taken}
 use Rattle.mig_model.proofs.EndTaken.{end_taken}
 use Rattle.mig_model.proofs.ResumeTaken.{resume_taken}
+use Rattle.mig_model.specs.Source.{Source}
+use Rattle.mig_model.specs.Destination.{Destination}
 
 not_up : true ≡ false → ⊥
 not_up h = false≢true (sym h)

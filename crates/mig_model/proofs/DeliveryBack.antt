@@ -10,11 +10,11 @@ use Rattle.mig_base.specs.declared.refusal.Refusal.{Refusal}
 use Rattle.mig_base.specs.declared.schedule.Step.{Step}
 use Rattle.mig_model.specs.Wire.{Frame, Sent}
 use Rattle.mig_model.specs.Wire.Frame.{Request, Recv, Done}
-use Rattle.mig_model.specs.Nodes.{no_pages}
 use Rattle.mig_model.specs.Migration.{World, after_deliver_back}
 use Rattle.mig_model.specs.Invariant.{IsKept, IsReceiving, is_none, are_requests_and_done}
 use Rattle.mig_model.proofs.FirstFrame.{empty_not, delivered_back}
 use Rattle.mig_model.proofs.FramesBack.{at_back, not_up, request_taken, released_kept, recv_precopy, recv_switched, recv_running}
+use Rattle.mig_model.specs.Log.{no_pages}
 
 -- The frames in their phases
 

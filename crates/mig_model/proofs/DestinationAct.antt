@@ -18,17 +18,21 @@ use Rattle.mig_model.specs.Host.{Host, memory}
 use Rattle.mig_model.specs.Userfault.{Noted, is_registered}
 use Rattle.mig_model.specs.Space.{Space}
 use Rattle.mig_model.specs.Ioctls.{put_pages}
-use Rattle.mig_model.specs.Guest.{Fault, all_woken, is_forgotten, is_present, worked, zero_installed}
+use Rattle.mig_model.specs.Guest.{Fault, is_forgotten, is_present, zero_installed, resolved}
 use Rattle.mig_model.specs.Wire.{Sent, sending_if}
 use Rattle.mig_model.specs.Wire.Frame.{Request}
-use Rattle.mig_model.specs.Nodes.{Source, Destination, space_of, is_running, is_requested, requesting, destination_act_by, destination_acted_by, act_frames, present}
-use Rattle.mig_model.specs.Nodes.Act.{Zeroed, Woke, Forgot, Requested}
+use Rattle.mig_model.specs.Guest.Act.{Zeroed, Woke, Forgot, Requested}
 use Rattle.mig_model.specs.Migration.{World, destination_sends, after_dest_act, is_changing, runs}
 use Rattle.mig_model.specs.Invariant.{IsKept, Wires, AreOf, EpochAt, are_requests, is_request, seen_host, seen_bytes}
 use Rattle.mig_model.proofs.HostLemmas.{memory-at, same_memory}
 use Rattle.mig_model.proofs.SettledLemmas.{none_some, none_absurd, eqb_true}
 use Rattle.mig_model.proofs.DestinationRead.{kept-handled}
 use Rattle.mig_model.proofs.Installing.{missing_none, seen_by, get-put_one, put-unprotected, put-sound, put-missing, none_changing}
+use Rattle.mig_model.specs.Cpus.{all_woken}
+use Rattle.mig_model.specs.Log.{forgotten, present}
+use Rattle.mig_model.specs.Owed.{is_requested, requesting}
+use Rattle.mig_model.specs.Source.{Source, space_of}
+use Rattle.mig_model.specs.Destination.{Destination, act_frames, destination_act_by, destination_acted_by, is_running}
 
 -- A page of zeros
 
@@ -196,15 +200,16 @@ abbrev pub at_held : List Noted → List Fault → World → World
 at_held events held world =
     record world {
       destination = record world.destination {
-        guest = record world.destination.guest { space = record world.destination.guest.space { object = record world.destination.guest.space.object { events = events } }; held = held };
+        guest = record world.destination.guest { space = record world.destination.guest.space { object = record world.destination.guest.space.object { events = events } } };
+        held = held;
       };
     }
 
 -- only the processors, the held faults and the requests have changed
 only_woken : (world : World) (processors : List CpuState) (held : List Fault) (requests : List ℕ) → IsKept world → world.destination.has_run ≡ true →
-    IsKept (record world { destination = record world.destination { guest = record world.destination.guest { processors = processors; held = held }; requests = requests } })
+    IsKept (record world { destination = record world.destination { guest = record world.destination.guest { cpus = processors }; held = held; requests = requests } })
 only_woken world processors held requests kept runs =
-    kept-handled world (record world.destination.guest { processors = processors; held = held }) world.destination.owed requests world.destination.arrivals world.destination.installed world.destination.dropped world.destination.faults kept runs
+    kept-handled world (record world.destination.guest { cpus = processors }) held world.destination.owed requests world.destination.arrivals world.destination.installed world.destination.dropped world.destination.faults kept runs
     (record {
       space = kept.destination_space;
       unprotected = kept.unprotected;
@@ -234,7 +239,7 @@ zeros_put fault rest world kept runs mapped missing nothing =
     let page : ℕ = fault.page in
     let space : Space = old.destination.guest.space in
     let owed : FinMap nat_cmp ℕ = world.destination.owed in
-    kept-handled old (worked old.destination.guest page (zero_installed space page)) owed world.destination.requests world.destination.arrivals world.destination.installed world.destination.dropped world.destination.faults kept runs
+    kept-handled old (resolved old.destination.guest page (zero_installed space page)) rest owed world.destination.requests world.destination.arrivals world.destination.installed world.destination.dropped world.destination.faults kept runs
     (record {
       space = put-sound space page zero_page mapped length-zero_page kept.destination_space;
       unprotected = put-unprotected space page zero_page kept.unprotected;
@@ -263,16 +268,16 @@ act_in : (forgotten present : Bool) (o : Option ℕ) (fault : Fault) (rest : Lis
 act_in true present o fault rest world kept runs f p h =
     let old : World = at_held [] (fault ∷ rest) world in
     let new : World = record old { destination = destination_acted_by Forgot old.destination fault.page } in
-    nothing_sent world.up new refl (only_woken old (all_woken (λ q. eqb q fault.page) world.destination.guest.processors) rest world.destination.requests kept runs)
+    nothing_sent world.up new refl (only_woken old (all_woken (λ q. eqb q fault.page) world.destination.guest.cpus) rest world.destination.requests kept runs)
 act_in false true o fault rest world kept runs f p h =
     let old : World = at_held [] (fault ∷ rest) world in
     let new : World = record old { destination = destination_acted_by Woke old.destination fault.page } in
-    nothing_sent world.up new refl (only_woken old (all_woken (λ q. eqb q fault.page) world.destination.guest.processors) rest world.destination.requests kept runs)
+    nothing_sent world.up new refl (only_woken old (all_woken (λ q. eqb q fault.page) world.destination.guest.cpus) rest world.destination.requests kept runs)
 act_in false false (Some source) fault rest world kept runs f p h =
     let old : World = at_held [] (fault ∷ rest) world in
     let new : World = record old { destination = destination_acted_by (Requested source) old.destination fault.page } in
     sent_back world.up (is_requested world.destination.requests source) (is_running world.destination.phase) new source refl refl
-    (only_woken old world.destination.guest.processors rest (requesting world.destination.requests source) kept runs)
+    (only_woken old world.destination.guest.cpus rest (requesting world.destination.requests source) kept runs)
 act_in false false None fault rest world kept runs f p h =
     let old : World = at_held [] (fault ∷ rest) world in
     let new : World = record old { destination = destination_acted_by Zeroed old.destination fault.page } in
@@ -284,7 +289,7 @@ acted_in (noted ∷ events) fault rest world kept runs quiet = absurd (none_chan
 acted_in [] fault rest world kept runs quiet =
     act_in (is_forgotten world.destination.guest.space fault.page) (is_present world.destination.guest.space fault.page) (get world.destination.owed fault.page) fault rest world kept runs refl refl refl
 
-pub kept-dest_act : (world : World) (fault : Fault) (rest : List Fault) → IsKept world → world.destination.guest.held ≡ fault ∷ rest → world.destination.has_run ≡ true → is_changing world.destination.guest ≡ false → IsKept (after_dest_act world fault)
+pub kept-dest_act : (world : World) (fault : Fault) (rest : List Fault) → IsKept world → world.destination.held ≡ fault ∷ rest → world.destination.has_run ≡ true → is_changing world.destination.guest ≡ false → IsKept (after_dest_act world fault)
 kept-dest_act world fault rest kept first runs quiet =
     let events = world.destination.guest.space.object.events in
     subst (λ held. IsKept (at_held events held world) → IsKept (after_dest_act (at_held events held world) fault)) (sym first) (λ now. acted_in events fault rest world now runs quiet) kept

@@ -14,9 +14,8 @@ use Rattle.mig_base.specs.Flat.{IsFlatRun, memory_of}
 use Rattle.mig_model.specs.Host.{Host, memory, IsSound}
 use Rattle.mig_model.specs.World.{is_access}
 use Rattle.mig_model.specs.Space.{IsSoundSpace, fresh_space}
-use Rattle.mig_model.specs.Guest.{Guest, is_present, Took, took_by, tried, entries_of}
+use Rattle.mig_model.specs.Guest.{Guest, is_present, took_by, tried}
 use Rattle.mig_model.specs.Wire.{Sent}
-use Rattle.mig_model.specs.Nodes.{Source, Destination, space_of, settled}
 use Rattle.mig_model.specs.Migration.{World, guest_by, with_guest_by, after_command, runs}
 use Rattle.mig_model.specs.Invariant.{IsKept, AreFaults, AreRight, Wires, IsReceiving, current_by, current_host, seen_host}
 use Rattle.mig_model.proofs.FaultLemmas.{AreFaults-tried}
@@ -25,6 +24,9 @@ use Rattle.mig_model.proofs.SeenLemmas.{IsSound-seen, watched_mapped}
 use Rattle.mig_model.proofs.PairLemmas.{pairs_watched}
 use Rattle.mig_model.proofs.TriedLemmas.{IsReady, IsEntered, command_tries}
 use Rattle.mig_model.proofs.TriedLemmas.IsEntered.{Silent, Entered}
+use Rattle.mig_model.specs.Cpus.{Took, entries_of}
+use Rattle.mig_model.specs.Source.{Source, space_of}
+use Rattle.mig_model.specs.Destination.{Destination, settled}
 
 -- The transcript
 

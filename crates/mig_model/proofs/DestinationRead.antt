@@ -18,18 +18,21 @@ use Rattle.mig_base.proofs.PageLemmas.{same_pages}
 use Rattle.mig_model.specs.Host.{memory}
 use Rattle.mig_model.specs.Userfault.{Noted, next_message, next_of}
 use Rattle.mig_model.specs.Space.{IsSoundSpace}
-use Rattle.mig_model.specs.Guest.{Guest, Fault, all_woken, is_left_by, is_present, message_less, processor_at}
+use Rattle.mig_model.specs.Guest.{Guest, Fault, is_left_by, is_present}
 use Rattle.mig_model.specs.Wire.{Sent, Copy}
-use Rattle.mig_model.specs.Nodes.{Source, Destination, space_of, settled_by, owed_table_after}
 use Rattle.mig_model.specs.Migration.{World, after_dest_read, next, runs, start}
 use Rattle.mig_model.specs.Invariant.{IsKept, Wires, IsReceiving, IsFlowing, AreRight, AreFaults, AreFaithful, has_copy, copies_of, seen_host, current_host}
 use Rattle.mig_model.proofs.IoctlLemmas.{IsSoundSpace-read}
 use Rattle.mig_model.proofs.SettledLemmas.{get-owed_table_after, settled_by-applied, values-after, none-after, IsOneToOne-after, owed_below-after}
+use Rattle.mig_model.specs.Cpus.{all_woken, message_less, processor_at}
+use Rattle.mig_model.specs.Owed.{owed_table_after, settled_by}
+use Rattle.mig_model.specs.Source.{Source, space_of}
+use Rattle.mig_model.specs.Destination.{Destination}
 
 -- a destination whose guest, owed table, requests, arrivals and counts are others
-abbrev pub handled : Destination → Guest → FinMap nat_cmp ℕ → List ℕ → List Copy → ℕ → ℕ → ℕ → Destination
-handled node guest owed requests arrivals installed dropped faults =
-    record node { guest = guest; owed = owed; requests = requests; arrivals = arrivals; installed = installed; dropped = dropped; faults = faults }
+abbrev pub handled : Destination → Guest → List Fault → FinMap nat_cmp ℕ → List ℕ → List Copy → ℕ → ℕ → ℕ → Destination
+handled node guest held owed requests arrivals installed dropped faults =
+    record node { guest = guest; held = held; owed = owed; requests = requests; arrivals = arrivals; installed = installed; dropped = dropped; faults = faults }
 
 -- what such a destination has to keep
 pub record IsHandled (world : World) (guest : Guest) (owed : FinMap nat_cmp ℕ) (arrivals : List Copy) : Type 0 where
@@ -81,37 +84,37 @@ still_flowing source node new forward values copies old =
           last_of_three (contains source.remaining origin) (has_copy (copies_of forward) origin) (has_copy node.arrivals origin) (has_copy new.arrivals origin) (copies page origin h) (old.whereabouts was.0 origin was.1);
     }
 
-wires_handled : (from : SourcePhase) (to : DestPhase) (source : Source) (node : Destination) (forward back : List Sent) (guest : Guest) (owed : FinMap nat_cmp ℕ) (requests : List ℕ) (arrivals : List Copy) (installed dropped faults : ℕ) →
+wires_handled : (from : SourcePhase) (to : DestPhase) (source : Source) (node : Destination) (forward back : List Sent) (guest : Guest) (held : List Fault) (owed : FinMap nat_cmp ℕ) (requests : List ℕ) (arrivals : List Copy) (installed dropped faults : ℕ) →
     ((page origin : ℕ) → get owed page ≡ Some origin → (other : ℕ) × (get node.owed other ≡ Some origin)) →
     ((page origin : ℕ) → get owed page ≡ Some origin → has_copy node.arrivals origin ≡ true → has_copy arrivals origin ≡ true) →
     Wires (record source { phase = from }) (record node { phase = to }) forward back →
-    Wires (record source { phase = from }) (handled (record node { phase = to }) guest owed requests arrivals installed dropped faults) forward back
-wires_handled SourcePhase.Idle to source node forward back guest owed requests arrivals installed dropped faults values copies w = w
-wires_handled SourcePhase.Released to source node forward back guest owed requests arrivals installed dropped faults values copies w = w
-wires_handled SourcePhase.Precopy DestPhase.Idle source node forward back guest owed requests arrivals installed dropped faults values copies w = w
-wires_handled SourcePhase.Precopy DestPhase.Advised source node forward back guest owed requests arrivals installed dropped faults values copies w = w
-wires_handled SourcePhase.Precopy DestPhase.Discarding source node forward back guest owed requests arrivals installed dropped faults values copies w = w
-wires_handled SourcePhase.Precopy DestPhase.Running source node forward back guest owed requests arrivals installed dropped faults values copies w = w
-wires_handled SourcePhase.Precopy DestPhase.Paused source node forward back guest owed requests arrivals installed dropped faults values copies w = w
-wires_handled SourcePhase.Precopy DestPhase.Ended source node forward back guest owed requests arrivals installed dropped faults values copies w = w
-wires_handled SourcePhase.Stopped DestPhase.Idle source node forward back guest owed requests arrivals installed dropped faults values copies w = w
-wires_handled SourcePhase.Stopped DestPhase.Advised source node forward back guest owed requests arrivals installed dropped faults values copies w = w
-wires_handled SourcePhase.Stopped DestPhase.Discarding source node forward back guest owed requests arrivals installed dropped faults values copies w = w
-wires_handled SourcePhase.Stopped DestPhase.Running source node forward back guest owed requests arrivals installed dropped faults values copies w =
+    Wires (record source { phase = from }) (handled (record node { phase = to }) guest held owed requests arrivals installed dropped faults) forward back
+wires_handled SourcePhase.Idle to source node forward back guest held owed requests arrivals installed dropped faults values copies w = w
+wires_handled SourcePhase.Released to source node forward back guest held owed requests arrivals installed dropped faults values copies w = w
+wires_handled SourcePhase.Precopy DestPhase.Idle source node forward back guest held owed requests arrivals installed dropped faults values copies w = w
+wires_handled SourcePhase.Precopy DestPhase.Advised source node forward back guest held owed requests arrivals installed dropped faults values copies w = w
+wires_handled SourcePhase.Precopy DestPhase.Discarding source node forward back guest held owed requests arrivals installed dropped faults values copies w = w
+wires_handled SourcePhase.Precopy DestPhase.Running source node forward back guest held owed requests arrivals installed dropped faults values copies w = w
+wires_handled SourcePhase.Precopy DestPhase.Paused source node forward back guest held owed requests arrivals installed dropped faults values copies w = w
+wires_handled SourcePhase.Precopy DestPhase.Ended source node forward back guest held owed requests arrivals installed dropped faults values copies w = w
+wires_handled SourcePhase.Stopped DestPhase.Idle source node forward back guest held owed requests arrivals installed dropped faults values copies w = w
+wires_handled SourcePhase.Stopped DestPhase.Advised source node forward back guest held owed requests arrivals installed dropped faults values copies w = w
+wires_handled SourcePhase.Stopped DestPhase.Discarding source node forward back guest held owed requests arrivals installed dropped faults values copies w = w
+wires_handled SourcePhase.Stopped DestPhase.Running source node forward back guest held owed requests arrivals installed dropped faults values copies w =
     let old : Destination = record node { phase = DestPhase.Running } in
-    (w.0, w.1, still_flowing (record source { phase = SourcePhase.Stopped }) old (handled old guest owed requests arrivals installed dropped faults) forward values copies w.2)
-wires_handled SourcePhase.Stopped DestPhase.Paused source node forward back guest owed requests arrivals installed dropped faults values copies w = w
-wires_handled SourcePhase.Stopped DestPhase.Ended source node forward back guest owed requests arrivals installed dropped faults values copies w = w
-wires_handled SourcePhase.Paused DestPhase.Idle source node forward back guest owed requests arrivals installed dropped faults values copies w = w
-wires_handled SourcePhase.Paused DestPhase.Advised source node forward back guest owed requests arrivals installed dropped faults values copies w = w
-wires_handled SourcePhase.Paused DestPhase.Discarding source node forward back guest owed requests arrivals installed dropped faults values copies w = w
-wires_handled SourcePhase.Paused DestPhase.Running source node forward back guest owed requests arrivals installed dropped faults values copies w =
+    (w.0, w.1, still_flowing (record source { phase = SourcePhase.Stopped }) old (handled old guest held owed requests arrivals installed dropped faults) forward values copies w.2)
+wires_handled SourcePhase.Stopped DestPhase.Paused source node forward back guest held owed requests arrivals installed dropped faults values copies w = w
+wires_handled SourcePhase.Stopped DestPhase.Ended source node forward back guest held owed requests arrivals installed dropped faults values copies w = w
+wires_handled SourcePhase.Paused DestPhase.Idle source node forward back guest held owed requests arrivals installed dropped faults values copies w = w
+wires_handled SourcePhase.Paused DestPhase.Advised source node forward back guest held owed requests arrivals installed dropped faults values copies w = w
+wires_handled SourcePhase.Paused DestPhase.Discarding source node forward back guest held owed requests arrivals installed dropped faults values copies w = w
+wires_handled SourcePhase.Paused DestPhase.Running source node forward back guest held owed requests arrivals installed dropped faults values copies w =
     let old : Destination = record node { phase = DestPhase.Running } in
-    (w.0, still_receiving (record source { phase = SourcePhase.Paused }) old (handled old guest owed requests arrivals installed dropped faults) Received.Running back values w.1)
-wires_handled SourcePhase.Paused DestPhase.Paused source node forward back guest owed requests arrivals installed dropped faults values copies w = w
-wires_handled SourcePhase.Paused DestPhase.Ended source node forward back guest owed requests arrivals installed dropped faults values copies w =
+    (w.0, still_receiving (record source { phase = SourcePhase.Paused }) old (handled old guest held owed requests arrivals installed dropped faults) Received.Running back values w.1)
+wires_handled SourcePhase.Paused DestPhase.Paused source node forward back guest held owed requests arrivals installed dropped faults values copies w = w
+wires_handled SourcePhase.Paused DestPhase.Ended source node forward back guest held owed requests arrivals installed dropped faults values copies w =
     let old : Destination = record node { phase = DestPhase.Ended } in
-    (w.0, still_receiving (record source { phase = SourcePhase.Paused }) old (handled old guest owed requests arrivals installed dropped faults) Received.Ended back values w.1)
+    (w.0, still_receiving (record source { phase = SourcePhase.Paused }) old (handled old guest held owed requests arrivals installed dropped faults) Received.Ended back values w.1)
 
 -- The invariant
 
@@ -122,10 +125,10 @@ runs_memory : (runs : Bool) (world : World) → runs ≡ true → memory (curren
 runs_memory true world h = refl
 runs_memory false world h = absurd (false≢true h)
 
-pub kept-handled : (world : World) (guest : Guest) (owed : FinMap nat_cmp ℕ) (requests : List ℕ) (arrivals : List Copy) (installed dropped faults : ℕ) → IsKept world → world.destination.has_run ≡ true → IsHandled world guest owed arrivals →
-    IsKept (record world { destination = handled world.destination guest owed requests arrivals installed dropped faults })
-kept-handled world guest owed requests arrivals installed dropped faults kept runs new =
-    let node : Destination = handled world.destination guest owed requests arrivals installed dropped faults in
+pub kept-handled : (world : World) (guest : Guest) (held : List Fault) (owed : FinMap nat_cmp ℕ) (requests : List ℕ) (arrivals : List Copy) (installed dropped faults : ℕ) → IsKept world → world.destination.has_run ≡ true → IsHandled world guest owed arrivals →
+    IsKept (record world { destination = handled world.destination guest held owed requests arrivals installed dropped faults })
+kept-handled world guest held owed requests arrivals installed dropped faults kept runs new =
+    let node : Destination = handled world.destination guest held owed requests arrivals installed dropped faults in
     let next : World = record world { destination = node } in
     record {
       flat = kept.flat;
@@ -165,7 +168,7 @@ kept-handled world guest owed requests arrivals installed dropped faults kept ru
       ended_empty = new.ended;
       released_empty = kept.released_empty;
       down = kept.down;
-      wires = λ up. wires_handled world.source.phase world.destination.phase world.source world.destination world.forward world.back guest owed requests arrivals installed dropped faults new.values new.copies (kept.wires up);
+      wires = λ up. wires_handled world.source.phase world.destination.phase world.source world.destination world.forward world.back guest held owed requests arrivals installed dropped faults new.values new.copies (kept.wires up);
       forward_epoch = kept.forward_epoch;
       back_epoch = kept.back_epoch;
       epochs = kept.epochs;
@@ -194,15 +197,15 @@ empty-after message owed h =
 -- an event is read: the settled relation is as it was, and the owed table is what the event makes of it
 event_read : (message : Message) (cpu : ℕ) (events : List Noted) (world : World) (processors : List CpuState) (faults : ℕ) →
     IsKept (at_queues [] (record { message = message; cpu = cpu } ∷ events) world) → world.destination.has_run ≡ true →
-    IsKept (record world { destination = handled world.destination (record (at_queues [] events world).destination.guest { processors = processors }) (owed_table_after message world.destination.owed) world.destination.requests world.destination.arrivals world.destination.installed world.destination.dropped faults })
+    IsKept (record world { destination = handled world.destination (record (at_queues [] events world).destination.guest { cpus = processors }) world.destination.held (owed_table_after message world.destination.owed) world.destination.requests world.destination.arrivals world.destination.installed world.destination.dropped faults })
 event_read message cpu events world processors faults kept runs =
     let noted : Noted = record { message = message; cpu = cpu } in
     let old : World = at_queues [] (noted ∷ events) world in
     let owed : FinMap nat_cmp ℕ = world.destination.owed in
-    let guest : Guest = record (at_queues [] events world).destination.guest { processors = processors } in
+    let guest : Guest = record (at_queues [] events world).destination.guest { cpus = processors } in
     let right : AreRight (noted ∷ events) = kept.destination_events in
     let still : settled_by events (get (owed_table_after message owed)) ≡ settled_by (noted ∷ events) (get owed) = settled_by-applied noted events owed in
-    kept-handled old guest (owed_table_after message owed) world.destination.requests world.destination.arrivals world.destination.installed world.destination.dropped faults kept runs
+    kept-handled old guest world.destination.held (owed_table_after message owed) world.destination.requests world.destination.arrivals world.destination.installed world.destination.dropped faults kept runs
     (record {
       space = IsSoundSpace-read old.destination.guest.space kept.destination_space;
       unprotected = kept.unprotected;
@@ -221,10 +224,10 @@ event_read message cpu events world processors faults kept runs =
 
 -- a fault is only held
 fault_read : (noted : Noted) (faults events : List Noted) (world : World) (held : List Fault) (count : ℕ) → IsKept (at_queues (noted ∷ faults) events world) → world.destination.has_run ≡ true →
-    IsKept (record world { destination = handled world.destination (record (at_queues faults events world).destination.guest { held = held }) world.destination.owed world.destination.requests world.destination.arrivals world.destination.installed world.destination.dropped count })
+    IsKept (record world { destination = handled world.destination (at_queues faults events world).destination.guest held world.destination.owed world.destination.requests world.destination.arrivals world.destination.installed world.destination.dropped count })
 fault_read noted faults events world held count kept runs =
     let old : World = at_queues (noted ∷ faults) events world in
-    kept-handled old (record (at_queues faults events world).destination.guest { held = held }) world.destination.owed world.destination.requests world.destination.arrivals world.destination.installed world.destination.dropped count kept runs
+    kept-handled old (at_queues faults events world).destination.guest held world.destination.owed world.destination.requests world.destination.arrivals world.destination.installed world.destination.dropped count kept runs
     (record {
       space = IsSoundSpace-read old.destination.guest.space kept.destination_space;
       unprotected = kept.unprotected;
@@ -245,16 +248,16 @@ event_in : (message : Message) (cpu : ℕ) (events : List Noted) (world : World)
     IsKept (after_dest_read (at_queues [] (record { message = message; cpu = cpu } ∷ events) world) (record { message = message; cpu = cpu }))
 event_in (PageFault addr write wp) cpu events world kept runs = absurd (kept.destination_events.0)
 event_in (Remap from to len) cpu events world kept runs =
-    event_read (Remap from to len) cpu events world (all_woken (is_left_by (Remap from to len)) (set world.destination.guest.processors cpu (message_less (processor_at world.destination.guest.processors cpu)))) (world.destination.faults + 0) kept runs
+    event_read (Remap from to len) cpu events world (all_woken (is_left_by (Remap from to len)) (set world.destination.guest.cpus cpu (message_less (processor_at world.destination.guest.cpus cpu)))) (world.destination.faults + 0) kept runs
 event_in (Remove start end) cpu events world kept runs =
-    event_read (Remove start end) cpu events world (all_woken (is_left_by (Remove start end)) (set world.destination.guest.processors cpu (message_less (processor_at world.destination.guest.processors cpu)))) (world.destination.faults + 0) kept runs
+    event_read (Remove start end) cpu events world (all_woken (is_left_by (Remove start end)) (set world.destination.guest.cpus cpu (message_less (processor_at world.destination.guest.cpus cpu)))) (world.destination.faults + 0) kept runs
 event_in (Unmap start end) cpu events world kept runs =
-    event_read (Unmap start end) cpu events world (all_woken (is_left_by (Unmap start end)) (set world.destination.guest.processors cpu (message_less (processor_at world.destination.guest.processors cpu)))) (world.destination.faults + 0) kept runs
+    event_read (Unmap start end) cpu events world (all_woken (is_left_by (Unmap start end)) (set world.destination.guest.cpus cpu (message_less (processor_at world.destination.guest.cpus cpu)))) (world.destination.faults + 0) kept runs
 
 fault_in : (message : Message) (cpu : ℕ) (faults events : List Noted) (world : World) → IsKept (at_queues (record { message = message; cpu = cpu } ∷ faults) events world) → world.destination.has_run ≡ true →
     IsKept (after_dest_read (at_queues (record { message = message; cpu = cpu } ∷ faults) events world) (record { message = message; cpu = cpu }))
 fault_in (PageFault addr write wp) cpu faults events world kept runs =
-    fault_read (record { message = PageFault addr write wp; cpu = cpu }) faults events world (world.destination.guest.held ++ record { page = addr / 4096; wp = wp } ∷ []) (world.destination.faults + 1) kept runs
+    fault_read (record { message = PageFault addr write wp; cpu = cpu }) faults events world (world.destination.held ++ record { page = addr / 4096; wp = wp } ∷ []) (world.destination.faults + 1) kept runs
 fault_in (Remap from to len) cpu faults events world kept runs = absurd kept.destination_faults.0
 fault_in (Remove start end) cpu faults events world kept runs = absurd kept.destination_faults.0
 fault_in (Unmap start end) cpu faults events world kept runs = absurd kept.destination_faults.0

@@ -11,12 +11,13 @@ use Rattle.mig_base.specs.declared.phase.SourcePhase.{SourcePhase}
 use Rattle.mig_base.proofs.PageLemmas.{same_pages}
 use Rattle.mig_model.specs.Wire.{Sent, Copy}
 use Rattle.mig_model.specs.Wire.Frame.{End, Done}
-use Rattle.mig_model.specs.Nodes.{Source, no_pages}
 use Rattle.mig_model.specs.Migration.{World}
 use Rattle.mig_model.specs.Invariant.{Wires, IsKept, IsFlowing, AreOf, copies_of, has_copy, flow_of, RanAt}
 use Rattle.mig_model.specs.Invariant.Flow.{Pushed, AfterEnd}
 use Rattle.mig_model.proofs.WireLemmas.{AreOf-append, are_requests_and_done-push}
 use Rattle.mig_model.proofs.FirstFrame.{at_state, nothing_behind, delivered}
+use Rattle.mig_model.specs.Log.{no_pages}
+use Rattle.mig_model.specs.Source.{Source}
 
 eqb_true : (a b : ℕ) → eqb a b ≡ true → a ≡ b
 eqb_true a b h = grind (arith, nat_tests)

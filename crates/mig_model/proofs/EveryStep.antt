@@ -22,9 +22,9 @@ use Rattle.mig_model.proofs.DestinationRead.{kept-dest_read}
 use Rattle.mig_model.proofs.DestinationAct.{kept-dest_act}
 use Rattle.mig_model.proofs.Installing.{kept-install}
 use Rattle.mig_model.proofs.StaysComplete.{complete-next}
-use Rattle.mig_model.specs.Nodes.{present}
 use Rattle.mig_model.proofs.StepLemmas.{Leaves, leaves-next}
 use Rattle.mig_model.proofs.StepCases.{made-break, made-deliver, made-deliver_back, made-dest_act, made-dest_read, made-end, made-install, made-issue, made-notice, made-push, made-resume, made-retry, made-round, made-send, made-serve, made-source_act, made-source_read, made-start, made-switch}
+use Rattle.mig_model.specs.Log.{present}
 
 -- Commands: the node that runs the guest makes them
 

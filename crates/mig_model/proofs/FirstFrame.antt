@@ -7,10 +7,11 @@ use Rattle.mig_base.specs.declared.phase.SourcePhase.{SourcePhase}
 use Rattle.mig_base.specs.declared.refusal.Refusal.{Refusal}
 use Rattle.mig_model.specs.Wire.{Frame, Sent, copy_in}
 use Rattle.mig_model.specs.Wire.Frame.{Page, Zero, Discard, Package, End, Resume}
-use Rattle.mig_model.specs.Nodes.{Source, Destination}
 use Rattle.mig_model.specs.Migration.{World, after_deliver, after_deliver_back, next}
 use Rattle.mig_model.specs.Invariant.{Flow, flow_next, flow_after, Wires}
 use Rattle.mig_model.specs.Invariant.Flow.{BeforeAdvise, Copies, BeforePackage, Pushed, AfterEnd}
+use Rattle.mig_model.specs.Source.{Source}
+use Rattle.mig_model.specs.Destination.{Destination}
 
 -- a world with these phases and wires. Each world is one with its own
 abbrev pub at_state : SourcePhase → DestPhase → (ran up : Bool) → List Sent → World → World

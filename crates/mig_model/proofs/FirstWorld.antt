@@ -7,13 +7,13 @@ use Rattle.std.proofs.lemmas.Bool.{false≢true}
 use Rattle.mig_base.specs.declared.phase.SourcePhase.{SourcePhase}
 use Rattle.mig_model.specs.Space.{fresh_space}
 use Rattle.mig_model.specs.Ioctls.{all_features}
-use Rattle.mig_model.specs.Nodes.{no_pages}
 use Rattle.mig_model.specs.Migration.{first_world_with}
 use Rattle.mig_model.specs.Invariant.{IsKept}
 use Rattle.mig_model.proofs.HostLemmas.{memory-empty}
 use Rattle.mig_model.proofs.SpaceLemmas.{IsSoundSpace-fresh}
 use Rattle.mig_model.proofs.IoctlLemmas.{IsSoundSpace-enabled}
 use Rattle.mig_model.proofs.Stopping.{no_member}
+use Rattle.mig_model.specs.Log.{no_pages}
 
 none_is_some : {A : Type 0} (x : A) → None ≡ Some x → ⊥
 none_is_some x h = cc

@@ -21,13 +21,16 @@ use Rattle.mig_model.specs.Space.{fresh_space, IsSoundSpace}
 use Rattle.mig_model.specs.Guest.{is_present, is_changed_by}
 use Rattle.mig_model.specs.Wire.{Sent, kept_after}
 use Rattle.mig_model.specs.Wire.Frame.{Discard, Request, Recv}
-use Rattle.mig_model.specs.Nodes.{Source, no_pages, owed_after, settled_by, settled, released, space_of, present}
 use Rattle.mig_model.specs.Migration.{World, start}
 use Rattle.mig_model.specs.Invariant.{Wires, IsKept, IsPrecopying, IsSwitching, IsFlowing, AreOf, AreRight, AreFaithful, SwitchedAt, copies_of, has_copy, is_unread, are_requests, seen_host, current_host, flow_of}
 use Rattle.mig_model.specs.Invariant.Flow.{AfterEnd, Pushed}
 use Rattle.mig_model.proofs.FrameLemmas.{discard_none}
 use Rattle.mig_model.proofs.SpaceLemmas.{IsSoundSpace-fresh}
 use Rattle.mig_model.proofs.FirstFrame.{none_some, delivered_back}
+use Rattle.mig_model.specs.Log.{no_pages, present}
+use Rattle.mig_model.specs.Owed.{owed_after, settled_by}
+use Rattle.mig_model.specs.Source.{Source, released, space_of}
+use Rattle.mig_model.specs.Destination.{settled}
 
 -- a world with these phases and this wire back, whose link is up
 abbrev pub at_back : SourcePhase → DestPhase → (ran switched : Bool) → (forward back : List Sent) → World → World
@@ -99,10 +102,10 @@ released_kept from forward back rest world kept none last =
     let end_sent : new.source.end_epoch ≡ new.source.epoch → new.source.remaining ≡ no_pages = λ h. refl in
     let remaining_present : (page : ℕ) → contains new.source.remaining page ≡ true → is_present (space_of new.source) page ≡ true = λ page h. none_in page h in
     let paused_fresh : new.up ≡ true → new.source.phase ≡ SourcePhase.Paused → new.source.end_epoch ≢ new.source.epoch = λ u h. absurd (let e : SourcePhase.Released ≡ SourcePhase.Paused = h in cc) in
-    let idle_source : new.source.phase ≡ SourcePhase.Idle → (new.source.clean ≡ no_pages) × (new.source.todo ≡ no_pages) × (new.source.sent ≡ no_pages) × ((space_of new.source).object.events ≡ []) × ((page : ℕ) → contains (space_of new.source).object.missing page ≡ false) =
+    let idle_source : new.source.phase ≡ SourcePhase.Idle → (new.source.log.clean ≡ no_pages) × (new.source.log.todo ≡ no_pages) × (new.source.log.sent ≡ no_pages) × ((space_of new.source).object.events ≡ []) × ((page : ℕ) → contains (space_of new.source).object.missing page ≡ false) =
     λ h. absurd (let e : SourcePhase.Released ≡ SourcePhase.Idle = h in cc) in
-    let clean_protected : new.source.switched ≡ false → (page : ℕ) → contains new.source.clean page ≡ true → is_unread (space_of new.source).object.events page ≡ false → contains (space_of new.source).protected page ≡ true = λ h. absurd (not_up h) in
-    let todo_sendable : new.source.switched ≡ false → (page : ℕ) → contains new.source.todo page ≡ true → is_unread (space_of new.source).object.events page ≡ false → (is_present (space_of new.source) page ≡ true) × (contains (space_of new.source).object.protect page ≡ true) = λ h. absurd (not_up h) in
+    let clean_protected : new.source.switched ≡ false → (page : ℕ) → contains new.source.log.clean page ≡ true → is_unread (space_of new.source).object.events page ≡ false → contains (space_of new.source).protected page ≡ true = λ h. absurd (not_up h) in
+    let todo_sendable : new.source.switched ≡ false → (page : ℕ) → contains new.source.log.todo page ≡ true → is_unread (space_of new.source).object.events page ≡ false → (is_present (space_of new.source) page ≡ true) × (contains (space_of new.source).object.protect page ≡ true) = λ h. absurd (not_up h) in
     let origins_present : (page origin : ℕ) → get new.destination.owed page ≡ Some origin → is_present (space_of new.source) origin ≡ true =
     λ page origin h. absurd (none_some origin (sym (get-empty nat_cmp page) ∙ sym (ap (λ o. get o page) bare.0) ∙ h)) in
     let arrivals_faithful : new.destination.has_run ≡ true → AreFaithful (space_of new.source).host.bytes new.destination.arrivals = λ h. subst (AreFaithful fresh_space.host.bytes) (sym bare.1) tt in
@@ -130,10 +133,10 @@ recv_precopy owed epoch rest world kept last =
     let before_switch : new.source.switched ≡ false → (new.source.remaining ≡ no_pages) × (new.source.end_epoch ≢ new.source.epoch ⊎ (new.source.phase ≡ SourcePhase.Idle)) =
     λ h. ((kept.before_switch refl).0, inl (kept.paused_fresh refl refl)) in
     let paused_fresh : new.up ≡ true → new.source.phase ≡ SourcePhase.Paused → new.source.end_epoch ≢ new.source.epoch = λ u h. kept.paused_fresh refl refl in
-    let idle_source : new.source.phase ≡ SourcePhase.Idle → (new.source.clean ≡ no_pages) × (new.source.todo ≡ no_pages) × (new.source.sent ≡ no_pages) × ((space_of new.source).object.events ≡ []) × ((page : ℕ) → contains (space_of new.source).object.missing page ≡ false) =
+    let idle_source : new.source.phase ≡ SourcePhase.Idle → (new.source.log.clean ≡ no_pages) × (new.source.log.todo ≡ no_pages) × (new.source.log.sent ≡ no_pages) × ((space_of new.source).object.events ≡ []) × ((page : ℕ) → contains (space_of new.source).object.missing page ≡ false) =
     λ h. absurd (let e : SourcePhase.Precopy ≡ SourcePhase.Idle = h in cc) in
-    let clean_protected : new.source.switched ≡ false → (page : ℕ) → contains new.source.clean page ≡ true → is_unread (space_of new.source).object.events page ≡ false → contains (space_of new.source).protected page ≡ true = λ s page h. none_in page h in
-    let todo_sendable : new.source.switched ≡ false → (page : ℕ) → contains new.source.todo page ≡ true → is_unread (space_of new.source).object.events page ≡ false → (is_present (space_of new.source) page ≡ true) × (contains (space_of new.source).object.protect page ≡ true) = λ s page h. none_in page h in
+    let clean_protected : new.source.switched ≡ false → (page : ℕ) → contains new.source.log.clean page ≡ true → is_unread (space_of new.source).object.events page ≡ false → contains (space_of new.source).protected page ≡ true = λ s page h. none_in page h in
+    let todo_sendable : new.source.switched ≡ false → (page : ℕ) → contains new.source.log.todo page ≡ true → is_unread (space_of new.source).object.events page ≡ false → (is_present (space_of new.source) page ≡ true) × (contains (space_of new.source).object.protect page ≡ true) = λ s page h. none_in page h in
     let released_empty : new.source.phase ≡ SourcePhase.Released → (space_of new.source ≡ fresh_space) × (new.source.remaining ≡ no_pages) = λ h. absurd (let e : SourcePhase.Precopy ≡ SourcePhase.Released = h in cc) in
     let precopying : IsPrecopying new.source new.destination.kept new.forward =
     record {
@@ -188,7 +191,7 @@ recv_switched owed epoch rest world kept last =
     let before_switch : new.source.switched ≡ false → (new.source.remaining ≡ no_pages) × (new.source.end_epoch ≢ new.source.epoch ⊎ (new.source.phase ≡ SourcePhase.Idle)) = λ h. absurd (not_up h) in
     let end_sent : new.source.end_epoch ≡ new.source.epoch → new.source.remaining ≡ no_pages = λ h. absurd (fresh h) in
     let paused_fresh : new.up ≡ true → new.source.phase ≡ SourcePhase.Paused → new.source.end_epoch ≢ new.source.epoch = λ u h. fresh in
-    let idle_source : new.source.phase ≡ SourcePhase.Idle → (new.source.clean ≡ no_pages) × (new.source.todo ≡ no_pages) × (new.source.sent ≡ no_pages) × ((space_of new.source).object.events ≡ []) × ((page : ℕ) → contains (space_of new.source).object.missing page ≡ false) =
+    let idle_source : new.source.phase ≡ SourcePhase.Idle → (new.source.log.clean ≡ no_pages) × (new.source.log.todo ≡ no_pages) × (new.source.log.sent ≡ no_pages) × ((space_of new.source).object.events ≡ []) × ((page : ℕ) → contains (space_of new.source).object.missing page ≡ false) =
     λ h. absurd (let e : SourcePhase.Stopped ≡ SourcePhase.Idle = h in cc) in
     let released_empty : new.source.phase ≡ SourcePhase.Released → (space_of new.source ≡ fresh_space) × (new.source.remaining ≡ no_pages) = λ h. absurd (let e : SourcePhase.Stopped ≡ SourcePhase.Released = h in cc) in
     let remaining_present : (page : ℕ) → contains new.source.remaining page ≡ true → is_present (space_of new.source) page ≡ true = λ page h. present_tells (ltb page HIGH_PAGE) (is_present world.source.guest.space page) (sym (here page) ∙ h) in
@@ -223,7 +226,7 @@ recv_running owed epoch rest world kept requests needed owed_present =
     let before_switch : new.source.switched ≡ false → (new.source.remaining ≡ no_pages) × (new.source.end_epoch ≢ new.source.epoch ⊎ (new.source.phase ≡ SourcePhase.Idle)) = λ h. absurd (not_up h) in
     let end_sent : new.source.end_epoch ≡ new.source.epoch → new.source.remaining ≡ no_pages = λ h. absurd (fresh h) in
     let paused_fresh : new.up ≡ true → new.source.phase ≡ SourcePhase.Paused → new.source.end_epoch ≢ new.source.epoch = λ u h. fresh in
-    let idle_source : new.source.phase ≡ SourcePhase.Idle → (new.source.clean ≡ no_pages) × (new.source.todo ≡ no_pages) × (new.source.sent ≡ no_pages) × ((space_of new.source).object.events ≡ []) × ((page : ℕ) → contains (space_of new.source).object.missing page ≡ false) =
+    let idle_source : new.source.phase ≡ SourcePhase.Idle → (new.source.log.clean ≡ no_pages) × (new.source.log.todo ≡ no_pages) × (new.source.log.sent ≡ no_pages) × ((space_of new.source).object.events ≡ []) × ((page : ℕ) → contains (space_of new.source).object.missing page ≡ false) =
     λ h. absurd (let e : SourcePhase.Stopped ≡ SourcePhase.Idle = h in cc) in
     let released_empty : new.source.phase ≡ SourcePhase.Released → (space_of new.source ≡ fresh_space) × (new.source.remaining ≡ no_pages) = λ h. absurd (let e : SourcePhase.Stopped ≡ SourcePhase.Released = h in cc) in
     let remaining_present : (page : ℕ) → contains new.source.remaining page ≡ true → is_present (space_of new.source) page ≡ true = owed_present in

@@ -14,17 +14,20 @@ use Rattle.mig_base.proofs.PageLemmas.{same_pages}
 use Rattle.mig_model.specs.Host.{IsSound}
 use Rattle.std.specs.Prelude.{length}
 use lib.ListN.{length-map}
-use Rattle.mig_model.specs.Guest.{is_present, outstanding}
+use Rattle.mig_model.specs.Guest.{is_present}
 use Rattle.mig_model.specs.Space.{Space}
 use Rattle.mig_model.specs.Wire.{Frame, Sent}
 use Rattle.mig_model.specs.Wire.Frame.{Advise, Page, Zero, Discard, Package, End, Resume, Request, Recv, Done}
-use Rattle.mig_model.specs.Nodes.{Source, Destination, space_of, commands_of, no_pages, is_stopped, is_source_paused}
 use Rattle.mig_model.specs.Migration.{World}
 use Rattle.mig_model.specs.Invariant.{IsKept, IsSwitching, IsFlowing, IsReceiving, EpochAt, AreOf, flow_of, is_request, is_done, is_none, are_requests, are_requests_and_done}
 use Rattle.mig_model.specs.Promises.{is_in_place, IsOwnEpoch, IsGood, IsTaken, IsInPlaceBack}
 use Rattle.mig_model.proofs.Stopping.{none_absurd, no_member}
 use Rattle.mig_model.proofs.FirstFrame.{comes, first_in_place, nothing_behind}
 use Rattle.mig_model.proofs.EndTaken.{ended_now, nowhere, none_owed}
+use Rattle.mig_model.specs.Cpus.{outstanding}
+use Rattle.mig_model.specs.Log.{no_pages, present}
+use Rattle.mig_model.specs.Source.{Source, commands_of, is_source_paused, is_stopped, space_of}
+use Rattle.mig_model.specs.Destination.{Destination}
 
 -- In place
 
@@ -86,17 +89,17 @@ kept_unless true bytes h = none_absurd h
 kept_unless false bytes h = h
 
 package_good : (source : Source) (node : Destination) (epoch : ℕ) (areas : FinMap nat_cmp Prot) (owed : FinSet nat_cmp) (commands : List (Option Command)) (rest : List Sent) → IsSound (space_of source).host →
-    IsSwitching source node.kept (record { epoch = epoch; frame = Package areas owed commands } ∷ rest) → length node.guest.processors ≡ length source.guest.processors → IsGood node (Package areas owed commands)
+    IsSwitching source node.kept (record { epoch = epoch; frame = Package areas owed commands } ∷ rest) → length node.guest.cpus ≡ length source.guest.cpus → IsGood node (Package areas owed commands)
 unfolding areas_in owed_in commands_in
 package_good source node epoch areas owed commands rest sound told many =
-    let plan = same_some (Package areas owed commands) (Package (space_of source).host.areas told.owed (commands_of source.guest.processors)) told.plan in
+    let plan = same_some (Package areas owed commands) (Package (space_of source).host.areas told.owed (commands_of source.guest.cpus)) told.plan in
     let same_areas : areas ≡ (space_of source).host.areas = ap (λ f. areas_in f areas) plan in
     let same_owed : owed ≡ told.owed = ap (λ f. owed_in f owed) plan in
     let among = λ (page : ℕ) (h : contains owed page ≡ true). ap (λ s. contains s page) (sym same_owed) ∙ h in (
       λ page h. ap is_some (told.kept_rest page) ∙ ap (λ b. is_some (cond b None (get (space_of source).host.bytes page))) (among page h),
       λ page h. ap (λ m. contains_key m page) same_areas ∙ mapped_of (space_of source) page sound (told.owed_present page (among page h)),
       λ page h. ap (λ m. contains_key m page) same_areas ∙ mapped_of (space_of source) page sound (kept_unless (contains told.owed page) (get (space_of source).host.bytes page) (sym (ap is_some (told.kept_rest page)) ∙ h)),
-      ap length (ap (λ f. commands_in f commands) plan) ∙ length-map source.guest.processors outstanding ∙ sym many,
+      ap length (ap (λ f. commands_in f commands) plan) ∙ length-map source.guest.cpus outstanding ∙ sym many,
     )
 
 -- a world in these phases, with this first frame
@@ -105,7 +108,7 @@ with_first from to epoch frame rest world = record world { source = record world
 
 -- both nodes have as many processors
 abbrev pub AreAsMany : World → Type 0
-AreAsMany world = length world.destination.guest.processors ≡ length world.source.guest.processors
+AreAsMany world = length world.destination.guest.cpus ≡ length world.source.guest.cpus
 
 end_good : (epoch : ℕ) (rest : List Sent) (world : World) → world.up ≡ true → IsKept (with_first SourcePhase.Stopped DestPhase.Running epoch End rest world) → world.destination.arrivals ≡ [] → world.destination.owed ≡ finmap.empty
 end_good epoch rest world up kept free =

@@ -20,9 +20,8 @@ use Rattle.mig_model.specs.Userfault.{Noted}
 use Rattle.mig_model.specs.Space.{Space, IsSoundSpace}
 use Rattle.mig_model.specs.Ioctls.{put_pages}
 use Rattle.mig_model.specs.Ioctls.{put_pages, installed as pages_installed}
-use Rattle.mig_model.specs.Guest.{Guest, all_woken, is_present}
+use Rattle.mig_model.specs.Guest.{Guest, is_present}
 use Rattle.mig_model.specs.Wire.{Copy}
-use Rattle.mig_model.specs.Nodes.{space_of, home, install_by, without_request, present}
 use Rattle.mig_model.specs.Migration.{World, outcome, next, after_install, install_effect, is_changing, runs}
 use Rattle.mig_model.specs.Invariant.{IsKept, AreFaithful, has_copy, seen_host, seen_bytes}
 use Rattle.mig_model.specs.Promises.{IsPut}
@@ -31,6 +30,11 @@ use Rattle.mig_model.proofs.SettledLemmas.{none_some, none_absurd, eqb_true, eqb
 use Rattle.mig_model.proofs.DestinationRead.{kept-handled}
 use Rattle.mig_model.proofs.StepLemmas.{holds-effect}
 use Rattle.mig_model.proofs.StepCases.{made-install}
+use Rattle.mig_model.specs.Cpus.{all_woken}
+use Rattle.mig_model.specs.Log.{present}
+use Rattle.mig_model.specs.Owed.{home, without_request}
+use Rattle.mig_model.specs.Source.{space_of}
+use Rattle.mig_model.specs.Destination.{install_by}
 
 -- One page put
 
@@ -152,10 +156,10 @@ put_there copy rest world page kept runs found =
     let space : Space = old.destination.guest.space in
     let owed : FinMap nat_cmp ℕ = world.destination.owed in
     let new : Space = pages_installed space page 1 (λ i. copy.bytes) false in
-    let guest : Guest = record old.destination.guest { space = new; processors = all_woken (λ q. eqb q page) world.destination.guest.processors } in
+    let guest : Guest = record old.destination.guest { space = new; cpus = all_woken (λ q. eqb q page) world.destination.guest.cpus } in
     let there = has_home copy rest world page kept runs found in
     let faithful : AreFaithful (space_of world.source).host.bytes (copy ∷ rest) = kept.arrivals_faithful runs in
-    kept-handled old guest (finmap.remove owed page) (without_request world.destination.requests copy.page) rest (world.destination.installed + 1) world.destination.dropped world.destination.faults kept runs
+    kept-handled old guest world.destination.held (finmap.remove owed page) (without_request world.destination.requests copy.page) rest (world.destination.installed + 1) world.destination.dropped world.destination.faults kept runs
     (record {
       space = put-sound space page copy.bytes (kept.destination_space.mapped page (or_first (contains space.object.missing page) (contains space.object.protect page) there.registered)) (kept.source_space.host.whole copy.page copy.bytes there.same) kept.destination_space;
       unprotected = put-unprotected space page copy.bytes kept.unprotected;
@@ -186,7 +190,7 @@ given_up : (copy : Copy) (rest : List Copy) (world : World) → IsKept (at_copie
 given_up copy rest world kept runs lost =
     let old : World = at_copies [] (copy ∷ rest) world in
     let faithful : AreFaithful (space_of world.source).host.bytes (copy ∷ rest) = kept.arrivals_faithful runs in
-    kept-handled old old.destination.guest world.destination.owed world.destination.requests rest world.destination.installed (world.destination.dropped + 1) world.destination.faults kept runs
+    kept-handled old old.destination.guest world.destination.held world.destination.owed world.destination.requests rest world.destination.installed (world.destination.dropped + 1) world.destination.faults kept runs
     (record {
       space = kept.destination_space;
       unprotected = kept.unprotected;

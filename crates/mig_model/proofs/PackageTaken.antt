@@ -21,10 +21,13 @@ use Rattle.mig_model.specs.Space.{fresh_space, IsSoundSpace}
 use Rattle.mig_model.specs.Guest.{is_present}
 use Rattle.mig_model.specs.Wire.{Sent}
 use Rattle.mig_model.specs.Wire.Frame.{Package}
-use Rattle.mig_model.specs.Nodes.{Source, no_pages, assembled, own_places, settled, space_of, commands_of, present}
 use Rattle.mig_model.specs.Migration.{World}
 use Rattle.mig_model.specs.Invariant.{Wires, IsKept, IsSwitching, AreOf, AreRight, AreFaults, AreFaithful, copies_of, has_copy, RanAt, are_requests, seen_host, seen_bytes, current_host}
 use Rattle.mig_model.proofs.FirstFrame.{at_state, none_some, delivered}
+use Rattle.mig_model.specs.Log.{no_pages, present}
+use Rattle.mig_model.specs.Owed.{own_places}
+use Rattle.mig_model.specs.Source.{Source, commands_of, space_of}
+use Rattle.mig_model.specs.Destination.{assembled, settled}
 
 -- Owed pages at their own places
 
@@ -177,7 +180,7 @@ record IsPlan (source : Source) (kept : FinMap nat_cmp (List ℕ)) (rest : List 
 plan_of : (source : Source) (kept : FinMap nat_cmp (List ℕ)) (rest : List Sent) (epoch : ℕ) (areas : FinMap nat_cmp Prot) (owed : FinSet nat_cmp) (commands : List (Option Command)) →
     IsSwitching source kept (record { epoch = epoch; frame = Package areas owed commands } ∷ rest) → IsPlan source kept rest areas owed
 plan_of source kept rest epoch areas owed commands w =
-    let plan : Some (Package areas owed commands) ≡ Some (Package (space_of source).host.areas w.owed (commands_of source.guest.processors)) = w.plan in
+    let plan : Some (Package areas owed commands) ≡ Some (Package (space_of source).host.areas w.owed (commands_of source.guest.cpus)) = w.plan in
     let same_owed : w.owed ≡ owed = cc in
     record {
       same = cc;

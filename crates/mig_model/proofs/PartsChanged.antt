@@ -12,12 +12,14 @@ use Rattle.mig_model.specs.World.{is_access}
 use Rattle.mig_model.specs.Guest.{Guest, Fault, tried}
 use Rattle.mig_model.specs.Wire.{Frame, Sent, page_frame, sending, sending_if}
 use Rattle.mig_model.specs.Wire.Frame.{Advise, End, Resume}
-use Rattle.mig_model.specs.Nodes.{Source, Destination, bytes_of, source_started, page_sent, switch_made, switch_frames, page_pushed, source_took, source_answers, present}
 use Rattle.mig_model.specs.Migration.{World, next, guest_of, with_guest_by, after_command, source_sends, after_deliver, after_deliver_back, after_dest_act, answer}
 use Rattle.mig_model.specs.Parts.{Grows, Shrinks, GuestAlone, SourceAlone, DestinationAlone, Delivers, DeliversBack, ChangesParts}
 use Rattle.mig_model.proofs.Stopping.{append-nil}
 use Rattle.mig_model.proofs.StepLemmas.{Leaves, leaves-next}
 use Rattle.mig_model.proofs.StepCases.{made-break, made-deliver, made-deliver_back, made-dest_act, made-dest_read, made-end, made-install, made-issue, made-notice, made-push, made-resume, made-retry, made-round, made-send, made-serve, made-source_act, made-source_read, made-start, made-switch}
+use Rattle.mig_model.specs.Log.{present}
+use Rattle.mig_model.specs.Source.{Source, bytes_of, page_pushed, page_sent, source_answers, source_started, source_took, switch_frames, switch_made}
+use Rattle.mig_model.specs.Destination.{Destination}
 
 as_it_was : (wire : List Sent) → Grows wire wire
 as_it_was wire = record { more = []; is = sym (append-nil wire) }

@@ -17,13 +17,16 @@ use Rattle.mig_base.proofs.PageLemmas.{same_pages, get-map_below}
 use Rattle.mig_model.specs.Host.{Host, memory, IsSound}
 use Rattle.mig_model.specs.Userfault.{Noted}
 use Rattle.mig_model.specs.Guest.{Fault, is_present}
-use Rattle.mig_model.specs.Nodes.{is_released, is_stopped, is_precopy, is_source_paused, is_running, space_of, source_act, source_act_by, destination_act, destination_act_by, owed_after, settled, settled_by}
-use Rattle.mig_model.specs.Nodes.Act.{Zeroed}
+use Rattle.mig_model.specs.Guest.Act.{Zeroed}
 use Rattle.mig_model.specs.Migration.{World}
 use Rattle.mig_model.specs.Invariant.{IsKept, IsPrecopying, IsSwitching, IsReceiving, RanAt, seen_bytes, seen_host, current_by, copies_of, has_copy}
 use Rattle.mig_model.specs.Promises.{IsComplete, IsAlone, ArePaired, AreUnderWay}
 use Rattle.mig_model.proofs.Stopping.{in_phases, none_absurd}
 use Rattle.mig_model.proofs.SettledLemmas.{IsOneToOne-settled, values-settled}
+use Rattle.mig_model.specs.Log.{forgotten, present}
+use Rattle.mig_model.specs.Owed.{owed_after, settled_by}
+use Rattle.mig_model.specs.Source.{is_precopy, is_released, is_source_paused, is_stopped, released, source_act, source_act_by, space_of}
+use Rattle.mig_model.specs.Destination.{arrived, destination_act, destination_act_by, is_running, settled}
 
 -- A table without pairs
 

@@ -16,11 +16,12 @@ use Rattle.mig_base.proofs.SetLemmas.{member_below}
 use Rattle.mig_model.specs.Host.{Host, IsSound}
 use Rattle.mig_model.specs.Wire.{Frame, Sent, sending}
 use Rattle.mig_model.specs.Wire.Frame.{Resume, Request, Recv}
-use Rattle.mig_model.specs.Nodes.{no_pages, owes_to, home, origins}
 use Rattle.mig_model.specs.Migration.{World}
 use Rattle.mig_model.specs.Invariant.{Wires, IsKept, IsReceiving, AreOf, RanAt, EpochAt}
 use Rattle.mig_model.proofs.WireLemmas.{sending-behind, AreOf-sending, are_requests-sending}
 use Rattle.mig_model.proofs.FirstFrame.{at_state, none_some, delivered}
+use Rattle.mig_model.specs.Log.{no_pages}
+use Rattle.mig_model.specs.Owed.{home, origins, owes_to}
 
 -- The pages that are still needed
 

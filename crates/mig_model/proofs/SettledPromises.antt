@@ -22,11 +22,10 @@ use Rattle.mig_model.specs.Host.{memory}
 use Rattle.mig_model.specs.World.{is_access}
 use Rattle.mig_model.specs.Userfault.{Noted, Object, waits_fault, next_of}
 use Rattle.mig_model.specs.Space.{Space, access_of, accessed_by, page_of}
-use Rattle.mig_model.specs.Guest.{tried, outstanding, processor_at}
+use Rattle.mig_model.specs.Guest.{tried, Act}
 use Rattle.mig_model.specs.Wire.{Frame, Sent, Copy}
 use Rattle.mig_model.specs.Wire.Frame.{Advise, Page, Zero, Discard, Package, End, Resume, Request, Recv, Done}
-use Rattle.mig_model.specs.Nodes.{Destination, Act, settled, settled_by, home, install_by, copy_came, resumed_by, received_of, destination_took, destination_act, destination_acted_by, present}
-use Rattle.mig_model.specs.Nodes.Act.{Unprotected, Zeroed, Woke, Forgot, Requested}
+use Rattle.mig_model.specs.Guest.Act.{Unprotected, Zeroed, Woke, Forgot, Requested}
 use Rattle.mig_model.specs.Migration.{World, with_guest_by, guest_by, next, outcome, install_effect, after_command, after_dest_read, answer, guest_of, runs, start}
 use Rattle.mig_model.specs.Invariant.{IsKept, AreFaults, AreRight, is_package}
 use Rattle.mig_model.specs.Promises.{owed_changed, leaves_settled, AreAccesses}
@@ -40,6 +39,10 @@ use Rattle.mig_model.proofs.WaitingCommands.{package_told}
 use Rattle.mig_model.proofs.StepLemmas.{Leaves, holds-effect, leaves-next, leaves-ok}
 use Rattle.mig_model.proofs.StepCases.{made-break, made-deliver, made-deliver_back, made-dest_act, made-dest_read, made-end, made-install, made-issue, made-notice, made-push, made-resume, made-retry, made-round, made-send, made-serve, made-source_act, made-source_read, made-start, made-switch}
 use Rattle.mig_model.proofs.DestinationRead.{none_is, some_is}
+use Rattle.mig_model.specs.Cpus.{outstanding, processor_at}
+use Rattle.mig_model.specs.Log.{present}
+use Rattle.mig_model.specs.Owed.{home, settled_by}
+use Rattle.mig_model.specs.Destination.{Destination, copy_came, destination_act, destination_acted_by, destination_took, install_by, received_of, resumed_by, settled}
 
 -- A map call at the destination
 
@@ -152,11 +155,11 @@ settled_install world addr source answered page =
 -- Any other step
 
 -- where the destination runs, what waits there is a load or a store
-waits_by : (ran : Bool) (world : World) (cpu : ℕ) (command : Command) → AreAccesses world → ran ≡ true → outstanding (processor_at (guest_by ran world.source.guest world.destination.guest).processors cpu) ≡ Some command → is_access command ≡ true
+waits_by : (ran : Bool) (world : World) (cpu : ℕ) (command : Command) → AreAccesses world → ran ≡ true → outstanding (processor_at (guest_by ran world.source.guest world.destination.guest).cpus cpu) ≡ Some command → is_access command ≡ true
 waits_by true world cpu command waits ran is = waits.destination cpu command is
 waits_by false world cpu command waits ran is = absurd (false≢true ran)
 
-waits_here : (world : World) (cpu : ℕ) (command : Command) → AreAccesses world → world.destination.has_run ≡ true → outstanding (processor_at (guest_of world).processors cpu) ≡ Some command → is_access command ≡ true
+waits_here : (world : World) (cpu : ℕ) (command : Command) → AreAccesses world → world.destination.has_run ≡ true → outstanding (processor_at (guest_of world).cpus cpu) ≡ Some command → is_access command ≡ true
 waits_here world cpu command waits ran is = waits_by world.destination.has_run world cpu command waits ran is
 
 came_settled : (ran : Bool) (node : Destination) (copy : Copy) (page : ℕ) → settled (copy_came ran node copy) page ≡ settled node page

@@ -20,8 +20,7 @@ use Rattle.mig_model.specs.Host.{Host, memory, host_changed, host_after, IsSound
 use Rattle.mig_model.specs.World.{is_access}
 use Rattle.mig_model.specs.Userfault.{Object, fault_queued, waits_fault}
 use Rattle.mig_model.specs.Space.{Space, IsSoundSpace, is_made, access_of, accessed_by, called, queued_by, call_messages, modes_after}
-use Rattle.mig_model.specs.Guest.{access_took, call_took, took_by, tried, entries_of}
-use Rattle.mig_model.specs.Nodes.{space_of}
+use Rattle.mig_model.specs.Guest.{took_by, tried}
 use Rattle.mig_model.specs.Migration.{World, after_command, answer, made}
 use Rattle.mig_model.specs.Invariant.{IsKept, AreRight, is_unread}
 use Rattle.mig_model.proofs.HostLemmas.{get-put}
@@ -32,6 +31,8 @@ use Rattle.mig_model.proofs.SourceMessages.{noted_all, events_queued, tells, is_
 use Rattle.mig_model.proofs.SourceCalls.{untouched}
 use Rattle.mig_model.proofs.SourceEvents.{IsUnregistered, right_messages, no_messages, modes_same, none_missing, modes_events, queued_missing, queued_protect}
 use Rattle.mig_model.proofs.SourceTests.{none_absurd, never_true, and_both, or_second, or_none, some_either, append_nil, eqb_tells}
+use Rattle.mig_model.specs.Cpus.{access_took, call_took, entries_of}
+use Rattle.mig_model.specs.Source.{space_of}
 
 -- The transcript
 
@@ -98,7 +99,7 @@ elsewhere space (DontNeed addr len) page other access answered watched protected
 
 answered_changed : (world : World) (cpu : ℕ) (command : Command) (reply : Reply) (processors : List CpuState) → IsKept world → world.destination.has_run ≡ false → world.source.switched ≡ false → is_access command ≡ true →
     access_of (space_of world.source) command ≡ Answered reply →
-    IsChanged world.source (record world.source.guest { space = record (space_of world.source) { host = host_after (space_of world.source).host command }; processors = processors }) world.source.clean world.source.todo
+    IsChanged world.source (record world.source.guest { space = record (space_of world.source) { host = host_after (space_of world.source).host command }; cpus = processors }) world.source.log.clean world.source.log.todo
     (world.transcript ++ record { cpu = cpu; command = command; reply = reply } ∷ [])
 answered_changed world cpu command reply processors kept bare unswitched access answered =
     let space = space_of world.source in
@@ -138,7 +139,7 @@ faulted_alike object addr write wp cpu = alike_if (waits_fault object.faults add
 
 slept_changed : (world : World) (processors : List CpuState) (object : Object) → IsKept world → world.destination.has_run ≡ false → world.source.switched ≡ false → IsAlike (space_of world.source).object object →
     IsSoundSpace (record (space_of world.source) { object = object }) →
-    IsChanged world.source (record world.source.guest { space = record (space_of world.source) { object = object }; processors = processors }) world.source.clean world.source.todo (world.transcript ++ [])
+    IsChanged world.source (record world.source.guest { space = record (space_of world.source) { object = object }; cpus = processors }) world.source.log.clean world.source.log.todo (world.transcript ++ [])
 slept_changed world processors object kept bare unswitched alike sound =
     let space = space_of world.source in
     let events = alike.events in
@@ -157,7 +158,7 @@ slept_changed world processors object kept bare unswitched alike sound =
 
 access_changed : (world : World) (cpu : ℕ) (command : Command) (processors : List CpuState) (answer : Access) → IsKept world → world.destination.has_run ≡ false → world.source.switched ≡ false → is_access command ≡ true →
     access_of (space_of world.source) command ≡ answer →
-    IsChanged world.source (record world.source.guest { space = accessed_by answer (space_of world.source) cpu command; processors = processors }) world.source.clean world.source.todo
+    IsChanged world.source (record world.source.guest { space = accessed_by answer (space_of world.source) cpu command; cpus = processors }) world.source.log.clean world.source.log.todo
     (world.transcript ++ entries_of cpu command (access_took answer))
 access_changed world cpu command processors (Answered reply) kept bare unswitched access is = answered_changed world cpu command reply processors kept bare unswitched access is
 access_changed world cpu command processors Missing kept bare unswitched access is =
@@ -174,7 +175,7 @@ entered_once cpu command reply zero = refl
 entered_once cpu command reply (suc count) = refl
 
 call_changed : (world : World) (cpu : ℕ) (command : Command) (processors : List CpuState) → IsKept world → world.destination.has_run ≡ false → world.source.switched ≡ false → is_access command ≡ false →
-    IsChanged world.source (record world.source.guest { space = called (space_of world.source) cpu command; processors = processors }) world.source.clean world.source.todo
+    IsChanged world.source (record world.source.guest { space = called (space_of world.source) cpu command; cpus = processors }) world.source.log.clean world.source.log.todo
     (world.transcript ++ entries_of cpu command (call_took (reply_of (memory (space_of world.source).host) command) (queued_by (space_of world.source) command)))
 call_changed world cpu command processors kept bare unswitched call =
     let space = space_of world.source in
@@ -219,7 +220,7 @@ call_changed world cpu command processors kept bare unswitched call =
 -- Every command
 
 tried_changed : (world : World) (cpu : ℕ) (command : Command) (access : Bool) → IsKept world → world.destination.has_run ≡ false → world.source.switched ≡ false → is_access command ≡ access →
-    IsChanged world.source (tried access world.source.guest cpu command) world.source.clean world.source.todo (world.transcript ++ entries_of cpu command (took_by access (space_of world.source) command))
+    IsChanged world.source (tried access world.source.guest cpu command) world.source.log.clean world.source.log.todo (world.transcript ++ entries_of cpu command (took_by access (space_of world.source) command))
 tried_changed world cpu command true kept bare unswitched is = access_changed world cpu command _ (access_of (space_of world.source) command) kept bare unswitched is refl
 tried_changed world cpu command false kept bare unswitched is = call_changed world cpu command _ kept bare unswitched is
 
@@ -236,6 +237,6 @@ command_at_source world cpu command bare = rw bare refl
 pub kept-command_at_source : (world : World) (cpu : ℕ) (command : Command) → world.destination.has_run ≡ false → world.source.switched ≡ false → IsKept world → IsKept (after_command world cpu command)
 kept-command_at_source world cpu command bare unswitched kept =
     subst IsKept (command_at_source world cpu command bare)
-    (changed world (tried (is_access command) world.source.guest cpu command) world.source.clean world.source.todo world.source.rounds world.source.faults
+    (changed world (tried (is_access command) world.source.guest cpu command) world.source.log.clean world.source.log.todo world.source.log.held world.source.rounds world.source.faults
     (world.transcript ++ entries_of cpu command (took_by (is_access command) (space_of world.source) command)) kept bare unswitched
     (tried_changed world cpu command (is_access command) kept bare unswitched refl))

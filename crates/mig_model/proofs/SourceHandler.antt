@@ -18,9 +18,8 @@ use Rattle.mig_base.proofs.SetLemmas.{member_below, member_removed}
 use Rattle.mig_model.specs.Userfault.{Noted, Object, is_registered, next_of, next_message, read_by, message_read}
 use Rattle.mig_model.specs.Space.{Space, IsSoundSpace}
 use Rattle.mig_model.specs.Ioctls.{protected_in}
-use Rattle.mig_model.specs.Guest.{Fault, is_changed_by, read_guest, zero_installed, is_forgotten, is_present}
-use Rattle.mig_model.specs.Nodes.{Act, space_of, unchanged, is_source_idle, source_act, source_act_by, source_acted_by, present}
-use Rattle.mig_model.specs.Nodes.Act.{Unprotected, Zeroed, Woke, Forgot, Requested}
+use Rattle.mig_model.specs.Guest.{Fault, is_changed_by, read_guest, zero_installed, is_forgotten, is_present, Act}
+use Rattle.mig_model.specs.Guest.Act.{Unprotected, Zeroed, Woke, Forgot, Requested}
 use Rattle.mig_model.specs.Migration.{World, after_source_act, after_source_read, next, start}
 use Rattle.mig_model.specs.Invariant.{IsKept, AreRight, is_unread}
 use Rattle.mig_model.proofs.IoctlLemmas.{IsSoundSpace-read, IsSoundSpace-protected, IsSoundSpace-installed, CanPut}
@@ -28,6 +27,8 @@ use Rattle.mig_model.proofs.SourceKept.{source_holds, IsChanged, changed}
 use Rattle.mig_model.proofs.SourceCalls.{registered_below}
 use Rattle.mig_model.proofs.SourceZeros.{memory_zeroed, missing_none, more_present, elsewhere}
 use Rattle.mig_model.proofs.SourceTests.{in_one_is, none_absurd, not_false, not_true, never_true, and_parts, or_first, or_second, or_none, ltb_true}
+use Rattle.mig_model.specs.Log.{forgotten, present, unchanged}
+use Rattle.mig_model.specs.Source.{is_source_idle, source_act, source_act_by, source_acted_by, space_of}
 
 -- The tests of both steps
 
@@ -70,11 +71,11 @@ member_unchanged s message page h =
     (sym (contains-retain s (λ q. not (is_changed_by message q)) page (λ x e. ap (λ q. not (is_changed_by message q)) (sym (nat_cmp-IsAntisymmetric page x e)))) ∙ h) in
     (both.0, not_true (is_changed_by message page) both.1)
 
-read_changed : (world : World) (noted : Noted) (processors : List CpuState) (held : List Fault) → IsKept world → world.source.switched ≡ false → not (is_source_idle world.source.phase) ≡ true →
+read_changed : (world : World) (noted : Noted) (processors : List CpuState) → IsKept world → world.source.switched ≡ false → not (is_source_idle world.source.phase) ≡ true →
     next_message (space_of world.source).object ≡ Some noted →
-    IsChanged world.source (record { space = record (space_of world.source) { object = message_read (space_of world.source).object }; processors = processors; held = held })
-    (unchanged world.source.clean noted.message) (unchanged world.source.todo noted.message) world.transcript
-read_changed world noted processors held kept unswitched started next =
+    IsChanged world.source (record { space = record (space_of world.source) { object = message_read (space_of world.source).object }; cpus = processors })
+    (unchanged world.source.log.clean noted.message) (unchanged world.source.log.todo noted.message) world.transcript
+read_changed world noted processors kept unswitched started next =
     let space = space_of world.source in
     let read : IsRead space.object (message_read space.object) noted.message = is_read space.object.faults space.object.events space.object noted next in
     record {
@@ -85,28 +86,28 @@ read_changed world noted processors held kept unswitched started next =
       events = read.right kept.source_events;
       idle = λ h. never_idle world.source.phase started h;
       protected = λ page h u.
-          let was = member_unchanged world.source.clean noted.message page h in
+          let was = member_unchanged world.source.log.clean noted.message page h in
           kept.clean_protected unswitched page was.0 (read.unread page was.1 u);
       sendable = λ page h u.
-          let was = member_unchanged world.source.todo noted.message page h in
+          let was = member_unchanged world.source.log.todo noted.message page h in
           let sendable = kept.todo_sendable unswitched page was.0 (read.unread page was.1 u) in
           (sendable.0, ap (λ s. contains s page) read.protect ∙ sendable.1);
       copies = λ page h u.
-          let was = member_unchanged world.source.clean noted.message page h in
+          let was = member_unchanged world.source.log.clean noted.message page h in
           (was.0, read.unread page was.1 u, refl);
     }
 
 -- whatever the message is
 read_by_message : (world : World) (noted : Noted) (message : Message) → IsKept world → world.source.switched ≡ false → not (is_source_idle world.source.phase) ≡ true → next_message (space_of world.source).object ≡ Some noted →
-    IsChanged world.source (read_guest world.source.guest noted.cpu message) (unchanged world.source.clean noted.message) (unchanged world.source.todo noted.message) world.transcript
-read_by_message world noted (PageFault addr write wp) kept unswitched started next = read_changed world noted _ _ kept unswitched started next
-read_by_message world noted (Remap from to len) kept unswitched started next = read_changed world noted _ _ kept unswitched started next
-read_by_message world noted (Remove start end) kept unswitched started next = read_changed world noted _ _ kept unswitched started next
-read_by_message world noted (Unmap start end) kept unswitched started next = read_changed world noted _ _ kept unswitched started next
+    IsChanged world.source (read_guest world.source.guest noted.cpu message) (unchanged world.source.log.clean noted.message) (unchanged world.source.log.todo noted.message) world.transcript
+read_by_message world noted (PageFault addr write wp) kept unswitched started next = read_changed world noted _ kept unswitched started next
+read_by_message world noted (Remap from to len) kept unswitched started next = read_changed world noted _ kept unswitched started next
+read_by_message world noted (Remove start end) kept unswitched started next = read_changed world noted _ kept unswitched started next
+read_by_message world noted (Unmap start end) kept unswitched started next = read_changed world noted _ kept unswitched started next
 
 pub kept-source_read : (world : World) (noted : Noted) → IsKept world → next_message (space_of world.source).object ≡ Some noted → is_source_idle world.source.phase ≡ false → world.source.switched ≡ false → IsKept (after_source_read world noted)
 kept-source_read world noted kept is started unswitched =
-    changed world (read_guest world.source.guest noted.cpu noted.message) (unchanged world.source.clean noted.message) (unchanged world.source.todo noted.message) world.source.rounds _ world.transcript
+    changed world (read_guest world.source.guest noted.cpu noted.message) (unchanged world.source.log.clean noted.message) (unchanged world.source.log.todo noted.message) _ world.source.rounds _ world.transcript
     kept (has_not_run world kept unswitched) unswitched (read_by_message world noted noted.message kept unswitched (ap not started) is)
 
 -- A fault is worked
@@ -142,9 +143,9 @@ not_in_one : (page q : ℕ) → eqb q page ≡ false → in_range page 1 q ≡ f
 not_in_one page q h = grind (arith, nat_tests)
 
 -- nothing but processors and held faults has changed
-same_changed : (world : World) (processors : List CpuState) (held : List Fault) → IsKept world → world.source.switched ≡ false →
-    IsChanged world.source (record { space = space_of world.source; processors = processors; held = held }) world.source.clean world.source.todo world.transcript
-same_changed world processors held kept unswitched =
+same_changed : (world : World) (processors : List CpuState) → IsKept world → world.source.switched ≡ false →
+    IsChanged world.source (record { space = space_of world.source; cpus = processors }) world.source.log.clean world.source.log.todo world.transcript
+same_changed world processors kept unswitched =
     record {
       flat = kept.flat;
       holds = source_holds world kept (has_not_run world kept unswitched);
@@ -161,11 +162,11 @@ protected_below : (space : Space) (page : ℕ) → IsSoundSpace space → contai
 protected_below space page sound h =
     ltb_true page HIGH_PAGE (registered_below space page sound (or_second (contains space.object.missing page) (contains space.object.protect page) (sound.watched page h)))
 
-unprotected_changed : (world : World) (page : ℕ) (processors : List CpuState) (held : List Fault) → IsKept world → world.source.switched ≡ false → not (is_source_idle world.source.phase) ≡ true → IsWatched (space_of world.source) page →
-    IsChanged world.source (record { space = protected_in (space_of world.source) page 1 false; processors = processors; held = held }) (remove world.source.clean page) world.source.todo world.transcript
-unprotected_changed world page processors held kept unswitched started watched =
+unprotected_changed : (world : World) (page : ℕ) (processors : List CpuState) → IsKept world → world.source.switched ≡ false → not (is_source_idle world.source.phase) ≡ true → IsWatched (space_of world.source) page →
+    IsChanged world.source (record { space = protected_in (space_of world.source) page 1 false; cpus = processors }) (remove world.source.log.clean page) world.source.log.todo world.transcript
+unprotected_changed world page processors kept unswitched started watched =
     let space = space_of world.source in
-    let removed = λ (q : ℕ) (h : contains (remove world.source.clean page) q ≡ true). and_parts (not (eqb q page)) (contains world.source.clean q) (sym (member_removed world.source.clean page q) ∙ h) in
+    let removed = λ (q : ℕ) (h : contains (remove world.source.log.clean page) q ≡ true). and_parts (not (eqb q page)) (contains world.source.log.clean q) (sym (member_removed world.source.log.clean page q) ∙ h) in
     record {
       flat = kept.flat;
       holds = source_holds world kept (has_not_run world kept unswitched);
@@ -180,10 +181,10 @@ unprotected_changed world page processors held kept unswitched started watched =
       copies = λ q h u. ((removed q h).1, u, refl);
     }
 
-zeroed_changed : (world : World) (page : ℕ) (processors : List CpuState) (held : List Fault) → IsKept world → world.source.switched ≡ false → not (is_source_idle world.source.phase) ≡ true → IsWatched (space_of world.source) page →
+zeroed_changed : (world : World) (page : ℕ) (processors : List CpuState) → IsKept world → world.source.switched ≡ false → not (is_source_idle world.source.phase) ≡ true → IsWatched (space_of world.source) page →
     is_present (space_of world.source) page ≡ false →
-    IsChanged world.source (record { space = zero_installed (space_of world.source) page; processors = processors; held = held }) world.source.clean world.source.todo world.transcript
-zeroed_changed world page processors held kept unswitched started watched missing =
+    IsChanged world.source (record { space = zero_installed (space_of world.source) page; cpus = processors }) world.source.log.clean world.source.log.todo world.transcript
+zeroed_changed world page processors kept unswitched started watched missing =
     let space = space_of world.source in
     let sound = kept.source_space in
     let can : CanPut space page 1 (λ i. zero_page) false =
@@ -209,18 +210,18 @@ acted : (world : World) (fault : Fault) (act : Act) → IsKept world → world.s
 acted world fault Unprotected kept unswitched started is =
     let space = space_of world.source in
     let watched = is_watched space fault.page (kept.both_modes fault.page) (unprotected_is _ _ _ is) in
-    changed world _ _ _ world.source.rounds world.source.faults world.transcript kept (has_not_run world kept unswitched) unswitched (unprotected_changed world fault.page _ _ kept unswitched started watched)
+    changed world _ _ _ _ world.source.rounds world.source.faults world.transcript kept (has_not_run world kept unswitched) unswitched (unprotected_changed world fault.page _ kept unswitched started watched)
 acted world fault Zeroed kept unswitched started is =
     let space = space_of world.source in
     let told = zeroed_is (is_forgotten space fault.page) (is_present space fault.page) (contains space.protected fault.page && fault.wp) is in
     let watched = is_watched space fault.page (kept.both_modes fault.page) told.0 in
-    changed world _ _ _ world.source.rounds world.source.faults world.transcript kept (has_not_run world kept unswitched) unswitched (zeroed_changed world fault.page _ _ kept unswitched started watched told.1)
+    changed world _ _ _ _ world.source.rounds world.source.faults world.transcript kept (has_not_run world kept unswitched) unswitched (zeroed_changed world fault.page _ kept unswitched started watched told.1)
 acted world fault Woke kept unswitched started is =
-    changed world _ _ _ world.source.rounds world.source.faults world.transcript kept (has_not_run world kept unswitched) unswitched (same_changed world _ _ kept unswitched)
+    changed world _ _ _ _ world.source.rounds world.source.faults world.transcript kept (has_not_run world kept unswitched) unswitched (same_changed world _ kept unswitched)
 acted world fault Forgot kept unswitched started is =
-    changed world _ _ _ world.source.rounds world.source.faults world.transcript kept (has_not_run world kept unswitched) unswitched (same_changed world _ _ kept unswitched)
+    changed world _ _ _ _ world.source.rounds world.source.faults world.transcript kept (has_not_run world kept unswitched) unswitched (same_changed world _ kept unswitched)
 acted world fault (Requested source) kept unswitched started is =
-    changed world _ _ _ world.source.rounds world.source.faults world.transcript kept (has_not_run world kept unswitched) unswitched (same_changed world _ _ kept unswitched)
+    changed world _ _ _ _ world.source.rounds world.source.faults world.transcript kept (has_not_run world kept unswitched) unswitched (same_changed world _ kept unswitched)
 
 pub kept-source_act : (world : World) (fault : Fault) → IsKept world → is_source_idle world.source.phase ≡ false → world.source.switched ≡ false → IsKept (after_source_act world fault)
 kept-source_act world fault kept started unswitched = acted world fault (source_act world.source fault) kept unswitched (ap not started) refl

@@ -11,12 +11,14 @@ use Rattle.mig_base.specs.declared.command.Entry.{Entry}
 use Rattle.mig_base.specs.Flat.{IsFlatRun, memory_of}
 use Rattle.mig_model.specs.Host.{Host, memory}
 use Rattle.mig_model.specs.Space.{IsSoundSpace}
-use Rattle.mig_model.specs.Guest.{Guest, is_present}
+use Rattle.mig_model.specs.Guest.{Guest, is_present, Fault}
 use Rattle.mig_model.specs.Wire.{Sent}
-use Rattle.mig_model.specs.Nodes.{Source, Destination, space_of, no_pages, settled}
 use Rattle.mig_model.specs.Migration.{World, next}
 use Rattle.mig_model.specs.Invariant.{IsKept, IsPrecopying, Wires, AreRight, AreWhole, AreOf, EpochAt, RanAt, SwitchedAt, is_unread, copies_of, current_by}
 use Rattle.mig_model.proofs.SourceTests.{none_absurd}
+use Rattle.mig_model.specs.Log.{no_pages}
+use Rattle.mig_model.specs.Source.{Source, space_of}
+use Rattle.mig_model.specs.Destination.{Destination, settled}
 
 pub no_page : (page : ℕ) → contains no_pages page ≡ false
 no_page page = contains-empty nat_cmp page
@@ -38,10 +40,10 @@ pub record IsNext (world : World) (source : Source) (forward : List Sent) (trans
   pub unended : source.end_epoch ≢ source.epoch ⊎ (source.phase ≡ SourcePhase.Idle)
   pub before : source.end_epoch ≤ source.epoch
   pub fresh : world.up ≡ true → source.phase ≡ SourcePhase.Paused → source.end_epoch ≢ source.epoch
-  pub idle : source.phase ≡ SourcePhase.Idle → (source.clean ≡ no_pages) × (source.todo ≡ no_pages) × (source.sent ≡ no_pages) × ((space_of source).object.events ≡ []) × ((page : ℕ) → contains (space_of source).object.missing page ≡ false)
+  pub idle : source.phase ≡ SourcePhase.Idle → (source.log.clean ≡ no_pages) × (source.log.todo ≡ no_pages) × (source.log.sent ≡ no_pages) × ((space_of source).object.events ≡ []) × ((page : ℕ) → contains (space_of source).object.missing page ≡ false)
   pub whole : AreWhole (copies_of forward)
-  pub protected : (page : ℕ) → contains source.clean page ≡ true → is_unread (space_of source).object.events page ≡ false → contains (space_of source).protected page ≡ true
-  pub sendable : (page : ℕ) → contains source.todo page ≡ true → is_unread (space_of source).object.events page ≡ false → (is_present (space_of source) page ≡ true) × (contains (space_of source).object.protect page ≡ true)
+  pub protected : (page : ℕ) → contains source.log.clean page ≡ true → is_unread (space_of source).object.events page ≡ false → contains (space_of source).protected page ≡ true
+  pub sendable : (page : ℕ) → contains source.log.todo page ≡ true → is_unread (space_of source).object.events page ≡ false → (is_present (space_of source) page ≡ true) × (contains (space_of source).object.protect page ≡ true)
   pub down : world.up ≡ false → (forward ≡ []) × (world.back ≡ []) × (source.phase ≢ SourcePhase.Idle) × (source.phase ≢ SourcePhase.Released)
   pub wires : world.up ≡ true → Wires source world.destination forward world.back
   pub forward_epoch : AreOf source.epoch forward
@@ -119,14 +121,14 @@ renewed world source forward transcript kept bare next =
 
 -- A step that changes the guest and the sets of pages alone
 
-abbrev pub with_parts : Source → Guest → FinSet nat_cmp → FinSet nat_cmp → ℕ → ℕ → Source
-with_parts source guest clean todo rounds faults = record source { guest = guest; clean = clean; todo = todo; rounds = rounds; faults = faults }
+abbrev pub with_parts : Source → Guest → FinSet nat_cmp → FinSet nat_cmp → List Fault → ℕ → ℕ → Source
+with_parts source guest clean todo held rounds faults = record source { guest = guest; log = record source.log { clean = clean; todo = todo; held = held }; rounds = rounds; faults = faults }
 
 -- a page that is clean afterwards, unless an unread event has changed it, was so before, with the same bytes
 abbrev pub CopiesStay : Source → Guest → FinSet nat_cmp → Type 0
 CopiesStay source guest clean =
     (page : ℕ) → contains clean page ≡ true → is_unread guest.space.object.events page ≡ false
-    → (contains source.clean page ≡ true) × (is_unread (space_of source).object.events page ≡ false) × (get guest.space.host.bytes page ≡ get (space_of source).host.bytes page)
+    → (contains source.log.clean page ≡ true) × (is_unread (space_of source).object.events page ≡ false) × (get guest.space.host.bytes page ≡ get (space_of source).host.bytes page)
 
 pub record IsChanged (source : Source) (guest : Guest) (clean todo : FinSet nat_cmp) (transcript : List Entry) : Type 0 where
   pub flat : IsFlatRun transcript
@@ -139,45 +141,45 @@ pub record IsChanged (source : Source) (guest : Guest) (clean todo : FinSet nat_
   pub sendable : (page : ℕ) → contains todo page ≡ true → is_unread guest.space.object.events page ≡ false → (is_present guest.space page ≡ true) × (contains guest.space.object.protect page ≡ true)
   pub copies : CopiesStay source guest clean
 
-precopying : (source : Source) (guest : Guest) (clean todo : FinSet nat_cmp) (rounds faults : ℕ) (kept : FinMap nat_cmp (List ℕ)) (forward : List Sent) → CopiesStay source guest clean → IsPrecopying source kept forward →
-    IsPrecopying (with_parts source guest clean todo rounds faults) kept forward
-precopying source guest clean todo rounds faults kept forward stay old =
+precopying : (source : Source) (guest : Guest) (clean todo : FinSet nat_cmp) (held : List Fault) (rounds faults : ℕ) (kept : FinMap nat_cmp (List ℕ)) (forward : List Sent) → CopiesStay source guest clean → IsPrecopying source kept forward →
+    IsPrecopying (with_parts source guest clean todo held rounds faults) kept forward
+precopying source guest clean todo held rounds faults kept forward stay old =
     record {
       clean_copy = λ page h u. let was = stay page h u in old.clean_copy page was.0 was.1 ∙ sym was.2;
       copies_sent = old.copies_sent;
     }
 
 -- before the switch the destination has not run: while the source is paused, it is paused too, or has answered Resume
-wires_changed : (from : SourcePhase) (to : DestPhase) (source : Source) (guest : Guest) (clean todo : FinSet nat_cmp) (rounds faults : ℕ) (destination : Destination) (forward back : List Sent) →
+wires_changed : (from : SourcePhase) (to : DestPhase) (source : Source) (guest : Guest) (clean todo : FinSet nat_cmp) (held : List Fault) (rounds faults : ℕ) (destination : Destination) (forward back : List Sent) →
     RanAt to destination.has_run destination.ended → destination.has_run ≡ false → (destination.ended ≡ true → destination.has_run ≡ true) → SwitchedAt from source.switched → source.switched ≡ false →
     CopiesStay source guest clean → Wires (record source { phase = from }) (record destination { phase = to }) forward back →
-    Wires (with_parts (record source { phase = from }) guest clean todo rounds faults) (record destination { phase = to }) forward back
-wires_changed SourcePhase.Idle to source guest clean todo rounds faults destination forward back ran bare after at unswitched stay wires = wires
-wires_changed SourcePhase.Precopy DestPhase.Idle source guest clean todo rounds faults destination forward back ran bare after at unswitched stay wires =
-    (wires.0, wires.1, precopying (record source { phase = SourcePhase.Precopy }) guest clean todo rounds faults destination.kept forward stay wires.2)
-wires_changed SourcePhase.Precopy DestPhase.Advised source guest clean todo rounds faults destination forward back ran bare after at unswitched stay wires =
-    (wires.0, wires.1, precopying (record source { phase = SourcePhase.Precopy }) guest clean todo rounds faults destination.kept forward stay wires.2)
-wires_changed SourcePhase.Precopy DestPhase.Discarding source guest clean todo rounds faults destination forward back ran bare after at unswitched stay wires = wires
-wires_changed SourcePhase.Precopy DestPhase.Running source guest clean todo rounds faults destination forward back ran bare after at unswitched stay wires = wires
-wires_changed SourcePhase.Precopy DestPhase.Paused source guest clean todo rounds faults destination forward back ran bare after at unswitched stay wires = wires
-wires_changed SourcePhase.Precopy DestPhase.Ended source guest clean todo rounds faults destination forward back ran bare after at unswitched stay wires = wires
-wires_changed SourcePhase.Stopped to source guest clean todo rounds faults destination forward back ran bare after at unswitched stay wires = none_absurd (sym unswitched ∙ at)
-wires_changed SourcePhase.Released to source guest clean todo rounds faults destination forward back ran bare after at unswitched stay wires = wires
-wires_changed SourcePhase.Paused DestPhase.Idle source guest clean todo rounds faults destination forward back ran bare after at unswitched stay wires = wires
-wires_changed SourcePhase.Paused DestPhase.Advised source guest clean todo rounds faults destination forward back ran bare after at unswitched stay wires =
+    Wires (with_parts (record source { phase = from }) guest clean todo held rounds faults) (record destination { phase = to }) forward back
+wires_changed SourcePhase.Idle to source guest clean todo held rounds faults destination forward back ran bare after at unswitched stay wires = wires
+wires_changed SourcePhase.Precopy DestPhase.Idle source guest clean todo held rounds faults destination forward back ran bare after at unswitched stay wires =
+    (wires.0, wires.1, precopying (record source { phase = SourcePhase.Precopy }) guest clean todo held rounds faults destination.kept forward stay wires.2)
+wires_changed SourcePhase.Precopy DestPhase.Advised source guest clean todo held rounds faults destination forward back ran bare after at unswitched stay wires =
+    (wires.0, wires.1, precopying (record source { phase = SourcePhase.Precopy }) guest clean todo held rounds faults destination.kept forward stay wires.2)
+wires_changed SourcePhase.Precopy DestPhase.Discarding source guest clean todo held rounds faults destination forward back ran bare after at unswitched stay wires = wires
+wires_changed SourcePhase.Precopy DestPhase.Running source guest clean todo held rounds faults destination forward back ran bare after at unswitched stay wires = wires
+wires_changed SourcePhase.Precopy DestPhase.Paused source guest clean todo held rounds faults destination forward back ran bare after at unswitched stay wires = wires
+wires_changed SourcePhase.Precopy DestPhase.Ended source guest clean todo held rounds faults destination forward back ran bare after at unswitched stay wires = wires
+wires_changed SourcePhase.Stopped to source guest clean todo held rounds faults destination forward back ran bare after at unswitched stay wires = none_absurd (sym unswitched ∙ at)
+wires_changed SourcePhase.Released to source guest clean todo held rounds faults destination forward back ran bare after at unswitched stay wires = wires
+wires_changed SourcePhase.Paused DestPhase.Idle source guest clean todo held rounds faults destination forward back ran bare after at unswitched stay wires = wires
+wires_changed SourcePhase.Paused DestPhase.Advised source guest clean todo held rounds faults destination forward back ran bare after at unswitched stay wires =
     wires
-wires_changed SourcePhase.Paused DestPhase.Discarding source guest clean todo rounds faults destination forward back ran bare after at unswitched stay wires = wires
-wires_changed SourcePhase.Paused DestPhase.Running source guest clean todo rounds faults destination forward back ran bare after at unswitched stay wires = none_absurd (sym bare ∙ ran.0)
-wires_changed SourcePhase.Paused DestPhase.Paused source guest clean todo rounds faults destination forward back ran bare after at unswitched stay wires = wires
-wires_changed SourcePhase.Paused DestPhase.Ended source guest clean todo rounds faults destination forward back ran bare after at unswitched stay wires = none_absurd (sym bare ∙ after ran)
+wires_changed SourcePhase.Paused DestPhase.Discarding source guest clean todo held rounds faults destination forward back ran bare after at unswitched stay wires = wires
+wires_changed SourcePhase.Paused DestPhase.Running source guest clean todo held rounds faults destination forward back ran bare after at unswitched stay wires = none_absurd (sym bare ∙ ran.0)
+wires_changed SourcePhase.Paused DestPhase.Paused source guest clean todo held rounds faults destination forward back ran bare after at unswitched stay wires = wires
+wires_changed SourcePhase.Paused DestPhase.Ended source guest clean todo held rounds faults destination forward back ran bare after at unswitched stay wires = none_absurd (sym bare ∙ after ran)
 
-pub changed : (world : World) (guest : Guest) (clean todo : FinSet nat_cmp) (rounds faults : ℕ) (transcript : List Entry) → IsKept world → world.destination.has_run ≡ false → world.source.switched ≡ false →
+pub changed : (world : World) (guest : Guest) (clean todo : FinSet nat_cmp) (held : List Fault) (rounds faults : ℕ) (transcript : List Entry) → IsKept world → world.destination.has_run ≡ false → world.source.switched ≡ false →
     IsChanged world.source guest clean todo transcript →
-    IsKept (record world { source = with_parts world.source guest clean todo rounds faults; transcript = transcript })
-changed world guest clean todo rounds faults transcript kept bare unswitched new =
+    IsKept (record world { source = with_parts world.source guest clean todo held rounds faults; transcript = transcript })
+changed world guest clean todo held rounds faults transcript kept bare unswitched new =
     let source = world.source in
     let before = kept.before_switch unswitched in
-    renewed world (with_parts source guest clean todo rounds faults) world.forward transcript kept bare
+    renewed world (with_parts source guest clean todo held rounds faults) world.forward transcript kept bare
     (record {
       flat = new.flat;
       holds = new.holds;
@@ -195,7 +197,7 @@ changed world guest clean todo rounds faults transcript kept bare unswitched new
       protected = new.protected;
       sendable = new.sendable;
       down = kept.down;
-      wires = λ up. wires_changed source.phase world.destination.phase source guest clean todo rounds faults world.destination world.forward world.back
+      wires = λ up. wires_changed source.phase world.destination.phase source guest clean todo held rounds faults world.destination world.forward world.back
           kept.destination_phase bare kept.ended_after_run kept.source_phase unswitched new.copies (kept.wires up);
       forward_epoch = kept.forward_epoch;
       back_epoch = kept.back_epoch;

@@ -16,10 +16,9 @@ use Rattle.mig_base.proofs.SetLemmas.{member_below, same_members}
 use Rattle.mig_model.specs.Userfault.{has_modes}
 use Rattle.mig_model.specs.Space.{Space, IsSoundSpace}
 use Rattle.mig_model.specs.Ioctls.{is_mapped_in}
-use Rattle.mig_model.specs.Guest.{is_present, is_idle}
+use Rattle.mig_model.specs.Guest.{is_present}
 use Rattle.mig_model.specs.Wire.{Sent}
 use Rattle.mig_model.specs.Wire.Frame.{Advise}
-use Rattle.mig_model.specs.Nodes.{Source, Destination, space_of, no_pages, is_precopy, is_source_idle, present, not_clean, all_registered, for_both, source_started}
 use Rattle.mig_model.specs.Migration.{World, after_round, after_start}
 use Rattle.mig_model.specs.Invariant.{IsKept, Wires, PrecopyWires, SwitchedAt, EpochAt, AreOf, AreWhole, flow_after, copies_of, kept_by}
 use Rattle.mig_model.specs.Invariant.Flow.{BeforeAdvise}
@@ -28,6 +27,10 @@ use Rattle.mig_model.proofs.SourceKept.{no_page_absurd, source_holds, IsNext, re
 use Rattle.mig_model.proofs.SourceCalls.{registered_below}
 use Rattle.mig_model.proofs.SourceHandler.{has_not_run}
 use Rattle.mig_model.proofs.SourceTests.{none_absurd, and_parts, and_both, and_true, or_second, ltb_true, never_false}
+use Rattle.mig_model.specs.Cpus.{is_idle}
+use Rattle.mig_model.specs.Log.{no_pages, present}
+use Rattle.mig_model.specs.Source.{Source, all_registered, for_both, is_precopy, is_source_idle, not_clean, source_started, space_of}
+use Rattle.mig_model.specs.Destination.{Destination}
 
 -- The source makes rounds of pre-copy
 
@@ -82,12 +85,12 @@ still_protected space page sound h = member_below _ HIGH_PAGE page ∙ rw (watch
 
 member_not_clean : (source : Source) (page : ℕ) → contains (not_clean source) page ≡ true → is_present (space_of source) page ≡ true
 member_not_clean source page h =
-    let both = and_parts (contains (present (space_of source)) page) (not (contains source.clean page))
-    (sym (contains-retain (present (space_of source)) (λ q. not (contains source.clean q)) page (λ x e. ap (λ q. not (contains source.clean q)) (sym (nat_cmp-IsAntisymmetric page x e)))) ∙ h) in
+    let both = and_parts (contains (present (space_of source)) page) (not (contains source.log.clean page))
+    (sym (contains-retain (present (space_of source)) (λ q. not (contains source.log.clean q)) page (λ x e. ap (λ q. not (contains source.log.clean q)) (sym (nat_cmp-IsAntisymmetric page x e)))) ∙ h) in
     (and_parts (ltb page HIGH_PAGE) (is_present (space_of source) page) (sym (member_below _ HIGH_PAGE page) ∙ both.0)).1
 
 round_changed : (world : World) → IsKept world → is_precopy world.source.phase ≡ true → world.source.switched ≡ false →
-    IsChanged world.source (record world.source.guest { space = all_registered (space_of world.source) }) world.source.clean (not_clean world.source) world.transcript
+    IsChanged world.source (record world.source.guest { space = all_registered (space_of world.source) }) world.source.log.clean (not_clean world.source) world.transcript
 round_changed world kept precopy unswitched =
     let space = space_of world.source in
     let sound = kept.source_space in
@@ -108,7 +111,7 @@ round_changed world kept precopy unswitched =
 pub kept-round : (world : World) → IsKept world → is_precopy world.source.phase ≡ true → IsKept (after_round world)
 kept-round world kept precopy =
     let unswitched = precopy_unswitched world.source.phase world.source.switched precopy kept.source_phase in
-    changed world (record world.source.guest { space = all_registered (space_of world.source) }) world.source.clean (not_clean world.source) (world.source.rounds + 1) world.source.faults world.transcript kept
+    changed world (record world.source.guest { space = all_registered (space_of world.source) }) world.source.log.clean (not_clean world.source) world.source.log.held (world.source.rounds + 1) world.source.faults world.transcript kept
     (has_not_run world kept unswitched) unswitched (round_changed world kept precopy unswitched)
 
 -- Start
@@ -140,14 +143,14 @@ no_copy kept page none h = none_absurd (sym (ap is_some (ap (λ m. get m page) n
 abbrev start_wire : World → List Sent
 start_wire world = world.forward ++ record { epoch = world.source.epoch + 1; frame = Advise } ∷ []
 
-start_wires : (to : DestPhase) (source : Source) (destination : Destination) (wire back : List Sent) (epoch : ℕ) → to ≡ DestPhase.Idle → wire ≡ record { epoch = epoch; frame = Advise } ∷ [] → back ≡ [] → source.clean ≡ no_pages →
+start_wires : (to : DestPhase) (source : Source) (destination : Destination) (wire back : List Sent) (epoch : ℕ) → to ≡ DestPhase.Idle → wire ≡ record { epoch = epoch; frame = Advise } ∷ [] → back ≡ [] → source.log.clean ≡ no_pages →
     destination.kept ≡ finmap.empty → PrecopyWires source (record destination { phase = to }) wire back
 start_wires to source destination wire back epoch not_advised one none clean kept =
     subst (λ p. PrecopyWires source (record destination { phase = p }) wire back) (sym not_advised) (
       ap (flow_after BeforeAdvise) one,
       none,
       record {
-        clean_copy = λ page h u. no_page_absurd source.clean page clean h;
+        clean_copy = λ page h u. no_page_absurd source.log.clean page clean h;
         copies_sent = λ page h. no_copy destination.kept page kept (sym (ap (λ w. contains_key (kept_by destination.kept w) page) one) ∙ h);
       },
     )
@@ -176,8 +179,8 @@ started_next world kept idle unswitched up quiet =
       fresh = λ u paused. absurd (cc);
       idle = λ h. absurd (cc);
       whole = subst (λ w. AreWhole (copies_of w)) (sym one) tt;
-      protected = λ page h u. no_page_absurd source.clean page empty.0 h;
-      sendable = λ page h u. no_page_absurd source.todo page empty.1 h;
+      protected = λ page h u. no_page_absurd source.log.clean page empty.0 h;
+      sendable = λ page h u. no_page_absurd source.log.todo page empty.1 h;
       down = λ h. none_absurd (sym h ∙ up);
       wires = λ h. start_wires world.destination.phase (source_started source) world.destination (start_wire world) world.back (source.epoch + 1) quiet.not_advised one quiet.back_none empty.0 (kept.kept_advised quiet.not_advised);
       forward_epoch = subst (AreOf (source.epoch + 1)) (sym one) (refl, tt);

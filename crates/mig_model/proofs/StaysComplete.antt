@@ -7,16 +7,17 @@ use Rattle.mig_base.specs.declared.schedule.Side.{Side}
 use Rattle.mig_base.specs.declared.schedule.Step.{Step}
 use Rattle.mig_base.specs.declared.command.Command.{Command}
 use Rattle.mig_model.specs.World.{is_access}
-use Rattle.mig_model.specs.Guest.{Guest, tried}
+use Rattle.mig_model.specs.Guest.{Guest, tried, Act}
 use Rattle.mig_model.specs.Wire.{Sent}
-use Rattle.mig_model.specs.Nodes.{Act, is_source_idle, is_precopy, is_stopped, is_source_paused, is_released, source_act, source_acted_by, present, released}
-use Rattle.mig_model.specs.Nodes.Act.{Unprotected, Zeroed, Woke, Forgot, Requested}
+use Rattle.mig_model.specs.Guest.Act.{Unprotected, Zeroed, Woke, Forgot, Requested}
 use Rattle.mig_model.specs.Migration.{World, next, guest_of, with_guest_by, after_command, is_empty, answer}
 use Rattle.mig_model.specs.Invariant.{IsKept}
 use Rattle.mig_model.specs.Promises.{IsComplete}
 use Rattle.mig_model.proofs.Stopping.{in_phases, none_absurd}
 use Rattle.mig_model.proofs.StepLemmas.{Leaves, leaves-next}
 use Rattle.mig_model.proofs.StepCases.{made-break, made-deliver, made-deliver_back, made-dest_act, made-dest_read, made-end, made-install, made-issue, made-notice, made-push, made-resume, made-retry, made-round, made-send, made-serve, made-source_act, made-source_read, made-start, made-switch}
+use Rattle.mig_model.specs.Log.{present}
+use Rattle.mig_model.specs.Source.{is_precopy, is_released, is_source_idle, is_source_paused, is_stopped, released, source_act, source_acted_by}
 
 -- A released source is in no other phase
 

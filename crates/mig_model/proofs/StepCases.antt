@@ -11,11 +11,15 @@ use Rattle.mig_base.specs.declared.schedule.Step.{Step}
 use Rattle.mig_base.specs.declared.schedule.Ticket.{Ticket}
 use Rattle.mig_model.specs.World.{is_access}
 use Rattle.mig_model.specs.Userfault.{Noted, next_message}
-use Rattle.mig_model.specs.Guest.{Fault, is_idle, is_woken, is_present, outstanding, processor_at, took_by}
+use Rattle.mig_model.specs.Guest.{Fault, is_present, took_by}
 use Rattle.mig_model.specs.Wire.{Sent, Copy}
-use Rattle.mig_model.specs.Nodes.{is_source_idle, is_precopy, is_stopped, is_source_paused, is_released, is_dest_paused, least_of, not_clean, less, space_of, bytes_of, source_act, destination_act, home}
-use Rattle.mig_model.specs.Migration.{World, Made, Answer, answer, guest_of, runs, has_started, is_changing, is_empty, is_end, is_paused_at, try_effect, page_effect, read_effect, act_effect, frame_effect, install_effect, retry_command, send_page, source_read_next, source_act_first, deliver_first, deliver_back_first, destination_read_next, destination_act_first, install_first, serve_first, after_command, after_start, after_round, after_send, after_source_read, after_source_act, after_switch, after_deliver, after_deliver_back, after_dest_read, after_dest_act, after_install, after_push, after_serve, after_end, after_break, after_notice, after_resume}
+use Rattle.mig_model.specs.Migration.{World, Made, answer, guest_of, runs, has_started, is_changing, is_empty, is_end, is_paused_at, try_effect, page_effect, read_effect, act_effect, frame_effect, install_effect, retry_command, send_page, source_read_next, source_act_first, deliver_first, deliver_back_first, destination_read_next, destination_act_first, install_first, serve_first, after_command, after_start, after_round, after_send, after_source_read, after_source_act, after_switch, after_deliver, after_deliver_back, after_dest_read, after_dest_act, after_install, after_push, after_serve, after_end, after_break, after_notice, after_resume}
 use Rattle.mig_model.proofs.StepLemmas.{Holds, holds-unless}
+use Rattle.mig_model.specs.Cpus.{is_idle, is_woken, outstanding, processor_at}
+use Rattle.mig_model.specs.Log.{least_of, less}
+use Rattle.mig_model.specs.Owed.{home}
+use Rattle.mig_model.specs.Source.{bytes_of, is_precopy, is_released, is_source_idle, is_source_paused, is_stopped, not_clean, source_act, space_of}
+use Rattle.mig_model.specs.Destination.{destination_act, is_dest_paused}
 
 -- Tests
 
@@ -45,20 +49,20 @@ unswitched false true h = absurd (false≢true (sym h))
 -- Commands
 
 pub made-issue : (Q : Made → Type 0) (world : World) (cpu : ℕ) (command : Command) →
-    (is_idle (processor_at (guest_of world).processors cpu) ≡ true → runs world ≡ true →
+    (is_idle (processor_at (guest_of world).cpus cpu) ≡ true → runs world ≡ true →
     Q (record { effect = try_effect cpu (took_by (is_access command) (guest_of world).space command); world = after_command world cpu command })) → Holds Q (answer world (Step.Issue cpu command))
 made-issue Q world cpu command h = holds-unless Q _ _ (λ t. h (not_none _ t.1.0) (not_none _ t.1.1.0))
 
 retry_by : (Q : Made → Type 0) (world : World) (cpu : ℕ) (o : Option Command) →
-    ((command : Command) → o ≡ Some command → is_woken (processor_at (guest_of world).processors cpu) ≡ true → runs world ≡ true →
+    ((command : Command) → o ≡ Some command → is_woken (processor_at (guest_of world).cpus cpu) ≡ true → runs world ≡ true →
     Q (record { effect = try_effect cpu (took_by (is_access command) (guest_of world).space command); world = after_command world cpu command })) → Holds Q (retry_command world cpu o)
 retry_by Q world cpu None h = tt
 retry_by Q world cpu (Some command) h = holds-unless Q _ _ (λ t. h command refl (not_none _ t.0) (not_none _ t.1.0))
 
 pub made-retry : (Q : Made → Type 0) (world : World) (cpu : ℕ) →
-    ((command : Command) → outstanding (processor_at (guest_of world).processors cpu) ≡ Some command → is_woken (processor_at (guest_of world).processors cpu) ≡ true → runs world ≡ true →
+    ((command : Command) → outstanding (processor_at (guest_of world).cpus cpu) ≡ Some command → is_woken (processor_at (guest_of world).cpus cpu) ≡ true → runs world ≡ true →
     Q (record { effect = try_effect cpu (took_by (is_access command) (guest_of world).space command); world = after_command world cpu command })) → Holds Q (answer world (Step.Retry cpu))
-made-retry Q world cpu h = holds-unless Q _ _ (λ t. retry_by Q world cpu (outstanding (processor_at (guest_of world).processors cpu)) h)
+made-retry Q world cpu h = holds-unless Q _ _ (λ t. retry_by Q world cpu (outstanding (processor_at (guest_of world).cpus cpu)) h)
 
 -- The source
 
@@ -74,9 +78,9 @@ send_by Q world None h = tt
 send_by Q world (Some page) h = holds-unless Q _ _ (λ t. h page refl t.0)
 
 pub made-send : (Q : Made → Type 0) (world : World) →
-    ((page : ℕ) → least_of world.source.todo ≡ Some page → is_precopy world.source.phase ≡ true → world.up ≡ true → is_changing world.source.guest ≡ false →
+    ((page : ℕ) → least_of world.source.log.todo ≡ Some page → is_precopy world.source.phase ≡ true → world.up ≡ true → is_changing world.source.guest ≡ false →
     Q (record { effect = page_effect page (bytes_of world.source page); world = after_send world page })) → Holds Q (answer world Step.Send)
-made-send Q world h = holds-unless Q _ _ (λ t. send_by Q world (least_of world.source.todo) (λ page is quiet. h page is (not_none _ t.0) (not_none _ t.1.0) quiet))
+made-send Q world h = holds-unless Q _ _ (λ t. send_by Q world (least_of world.source.log.todo) (λ page is quiet. h page is (not_none _ t.0) (not_none _ t.1.0) quiet))
 
 source_read_by : (Q : Made → Type 0) (world : World) (o : Option Noted) →
     ((noted : Noted) → o ≡ Some noted → Q (record { effect = read_effect world.source.guest noted.cpu noted.message; world = after_source_read world noted })) → Holds Q (source_read_next world o)
@@ -98,15 +102,15 @@ source_act_by Q world [] h = tt
 source_act_by Q world (fault ∷ rest) h = holds-unless Q _ _ (λ t. h fault rest refl t.0)
 
 pub made-source_act : (Q : Made → Type 0) (world : World) →
-    ((fault : Fault) (rest : List Fault) → world.source.guest.held ≡ fault ∷ rest → is_source_idle world.source.phase ≡ false → world.source.switched ≡ false → is_changing world.source.guest ≡ false →
+    ((fault : Fault) (rest : List Fault) → world.source.log.held ≡ fault ∷ rest → is_source_idle world.source.phase ≡ false → world.source.switched ≡ false → is_changing world.source.guest ≡ false →
     Q (record { effect = act_effect (source_act world.source fault) (PAGE_SIZE * fault.page); world = after_source_act world fault })) → Holds Q (answer world Step.SourceAct)
 made-source_act Q world h =
     holds-unless Q _ _ (λ t.
     let runs = unswitched (is_source_idle world.source.phase) world.source.switched t.0 in
-    source_act_by Q world world.source.guest.held (λ fault rest is quiet. h fault rest is runs.0 runs.1 quiet))
+    source_act_by Q world world.source.log.held (λ fault rest is quiet. h fault rest is runs.0 runs.1 quiet))
 
 pub made-switch : (Q : Made → Type 0) (world : World) → (is_precopy world.source.phase ≡ true → world.up ≡ true → is_changing world.source.guest ≡ false →
-    Q (record { effect = Effect.Switched (finset.len (less world.source.sent world.source.clean)) (finset.len (not_clean world.source)); world = after_switch world })) → Holds Q (answer world Step.Switch)
+    Q (record { effect = Effect.Switched (finset.len (less world.source.log.sent world.source.log.clean)) (finset.len (not_clean world.source)); world = after_switch world })) → Holds Q (answer world Step.Switch)
 made-switch Q world h = holds-unless Q _ _ (λ t. h (not_none _ t.0) (not_none _ t.1.0) t.1.1.0)
 
 pub made-push : (Q : Made → Type 0) (world : World) (ticket : Ticket) →
@@ -173,9 +177,9 @@ dest_act_by Q world [] h = tt
 dest_act_by Q world (fault ∷ rest) h = holds-unless Q _ _ (λ t. h fault rest refl t.0)
 
 pub made-dest_act : (Q : Made → Type 0) (world : World) →
-    ((fault : Fault) (rest : List Fault) → world.destination.guest.held ≡ fault ∷ rest → world.destination.has_run ≡ true → is_changing world.destination.guest ≡ false →
+    ((fault : Fault) (rest : List Fault) → world.destination.held ≡ fault ∷ rest → world.destination.has_run ≡ true → is_changing world.destination.guest ≡ false →
     Q (record { effect = act_effect (destination_act world.destination fault) (PAGE_SIZE * fault.page); world = after_dest_act world fault })) → Holds Q (answer world Step.DestAct)
-made-dest_act Q world h = holds-unless Q _ _ (λ t. dest_act_by Q world world.destination.guest.held (λ fault rest is quiet. h fault rest is (not_none _ t.0) quiet))
+made-dest_act Q world h = holds-unless Q _ _ (λ t. dest_act_by Q world world.destination.held (λ fault rest is quiet. h fault rest is (not_none _ t.0) quiet))
 
 install_by_first : (Q : Made → Type 0) (world : World) (arrivals : List Copy) →
     ((copy : Copy) (rest : List Copy) → arrivals ≡ copy ∷ rest → is_changing world.destination.guest ≡ false →

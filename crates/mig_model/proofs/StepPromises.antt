@@ -16,15 +16,18 @@ use Rattle.mig_base.specs.Ranges.{in_range}
 use Rattle.mig_base.proofs.SetLemmas.{member_removed}
 use Rattle.mig_model.specs.World.{is_access}
 use Rattle.mig_model.specs.Space.{Space}
-use Rattle.mig_model.specs.Guest.{Guest, entries_of, took_by, tried, outstanding, processor_at, zero_installed}
-use Rattle.mig_model.specs.Nodes.{Source, Act, space_of, source_act, source_acted_by, destination_act, destination_acted_by, present}
-use Rattle.mig_model.specs.Nodes.Act.{Unprotected, Zeroed, Woke, Forgot, Requested}
+use Rattle.mig_model.specs.Guest.{Guest, took_by, tried, zero_installed, Act}
+use Rattle.mig_model.specs.Guest.Act.{Unprotected, Zeroed, Woke, Forgot, Requested}
 use Rattle.mig_model.specs.Migration.{World, next, outcome, act_effect, act_effect, guest_of, with_guest_by, after_command, after_dest_act, after_source_act, answer}
 use Rattle.mig_model.specs.Promises.{IsZeroed, keeps_remaining}
 use Rattle.mig_model.proofs.IoctlLemmas.{get-put_pages}
 use Rattle.mig_model.proofs.PromiseLemmas.{source_zero, destination_zero}
 use Rattle.mig_model.proofs.StepLemmas.{Leaves, holds-effect, leaves-next, leaves-ok}
 use Rattle.mig_model.proofs.StepCases.{made-break, made-deliver, made-dest_act, made-dest_read, made-end, made-install, made-issue, made-notice, made-push, made-resume, made-retry, made-round, made-send, made-serve, made-source_act, made-source_read, made-start}
+use Rattle.mig_model.specs.Cpus.{entries_of, outstanding, processor_at}
+use Rattle.mig_model.specs.Log.{present}
+use Rattle.mig_model.specs.Source.{Source, source_act, source_acted_by, space_of}
+use Rattle.mig_model.specs.Destination.{destination_act, destination_acted_by}
 
 -- The transcript
 
@@ -36,7 +39,7 @@ entered_issue world cpu command ok =
 some_command : (a b : Command) → Some a ≡ Some b → a ≡ b
 some_command a b h = cc
 
-pub entered_retry : (world : World) (cpu : ℕ) (command : Command) → IsOk (outcome world (Step.Retry cpu)) → outstanding (processor_at (guest_of world).processors cpu) ≡ Some command →
+pub entered_retry : (world : World) (cpu : ℕ) (command : Command) → IsOk (outcome world (Step.Retry cpu)) → outstanding (processor_at (guest_of world).cpus cpu) ≡ Some command →
     (next world (Step.Retry cpu)).transcript ≡ world.transcript ++ entries_of cpu command (took_by (is_access command) (guest_of world).space command)
 entered_retry world cpu command ok waits =
     leaves-ok (λ new. new.transcript ≡ world.transcript ++ entries_of cpu command (took_by (is_access command) (guest_of world).space command)) world (Step.Retry cpu)

@@ -19,11 +19,12 @@ use Rattle.mig_model.specs.Space.{Space}
 use Rattle.mig_model.specs.Wire.{Sent, Copy, page_frame}
 use Rattle.mig_model.specs.Wire.Frame.{End}
 use Rattle.mig_model.specs.Guest.{is_present}
-use Rattle.mig_model.specs.Nodes.{Source, is_stopped, space_of, bytes_of, page_pushed, request_served, no_pages, least_of, present}
 use Rattle.mig_model.specs.Migration.{World, after_end, after_push, after_serve}
 use Rattle.mig_model.specs.Invariant.{IsKept, StoppedWires, IsSwitching, Flow, flow_after, flow_of, copies_of, has_copy, AreFaithful, AreWhole, behind}
 use Rattle.mig_model.specs.Invariant.Flow.{BeforeAdvise, Copies, BeforePackage, Pushed, AfterEnd}
 use Rattle.mig_model.proofs.SendingLemmas.{flow_sent, copies_of-append, AreWhole-append, AreFaithful-append, has_copy-append, AreOf-one, has_package, copies_of-page, page_flow}
+use Rattle.mig_model.specs.Log.{least_of, no_pages, present}
+use Rattle.mig_model.specs.Source.{Source, bytes_of, is_stopped, page_pushed, request_served, space_of}
 
 -- a world in these phases
 abbrev pub in_phases : SourcePhase → DestPhase → World → World

@@ -10,10 +10,11 @@ use Rattle.mig_base.specs.declared.schedule.Step.{Step}
 use Rattle.mig_base.specs.declared.TheConstants.{HIGH_PAGE}
 use Rattle.mig_base.proofs.RangeLemmas.{least_below-none}
 use Rattle.mig_model.specs.Guest.{is_present}
-use Rattle.mig_model.specs.Nodes.{Source, space_of, least_of, not_clean, is_released}
 use Rattle.mig_model.specs.Migration.{World, first_world, next, next_by, after_steps, after_end, made, unless}
 use Rattle.mig_model.specs.Promises.{IsComplete, story}
 use Rattle.mig_model.proofs.SwitchMade.{member_not_clean}
+use Rattle.mig_model.specs.Log.{least_of}
+use Rattle.mig_model.specs.Source.{Source, is_released, not_clean, space_of}
 
 -- the world once the destination runs
 running : ℕ → World

@@ -16,13 +16,14 @@ use Rattle.mig_model.specs.Userfault.{Noted}
 use Rattle.mig_model.specs.Wire.{Sent, kept_after}
 use Rattle.mig_model.specs.Wire.Frame.{Discard, Package}
 use Rattle.mig_model.specs.Guest.{is_present}
-use Rattle.mig_model.specs.Nodes.{Source, is_precopy, space_of, less, present, not_clean, commands_of, switch_made}
 use Rattle.mig_model.specs.Migration.{World, after_switch, is_changing}
 use Rattle.mig_model.specs.Invariant.{IsKept, PrecopyWires, StoppedWires, IsPrecopying, IsSwitching, Flow, flow_after, flow_of, copies_of, has_copy, AreFaithful, AreWhole, is_unread, kept_by, behind, package_in}
 use Rattle.mig_model.specs.Invariant.Flow.{BeforeAdvise, Copies, BeforePackage, Pushed}
 use Rattle.mig_model.proofs.SendingLemmas.{flow_sent, copies_of-append, AreOf-one, has_no_package}
 use Rattle.mig_model.proofs.Stopping.{in_phases, none_absurd, flow_open, append-nil, present_below, stopped_not_paused, stopped_not_released}
 use Rattle.mig_model.proofs.FirstFrame.{nothing_behind}
+use Rattle.mig_model.specs.Log.{less, present}
+use Rattle.mig_model.specs.Source.{Source, commands_of, is_precopy, not_clean, space_of, switch_made}
 
 pub member_less : (set other : FinSet nat_cmp) (q : ℕ) → contains (less set other) q ≡ (contains set q && not (contains other q))
 member_less set other q = contains-retain set (λ page. not (contains other page)) q (λ x e. ap (λ k. not (contains other k)) (sym (nat_cmp-IsAntisymmetric q x e)))
@@ -76,10 +77,10 @@ no_events (noted ∷ events) h = none_absurd (sym h ∙ some_above (length event
 
 -- the two frames of a switch
 abbrev discard_frame : Source → Sent
-discard_frame source = record { epoch = source.epoch; frame = Discard (less source.sent source.clean) }
+discard_frame source = record { epoch = source.epoch; frame = Discard (less source.log.sent source.log.clean) }
 
 abbrev package_frame : Source → Sent
-package_frame source = record { epoch = source.epoch; frame = Package (space_of source).host.areas (not_clean source) (commands_of source.guest.processors) }
+package_frame source = record { epoch = source.epoch; frame = Package (space_of source).host.areas (not_clean source) (commands_of source.guest.cpus) }
 
 abbrev switched_wire : Source → List Sent → List Sent
 switched_wire source forward = (forward ++ discard_frame source ∷ []) ++ package_frame source ∷ []
@@ -95,8 +96,8 @@ and_right : (a b : Bool) → (a && b) ≡ true → b ≡ true
 and_right true b h = h
 and_right false b h = none_absurd h
 
-pub member_not_clean : (source : Source) (page : ℕ) → contains (not_clean source) page ≡ ((ltb page HIGH_PAGE && is_present (space_of source) page) && not (contains source.clean page))
-member_not_clean source page = member_less (present (space_of source)) source.clean page ∙ ap (λ b. b && not (contains source.clean page)) (member_below (λ q. is_present (space_of source) q) HIGH_PAGE page)
+pub member_not_clean : (source : Source) (page : ℕ) → contains (not_clean source) page ≡ ((ltb page HIGH_PAGE && is_present (space_of source) page) && not (contains source.log.clean page))
+member_not_clean source page = member_less (present (space_of source)) source.log.clean page ∙ ap (λ b. b && not (contains source.log.clean page)) (member_below (λ q. is_present (space_of source) q) HIGH_PAGE page)
 
 owed_is_present : (source : Source) (page : ℕ) → contains (not_clean source) page ≡ true → is_present (space_of source) page ≡ true
 owed_is_present source page h = and_right (ltb page HIGH_PAGE) _ (and_left (ltb page HIGH_PAGE && is_present (space_of source) page) _ (sym (member_not_clean source page) ∙ h))
@@ -116,9 +117,9 @@ switching flow world kept quiet flows old =
       kept_rest = λ page.
           ap (λ w. get (kept_by world.destination.kept w) page) joined
           ∙ ap (λ k. get k page) there.kept_then
-          ∙ get-discarded (kept_by world.destination.kept world.forward) (less source.sent source.clean) page
-          ∙ ap (λ b. cond b None (get (kept_by world.destination.kept world.forward) page)) (member_less source.sent source.clean page)
-          ∙ rest_of (contains source.clean page) (contains source.sent page) (ltb page HIGH_PAGE) (is_present (space_of source) page) (get (kept_by world.destination.kept world.forward) page) (get (space_of source).host.bytes page)
+          ∙ get-discarded (kept_by world.destination.kept world.forward) (less source.log.sent source.log.clean) page
+          ∙ ap (λ b. cond b None (get (kept_by world.destination.kept world.forward) page)) (member_less source.log.sent source.log.clean page)
+          ∙ rest_of (contains source.log.clean page) (contains source.log.sent page) (ltb page HIGH_PAGE) (is_present (space_of source) page) (get (kept_by world.destination.kept world.forward) page) (get (space_of source).host.bytes page)
           (λ clean. old.clean_copy page clean (ap (λ e. is_unread e page) quiet)) (old.copies_sent page) refl
           (λ is. low_true page (present_below (space_of source) page kept.source_space.host is))
           ∙ sym (ap (λ b. cond b None (get (space_of source).host.bytes page)) (member_not_clean source page));

@@ -16,11 +16,10 @@ use Rattle.mig_base.specs.Flat.{reply_of}
 use Rattle.mig_model.specs.Host.{memory}
 use Rattle.mig_model.specs.World.{is_access}
 use Rattle.mig_model.specs.Space.{Space, access_of, queued_by}
-use Rattle.mig_model.specs.Guest.{woken_if, Guest, idle_processors, processor_at, processor_after, outstanding, taken_over, all_woken, is_left_by, message_less, read_guest, took_by, access_took, call_took, tried}
+use Rattle.mig_model.specs.Guest.{Guest, is_left_by, read_guest, took_by, tried, Act}
 use Rattle.mig_model.specs.Wire.{Frame, Sent, Copy}
 use Rattle.mig_model.specs.Wire.Frame.{Advise, Page, Zero, Discard, Package, End, Resume, Request, Recv, Done}
-use Rattle.mig_model.specs.Nodes.{Source, Destination, Act, commands_of, home, install_by, source_act, source_acted_by, source_took, destination_act, destination_acted_by, destination_took, copy_came, resumed_by, received_of, less, present}
-use Rattle.mig_model.specs.Nodes.Act.{Unprotected, Zeroed, Woke, Forgot, Requested}
+use Rattle.mig_model.specs.Guest.Act.{Unprotected, Zeroed, Woke, Forgot, Requested}
 use Rattle.mig_model.specs.Migration.{World, first_world_with, next, after_steps, guest_by, with_guest_by, after_command, answer, start}
 use Rattle.mig_model.specs.Invariant.{IsKept}
 use Rattle.mig_model.specs.Promises.{IsReached, AllAccess, AreAccesses}
@@ -31,6 +30,11 @@ use Rattle.mig_model.proofs.EveryStep.{kept-next}
 use Rattle.mig_model.proofs.FirstWorld.{kept-first}
 use Rattle.mig_model.proofs.StepLemmas.{Leaves, leaves-next}
 use Rattle.mig_model.proofs.StepCases.{made-break, made-deliver, made-deliver_back, made-dest_act, made-dest_read, made-end, made-install, made-issue, made-notice, made-push, made-resume, made-retry, made-round, made-send, made-serve, made-source_act, made-source_read, made-start, made-switch}
+use Rattle.mig_model.specs.Cpus.{access_took, all_woken, call_took, idle_processors, message_less, outstanding, processor_after, processor_at, taken_over, woken_if}
+use Rattle.mig_model.specs.Log.{less, present}
+use Rattle.mig_model.specs.Owed.{home}
+use Rattle.mig_model.specs.Source.{Source, commands_of, source_act, source_acted_by, source_took}
+use Rattle.mig_model.specs.Destination.{Destination, copy_came, destination_act, destination_acted_by, destination_took, install_by, received_of, resumed_by}
 
 -- the second are as many as the first, and have to make what the first have to, and nothing else
 record IsLike (old new : List CpuState) : Type 0 where
@@ -71,8 +75,8 @@ set_access (p ∷ ps) zero new one all (suc k) command h = all (suc k) command h
 set_access (p ∷ ps) (suc i) new one all zero command h = all zero command h
 set_access (p ∷ ps) (suc i) new one all (suc k) command h = set_access ps i new one (λ j c e. all (suc j) c e) k command h
 
-guest_access : (guest : Guest) (cpu : ℕ) (command : Command) → AllAccess guest.processors → AllAccess (tried (is_access command) guest cpu command).processors
-guest_access guest cpu command all = set_access guest.processors cpu _ (λ other h. tried_access (is_access command) guest.space command other refl h) all
+guest_access : (guest : Guest) (cpu : ℕ) (command : Command) → AllAccess guest.cpus → AllAccess (tried (is_access command) guest cpu command).cpus
+guest_access guest cpu command all = set_access guest.cpus cpu _ (λ other h. tried_access (is_access command) guest.space command other refl h) all
 
 -- A message that is read
 
@@ -100,17 +104,17 @@ set_same (p ∷ ps) zero new same (suc k) = refl
 set_same (p ∷ ps) (suc i) new same zero = refl
 set_same (p ∷ ps) (suc i) new same (suc k) = set_same ps i new same k
 
-event_like : (guest : Guest) (cpu : ℕ) (message : Message) → IsLike guest.processors (all_woken (is_left_by message) (set guest.processors cpu (message_less (processor_at guest.processors cpu))))
+event_like : (guest : Guest) (cpu : ℕ) (message : Message) → IsLike guest.cpus (all_woken (is_left_by message) (set guest.cpus cpu (message_less (processor_at guest.cpus cpu))))
 event_like guest cpu message =
-    let less = message_less (processor_at guest.processors cpu) in
-    let woken = woken_like (is_left_by message) (set guest.processors cpu less) in
+    let less = message_less (processor_at guest.cpus cpu) in
+    let woken = woken_like (is_left_by message) (set guest.cpus cpu less) in
     record {
-      waits = λ k. woken.waits k ∙ set_same guest.processors cpu less (less_same (processor_at guest.processors cpu)) k;
-      many = woken.many ∙ set_many guest.processors cpu less;
+      waits = λ k. woken.waits k ∙ set_same guest.cpus cpu less (less_same (processor_at guest.cpus cpu)) k;
+      many = woken.many ∙ set_many guest.cpus cpu less;
     }
 
-read_like : (guest : Guest) (cpu : ℕ) (message : Message) → IsLike guest.processors (read_guest guest cpu message).processors
-read_like guest cpu (PageFault addr write wp) = unchanged guest.processors
+read_like : (guest : Guest) (cpu : ℕ) (message : Message) → IsLike guest.cpus (read_guest guest cpu message).cpus
+read_like guest cpu (PageFault addr write wp) = unchanged guest.cpus
 read_like guest cpu (Remap from to len) = event_like guest cpu (Remap from to len)
 read_like guest cpu (Remove start end) = event_like guest cpu (Remove start end)
 read_like guest cpu (Unmap start end) = event_like guest cpu (Unmap start end)
@@ -124,91 +128,91 @@ taken_like processors = record { waits = taken_keeps processors; many = taken_ma
 
 -- The nodes
 
-source_act_like : (act : Act) (node : Source) (page : ℕ) → IsLike node.guest.processors (source_acted_by act node page).guest.processors
-source_act_like Unprotected node page = woken_like (λ q. eqb q page) node.guest.processors
-source_act_like Zeroed node page = woken_like (λ q. eqb q page) node.guest.processors
-source_act_like Woke node page = woken_like (λ q. eqb q page) node.guest.processors
-source_act_like Forgot node page = woken_like (λ q. eqb q page) node.guest.processors
-source_act_like (Requested source) node page = woken_like (λ q. eqb q page) node.guest.processors
+source_act_like : (act : Act) (node : Source) (page : ℕ) → IsLike node.guest.cpus (source_acted_by act node page).guest.cpus
+source_act_like Unprotected node page = woken_like (λ q. eqb q page) node.guest.cpus
+source_act_like Zeroed node page = woken_like (λ q. eqb q page) node.guest.cpus
+source_act_like Woke node page = woken_like (λ q. eqb q page) node.guest.cpus
+source_act_like Forgot node page = woken_like (λ q. eqb q page) node.guest.cpus
+source_act_like (Requested source) node page = woken_like (λ q. eqb q page) node.guest.cpus
 
-destination_act_like : (act : Act) (node : Destination) (page : ℕ) → IsLike node.guest.processors (destination_acted_by act node page).guest.processors
-destination_act_like Unprotected node page = woken_like (λ q. eqb q page) node.guest.processors
-destination_act_like Zeroed node page = woken_like (λ q. eqb q page) node.guest.processors
-destination_act_like Woke node page = woken_like (λ q. eqb q page) node.guest.processors
-destination_act_like Forgot node page = woken_like (λ q. eqb q page) node.guest.processors
-destination_act_like (Requested source) node page = unchanged node.guest.processors
+destination_act_like : (act : Act) (node : Destination) (page : ℕ) → IsLike node.guest.cpus (destination_acted_by act node page).guest.cpus
+destination_act_like Unprotected node page = woken_like (λ q. eqb q page) node.guest.cpus
+destination_act_like Zeroed node page = woken_like (λ q. eqb q page) node.guest.cpus
+destination_act_like Woke node page = woken_like (λ q. eqb q page) node.guest.cpus
+destination_act_like Forgot node page = woken_like (λ q. eqb q page) node.guest.cpus
+destination_act_like (Requested source) node page = unchanged node.guest.cpus
 
-install_like : (o : Option ℕ) (node : Destination) (copy : Copy) (rest : List Copy) → IsLike node.guest.processors (install_by o node copy rest).guest.processors
-install_like None node copy rest = unchanged node.guest.processors
-install_like (Some page) node copy rest = woken_like (λ q. eqb q page) node.guest.processors
+install_like : (o : Option ℕ) (node : Destination) (copy : Copy) (rest : List Copy) → IsLike node.guest.cpus (install_by o node copy rest).guest.cpus
+install_like None node copy rest = unchanged node.guest.cpus
+install_like (Some page) node copy rest = woken_like (λ q. eqb q page) node.guest.cpus
 
-rebuilt_like : (switched : Bool) (a b node : Source) → IsLike node.guest.processors a.guest.processors → IsLike node.guest.processors b.guest.processors → IsLike node.guest.processors (if switched then a else b).guest.processors
+rebuilt_like : (switched : Bool) (a b node : Source) → IsLike node.guest.cpus a.guest.cpus → IsLike node.guest.cpus b.guest.cpus → IsLike node.guest.cpus (if switched then a else b).guest.cpus
 rebuilt_like true a b node one two = one
 rebuilt_like false a b node one two = two
 
-took_like : (frame : Frame) (node : Source) → IsLike node.guest.processors (source_took node frame).guest.processors
-took_like (Recv Received.NotRun owed) node = rebuilt_like node.switched _ _ node (unchanged node.guest.processors) (unchanged node.guest.processors)
-took_like (Recv Received.Running owed) node = unchanged node.guest.processors
-took_like (Recv Received.Ended owed) node = unchanged node.guest.processors
-took_like Done node = unchanged node.guest.processors
-took_like (Request page) node = unchanged node.guest.processors
-took_like Advise node = unchanged node.guest.processors
-took_like (Page page bytes) node = unchanged node.guest.processors
-took_like (Zero page) node = unchanged node.guest.processors
-took_like (Discard pages) node = unchanged node.guest.processors
-took_like (Package areas owed commands) node = unchanged node.guest.processors
-took_like End node = unchanged node.guest.processors
-took_like Resume node = unchanged node.guest.processors
+took_like : (frame : Frame) (node : Source) → IsLike node.guest.cpus (source_took node frame).guest.cpus
+took_like (Recv Received.NotRun owed) node = rebuilt_like node.switched _ _ node (unchanged node.guest.cpus) (unchanged node.guest.cpus)
+took_like (Recv Received.Running owed) node = unchanged node.guest.cpus
+took_like (Recv Received.Ended owed) node = unchanged node.guest.cpus
+took_like Done node = unchanged node.guest.cpus
+took_like (Request page) node = unchanged node.guest.cpus
+took_like Advise node = unchanged node.guest.cpus
+took_like (Page page bytes) node = unchanged node.guest.cpus
+took_like (Zero page) node = unchanged node.guest.cpus
+took_like (Discard pages) node = unchanged node.guest.cpus
+took_like (Package areas owed commands) node = unchanged node.guest.cpus
+took_like End node = unchanged node.guest.cpus
+took_like Resume node = unchanged node.guest.cpus
 
-came_like : (ran : Bool) (node : Destination) (copy : Copy) → IsLike node.guest.processors (copy_came ran node copy).guest.processors
-came_like true node copy = unchanged node.guest.processors
-came_like false node copy = unchanged node.guest.processors
+came_like : (ran : Bool) (node : Destination) (copy : Copy) → IsLike node.guest.cpus (copy_came ran node copy).guest.cpus
+came_like true node copy = unchanged node.guest.cpus
+came_like false node copy = unchanged node.guest.cpus
 
-resumed_like : (state : Received) (node : Destination) → IsLike node.guest.processors (resumed_by state node).guest.processors
-resumed_like Received.NotRun node = unchanged node.guest.processors
-resumed_like Received.Running node = unchanged node.guest.processors
-resumed_like Received.Ended node = unchanged node.guest.processors
+resumed_like : (state : Received) (node : Destination) → IsLike node.guest.cpus (resumed_by state node).guest.cpus
+resumed_like Received.NotRun node = unchanged node.guest.cpus
+resumed_like Received.Running node = unchanged node.guest.cpus
+resumed_like Received.Ended node = unchanged node.guest.cpus
 
 -- Steps: what both nodes' processors still have to make
 
 -- only loads and stores wait, and the nodes have as many processors
 record Wait (world : World) : Type 0 where
-  source : AllAccess world.source.guest.processors
-  destination : AllAccess world.destination.guest.processors
-  many : length world.destination.guest.processors ≡ length world.source.guest.processors
+  source : AllAccess world.source.guest.cpus
+  destination : AllAccess world.destination.guest.cpus
+  many : length world.destination.guest.cpus ≡ length world.source.guest.cpus
 
-source_like : (world : World) (processors : List CpuState) → IsLike world.source.guest.processors processors → Wait world → AllAccess processors × (length world.destination.guest.processors ≡ length processors)
-source_like world processors like all = (all_like world.source.guest.processors processors like all.source, all.many ∙ sym like.many)
+source_like : (world : World) (processors : List CpuState) → IsLike world.source.guest.cpus processors → Wait world → AllAccess processors × (length world.destination.guest.cpus ≡ length processors)
+source_like world processors like all = (all_like world.source.guest.cpus processors like all.source, all.many ∙ sym like.many)
 
-destination_like : (world : World) (processors : List CpuState) → IsLike world.destination.guest.processors processors → Wait world → AllAccess processors × (length processors ≡ length world.source.guest.processors)
-destination_like world processors like all = (all_like world.destination.guest.processors processors like all.destination, like.many ∙ all.many)
+destination_like : (world : World) (processors : List CpuState) → IsLike world.destination.guest.cpus processors → Wait world → AllAccess processors × (length processors ≡ length world.source.guest.cpus)
+destination_like world processors like all = (all_like world.destination.guest.cpus processors like all.destination, like.many ∙ all.many)
 
 by_guest : (ran : Bool) (world : World) (cpu : ℕ) (command : Command) → Wait world → Wait (with_guest_by ran world (tried (is_access command) (guest_by ran world.source.guest world.destination.guest) cpu command))
 by_guest true world cpu command all =
-    record { source = all.source; destination = guest_access world.destination.guest cpu command all.destination; many = set_many world.destination.guest.processors cpu _ ∙ all.many }
+    record { source = all.source; destination = guest_access world.destination.guest cpu command all.destination; many = set_many world.destination.guest.cpus cpu _ ∙ all.many }
 by_guest false world cpu command all =
-    record { source = guest_access world.source.guest cpu command all.source; destination = all.destination; many = all.many ∙ sym (set_many world.source.guest.processors cpu _) }
+    record { source = guest_access world.source.guest cpu command all.source; destination = all.destination; many = all.many ∙ sym (set_many world.source.guest.cpus cpu _) }
 
 tried_all : (world : World) (cpu : ℕ) (command : Command) → Wait world → Wait (after_command world cpu command)
 tried_all world cpu command all = let new = by_guest world.destination.has_run world cpu command all in record { source = new.source; destination = new.destination; many = new.many }
 
 -- the destination's processors and those of the source, after a frame
 abbrev pub AfterFrame : World → List CpuState → Type 0
-AfterFrame world processors = AllAccess processors × (length processors ≡ length world.source.guest.processors)
+AfterFrame world processors = AllAccess processors × (length processors ≡ length world.source.guest.cpus)
 
-unmoved : (world : World) → Wait world → AfterFrame world world.destination.guest.processors
-unmoved world all = destination_like world world.destination.guest.processors (unchanged world.destination.guest.processors) all
+unmoved : (world : World) → Wait world → AfterFrame world world.destination.guest.cpus
+unmoved world all = destination_like world world.destination.guest.cpus (unchanged world.destination.guest.cpus) all
 
 -- the commands of a Package are those that wait at the source
 frame_all : (frame : Frame) (epoch : ℕ) (rest : List Sent) (world : World) → IsKept world → world.up ≡ true → world.forward ≡ record { epoch = epoch; frame = frame } ∷ rest → Wait world →
-    AfterFrame world (destination_took world.destination epoch frame).guest.processors
+    AfterFrame world (destination_took world.destination epoch frame).guest.cpus
 frame_all (Package areas owed commands) epoch rest world kept up first all =
     let again = subst (λ w. IsKept (record world { forward = w })) first kept in
     let old = with_first world.source.phase world.destination.phase epoch (Package areas owed commands) rest world in
     let is = first_in_place old.source old.destination (record { epoch = epoch; frame = Package areas owed commands }) rest old.back (again.wires up) in
     let told = package_told world.source.phase world.destination.phase epoch areas owed commands rest world is up again in
-    let new = source_like world _ (taken_like world.source.guest.processors) all in
-    subst (λ cs. AfterFrame world (map taken_over cs)) (sym told.0) (new.0, taken_many world.source.guest.processors)
+    let new = source_like world _ (taken_like world.source.guest.cpus) all in
+    subst (λ cs. AfterFrame world (map taken_over cs)) (sym told.0) (new.0, taken_many world.source.guest.cpus)
 frame_all (Page page bytes) epoch rest world kept up first all = destination_like world _ (came_like world.destination.has_run world.destination _) all
 frame_all (Zero page) epoch rest world kept up first all = destination_like world _ (came_like world.destination.has_run world.destination _) all
 frame_all Resume epoch rest world kept up first all = destination_like world _ (resumed_like (received_of world.destination) _) all
@@ -277,5 +281,5 @@ pub are_accesses : (world : World) → IsReached world → AreAccesses world
 are_accesses world reached = let all = waits world reached in record { source = all.source; destination = all.destination }
 
 -- both nodes have as many processors
-pub as_many : (world : World) → IsReached world → length world.destination.guest.processors ≡ length world.source.guest.processors
+pub as_many : (world : World) → IsReached world → length world.destination.guest.cpus ≡ length world.source.guest.cpus
 as_many world reached = (waits world reached).many

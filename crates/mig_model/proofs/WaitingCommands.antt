@@ -19,11 +19,10 @@ use Rattle.mig_base.specs.declared.message.Message.{Message}
 use Rattle.mig_base.specs.declared.message.Message.TheVariants.{PageFault, Remap, Remove, Unmap}
 use Rattle.mig_model.specs.World.{is_access}
 use Rattle.mig_model.specs.Space.{page_of}
-use Rattle.mig_model.specs.Guest.{Guest, Fault, processor_at, processor_after, is_idle, is_left_by, outstanding, taken_over, woken_if, all_woken, message_less, read_guest, took_by, tried}
+use Rattle.mig_model.specs.Guest.{Guest, Fault, is_left_by, read_guest, took_by, tried, Act}
 use Rattle.mig_model.specs.Wire.{Frame, Sent, Copy}
 use Rattle.mig_model.specs.Wire.Frame.{Advise, Page, Zero, Discard, Package, End, Resume, Request, Recv, Done}
-use Rattle.mig_model.specs.Nodes.{Source, Destination, Act, commands_of, home, install_by, received_of, resumed_by, source_act, source_acted_by, destination_read, destination_acted, source_took, destination_act, destination_acted_by, destination_took, copy_came, present}
-use Rattle.mig_model.specs.Nodes.Act.{Unprotected, Zeroed, Woke, Forgot, Requested}
+use Rattle.mig_model.specs.Guest.Act.{Unprotected, Zeroed, Woke, Forgot, Requested}
 use Rattle.mig_model.specs.Migration.{World, next, guest_by, guest_of, with_guest_by, after_command, after_dest_act, after_install, answer, outcome, start}
 use Rattle.mig_model.specs.Invariant.{IsKept, is_package}
 use Rattle.mig_model.specs.Promises.{is_retry_of}
@@ -31,6 +30,11 @@ use Rattle.mig_model.proofs.FirstFrame.{comes, first_in_place, delivered}
 use Rattle.mig_model.proofs.FramesTaken.{with_first, commands_in}
 use Rattle.mig_model.proofs.StepLemmas.{Leaves, leaves-next, leaves-ok}
 use Rattle.mig_model.proofs.StepCases.{made-break, made-deliver, made-deliver_back, made-dest_act, made-dest_read, made-end, made-install, made-issue, made-notice, made-push, made-resume, made-retry, made-round, made-send, made-serve, made-source_act, made-source_read, made-start, made-switch}
+use Rattle.mig_model.specs.Cpus.{all_woken, is_idle, message_less, outstanding, processor_after, processor_at, taken_over, woken_if}
+use Rattle.mig_model.specs.Log.{present}
+use Rattle.mig_model.specs.Owed.{home}
+use Rattle.mig_model.specs.Source.{Source, commands_of, source_act, source_acted_by, source_took}
+use Rattle.mig_model.specs.Destination.{Destination, copy_came, destination_act, destination_acted, destination_acted_by, destination_read, destination_took, install_by, received_of, resumed_by}
 
 -- Processors
 
@@ -89,13 +93,13 @@ taken_keeps (p ∷ ps) (suc k) = taken_keeps ps k
 
 -- the second guest still has to make what the first has to
 abbrev pub StillWaits : Guest → Guest → Type 0
-StillWaits old new = (k : ℕ) (command : Command) → outstanding (processor_at old.processors k) ≡ Some command → outstanding (processor_at new.processors k) ≡ Some command
+StillWaits old new = (k : ℕ) (command : Command) → outstanding (processor_at old.cpus k) ≡ Some command → outstanding (processor_at new.cpus k) ≡ Some command
 
-read_keeps : (guest : Guest) (cpu : ℕ) (message : Message) (k : ℕ) (command : Command) → outstanding (processor_at guest.processors k) ≡ Some command →
-    outstanding (processor_at (all_woken (is_left_by message) (set guest.processors cpu (message_less (processor_at guest.processors cpu)))) k) ≡ Some command
+read_keeps : (guest : Guest) (cpu : ℕ) (message : Message) (k : ℕ) (command : Command) → outstanding (processor_at guest.cpus k) ≡ Some command →
+    outstanding (processor_at (all_woken (is_left_by message) (set guest.cpus cpu (message_less (processor_at guest.cpus cpu)))) k) ≡ Some command
 read_keeps guest cpu message k command h =
-    woken_keeps (is_left_by message) (set guest.processors cpu (message_less (processor_at guest.processors cpu))) k
-    ∙ set_keeps guest.processors cpu k (message_less (processor_at guest.processors cpu)) command h (λ e. less_keeps (processor_at guest.processors cpu) command (ap (λ i. outstanding (processor_at guest.processors i)) e ∙ h))
+    woken_keeps (is_left_by message) (set guest.cpus cpu (message_less (processor_at guest.cpus cpu))) k
+    ∙ set_keeps guest.cpus cpu k (message_less (processor_at guest.cpus cpu)) command h (λ e. less_keeps (processor_at guest.cpus cpu) command (ap (λ i. outstanding (processor_at guest.cpus i)) e ∙ h))
 
 pub waits_read : (guest : Guest) (cpu : ℕ) (message : Message) → StillWaits guest (read_guest guest cpu message)
 waits_read guest cpu (PageFault addr write wp) k command h = h
@@ -115,22 +119,22 @@ waits_destination false from old new still k command h = h
 -- the steps of the nodes
 
 pub waits_source_act : (act : Act) (node : Source) (page : ℕ) → StillWaits node.guest (source_acted_by act node page).guest
-waits_source_act Unprotected node page k command h = woken_keeps (λ q. eqb q page) node.guest.processors k ∙ h
-waits_source_act Zeroed node page k command h = woken_keeps (λ q. eqb q page) node.guest.processors k ∙ h
-waits_source_act Woke node page k command h = woken_keeps (λ q. eqb q page) node.guest.processors k ∙ h
-waits_source_act Forgot node page k command h = woken_keeps (λ q. eqb q page) node.guest.processors k ∙ h
-waits_source_act (Requested source) node page k command h = woken_keeps (λ q. eqb q page) node.guest.processors k ∙ h
+waits_source_act Unprotected node page k command h = woken_keeps (λ q. eqb q page) node.guest.cpus k ∙ h
+waits_source_act Zeroed node page k command h = woken_keeps (λ q. eqb q page) node.guest.cpus k ∙ h
+waits_source_act Woke node page k command h = woken_keeps (λ q. eqb q page) node.guest.cpus k ∙ h
+waits_source_act Forgot node page k command h = woken_keeps (λ q. eqb q page) node.guest.cpus k ∙ h
+waits_source_act (Requested source) node page k command h = woken_keeps (λ q. eqb q page) node.guest.cpus k ∙ h
 
 pub waits_destination_act : (act : Act) (node : Destination) (page : ℕ) → StillWaits node.guest (destination_acted_by act node page).guest
-waits_destination_act Unprotected node page k command h = woken_keeps (λ q. eqb q page) node.guest.processors k ∙ h
-waits_destination_act Zeroed node page k command h = woken_keeps (λ q. eqb q page) node.guest.processors k ∙ h
-waits_destination_act Woke node page k command h = woken_keeps (λ q. eqb q page) node.guest.processors k ∙ h
-waits_destination_act Forgot node page k command h = woken_keeps (λ q. eqb q page) node.guest.processors k ∙ h
+waits_destination_act Unprotected node page k command h = woken_keeps (λ q. eqb q page) node.guest.cpus k ∙ h
+waits_destination_act Zeroed node page k command h = woken_keeps (λ q. eqb q page) node.guest.cpus k ∙ h
+waits_destination_act Woke node page k command h = woken_keeps (λ q. eqb q page) node.guest.cpus k ∙ h
+waits_destination_act Forgot node page k command h = woken_keeps (λ q. eqb q page) node.guest.cpus k ∙ h
 waits_destination_act (Requested source) node page k command h = h
 
 install_waits : (o : Option ℕ) (node : Destination) (copy : Copy) (rest : List Copy) → StillWaits node.guest (install_by o node copy rest).guest
 install_waits None node copy rest k command h = h
-install_waits (Some page) node copy rest k command h = woken_keeps (λ q. eqb q page) node.guest.processors k ∙ h
+install_waits (Some page) node copy rest k command h = woken_keeps (λ q. eqb q page) node.guest.cpus k ∙ h
 
 -- Steps
 
@@ -150,11 +154,11 @@ tried_guest world cpu command =
     ap (λ b. guest_by b (with_guest_by ran world guest).source.guest (with_guest_by ran world guest).destination.guest) (same_ran ran world guest) ∙ same_guest ran world guest
 
 -- another processor has tried a command
-tried_keeps : (world : World) (cpu : ℕ) (tries : Command) (k : ℕ) (command : Command) → (cpu ≡ k → ⊥) → outstanding (processor_at (guest_of world).processors k) ≡ Some command →
-    outstanding (processor_at (guest_of (after_command world cpu tries)).processors k) ≡ Some command
+tried_keeps : (world : World) (cpu : ℕ) (tries : Command) (k : ℕ) (command : Command) → (cpu ≡ k → ⊥) → outstanding (processor_at (guest_of world).cpus k) ≡ Some command →
+    outstanding (processor_at (guest_of (after_command world cpu tries)).cpus k) ≡ Some command
 tried_keeps world cpu tries k command other h =
-    ap (λ g. outstanding (processor_at g.processors k)) (tried_guest world cpu tries)
-    ∙ set_keeps (guest_of world).processors cpu k (processor_after tries (took_by (is_access tries) (guest_of world).space tries)) command h (λ e. absurd (other e))
+    ap (λ g. outstanding (processor_at g.cpus k)) (tried_guest world cpu tries)
+    ∙ set_keeps (guest_of world).cpus cpu k (processor_after tries (took_by (is_access tries) (guest_of world).space tries)) command h (λ e. absurd (other e))
 
 idle_none : (p : CpuState) (command : Command) → is_idle p ≡ true → outstanding p ≡ Some command → ⊥
 idle_none CpuState.Idle command h e = none_some command e
@@ -179,12 +183,12 @@ installed_ran (Some page) node copy rest = refl
 installed_keeps : (copy : Copy) (rest : List Copy) (world : World) → StillWaits (guest_of world) (guest_of (after_install world copy rest))
 installed_keeps copy rest world k command h =
     let o = home world.destination.owed copy.page in
-    ap (λ b. outstanding (processor_at (guest_by b world.source.guest (install_by o world.destination copy rest).guest).processors k)) (installed_ran o world.destination copy rest)
+    ap (λ b. outstanding (processor_at (guest_by b world.source.guest (install_by o world.destination copy rest).guest).cpus k)) (installed_ran o world.destination copy rest)
     ∙ waits_destination world.destination.has_run world.source.guest world.destination.guest (install_by o world.destination copy rest).guest (install_waits o world.destination copy rest) k command h
 
 acted_destination_keeps : (fault : Fault) (world : World) → StillWaits (guest_of world) (guest_of (after_dest_act world fault))
 acted_destination_keeps fault world k command h =
-    ap (λ b. outstanding (processor_at (guest_by b world.source.guest (destination_acted world.destination fault).guest).processors k)) (acted_ran (destination_act world.destination fault) world.destination fault.page)
+    ap (λ b. outstanding (processor_at (guest_by b world.source.guest (destination_acted world.destination fault).guest).cpus k)) (acted_ran (destination_act world.destination fault) world.destination fault.page)
     ∙ waits_destination world.destination.has_run world.source.guest world.destination.guest (destination_acted world.destination fault).guest (waits_destination_act (destination_act world.destination fault) world.destination fault.page) k command h
 
 -- Deliveries
@@ -218,7 +222,7 @@ same_took Done node epoch h = record { guest = refl; ran = refl }
 -- a Package that comes next has the outstanding commands of the source, and the destination has not run
 pub package_told : (from : SourcePhase) (to : DestPhase) (epoch : ℕ) (areas : FinMap nat_cmp Prot) (owed : FinSet nat_cmp) (commands : List (Option Command)) (rest : List Sent) (world : World) →
     comes from to (Package areas owed commands) ≡ true → world.up ≡ true → IsKept (with_first from to epoch (Package areas owed commands) rest world) →
-    (commands ≡ commands_of world.source.guest.processors) × (world.destination.has_run ≡ false)
+    (commands ≡ commands_of world.source.guest.cpus) × (world.destination.has_run ≡ false)
 unfolding commands_in
 package_told SourcePhase.Stopped DestPhase.Discarding epoch areas owed commands rest world is up kept =
     let told = (kept.wires up).2 in
@@ -235,15 +239,15 @@ package_keeps epoch areas owed commands rest world up first kept k command h =
     let is = first_in_place old.source old.destination (record { epoch = epoch; frame = Package areas owed commands }) rest old.back (again.wires up) in
     let told = package_told world.source.phase world.destination.phase epoch areas owed commands rest world is up again in
     ap (λ cs. outstanding (processor_at (map taken_over cs) k)) told.0
-    ∙ taken_keeps world.source.guest.processors k
-    ∙ ap (λ b. outstanding (processor_at (guest_by b world.source.guest world.destination.guest).processors k)) (sym told.1)
+    ∙ taken_keeps world.source.guest.cpus k
+    ∙ ap (λ b. outstanding (processor_at (guest_by b world.source.guest world.destination.guest).cpus k)) (sym told.1)
     ∙ h
 
-same_keeps : (world : World) (new : Destination) → IsSame world.destination new → (k : ℕ) (command : Command) → outstanding (processor_at (guest_of world).processors k) ≡ Some command →
-    outstanding (processor_at (guest_by new.has_run world.source.guest new.guest).processors k) ≡ Some command
+same_keeps : (world : World) (new : Destination) → IsSame world.destination new → (k : ℕ) (command : Command) → outstanding (processor_at (guest_of world).cpus k) ≡ Some command →
+    outstanding (processor_at (guest_by new.has_run world.source.guest new.guest).cpus k) ≡ Some command
 same_keeps world new is k command h =
-    ap (λ b. outstanding (processor_at (guest_by b world.source.guest new.guest).processors k)) is.ran
-    ∙ ap (λ g. outstanding (processor_at (guest_by world.destination.has_run world.source.guest g).processors k)) is.guest
+    ap (λ b. outstanding (processor_at (guest_by b world.source.guest new.guest).cpus k)) is.ran
+    ∙ ap (λ g. outstanding (processor_at (guest_by world.destination.has_run world.source.guest g).cpus k)) is.guest
     ∙ h
 
 delivered_first : (epoch : ℕ) (frame : Frame) (rest : List Sent) (world : World) → world.up ≡ true → world.forward ≡ record { epoch = epoch; frame = frame } ∷ rest → IsKept world → StillWaits (guest_of world) (guest_of (delivered world (record { epoch = epoch; frame = frame } ∷ rest)))
@@ -281,12 +285,12 @@ same_source world new still k command h = waits_source world.destination.has_run
 
 -- a processor of a number still has to make its command
 abbrev WaitsIn : ℕ → Command → World → Type 0
-WaitsIn k command world = outstanding (processor_at (guest_of world).processors k) ≡ Some command
+WaitsIn k command world = outstanding (processor_at (guest_of world).cpus k) ≡ Some command
 
 waiting_answer : (world : World) (step : Step) (k : ℕ) (command : Command) → IsKept world → is_retry_of step k ≡ false → WaitsIn k command world → Leaves (WaitsIn k command) (answer world step)
 waiting_answer world (Step.Issue cpu tries) k command kept other h =
     made-issue _ world cpu tries (λ idle may.
-    tried_keeps world cpu tries k command (λ e. idle_none (processor_at (guest_of world).processors cpu) command idle (ap (λ i. outstanding (processor_at (guest_of world).processors i)) e ∙ h)) h)
+    tried_keeps world cpu tries k command (λ e. idle_none (processor_at (guest_of world).cpus cpu) command idle (ap (λ i. outstanding (processor_at (guest_of world).cpus i)) e ∙ h)) h)
 waiting_answer world (Step.Retry cpu) k command kept other h = made-retry _ world cpu (λ tries is woken may. tried_keeps world cpu tries k command (λ e. false≢true (sym other ∙ eqb-is cpu k e)) h)
 waiting_answer world Step.Start k command kept other h = made-start _ world (λ idle. same_source world _ (λ i c e. e) k command h)
 waiting_answer world Step.Round k command kept other h = made-round _ world (λ precopy quiet. same_source world _ (λ i c e. e) k command h)
@@ -310,8 +314,8 @@ waiting_answer world (Step.Notice Side.Source) k command kept other h = made-not
 waiting_answer world (Step.Notice Side.Destination) k command kept other h = made-notice _ world Side.Destination (λ started unreleased down. h)
 waiting_answer world Step.Resume k command kept other h = made-resume _ world (λ from to down. same_source world _ (λ i c e. e) k command h)
 
-pub waiting_command : (world : World) (step : Step) (k : ℕ) (command : Command) → IsKept world → is_retry_of step k ≡ false → outstanding (processor_at (guest_of world).processors k) ≡ Some command →
-    outstanding (processor_at (guest_of (next world step)).processors k) ≡ Some command
+pub waiting_command : (world : World) (step : Step) (k : ℕ) (command : Command) → IsKept world → is_retry_of step k ≡ false → outstanding (processor_at (guest_of world).cpus k) ≡ Some command →
+    outstanding (processor_at (guest_of (next world step)).cpus k) ≡ Some command
 waiting_command world step k command kept other h = leaves-next (WaitsIn k command) world step h (waiting_answer world step k command kept other h)
 
 -- What a Retry makes of its processor
@@ -324,12 +328,12 @@ set_here (p ∷ ps) (suc i) new command h = set_here ps i new command h
 some_command : (a b : Command) → Some a ≡ Some b → a ≡ b
 some_command a b h = cc
 
-pub retried_at : (world : World) (cpu : ℕ) (command : Command) → IsOk (outcome world (Step.Retry cpu)) → outstanding (processor_at (guest_of world).processors cpu) ≡ Some command →
-    processor_at (guest_of (next world (Step.Retry cpu))).processors cpu ≡ processor_after command (took_by (is_access command) (guest_of world).space command)
+pub retried_at : (world : World) (cpu : ℕ) (command : Command) → IsOk (outcome world (Step.Retry cpu)) → outstanding (processor_at (guest_of world).cpus cpu) ≡ Some command →
+    processor_at (guest_of (next world (Step.Retry cpu))).cpus cpu ≡ processor_after command (took_by (is_access command) (guest_of world).space command)
 retried_at world cpu command ok waits =
-    leaves-ok (λ new. processor_at (guest_of new).processors cpu ≡ processor_after command (took_by (is_access command) (guest_of world).space command)) world (Step.Retry cpu)
+    leaves-ok (λ new. processor_at (guest_of new).cpus cpu ≡ processor_after command (took_by (is_access command) (guest_of world).space command)) world (Step.Retry cpu)
     (made-retry _ world cpu (λ other is woken may.
     let same = some_command other command (sym is ∙ waits) in
-    ap (λ g. processor_at g.processors cpu) (tried_guest world cpu other)
-    ∙ set_here (guest_of world).processors cpu (processor_after other (took_by (is_access other) (guest_of world).space other)) command waits
+    ap (λ g. processor_at g.cpus cpu) (tried_guest world cpu other)
+    ∙ set_here (guest_of world).cpus cpu (processor_after other (took_by (is_access other) (guest_of world).space other)) command waits
     ∙ ap (λ c. processor_after c (took_by (is_access c) (guest_of world).space c)) same)) ok

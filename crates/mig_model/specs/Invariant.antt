@@ -17,11 +17,13 @@ use Rattle.mig_base.specs.Flat.{IsFlatRun, memory_of}
 use Rattle.mig_model.specs.Host.{Host, memory}
 use Rattle.mig_model.specs.Userfault.{Noted}
 use Rattle.mig_model.specs.Space.{fresh_space, IsSoundSpace}
-use Rattle.mig_model.specs.Guest.{is_changed_by, is_present}
 use Rattle.mig_model.specs.Wire.{Frame, Sent, Copy, copy_in, kept_after}
 use Rattle.mig_model.specs.Wire.Frame.{Advise, Page, Zero, Discard, Package, End, Resume, Request, Recv, Done}
-use Rattle.mig_model.specs.Nodes.{Source, Destination, space_of, settled, no_pages, commands_of}
 use Rattle.mig_model.specs.Migration.{World}
+use Rattle.mig_model.specs.Guest.{is_changed_by, is_present}
+use Rattle.mig_model.specs.Log.{no_pages, present}
+use Rattle.mig_model.specs.Source.{Source, commands_of, released, space_of}
+use Rattle.mig_model.specs.Destination.{Destination, arrived, settled}
 
 -- The memory that the guest sees
 
@@ -183,7 +185,7 @@ flow_of source = if source.end_epoch == source.epoch then AfterEnd else Pushed
 pub record IsSwitching (source : Source) (kept : FinMap nat_cmp (List ℕ)) (forward : List Sent) : Type 0 where
   pub owed : FinSet nat_cmp
   -- the Package tells the source's state
-  pub plan : package_in forward ≡ Some (Package (space_of source).host.areas owed (commands_of source.guest.processors))
+  pub plan : package_in forward ≡ Some (Package (space_of source).host.areas owed (commands_of source.guest.cpus))
   pub owed_present : (page : ℕ) → contains owed page ≡ true → is_present (space_of source) page ≡ true
   -- when it is taken the kept table is what it does not owe
   pub kept_rest : (page : ℕ) → get (kept_by kept forward) page ≡ (if contains owed page then None else get (space_of source).host.bytes page)
@@ -193,9 +195,9 @@ pub record IsSwitching (source : Source) (kept : FinMap nat_cmp (List ℕ)) (for
 
 pub record IsPrecopying (source : Source) (kept : FinMap nat_cmp (List ℕ)) (forward : List Sent) : Type 0 where
   -- the newest copy of a clean page is right, unless an unread event has changed the page
-  pub clean_copy : (page : ℕ) → contains source.clean page ≡ true → is_unread (space_of source).object.events page ≡ false → get (kept_by kept forward) page ≡ get (space_of source).host.bytes page
+  pub clean_copy : (page : ℕ) → contains source.log.clean page ≡ true → is_unread (space_of source).object.events page ≡ false → get (kept_by kept forward) page ≡ get (space_of source).host.bytes page
   -- each page that has a copy was sent in this epoch
-  pub copies_sent : (page : ℕ) → contains_key (kept_by kept forward) page ≡ true → contains source.sent page ≡ true
+  pub copies_sent : (page : ℕ) → contains_key (kept_by kept forward) page ≡ true → contains source.log.sent page ≡ true
 
 -- while the destination runs and the source is stopped
 pub record IsFlowing (source : Source) (destination : Destination) (forward : List Sent) : Type 0 where
@@ -322,7 +324,7 @@ pub record IsKept (world : World) : Type 0 where
   -- after a resumption End was not sent again before the source knows what the destination needs
   pub paused_fresh : world.up ≡ true → world.source.phase ≡ SourcePhase.Paused → world.source.end_epoch ≢ world.source.epoch
   -- a source that has not started watches nothing and has sent nothing
-  pub idle_source : world.source.phase ≡ SourcePhase.Idle → (world.source.clean ≡ no_pages) × (world.source.todo ≡ no_pages) × (world.source.sent ≡ no_pages) × ((space_of world.source).object.events ≡ []) × ((page : ℕ) → contains (space_of world.source).object.missing page ≡ false)
+  pub idle_source : world.source.phase ≡ SourcePhase.Idle → (world.source.log.clean ≡ no_pages) × (world.source.log.todo ≡ no_pages) × (world.source.log.sent ≡ no_pages) × ((space_of world.source).object.events ≡ []) × ((page : ℕ) → contains (space_of world.source).object.missing page ≡ false)
   -- a destination that has not run owes nothing, and holds no event and no arrival
   pub not_run : world.destination.has_run ≡ false → (world.destination.owed ≡ finmap.empty) × (world.destination.guest.space ≡ fresh_space) × (world.destination.arrivals ≡ [])
   -- only a destination that was advised and has not run keeps copies
@@ -332,8 +334,8 @@ pub record IsKept (world : World) : Type 0 where
   pub copies_whole : AreWhole (copies_of world.forward)
   -- a clean page is present, registered and protected, and a page to be sent is present and registered, unless an unread event has
   -- changed it
-  pub clean_protected : world.source.switched ≡ false → (page : ℕ) → contains world.source.clean page ≡ true → is_unread (space_of world.source).object.events page ≡ false → contains (space_of world.source).protected page ≡ true
-  pub todo_sendable : world.source.switched ≡ false → (page : ℕ) → contains world.source.todo page ≡ true → is_unread (space_of world.source).object.events page ≡ false → (is_present (space_of world.source) page ≡ true) × (contains (space_of world.source).object.protect page ≡ true)
+  pub clean_protected : world.source.switched ≡ false → (page : ℕ) → contains world.source.log.clean page ≡ true → is_unread (space_of world.source).object.events page ≡ false → contains (space_of world.source).protected page ≡ true
+  pub todo_sendable : world.source.switched ≡ false → (page : ℕ) → contains world.source.log.todo page ≡ true → is_unread (space_of world.source).object.events page ≡ false → (is_present (space_of world.source) page ≡ true) × (contains (space_of world.source).object.protect page ≡ true)
   -- no source page is owed to two pages, and each is present at the source
   pub one_to_one : (page other origin : ℕ) → get world.destination.owed page ≡ Some origin → get world.destination.owed other ≡ Some origin → page ≡ other
   pub owed_below : (page origin : ℕ) → get world.destination.owed page ≡ Some origin → page < HIGH_PAGE

@@ -18,12 +18,16 @@ use Rattle.mig_base.specs.declared.message.Message.{Message}
 use Rattle.mig_base.specs.declared.message.Message.TheVariants.{PageFault}
 use Rattle.mig_model.specs.World.{is_access}
 use Rattle.mig_model.specs.Userfault.{Noted, next_message, changing}
-use Rattle.mig_model.specs.Guest.{Guest, Fault, Took, is_idle, is_woken, outstanding, processor_at, handed_over, took_by, tried, entries_of, is_present}
-use Rattle.mig_model.specs.Guest.Took.{Sleep, Call}
+use Rattle.mig_model.specs.Cpus.Took.{Sleep, Call}
 use Rattle.mig_model.specs.Wire.{Frame, Sent, Copy, is_zeros, page_frame, sending, sending_if}
 use Rattle.mig_model.specs.Wire.Frame.{Advise, Page, Zero, Discard, Package, End, Resume, Request, Recv, Done}
-use Rattle.mig_model.specs.Nodes.Act.{Unprotected, Zeroed, Woke, Forgot, Requested}
-use Rattle.mig_model.specs.Nodes.{Source, Destination, Act, first_source, first_destination, is_source_idle, is_precopy, is_stopped, is_source_paused, is_released, is_dest_paused, least_of, not_clean, less, space_of, bytes_of, source_started, round_made, page_sent, source_read, source_act, source_acted, switch_made, switch_frames, page_pushed, request_served, source_took, source_answers, destination_took, destination_answers, destination_read, destination_act, destination_acted, act_frames, home, install_by}
+use Rattle.mig_model.specs.Guest.Act.{Unprotected, Zeroed, Woke, Forgot, Requested}
+use Rattle.mig_model.specs.Cpus.{Took, entries_of, handed_over, is_idle, is_woken, outstanding, processor_at}
+use Rattle.mig_model.specs.Guest.{Act, Fault, Guest, is_present, took_by, tried}
+use Rattle.mig_model.specs.Log.{least_of, less}
+use Rattle.mig_model.specs.Owed.{home}
+use Rattle.mig_model.specs.Source.{Source, bytes_of, first_source, is_precopy, is_released, is_source_idle, is_source_paused, is_stopped, not_clean, page_pushed, page_sent, request_served, round_made, source_act, source_acted, source_answers, source_read, source_started, source_took, space_of, switch_frames, switch_made}
+use Rattle.mig_model.specs.Destination.{Destination, act_frames, destination_act, destination_acted, destination_answers, destination_read, destination_took, first_destination, install_by, is_dest_paused}
 
 -- A world
 
@@ -77,7 +81,7 @@ is_empty (x ∷ xs) = false
 
 -- whether the guest has no such processor
 abbrev pub has_no_cpu : World → ℕ → Bool
-has_no_cpu world cpu = not (nat_lt cpu (length (guest_of world).processors))
+has_no_cpu world cpu = not (nat_lt cpu (length (guest_of world).cpus))
 
 -- whether a migration has started, and whether the source still runs the processors in it
 abbrev pub has_started : World → Bool
@@ -149,16 +153,16 @@ try_command world cpu command = made (try_effect cpu (took_by (is_access command
 abbrev pub issue : World → ℕ → Command → Answer
 issue world cpu command =
     unless
-    ((has_no_cpu world cpu, Refusal.NoCpu) ∷ (not (is_idle (processor_at (guest_of world).processors cpu)), Refusal.Busy) ∷ (not (runs world), Refusal.Phase) ∷ [])
+    ((has_no_cpu world cpu, Refusal.NoCpu) ∷ (not (is_idle (processor_at (guest_of world).cpus cpu)), Refusal.Busy) ∷ (not (runs world), Refusal.Phase) ∷ [])
     (try_command world cpu command)
 
 abbrev pub retry_command : World → ℕ → Option Command → Answer
 retry_command world cpu None = Err Refusal.NotAsleep
 retry_command world cpu (Some command) =
-    unless ((not (is_woken (processor_at (guest_of world).processors cpu)), Refusal.NotWoken) ∷ (not (runs world), Refusal.Phase) ∷ []) (try_command world cpu command)
+    unless ((not (is_woken (processor_at (guest_of world).cpus cpu)), Refusal.NotWoken) ∷ (not (runs world), Refusal.Phase) ∷ []) (try_command world cpu command)
 
 abbrev pub retry : World → ℕ → Answer
-retry world cpu = unless ((has_no_cpu world cpu, Refusal.NoCpu) ∷ []) (retry_command world cpu (outstanding (processor_at (guest_of world).processors cpu)))
+retry world cpu = unless ((has_no_cpu world cpu, Refusal.NoCpu) ∷ []) (retry_command world cpu (outstanding (processor_at (guest_of world).cpus cpu)))
 
 -- Start and Round: the source registers its pages, and tells the destination or plans what is to be sent
 
@@ -193,7 +197,7 @@ send_page world (Some page) =
     unless ((is_changing world.source.guest, Refusal.Changing) ∷ []) (made (page_effect page (bytes_of world.source page)) (after_send world page))
 
 abbrev pub send : World → Answer
-send world = unless ((not (is_precopy world.source.phase), Refusal.Phase) ∷ (not world.up, Refusal.Broken) ∷ []) (send_page world (least_of world.source.todo))
+send world = unless ((not (is_precopy world.source.phase), Refusal.Phase) ∷ (not world.up, Refusal.Broken) ∷ []) (send_page world (least_of world.source.log.todo))
 
 -- SourceRead and SourceAct: its handler reads the next message, and resolves the first fault that it has read
 
@@ -204,7 +208,7 @@ event_effect event cpu (Some reply) = Effect.ReadLast event cpu reply
 
 abbrev pub read_effect : Guest → ℕ → Message → Effect
 read_effect guest cpu (PageFault addr write wp) = Effect.ReadFault addr wp
-read_effect guest cpu message = event_effect message cpu (handed_over (processor_at guest.processors cpu))
+read_effect guest cpu message = event_effect message cpu (handed_over (processor_at guest.cpus cpu))
 
 -- what a handler has made of a fault at an address
 abbrev pub act_effect : Act → ℕ → Effect
@@ -234,7 +238,7 @@ source_act_first world (fault ∷ rest) =
     (made (act_effect (source_act world.source fault) (PAGE_SIZE * fault.page)) (after_source_act world fault))
 
 abbrev pub act_at_source : World → Answer
-act_at_source world = unless ((not (runs_source world), Refusal.Phase) ∷ []) (source_act_first world world.source.guest.held)
+act_at_source world = unless ((not (runs_source world), Refusal.Phase) ∷ []) (source_act_first world world.source.log.held)
 
 -- Switch: the source stops its processors, and hands them over
 
@@ -244,7 +248,7 @@ after_switch world = source_sends world (switch_made world.source) (switch_frame
 abbrev pub switch : World → Answer
 switch world =
     unless ((not (is_precopy world.source.phase), Refusal.Phase) ∷ (not world.up, Refusal.Broken) ∷ (is_changing world.source.guest, Refusal.Changing) ∷ [])
-    (made (Effect.Switched (finset.len (less world.source.sent world.source.clean)) (finset.len (not_clean world.source))) (after_switch world))
+    (made (Effect.Switched (finset.len (less world.source.log.sent world.source.log.clean)) (finset.len (not_clean world.source))) (after_switch world))
 
 -- Deliver and DeliverBack: a node takes the first frame of its wire, and answers
 
@@ -306,7 +310,7 @@ destination_act_first world (fault ∷ rest) =
     (made (act_effect (destination_act world.destination fault) (PAGE_SIZE * fault.page)) (after_dest_act world fault))
 
 abbrev pub act_at_destination : World → Answer
-act_at_destination world = unless ((not world.destination.has_run, Refusal.Phase) ∷ []) (destination_act_first world world.destination.guest.held)
+act_at_destination world = unless ((not world.destination.has_run, Refusal.Phase) ∷ []) (destination_act_first world world.destination.held)
 
 -- Install: the first copy that has arrived is installed where its page is owed now, or given up
 

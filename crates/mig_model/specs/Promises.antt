@@ -19,12 +19,15 @@ use Rattle.mig_base.specs.Flat.{memory_of}
 use Rattle.mig_model.specs.Host.{memory}
 use Rattle.mig_model.specs.World.{is_access}
 use Rattle.mig_model.specs.Space.{Space, fresh_space}
-use Rattle.mig_model.specs.Guest.{is_present, outstanding, processor_at}
 use Rattle.mig_model.specs.Wire.{Frame, Sent}
 use Rattle.mig_model.specs.Wire.Frame.{Advise, Page, Zero, Discard, Package, End, Resume, Request, Recv, Done}
-use Rattle.mig_model.specs.Nodes.{Source, Destination, no_pages, space_of, settled, is_released, is_stopped, is_source_paused}
 use Rattle.mig_model.specs.Migration.{World, first_world_with, after_steps}
 use Rattle.mig_model.specs.Invariant.{copies_of, has_copy, AreFaithful}
+use Rattle.mig_model.specs.Cpus.{outstanding, processor_at}
+use Rattle.mig_model.specs.Guest.{is_present}
+use Rattle.mig_model.specs.Log.{no_pages, present}
+use Rattle.mig_model.specs.Source.{Source, is_released, is_source_paused, is_stopped, space_of}
+use Rattle.mig_model.specs.Destination.{Destination, arrived, settled}
 
 -- a world that some list of steps leads to, from a first world with some counts
 pub record IsReached (world : World) : Type 0 where
@@ -116,7 +119,7 @@ IsGood node (Package areas owed commands) =
     ((page : ℕ) → contains owed page ≡ true → contains_key node.kept page ≡ false)
     × ((page : ℕ) → contains owed page ≡ true → contains_key areas page ≡ true)
     × ((page : ℕ) → contains_key node.kept page ≡ true → contains_key areas page ≡ true)
-    × (length commands ≡ length node.guest.processors)
+    × (length commands ≡ length node.guest.cpus)
 IsGood node End = node.arrivals ≡ [] → node.owed ≡ finmap.empty
 IsGood node frame = Unit {0}
 
@@ -177,8 +180,8 @@ AllAccess processors = (k : ℕ) (command : Command) → outstanding (processor_
 
 -- so on both nodes: only a load or a store waits
 pub record AreAccesses (world : World) : Type 0 where
-  pub source : AllAccess world.source.guest.processors
-  pub destination : AllAccess world.destination.guest.processors
+  pub source : AllAccess world.source.guest.cpus
+  pub destination : AllAccess world.destination.guest.cpus
 
 -- Completion can be reached
 

@@ -13,9 +13,11 @@ ghost use Rattle.mig_base.specs.declared.command.Command.{Command};
 ghost use Rattle.mig_base.specs.Flat.{IsFlatRun, memory_of, reply_of};
 ghost use Rattle.mig_model.specs.Host.{memory};
 ghost use Rattle.mig_model.specs.World.{is_access};
-ghost use Rattle.mig_model.specs.Guest.{outstanding, processor_at, processor_after, entries_of, took_by};
+ghost use Rattle.mig_model.specs.Cpus.{outstanding, processor_at, processor_after, entries_of};
+ghost use Rattle.mig_model.specs.Guest.{took_by};
+ghost use Rattle.mig_model.specs.Source.{space_of, is_precopy, is_stopped, is_source_paused};
+ghost use Rattle.mig_model.specs.Destination.{settled, is_running};
 ghost use Rattle.mig_model.specs.Wire.{Sent};
-ghost use Rattle.mig_model.specs.Nodes.{space_of, settled, is_precopy, is_stopped, is_source_paused, is_running};
 ghost use Rattle.mig_model.specs.Migration.{World, guest_of, outcome, next, first_world, after_steps};
 ghost use Rattle.mig_model.specs.Invariant.{IsKept, IsPrecopying, IsSwitching, IsReceiving, current_host};
 ghost use Rattle.mig_model.specs.Parts.{ChangesParts};
@@ -107,9 +109,9 @@ pub fn no_frame_is_refused()
 /// did not.
 pub fn a_waiting_command()
     ensures kept { (world : World) (step : Step) (cpu : ℕ) (command : Command) → IsReached world → is_retry_of step cpu ≡ false →
-        outstanding (processor_at (guest_of world).processors cpu) ≡ Some command → outstanding (processor_at (guest_of (next world step)).processors cpu) ≡ Some command }
-    ensures retry { (world : World) (cpu : ℕ) (command : Command) → IsOk (outcome world (Step.Retry cpu)) → outstanding (processor_at (guest_of world).processors cpu) ≡ Some command →
-        processor_at (guest_of (next world (Step.Retry cpu))).processors cpu ≡ processor_after command (took_by (is_access command) (guest_of world).space command) }
+        outstanding (processor_at (guest_of world).cpus cpu) ≡ Some command → outstanding (processor_at (guest_of (next world step)).cpus cpu) ≡ Some command }
+    ensures retry { (world : World) (cpu : ℕ) (command : Command) → IsOk (outcome world (Step.Retry cpu)) → outstanding (processor_at (guest_of world).cpus cpu) ≡ Some command →
+        processor_at (guest_of (next world (Step.Retry cpu))).cpus cpu ≡ processor_after command (took_by (is_access command) (guest_of world).space command) }
 {}
 
 /// A command that waits is a load or a store, on either node: a map call waits only for its messages to be read, and has taken effect.
@@ -122,7 +124,7 @@ pub fn waiting_commands_are_accesses()
 pub fn what_is_entered()
     ensures issue { (world : World) (cpu : ℕ) (command : Command) → IsOk (outcome world (Step.Issue cpu command)) →
         (next world (Step.Issue cpu command)).transcript ≡ world.transcript ++ entries_of cpu command (took_by (is_access command) (guest_of world).space command) }
-    ensures retry { (world : World) (cpu : ℕ) (command : Command) → IsOk (outcome world (Step.Retry cpu)) → outstanding (processor_at (guest_of world).processors cpu) ≡ Some command →
+    ensures retry { (world : World) (cpu : ℕ) (command : Command) → IsOk (outcome world (Step.Retry cpu)) → outstanding (processor_at (guest_of world).cpus cpu) ≡ Some command →
         (next world (Step.Retry cpu)).transcript ≡ world.transcript ++ entries_of cpu command (took_by (is_access command) (guest_of world).space command) }
 {}
 
