@@ -12,7 +12,7 @@ use Rattle.mig_base.proofs.PageLemmas.{same_pages}
 use Rattle.mig_model.specs.Wire.{Sent, Copy}
 use Rattle.mig_model.specs.Wire.Frame.{End, Done}
 use Rattle.mig_model.specs.Migration.{World}
-use Rattle.mig_model.specs.Invariant.{Wires, IsKept, IsFlowing, AreOf, copies_of, has_copy, flow_of, RanAt}
+use Rattle.mig_model.specs.Invariant.{Wires, IsSoundWorld, IsFlowing, AreOf, copies_of, has_copy, flow_of, RanAt}
 use Rattle.mig_model.specs.Invariant.Flow.{Pushed, AfterEnd}
 use Rattle.mig_model.proofs.WireLemmas.{AreOf-append, are_requests_and_done-push}
 use Rattle.mig_model.proofs.FirstFrame.{at_state, nothing_behind, delivered}
@@ -44,17 +44,17 @@ none_owed (Some x) never = absurd (never x refl)
 
 pub end_taken : (epoch : ℕ) (rest : List Sent) (world : World) →
     let old : World = at_state SourcePhase.Stopped DestPhase.Running true true (record { epoch = epoch; frame = End } ∷ rest) world in
-    world.destination.arrivals ≡ [] → IsKept old → IsKept (delivered old old.forward)
+    world.destination.arrivals ≡ [] → IsSoundWorld old → IsSoundWorld (delivered old old.forward)
 end_taken epoch rest world free kept =
     let old : World = at_state SourcePhase.Stopped DestPhase.Running true true (record { epoch = epoch; frame = End } ∷ rest) world in
     let new : World = delivered old old.forward in
-    let w = kept.wires refl in
+    let w = kept.flight.wires refl in
     let last = nothing_behind rest (flow_of old.source) w.0 in
     let ended : old.source.end_epoch ≡ old.source.epoch = ended_now old.source last.1 in
     let flowing : IsFlowing old.source old.destination old.forward = w.2 in
     let no_pair : world.destination.owed ≡ finmap.empty =
     same_pages world.destination.owed finmap.empty (λ page.
-    none_owed (get world.destination.owed page) (λ origin h. nowhere world.source.remaining rest world.destination.arrivals origin (kept.end_sent ended) last.0 free (flowing.whereabouts page origin h))
+    none_owed (get world.destination.owed page) (λ origin h. nowhere world.source.remaining rest world.destination.arrivals origin (kept.pushing.end_sent ended) last.0 free (flowing.whereabouts page origin h))
     ∙ sym (get-empty nat_cmp page)) in
     let destination_phase : RanAt new.destination.phase new.destination.has_run new.destination.ended = refl in
     let ended_after_run : new.destination.ended ≡ true → new.destination.has_run ≡ true = λ h. refl in
@@ -63,6 +63,6 @@ end_taken epoch rest world free kept =
     let wires : new.up ≡ true → Wires new.source new.destination new.forward new.back =
     λ u. (last.0, are_requests_and_done-push world.back (record { epoch = world.destination.epoch; frame = Done }) refl w.1, ended) in
     let down : new.up ≡ false → (new.forward ≡ []) × (new.back ≡ []) × (new.source.phase ≢ SourcePhase.Idle) × (new.source.phase ≢ SourcePhase.Released) = λ h. absurd (false≢true (sym h)) in
-    let forward_epoch : AreOf new.source.epoch new.forward = kept.forward_epoch.1 in
-    let back_epoch : AreOf new.source.epoch new.back = AreOf-append world.source.epoch world.back (record { epoch = world.destination.epoch; frame = Done } ∷ []) kept.back_epoch (kept.epoch_at refl, tt) in
+    let forward_epoch : AreOf new.source.epoch new.forward = kept.epochs.forward_epoch.1 in
+    let back_epoch : AreOf new.source.epoch new.back = AreOf-append world.source.epoch world.back (record { epoch = world.destination.epoch; frame = Done } ∷ []) kept.epochs.back_epoch (kept.epochs.epoch_at refl, tt) in
     assumption

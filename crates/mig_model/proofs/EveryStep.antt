@@ -5,7 +5,7 @@ use Rattle.mig_base.specs.declared.schedule.Side.{Side}
 use Rattle.mig_base.specs.declared.schedule.Step.{Step}
 use Rattle.mig_base.specs.declared.command.Command.{Command}
 use Rattle.mig_model.specs.Migration.{World, first_world_with, next, after_steps, after_command, runs, answer}
-use Rattle.mig_model.specs.Invariant.{IsKept}
+use Rattle.mig_model.specs.Invariant.{IsSoundWorld}
 use Rattle.mig_model.specs.Promises.{IsReached, IsComplete}
 use Rattle.mig_model.proofs.Breaking.{kept-break, kept-notice_source, kept-notice_destination, kept-resume}
 use Rattle.mig_model.proofs.Stopping.{none_absurd, kept-push, kept-serve, kept-end}
@@ -33,14 +33,14 @@ runs_source false ran h none = refl
 runs_source true true h none = none_absurd (sym none)
 runs_source true false h none = none_absurd h
 
-command_by : (ran : Bool) (world : World) (cpu : ℕ) (command : Command) → world.destination.has_run ≡ ran → runs world ≡ true → IsKept world → IsKept (after_command world cpu command)
+command_by : (ran : Bool) (world : World) (cpu : ℕ) (command : Command) → world.destination.has_run ≡ ran → runs world ≡ true → IsSoundWorld world → IsSoundWorld (after_command world cpu command)
 command_by true world cpu command is may kept = kept-command_at_destination world cpu command is kept
 command_by false world cpu command is may kept = kept-command_at_source world cpu command is (runs_source world.source.switched world.destination.has_run may is) kept
 
-kept-command : (world : World) (cpu : ℕ) (command : Command) → runs world ≡ true → IsKept world → IsKept (after_command world cpu command)
+kept-command : (world : World) (cpu : ℕ) (command : Command) → runs world ≡ true → IsSoundWorld world → IsSoundWorld (after_command world cpu command)
 kept-command world cpu command may kept = command_by world.destination.has_run world cpu command refl may kept
 
-pub kept-answer : (world : World) (step : Step) → IsKept world → Leaves IsKept (answer world step)
+pub kept-answer : (world : World) (step : Step) → IsSoundWorld world → Leaves IsSoundWorld (answer world step)
 kept-answer world (Step.Issue cpu command) kept = made-issue _ world cpu command (λ idle may. kept-command world cpu command may kept)
 kept-answer world (Step.Retry cpu) kept = made-retry _ world cpu (λ command waits woken may. kept-command world cpu command may kept)
 kept-answer world Step.Start kept = made-start _ world (λ idle. kept-start world kept idle)
@@ -62,22 +62,22 @@ kept-answer world (Step.Notice Side.Source) kept = made-notice _ world Side.Sour
 kept-answer world (Step.Notice Side.Destination) kept = made-notice _ world Side.Destination (λ started unreleased down. kept-notice_destination world kept down)
 kept-answer world Step.Resume kept = made-resume _ world (λ from to down. kept-resume world kept from to down)
 
-pub kept-next : (world : World) (step : Step) → IsKept world → IsKept (next world step)
-kept-next world step kept = leaves-next IsKept world step kept (kept-answer world step kept)
+pub kept-next : (world : World) (step : Step) → IsSoundWorld world → IsSoundWorld (next world step)
+kept-next world step kept = leaves-next IsSoundWorld world step kept (kept-answer world step kept)
 
-pub kept-after_steps : (world : World) (steps : List Step) → IsKept world → IsKept (after_steps world steps)
+pub kept-after_steps : (world : World) (steps : List Step) → IsSoundWorld world → IsSoundWorld (after_steps world steps)
 kept-after_steps world [] kept = kept
 kept-after_steps world (step ∷ steps) kept = kept-after_steps (next world step) steps (kept-next world step kept)
 
 -- every list of steps from a first world
-pub always : (cpus epoch rounds : ℕ) (steps : List Step) → IsKept (after_steps (first_world_with cpus epoch rounds) steps)
+pub always : (cpus epoch rounds : ℕ) (steps : List Step) → IsSoundWorld (after_steps (first_world_with cpus epoch rounds) steps)
 always cpus epoch rounds steps = kept-after_steps (first_world_with cpus epoch rounds) steps (kept-first cpus epoch rounds)
 
 -- every world that some list of steps leads to
-pub kept-reached : (world : World) → IsReached world → IsKept world
-kept-reached world reached = subst IsKept (sym reached.is) (always reached.cpus reached.epoch reached.rounds reached.steps)
+pub kept-reached : (world : World) → IsReached world → IsSoundWorld world
+kept-reached world reached = subst IsSoundWorld (sym reached.is) (always reached.cpus reached.epoch reached.rounds reached.steps)
 
 -- a migration that is complete stays so
-pub complete-after_steps : (world : World) (steps : List Step) → IsKept world → IsComplete world → IsComplete (after_steps world steps)
+pub complete-after_steps : (world : World) (steps : List Step) → IsSoundWorld world → IsComplete world → IsComplete (after_steps world steps)
 complete-after_steps world [] kept done = done
 complete-after_steps world (step ∷ steps) kept done = complete-after_steps (next world step) steps (kept-next world step kept) (complete-next world step kept done)

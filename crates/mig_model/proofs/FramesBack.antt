@@ -22,7 +22,7 @@ use Rattle.mig_model.specs.Guest.{is_present, is_changed_by}
 use Rattle.mig_model.specs.Wire.{Sent, kept_after}
 use Rattle.mig_model.specs.Wire.Frame.{Discard, Request, Recv}
 use Rattle.mig_model.specs.Migration.{World, start}
-use Rattle.mig_model.specs.Invariant.{Wires, IsKept, IsPrecopying, IsSwitching, IsFlowing, AreOf, AreRight, AreFaithful, SwitchedAt, copies_of, has_copy, is_unread, are_requests, seen_host, current_host, flow_of}
+use Rattle.mig_model.specs.Invariant.{Wires, IsSoundWorld, IsPrecopying, IsSwitching, IsFlowing, AreOf, AreRight, AreFaithful, SwitchedAt, copies_of, has_copy, is_unread, are_requests, seen_host, current_host, flow_of}
 use Rattle.mig_model.specs.Invariant.Flow.{AfterEnd, Pushed}
 use Rattle.mig_model.proofs.FrameLemmas.{discard_none}
 use Rattle.mig_model.proofs.SpaceLemmas.{IsSoundSpace-fresh}
@@ -48,13 +48,13 @@ none_in page h = absurd (false≢true (sym (contains-empty nat_cmp page) ∙ h))
 pub request_taken : (to : DestPhase) (ran switched : Bool) (epoch page : ℕ) (rest : List Sent) (world : World) →
     let old : World = at_back SourcePhase.Stopped to ran switched world.forward (record { epoch = epoch; frame = Request page } ∷ rest) world in
     let new : World = delivered_back old old.back in
-    IsKept old → Wires new.source new.destination new.forward new.back → IsKept new
+    IsSoundWorld old → Wires new.source new.destination new.forward new.back → IsSoundWorld new
 request_taken to ran switched epoch page rest world kept on_wires =
     let old : World = at_back SourcePhase.Stopped to ran switched world.forward (record { epoch = epoch; frame = Request page } ∷ rest) world in
     let new : World = delivered_back old old.back in
     let wires : new.up ≡ true → Wires new.source new.destination new.forward new.back = λ u. on_wires in
     let down : new.up ≡ false → (new.forward ≡ []) × (new.back ≡ []) × (new.source.phase ≢ SourcePhase.Idle) × (new.source.phase ≢ SourcePhase.Released) = λ h. absurd (not_up h) in
-    let back_epoch : AreOf new.source.epoch new.back = kept.back_epoch.1 in
+    let back_epoch : AreOf new.source.epoch new.back = kept.epochs.back_epoch.1 in
     assumption
 
 -- A source that is released
@@ -85,14 +85,14 @@ seen_alone here there other owed h = ap (seen_host here there) h ∙ sym (ap (se
 pub released_kept : (from : SourcePhase) (forward back rest : List Sent) (world : World) →
     let old : World = at_back from DestPhase.Ended true true forward back world in
     let new : World = record old { source = released old.source; back = rest } in
-    IsKept old → forward ≡ [] → rest ≡ [] → IsKept new
+    IsSoundWorld old → forward ≡ [] → rest ≡ [] → IsSoundWorld new
 released_kept from forward back rest world kept none last =
     let old : World = at_back from DestPhase.Ended true true forward back world in
     let new : World = record old { source = released old.source; back = rest } in
-    let ended : world.destination.ended ≡ true = kept.destination_phase in
-    let bare = kept.ended_empty ended in
+    let ended : world.destination.ended ≡ true = kept.phases.destination_phase in
+    let bare = kept.owing.ended_empty ended in
     let holds : memory (current_host new) ≡ memory_of new.transcript =
-    ap memory (seen_alone world.destination.guest.space.host fresh_space.host world.source.guest.space.host (settled world.destination) (settled_by-empty world.destination.guest.space.object.events world.destination.owed bare.0)) ∙ kept.holds in
+    ap memory (seen_alone world.destination.guest.space.host fresh_space.host world.source.guest.space.host (settled world.destination) (settled_by-empty world.destination.guest.space.object.events world.destination.owed bare.0)) ∙ kept.memory.holds in
     let source_space : IsSoundSpace (space_of new.source) = IsSoundSpace-fresh in
     let both_modes : (page : ℕ) → contains (space_of new.source).object.missing page ≡ contains (space_of new.source).object.protect page = λ page. refl in
     let source_events : AreRight (space_of new.source).object.events = tt in
@@ -124,15 +124,15 @@ no_copy page kept h = ap (λ k. contains_key k page) h ∙ ap is_some (get-empty
 -- it has not run, and the source still makes rounds: all is sent anew
 pub recv_precopy : (owed : FinSet nat_cmp) (epoch : ℕ) (rest : List Sent) (world : World) →
     let old : World = at_back SourcePhase.Paused DestPhase.Advised false false [] (record { epoch = epoch; frame = Recv Received.NotRun owed } ∷ rest) world in
-    IsKept old → rest ≡ [] → IsKept (delivered_back old old.back)
+    IsSoundWorld old → rest ≡ [] → IsSoundWorld (delivered_back old old.back)
 recv_precopy owed epoch rest world kept last =
     let old : World = at_back SourcePhase.Paused DestPhase.Advised false false [] (record { epoch = epoch; frame = Recv Received.NotRun owed } ∷ rest) world in
     let new : World = delivered_back old old.back in
-    let w = kept.wires refl in
+    let w = kept.flight.wires refl in
     let source_phase : SwitchedAt new.source.phase new.source.switched = refl in
     let before_switch : new.source.switched ≡ false → (new.source.remaining ≡ no_pages) × (new.source.end_epoch ≢ new.source.epoch ⊎ (new.source.phase ≡ SourcePhase.Idle)) =
-    λ h. ((kept.before_switch refl).0, inl (kept.paused_fresh refl refl)) in
-    let paused_fresh : new.up ≡ true → new.source.phase ≡ SourcePhase.Paused → new.source.end_epoch ≢ new.source.epoch = λ u h. kept.paused_fresh refl refl in
+    λ h. ((kept.pushing.before_switch refl).0, inl (kept.pushing.paused_fresh refl refl)) in
+    let paused_fresh : new.up ≡ true → new.source.phase ≡ SourcePhase.Paused → new.source.end_epoch ≢ new.source.epoch = λ u h. kept.pushing.paused_fresh refl refl in
     let idle_source : new.source.phase ≡ SourcePhase.Idle → (new.source.log.clean ≡ no_pages) × (new.source.log.todo ≡ no_pages) × (new.source.log.sent ≡ no_pages) × ((space_of new.source).object.events ≡ []) × ((page : ℕ) → contains (space_of new.source).object.missing page ≡ false) =
     λ h. absurd (let e : SourcePhase.Precopy ≡ SourcePhase.Idle = h in cc) in
     let clean_protected : new.source.switched ≡ false → (page : ℕ) → contains new.source.log.clean page ≡ true → is_unread (space_of new.source).object.events page ≡ false → contains (space_of new.source).protected page ≡ true = λ s page h. none_in page h in
@@ -145,7 +145,7 @@ recv_precopy owed epoch rest world kept last =
     } in
     let wires : new.up ≡ true → Wires new.source new.destination new.forward new.back = λ u. (refl, last, precopying) in
     let down : new.up ≡ false → (new.forward ≡ []) × (new.back ≡ []) × (new.source.phase ≢ SourcePhase.Idle) × (new.source.phase ≢ SourcePhase.Released) = λ h. absurd (not_up h) in
-    let back_epoch : AreOf new.source.epoch new.back = kept.back_epoch.1 in
+    let back_epoch : AreOf new.source.epoch new.back = kept.epochs.back_epoch.1 in
     assumption
 
 eqb_other : (a b : ℕ) → a ≢ b → eqb a b ≡ false
@@ -179,13 +179,13 @@ nothing_kept kept page h =
 -- it has not run, and the source has stopped: a Package that owes all present pages
 pub recv_switched : (owed : FinSet nat_cmp) (epoch : ℕ) (rest : List Sent) (world : World) →
     let old : World = at_back SourcePhase.Paused DestPhase.Advised false true [] (record { epoch = epoch; frame = Recv Received.NotRun owed } ∷ rest) world in
-    IsKept old → rest ≡ [] → IsKept (delivered_back old old.back)
+    IsSoundWorld old → rest ≡ [] → IsSoundWorld (delivered_back old old.back)
 recv_switched owed epoch rest world kept last =
     let old : World = at_back SourcePhase.Paused DestPhase.Advised false true [] (record { epoch = epoch; frame = Recv Received.NotRun owed } ∷ rest) world in
     let new : World = delivered_back old old.back in
-    let w = kept.wires refl in
-    let fresh : world.source.end_epoch ≢ world.source.epoch = kept.paused_fresh refl refl in
-    let sound : IsSound world.source.guest.space.host = kept.source_space.host in
+    let w = kept.flight.wires refl in
+    let fresh : world.source.end_epoch ≢ world.source.epoch = kept.pushing.paused_fresh refl refl in
+    let sound : IsSound world.source.guest.space.host = kept.spaces.source_space.host in
     let here : (page : ℕ) → contains (present world.source.guest.space) page ≡ (ltb page HIGH_PAGE && is_present world.source.guest.space page) = λ page. member_below _ HIGH_PAGE page in
     let source_phase : SwitchedAt new.source.phase new.source.switched = refl in
     let before_switch : new.source.switched ≡ false → (new.source.remaining ≡ no_pages) × (new.source.end_epoch ≢ new.source.epoch ⊎ (new.source.phase ≡ SourcePhase.Idle)) = λ h. absurd (not_up h) in
@@ -210,18 +210,18 @@ recv_switched owed epoch rest world kept last =
     let wires : new.up ≡ true → Wires new.source new.destination new.forward new.back = λ u. (flow_pushed world.source fresh, last, switching) in
     let down : new.up ≡ false → (new.forward ≡ []) × (new.back ≡ []) × (new.source.phase ≢ SourcePhase.Idle) × (new.source.phase ≢ SourcePhase.Released) = λ h. absurd (not_up h) in
     let forward_epoch : AreOf new.source.epoch new.forward = (refl, (refl, tt)) in
-    let back_epoch : AreOf new.source.epoch new.back = kept.back_epoch.1 in
+    let back_epoch : AreOf new.source.epoch new.back = kept.epochs.back_epoch.1 in
     assumption
 
 -- it runs: what it still needs is to be pushed
 pub recv_running : (owed : FinSet nat_cmp) (epoch : ℕ) (rest : List Sent) (world : World) →
     let old : World = at_back SourcePhase.Paused DestPhase.Running true true [] (record { epoch = epoch; frame = Recv Received.Running owed } ∷ rest) world in
-    IsKept old → are_requests rest ≡ true → ((page origin : ℕ) → get world.destination.owed page ≡ Some origin → contains owed origin ≡ true) →
-    ((page : ℕ) → contains owed page ≡ true → is_present world.source.guest.space page ≡ true) → IsKept (delivered_back old old.back)
+    IsSoundWorld old → are_requests rest ≡ true → ((page origin : ℕ) → get world.destination.owed page ≡ Some origin → contains owed origin ≡ true) →
+    ((page : ℕ) → contains owed page ≡ true → is_present world.source.guest.space page ≡ true) → IsSoundWorld (delivered_back old old.back)
 recv_running owed epoch rest world kept requests needed owed_present =
     let old : World = at_back SourcePhase.Paused DestPhase.Running true true [] (record { epoch = epoch; frame = Recv Received.Running owed } ∷ rest) world in
     let new : World = delivered_back old old.back in
-    let fresh : world.source.end_epoch ≢ world.source.epoch = kept.paused_fresh refl refl in
+    let fresh : world.source.end_epoch ≢ world.source.epoch = kept.pushing.paused_fresh refl refl in
     let source_phase : SwitchedAt new.source.phase new.source.switched = refl in
     let before_switch : new.source.switched ≡ false → (new.source.remaining ≡ no_pages) × (new.source.end_epoch ≢ new.source.epoch ⊎ (new.source.phase ≡ SourcePhase.Idle)) = λ h. absurd (not_up h) in
     let end_sent : new.source.end_epoch ≡ new.source.epoch → new.source.remaining ≡ no_pages = λ h. absurd (fresh h) in
@@ -233,5 +233,5 @@ recv_running owed epoch rest world kept requests needed owed_present =
     let flowing : IsFlowing new.source new.destination new.forward = record { whereabouts = λ page origin h. ap (λ b. b || false || has_copy world.destination.arrivals origin) (needed page origin h) } in
     let wires : new.up ≡ true → Wires new.source new.destination new.forward new.back = λ u. (flow_pushed world.source fresh, requests, flowing) in
     let down : new.up ≡ false → (new.forward ≡ []) × (new.back ≡ []) × (new.source.phase ≢ SourcePhase.Idle) × (new.source.phase ≢ SourcePhase.Released) = λ h. absurd (not_up h) in
-    let back_epoch : AreOf new.source.epoch new.back = kept.back_epoch.1 in
+    let back_epoch : AreOf new.source.epoch new.back = kept.epochs.back_epoch.1 in
     assumption

@@ -27,7 +27,7 @@ use Rattle.mig_model.specs.Wire.{Frame, Sent, Copy}
 use Rattle.mig_model.specs.Wire.Frame.{Advise, Page, Zero, Discard, Package, End, Resume, Request, Recv, Done}
 use Rattle.mig_model.specs.Guest.Act.{Unprotected, Zeroed, Woke, Forgot, Requested}
 use Rattle.mig_model.specs.Migration.{World, with_guest_by, guest_by, next, outcome, install_effect, after_command, after_dest_read, answer, guest_of, runs, start}
-use Rattle.mig_model.specs.Invariant.{IsKept, AreFaults, AreRight, is_package}
+use Rattle.mig_model.specs.Invariant.{IsSoundWorld, AreFaults, AreRight, is_package}
 use Rattle.mig_model.specs.Promises.{owed_changed, leaves_settled, AreAccesses}
 use Rattle.mig_model.proofs.SwitchMade.{no_events}
 use Rattle.mig_model.proofs.SettledLemmas.{settled_by-applied}
@@ -46,14 +46,14 @@ use Rattle.mig_model.specs.Destination.{Destination, copy_came, destination_act,
 
 -- A map call at the destination
 
-called_by : (ran access : Bool) (world : World) (cpu : ℕ) (command : Command) → ran ≡ true → access ≡ false → IsKept world → (page : ℕ) →
+called_by : (ran access : Bool) (world : World) (cpu : ℕ) (command : Command) → ran ≡ true → access ≡ false → IsSoundWorld world → (page : ℕ) →
     settled (with_guest_by ran world (tried access (guest_by ran world.source.guest world.destination.guest) cpu command)).destination page
     ≡ owed_changed (settled world.destination) command (reply_of (memory world.destination.guest.space.host) command) page
 called_by false access world cpu command runs is kept page = absurd (false≢true runs)
 called_by true true world cpu command runs is kept page = absurd (false≢true (sym is))
 called_by true false world cpu command runs is kept page = ap (λ f. f page) (settled_then world.destination.guest.space (get world.destination.owed) cpu command (ready_of world kept))
 
-pub settled_call : (world : World) (cpu : ℕ) (command : Command) → IsKept world → world.destination.has_run ≡ true → is_access command ≡ false → (page : ℕ) →
+pub settled_call : (world : World) (cpu : ℕ) (command : Command) → IsSoundWorld world → world.destination.has_run ≡ true → is_access command ≡ false → (page : ℕ) →
     IsOk (outcome world (Step.Issue cpu command)) → settled (next world (Step.Issue cpu command)).destination page ≡ owed_changed (settled world.destination) command (reply_of (memory world.destination.guest.space.host) command) page
 settled_call world cpu command kept ran is page ok =
     leaves-ok (λ new. settled new.destination page ≡ owed_changed (settled world.destination) command (reply_of (memory world.destination.guest.space.host) command) page) world (Step.Issue cpu command)
@@ -191,12 +191,12 @@ acted_settled Forgot node fault page = refl
 acted_settled (Requested source) node fault page = refl
 
 -- a destination that has run takes no Package
-frame_settled : (frame : Frame) (epoch : ℕ) (rest : List Sent) (world : World) → IsKept world → world.up ≡ true → world.destination.has_run ≡ true → world.forward ≡ record { epoch = epoch; frame = frame } ∷ rest → (page : ℕ) →
+frame_settled : (frame : Frame) (epoch : ℕ) (rest : List Sent) (world : World) → IsSoundWorld world → world.up ≡ true → world.destination.has_run ≡ true → world.forward ≡ record { epoch = epoch; frame = frame } ∷ rest → (page : ℕ) →
     settled (destination_took world.destination epoch frame) page ≡ settled world.destination page
 frame_settled (Package areas owed commands) epoch rest world kept up ran first page =
-    let again = subst (λ w. IsKept (record world { forward = w })) first kept in
+    let again = subst (λ w. IsSoundWorld (record world { forward = w })) first kept in
     let old = with_first world.source.phase world.destination.phase epoch (Package areas owed commands) rest world in
-    let is = first_in_place old.source old.destination (record { epoch = epoch; frame = Package areas owed commands }) rest old.back (again.wires up) in
+    let is = first_in_place old.source old.destination (record { epoch = epoch; frame = Package areas owed commands }) rest old.back (again.flight.wires up) in
     absurd (false≢true (sym (package_told world.source.phase world.destination.phase epoch areas owed commands rest world is up again).1 ∙ ran))
 frame_settled Advise epoch rest world kept up ran first page = took_settled Advise world.destination epoch page refl
 frame_settled (Page number bytes) epoch rest world kept up ran first page = took_settled (Page number bytes) world.destination epoch page refl
@@ -211,7 +211,7 @@ frame_settled Done epoch rest world kept up ran first page = took_settled Done w
 same_node : (old new : World) (page : ℕ) → new.destination ≡ old.destination → settled new.destination page ≡ settled old.destination page
 same_node old new page h = ap (λ node. settled node page) h
 
-settled_answer : (world : World) (step : Step) → IsKept world → AreAccesses world → world.destination.has_run ≡ true → leaves_settled step ≡ true → (page : ℕ) → Leaves (SettledAs world page) (answer world step)
+settled_answer : (world : World) (step : Step) → IsSoundWorld world → AreAccesses world → world.destination.has_run ≡ true → leaves_settled step ≡ true → (page : ℕ) → Leaves (SettledAs world page) (answer world step)
 settled_answer world (Step.Issue cpu command) kept waits ran leaves page = made-issue _ world cpu command (λ idle may. settled_try world cpu command ran leaves page)
 settled_answer world (Step.Retry cpu) kept waits ran leaves page =
     made-retry _ world cpu (λ command is woken may. settled_try world cpu command ran (waits_here world cpu command waits ran is) page)
@@ -225,7 +225,7 @@ settled_answer world Step.Switch kept waits ran leaves page = made-switch _ worl
 settled_answer world Step.Deliver kept waits ran leaves page = made-deliver _ world (λ sent rest is started up free. frame_settled sent.frame sent.epoch rest world kept up ran is page)
 settled_answer world Step.DeliverBack kept waits ran leaves page = made-deliver_back _ world (λ sent rest is started up. refl)
 settled_answer world Step.DestRead kept waits ran leaves page =
-    made-dest_read _ world (λ noted is runs. read_settled world.destination.guest.space.object.faults world.destination.guest.space.object.events noted world is kept.destination_faults kept.destination_events page)
+    made-dest_read _ world (λ noted is runs. read_settled world.destination.guest.space.object.faults world.destination.guest.space.object.events noted world is kept.spaces.destination_faults kept.spaces.destination_events page)
 settled_answer world Step.DestAct kept waits ran leaves page = made-dest_act _ world (λ fault rest is runs quiet. acted_settled (destination_act world.destination fault) world.destination fault.page page)
 settled_answer world (Step.Push ticket) kept waits ran leaves page = made-push _ world ticket (λ stopped up own present remains. refl)
 settled_answer world Step.Serve kept waits ran leaves page = made-serve _ world (λ number pages is stopped up. refl)
@@ -235,7 +235,7 @@ settled_answer world (Step.Notice Side.Source) kept waits ran leaves page = made
 settled_answer world (Step.Notice Side.Destination) kept waits ran leaves page = made-notice _ world Side.Destination (λ started unreleased down. refl)
 settled_answer world Step.Resume kept waits ran leaves page = made-resume _ world (λ from to down. refl)
 
-pub settled_else : (world : World) (step : Step) → IsKept world → AreAccesses world → world.destination.has_run ≡ true → leaves_settled step ≡ true → (page : ℕ) → settled (next world step).destination page ≡ settled world.destination page
+pub settled_else : (world : World) (step : Step) → IsSoundWorld world → AreAccesses world → world.destination.has_run ≡ true → leaves_settled step ≡ true → (page : ℕ) → settled (next world step).destination page ≡ settled world.destination page
 settled_else world step kept waits ran leaves page = leaves-next (SettledAs world page) world step refl (settled_answer world step kept waits ran leaves page)
 
 -- A copy that is given up leaves the relation

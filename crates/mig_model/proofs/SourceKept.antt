@@ -14,7 +14,7 @@ use Rattle.mig_model.specs.Space.{IsSoundSpace}
 use Rattle.mig_model.specs.Guest.{Guest, is_present, Fault}
 use Rattle.mig_model.specs.Wire.{Sent}
 use Rattle.mig_model.specs.Migration.{World, next}
-use Rattle.mig_model.specs.Invariant.{IsKept, IsPrecopying, Wires, AreRight, AreWhole, AreOf, EpochAt, RanAt, SwitchedAt, is_unread, copies_of, current_by}
+use Rattle.mig_model.specs.Invariant.{IsSoundWorld, IsPrecopying, Wires, AreRight, AreWhole, AreOf, EpochAt, RanAt, SwitchedAt, is_unread, copies_of, current_by}
 use Rattle.mig_model.proofs.SourceTests.{none_absurd}
 use Rattle.mig_model.specs.Log.{no_pages}
 use Rattle.mig_model.specs.Source.{Source, space_of}
@@ -56,9 +56,9 @@ current_before true here there owed h = none_absurd (sym h)
 current_before false here there owed h = refl
 
 -- the memory of the source is the guest's
-pub source_holds : (world : World) → IsKept world → world.destination.has_run ≡ false → memory (space_of world.source).host ≡ memory_of world.transcript
+pub source_holds : (world : World) → IsSoundWorld world → world.destination.has_run ≡ false → memory (space_of world.source).host ≡ memory_of world.transcript
 source_holds world kept bare =
-    sym (ap memory (current_before world.destination.has_run world.destination.guest.space.host (space_of world.source).host (settled world.destination) bare)) ∙ kept.holds
+    sym (ap memory (current_before world.destination.has_run world.destination.guest.space.host (space_of world.source).host (settled world.destination) bare)) ∙ kept.memory.holds
 
 nothing_owed : {A : Type 0} (owed : FinMap nat_cmp ℕ) (page origin : ℕ) → owed ≡ finmap.empty → get owed page ≡ Some origin → A
 nothing_owed owed page origin none h = let e : None ≡ Some origin = sym (ap (λ m. get m page) none ∙ get-empty nat_cmp page) ∙ h in absurd (cc)
@@ -70,53 +70,66 @@ released_switched SourcePhase.Precopy switched at h e = absurd (cc)
 released_switched SourcePhase.Stopped switched at h e = absurd (cc)
 released_switched SourcePhase.Paused switched at h e = absurd (cc)
 
-pub renewed : (world : World) (source : Source) (forward : List Sent) (transcript : List Entry) → IsKept world → world.destination.has_run ≡ false → IsNext world source forward transcript →
-    IsKept (record world { source = source; forward = forward; transcript = transcript })
+pub renewed : (world : World) (source : Source) (forward : List Sent) (transcript : List Entry) → IsSoundWorld world → world.destination.has_run ≡ false → IsNext world source forward transcript →
+    IsSoundWorld (record world { source = source; forward = forward; transcript = transcript })
 renewed world source forward transcript kept bare next =
-    let owes = (kept.not_run bare).0 in
+    let owes = (kept.owing.not_run bare).0 in
     record {
-      flat = next.flat;
-      holds = ap memory (current_before world.destination.has_run world.destination.guest.space.host (space_of source).host (settled world.destination) bare) ∙ next.holds;
-      source_space = next.space;
-      destination_space = kept.destination_space;
-      both_modes = next.modes;
-      unprotected = kept.unprotected;
-      only_missing = kept.only_missing;
-      source_events = next.events;
-      destination_events = kept.destination_events;
-      destination_faults = kept.destination_faults;
-      source_phase = next.phase;
-      destination_phase = kept.destination_phase;
-      ran_after_switch = λ h. none_absurd (sym bare ∙ h);
-      ended_after_run = kept.ended_after_run;
-      source_quiet = λ h. none_absurd (sym next.unswitched ∙ h);
-      before_switch = λ h. (next.remaining, next.unended);
-      end_sent = λ h. next.remaining;
-      remaining_present = λ page h. no_page_absurd source.remaining page next.remaining h;
-      ended_before = next.before;
-      paused_fresh = next.fresh;
-      idle_source = next.idle;
-      not_run = kept.not_run;
-      kept_none = kept.kept_none;
-      kept_advised = kept.kept_advised;
-      kept_whole = kept.kept_whole;
-      copies_whole = next.whole;
-      clean_protected = λ h. next.protected;
-      todo_sendable = λ h. next.sendable;
-      one_to_one = kept.one_to_one;
-      owed_below = kept.owed_below;
-      origins_present = λ page origin h. nothing_owed world.destination.owed page origin owes h;
-      pairs_missing = kept.pairs_missing;
-      arrivals_faithful = λ h. none_absurd (sym bare ∙ h);
-      flight_faithful = λ h. none_absurd (sym bare ∙ h);
-      ended_empty = kept.ended_empty;
-      released_empty = λ h. released_switched source.phase source.switched next.phase next.unswitched h;
-      down = next.down;
-      wires = next.wires;
-      forward_epoch = next.forward_epoch;
-      back_epoch = next.back_epoch;
-      epochs = next.epochs;
-      epoch_at = next.epoch_at;
+      memory = record {
+        flat = next.flat;
+        holds = ap memory (current_before world.destination.has_run world.destination.guest.space.host (space_of source).host (settled world.destination) bare) ∙ next.holds;
+      };
+      spaces = record {
+        source_space = next.space;
+        destination_space = kept.spaces.destination_space;
+        both_modes = next.modes;
+        unprotected = kept.spaces.unprotected;
+        only_missing = kept.spaces.only_missing;
+        source_events = next.events;
+        destination_events = kept.spaces.destination_events;
+        destination_faults = kept.spaces.destination_faults;
+      };
+      phases = record {
+        source_phase = next.phase;
+        destination_phase = kept.phases.destination_phase;
+        ran_after_switch = λ h. none_absurd (sym bare ∙ h);
+        ended_after_run = kept.phases.ended_after_run;
+        source_quiet = λ h. none_absurd (sym next.unswitched ∙ h);
+      };
+      precopy = record {
+        idle_source = next.idle;
+        clean_protected = λ h. next.protected;
+        todo_sendable = λ h. next.sendable;
+      };
+      pushing = record {
+        before_switch = λ h. (next.remaining, next.unended);
+        end_sent = λ h. next.remaining;
+        remaining_present = λ page h. no_page_absurd source.remaining page next.remaining h;
+        ended_before = next.before;
+        paused_fresh = next.fresh;
+        released_empty = λ h. released_switched source.phase source.switched next.phase next.unswitched h;
+      };
+      copies = record {
+        kept_none = kept.copies.kept_none;
+        kept_advised = kept.copies.kept_advised;
+        kept_whole = kept.copies.kept_whole;
+        copies_whole = next.whole;
+      };
+      owing = record {
+        not_run = kept.owing.not_run;
+        one_to_one = kept.owing.one_to_one;
+        owed_below = kept.owing.owed_below;
+        origins_present = λ page origin h. nothing_owed world.destination.owed page origin owes h;
+        pairs_missing = kept.owing.pairs_missing;
+        arrivals_faithful = λ h. none_absurd (sym bare ∙ h);
+        ended_empty = kept.owing.ended_empty;
+      };
+      flight = record {
+        flight_faithful = λ h. none_absurd (sym bare ∙ h);
+        down = next.down;
+        wires = next.wires;
+      };
+      epochs = record { forward_epoch = next.forward_epoch; back_epoch = next.back_epoch; not_ahead = next.epochs; epoch_at = next.epoch_at };
     }
 
 -- A step that changes the guest and the sets of pages alone
@@ -173,12 +186,12 @@ wires_changed SourcePhase.Paused DestPhase.Running source guest clean todo held 
 wires_changed SourcePhase.Paused DestPhase.Paused source guest clean todo held rounds faults destination forward back ran bare after at unswitched stay wires = wires
 wires_changed SourcePhase.Paused DestPhase.Ended source guest clean todo held rounds faults destination forward back ran bare after at unswitched stay wires = none_absurd (sym bare ∙ after ran)
 
-pub changed : (world : World) (guest : Guest) (clean todo : FinSet nat_cmp) (held : List Fault) (rounds faults : ℕ) (transcript : List Entry) → IsKept world → world.destination.has_run ≡ false → world.source.switched ≡ false →
+pub changed : (world : World) (guest : Guest) (clean todo : FinSet nat_cmp) (held : List Fault) (rounds faults : ℕ) (transcript : List Entry) → IsSoundWorld world → world.destination.has_run ≡ false → world.source.switched ≡ false →
     IsChanged world.source guest clean todo transcript →
-    IsKept (record world { source = with_parts world.source guest clean todo held rounds faults; transcript = transcript })
+    IsSoundWorld (record world { source = with_parts world.source guest clean todo held rounds faults; transcript = transcript })
 changed world guest clean todo held rounds faults transcript kept bare unswitched new =
     let source = world.source in
-    let before = kept.before_switch unswitched in
+    let before = kept.pushing.before_switch unswitched in
     renewed world (with_parts source guest clean todo held rounds faults) world.forward transcript kept bare
     (record {
       flat = new.flat;
@@ -186,21 +199,21 @@ changed world guest clean todo held rounds faults transcript kept bare unswitche
       space = new.space;
       modes = new.modes;
       events = new.events;
-      phase = kept.source_phase;
+      phase = kept.phases.source_phase;
       unswitched = unswitched;
       remaining = before.0;
       unended = before.1;
-      before = kept.ended_before;
-      fresh = kept.paused_fresh;
-      idle = λ h. let now = new.idle h in (now.0, now.1, (kept.idle_source h).2, now.2, now.3);
-      whole = kept.copies_whole;
+      before = kept.pushing.ended_before;
+      fresh = kept.pushing.paused_fresh;
+      idle = λ h. let now = new.idle h in (now.0, now.1, (kept.precopy.idle_source h).2, now.2, now.3);
+      whole = kept.copies.copies_whole;
       protected = new.protected;
       sendable = new.sendable;
-      down = kept.down;
+      down = kept.flight.down;
       wires = λ up. wires_changed source.phase world.destination.phase source guest clean todo held rounds faults world.destination world.forward world.back
-          kept.destination_phase bare kept.ended_after_run kept.source_phase unswitched new.copies (kept.wires up);
-      forward_epoch = kept.forward_epoch;
-      back_epoch = kept.back_epoch;
-      epochs = kept.epochs;
-      epoch_at = kept.epoch_at;
+          kept.phases.destination_phase bare kept.phases.ended_after_run kept.phases.source_phase unswitched new.copies (kept.flight.wires up);
+      forward_epoch = kept.epochs.forward_epoch;
+      back_epoch = kept.epochs.back_epoch;
+      epochs = kept.epochs.not_ahead;
+      epoch_at = kept.epochs.epoch_at;
     })

@@ -20,7 +20,7 @@ use Rattle.mig_model.specs.Guest.{is_present}
 use Rattle.mig_model.specs.Wire.{Sent}
 use Rattle.mig_model.specs.Wire.Frame.{Advise}
 use Rattle.mig_model.specs.Migration.{World, after_round, after_start}
-use Rattle.mig_model.specs.Invariant.{IsKept, Wires, PrecopyWires, SwitchedAt, EpochAt, AreOf, AreWhole, flow_after, copies_of, kept_by}
+use Rattle.mig_model.specs.Invariant.{IsSoundWorld, Wires, PrecopyWires, SwitchedAt, EpochAt, AreOf, AreWhole, flow_after, copies_of, kept_by}
 use Rattle.mig_model.specs.Invariant.Flow.{BeforeAdvise}
 use Rattle.mig_model.proofs.IoctlLemmas.{IsSoundSpace-registered}
 use Rattle.mig_model.proofs.SourceKept.{no_page_absurd, source_holds, IsNext, renewed, IsChanged, changed}
@@ -89,28 +89,28 @@ member_not_clean source page h =
     (sym (contains-retain (present (space_of source)) (λ q. not (contains source.log.clean q)) page (λ x e. ap (λ q. not (contains source.log.clean q)) (sym (nat_cmp-IsAntisymmetric page x e)))) ∙ h) in
     (and_parts (ltb page HIGH_PAGE) (is_present (space_of source) page) (sym (member_below _ HIGH_PAGE page) ∙ both.0)).1
 
-round_changed : (world : World) → IsKept world → is_precopy world.source.phase ≡ true → world.source.switched ≡ false →
+round_changed : (world : World) → IsSoundWorld world → is_precopy world.source.phase ≡ true → world.source.switched ≡ false →
     IsChanged world.source (record world.source.guest { space = all_registered (space_of world.source) }) world.source.log.clean (not_clean world.source) world.transcript
 round_changed world kept precopy unswitched =
     let space = space_of world.source in
-    let sound = kept.source_space in
+    let sound = kept.spaces.source_space in
     record {
-      flat = kept.flat;
+      flat = kept.memory.flat;
       holds = source_holds world kept (has_not_run world kept unswitched);
       space = IsSoundSpace-registered space 0 HIGH_PAGE for_both sound;
-      modes = λ page. ap (λ s. contains s page) (registered_modes space kept.both_modes);
-      events = kept.source_events;
+      modes = λ page. ap (λ s. contains s page) (registered_modes space kept.spaces.both_modes);
+      events = kept.spaces.source_events;
       idle = λ h. never_idle world.source.phase precopy h;
-      protected = λ page h u. still_protected space page sound (kept.clean_protected unswitched page h u);
+      protected = λ page h u. still_protected space page sound (kept.precopy.clean_protected unswitched page h u);
       sendable = λ page h u.
           let here = member_not_clean world.source page h in
           (here, mapped_registered space page sound (present_mapped space page sound here));
       copies = λ page h u. (h, u, refl);
     }
 
-pub kept-round : (world : World) → IsKept world → is_precopy world.source.phase ≡ true → IsKept (after_round world)
+pub kept-round : (world : World) → IsSoundWorld world → is_precopy world.source.phase ≡ true → IsSoundWorld (after_round world)
 kept-round world kept precopy =
-    let unswitched = precopy_unswitched world.source.phase world.source.switched precopy kept.source_phase in
+    let unswitched = precopy_unswitched world.source.phase world.source.switched precopy kept.phases.source_phase in
     changed world (record world.source.guest { space = all_registered (space_of world.source) }) world.source.log.clean (not_clean world.source) world.source.log.held (world.source.rounds + 1) world.source.faults world.transcript kept
     (has_not_run world kept unswitched) unswitched (round_changed world kept precopy unswitched)
 
@@ -155,22 +155,22 @@ start_wires to source destination wire back epoch not_advised one none clean kep
       },
     )
 
-started_next : (world : World) → IsKept world → world.source.phase ≡ SourcePhase.Idle → world.source.switched ≡ false → world.up ≡ true → IsQuiet world.destination.phase world.forward world.back →
+started_next : (world : World) → IsSoundWorld world → world.source.phase ≡ SourcePhase.Idle → world.source.switched ≡ false → world.up ≡ true → IsQuiet world.destination.phase world.forward world.back →
     IsNext world (source_started world.source) (start_wire world) world.transcript
 started_next world kept idle unswitched up quiet =
     let source = world.source in
     let space = space_of source in
-    let before = kept.before_switch unswitched in
-    let empty = kept.idle_source idle in
-    let ended = kept.ended_before in
-    let epochs = kept.epochs in
+    let before = kept.pushing.before_switch unswitched in
+    let empty = kept.precopy.idle_source idle in
+    let ended = kept.pushing.ended_before in
+    let epochs = kept.epochs.not_ahead in
     let one : start_wire world ≡ record { epoch = source.epoch + 1; frame = Advise } ∷ [] = ap (λ w. w ++ record { epoch = source.epoch + 1; frame = Advise } ∷ []) quiet.forward_none in
     record {
-      flat = kept.flat;
+      flat = kept.memory.flat;
       holds = source_holds world kept (has_not_run world kept unswitched);
-      space = IsSoundSpace-registered space 0 HIGH_PAGE for_both kept.source_space;
-      modes = λ page. ap (λ s. contains s page) (registered_modes space kept.both_modes);
-      events = kept.source_events;
+      space = IsSoundSpace-registered space 0 HIGH_PAGE for_both kept.spaces.source_space;
+      modes = λ page. ap (λ s. contains s page) (registered_modes space kept.spaces.both_modes);
+      events = kept.spaces.source_events;
       phase = unswitched;
       unswitched = unswitched;
       remaining = before.0;
@@ -182,17 +182,17 @@ started_next world kept idle unswitched up quiet =
       protected = λ page h u. no_page_absurd source.log.clean page empty.0 h;
       sendable = λ page h u. no_page_absurd source.log.todo page empty.1 h;
       down = λ h. none_absurd (sym h ∙ up);
-      wires = λ h. start_wires world.destination.phase (source_started source) world.destination (start_wire world) world.back (source.epoch + 1) quiet.not_advised one quiet.back_none empty.0 (kept.kept_advised quiet.not_advised);
+      wires = λ h. start_wires world.destination.phase (source_started source) world.destination (start_wire world) world.back (source.epoch + 1) quiet.not_advised one quiet.back_none empty.0 (kept.copies.kept_advised quiet.not_advised);
       forward_epoch = subst (AreOf (source.epoch + 1)) (sym one) (refl, tt);
       back_epoch = subst (AreOf (source.epoch + 1)) (sym quiet.back_none) tt;
       epochs = omega (arith, epochs);
       epoch_at = λ h. subst (λ p. EpochAt p world.destination.epoch (source.epoch + 1)) (sym quiet.not_advised) tt;
     }
 
-pub kept-start : (world : World) → IsKept world → is_source_idle world.source.phase ≡ true → IsKept (after_start world)
+pub kept-start : (world : World) → IsSoundWorld world → is_source_idle world.source.phase ≡ true → IsSoundWorld (after_start world)
 kept-start world kept is_idle =
     let idle = idle_is world.source.phase is_idle in
-    let unswitched = idle_unswitched world.source.phase world.source.switched idle kept.source_phase in
-    let up = never_false world.up (λ down. (kept.down down).2 idle) in
+    let unswitched = idle_unswitched world.source.phase world.source.switched idle kept.phases.source_phase in
+    let up = never_false world.up (λ down. (kept.flight.down down).2 idle) in
     renewed world (source_started world.source) (start_wire world) world.transcript kept (has_not_run world kept unswitched)
-    (started_next world kept idle unswitched up (idle_wires world.source.phase world.source world.destination world.forward world.back idle (kept.wires up)))
+    (started_next world kept idle unswitched up (idle_wires world.source.phase world.source world.destination world.forward world.back idle (kept.flight.wires up)))

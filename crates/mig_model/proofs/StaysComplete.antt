@@ -11,7 +11,7 @@ use Rattle.mig_model.specs.Guest.{Guest, tried, Act}
 use Rattle.mig_model.specs.Wire.{Sent}
 use Rattle.mig_model.specs.Guest.Act.{Unprotected, Zeroed, Woke, Forgot, Requested}
 use Rattle.mig_model.specs.Migration.{World, next, guest_of, with_guest_by, after_command, is_empty, answer}
-use Rattle.mig_model.specs.Invariant.{IsKept}
+use Rattle.mig_model.specs.Invariant.{IsSoundWorld}
 use Rattle.mig_model.specs.Promises.{IsComplete}
 use Rattle.mig_model.proofs.Stopping.{in_phases, none_absurd}
 use Rattle.mig_model.proofs.StepLemmas.{Leaves, leaves-next}
@@ -70,8 +70,8 @@ up_is true h = refl
 up_is false h = absurd (h refl)
 
 -- nothing is on the wire back any more
-back_empty_in : (from : SourcePhase) (world : World) → is_released from ≡ true → IsKept (in_phases from world.destination.phase world) → is_empty world.back ≡ true
-back_empty_in SourcePhase.Released world released kept = ap is_empty (kept.wires (up_is world.up (λ h. (kept.down h).3 refl))).2
+back_empty_in : (from : SourcePhase) (world : World) → is_released from ≡ true → IsSoundWorld (in_phases from world.destination.phase world) → is_empty world.back ≡ true
+back_empty_in SourcePhase.Released world released kept = ap is_empty (kept.flight.wires (up_is world.up (λ h. (kept.flight.down h).3 refl))).2
 back_empty_in SourcePhase.Idle world released kept = none_absurd released
 back_empty_in SourcePhase.Precopy world released kept = none_absurd released
 back_empty_in SourcePhase.Stopped world released kept = none_absurd released
@@ -81,10 +81,10 @@ still : (old new : SourcePhase) → new ≡ old → is_released old ≡ true →
 still old new is h = ap is_released is ∙ h
 
 -- such a world has nothing on its wire back, so nothing is taken from it
-nothing_back : (world : World) (sent : Sent) (rest : List Sent) → IsKept world → IsComplete world → world.back ≡ sent ∷ rest → ⊥
+nothing_back : (world : World) (sent : Sent) (rest : List Sent) → IsSoundWorld world → IsComplete world → world.back ≡ sent ∷ rest → ⊥
 nothing_back world sent rest kept done is = false≢true (ap is_empty (sym is) ∙ back_empty_in world.source.phase world done kept)
 
-complete-answer : (world : World) (step : Step) → IsKept world → IsComplete world → Leaves IsComplete (answer world step)
+complete-answer : (world : World) (step : Step) → IsSoundWorld world → IsComplete world → Leaves IsComplete (answer world step)
 complete-answer world (Step.Issue cpu command) kept done = made-issue _ world cpu command (λ idle may. still world.source.phase _ (command_phase world cpu command) done)
 complete-answer world (Step.Retry cpu) kept done = made-retry _ world cpu (λ command waits woken may. still world.source.phase _ (command_phase world cpu command) done)
 complete-answer world Step.Start kept done = made-start _ world (λ idle. absurd (not_idle world.source.phase done idle))
@@ -106,5 +106,5 @@ complete-answer world (Step.Notice Side.Source) kept done = made-notice _ world 
 complete-answer world (Step.Notice Side.Destination) kept done = made-notice _ world Side.Destination (λ started unreleased down. done)
 complete-answer world Step.Resume kept done = made-resume _ world (λ from to down. done)
 
-pub complete-next : (world : World) (step : Step) → IsKept world → IsComplete world → IsComplete (next world step)
+pub complete-next : (world : World) (step : Step) → IsSoundWorld world → IsComplete world → IsComplete (next world step)
 complete-next world step kept done = leaves-next IsComplete world step done (complete-answer world step kept done)

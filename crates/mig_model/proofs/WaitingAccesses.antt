@@ -21,7 +21,7 @@ use Rattle.mig_model.specs.Wire.{Frame, Sent, Copy}
 use Rattle.mig_model.specs.Wire.Frame.{Advise, Page, Zero, Discard, Package, End, Resume, Request, Recv, Done}
 use Rattle.mig_model.specs.Guest.Act.{Unprotected, Zeroed, Woke, Forgot, Requested}
 use Rattle.mig_model.specs.Migration.{World, first_world_with, next, after_steps, guest_by, with_guest_by, after_command, answer, start}
-use Rattle.mig_model.specs.Invariant.{IsKept}
+use Rattle.mig_model.specs.Invariant.{IsSoundWorld}
 use Rattle.mig_model.specs.Promises.{IsReached, AllAccess, AreAccesses}
 use Rattle.mig_model.proofs.FirstFrame.{first_in_place}
 use Rattle.mig_model.proofs.FramesTaken.{with_first}
@@ -204,12 +204,12 @@ unmoved : (world : World) → Wait world → AfterFrame world world.destination.
 unmoved world all = destination_like world world.destination.guest.cpus (unchanged world.destination.guest.cpus) all
 
 -- the commands of a Package are those that wait at the source
-frame_all : (frame : Frame) (epoch : ℕ) (rest : List Sent) (world : World) → IsKept world → world.up ≡ true → world.forward ≡ record { epoch = epoch; frame = frame } ∷ rest → Wait world →
+frame_all : (frame : Frame) (epoch : ℕ) (rest : List Sent) (world : World) → IsSoundWorld world → world.up ≡ true → world.forward ≡ record { epoch = epoch; frame = frame } ∷ rest → Wait world →
     AfterFrame world (destination_took world.destination epoch frame).guest.cpus
 frame_all (Package areas owed commands) epoch rest world kept up first all =
-    let again = subst (λ w. IsKept (record world { forward = w })) first kept in
+    let again = subst (λ w. IsSoundWorld (record world { forward = w })) first kept in
     let old = with_first world.source.phase world.destination.phase epoch (Package areas owed commands) rest world in
-    let is = first_in_place old.source old.destination (record { epoch = epoch; frame = Package areas owed commands }) rest old.back (again.wires up) in
+    let is = first_in_place old.source old.destination (record { epoch = epoch; frame = Package areas owed commands }) rest old.back (again.flight.wires up) in
     let told = package_told world.source.phase world.destination.phase epoch areas owed commands rest world is up again in
     let new = source_like world _ (taken_like world.source.guest.cpus) all in
     subst (λ cs. AfterFrame world (map taken_over cs)) (sym told.0) (new.0, taken_many world.source.guest.cpus)
@@ -223,7 +223,7 @@ frame_all (Request page) epoch rest world kept up first all = unmoved world all
 frame_all (Recv state owed) epoch rest world kept up first all = unmoved world all
 frame_all Done epoch rest world kept up first all = unmoved world all
 
-waits_answer : (world : World) (step : Step) → IsKept world → Wait world → Leaves Wait (answer world step)
+waits_answer : (world : World) (step : Step) → IsSoundWorld world → Wait world → Leaves Wait (answer world step)
 waits_answer world (Step.Issue cpu command) kept all = made-issue _ world cpu command (λ idle may. tried_all world cpu command all)
 waits_answer world (Step.Retry cpu) kept all = made-retry _ world cpu (λ command waits woken may. tried_all world cpu command all)
 waits_answer world Step.Start kept all = made-start _ world (λ idle. record { source = all.source; destination = all.destination; many = all.many })
@@ -264,10 +264,10 @@ idle_all zero k command h = absurd (none_some command h)
 idle_all (suc count) zero command h = absurd (none_some command h)
 idle_all (suc count) (suc k) command h = idle_all count k command h
 
-next_all : (world : World) (step : Step) → IsKept world → Wait world → Wait (next world step)
+next_all : (world : World) (step : Step) → IsSoundWorld world → Wait world → Wait (next world step)
 next_all world step kept all = leaves-next Wait world step all (waits_answer world step kept all)
 
-steps_all : (world : World) (steps : List Step) → IsKept world → Wait world → Wait (after_steps world steps)
+steps_all : (world : World) (steps : List Step) → IsSoundWorld world → Wait world → Wait (after_steps world steps)
 steps_all world [] kept all = all
 steps_all world (step ∷ steps) kept all = steps_all (next world step) steps (kept-next world step kept) (next_all world step kept all)
 

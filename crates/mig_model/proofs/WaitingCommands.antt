@@ -24,7 +24,7 @@ use Rattle.mig_model.specs.Wire.{Frame, Sent, Copy}
 use Rattle.mig_model.specs.Wire.Frame.{Advise, Page, Zero, Discard, Package, End, Resume, Request, Recv, Done}
 use Rattle.mig_model.specs.Guest.Act.{Unprotected, Zeroed, Woke, Forgot, Requested}
 use Rattle.mig_model.specs.Migration.{World, next, guest_by, guest_of, with_guest_by, after_command, after_dest_act, after_install, answer, outcome, start}
-use Rattle.mig_model.specs.Invariant.{IsKept, is_package}
+use Rattle.mig_model.specs.Invariant.{IsSoundWorld, is_package}
 use Rattle.mig_model.specs.Promises.{is_retry_of}
 use Rattle.mig_model.proofs.FirstFrame.{comes, first_in_place, delivered}
 use Rattle.mig_model.proofs.FramesTaken.{with_first, commands_in}
@@ -221,22 +221,22 @@ same_took Done node epoch h = record { guest = refl; ran = refl }
 
 -- a Package that comes next has the outstanding commands of the source, and the destination has not run
 pub package_told : (from : SourcePhase) (to : DestPhase) (epoch : ℕ) (areas : FinMap nat_cmp Prot) (owed : FinSet nat_cmp) (commands : List (Option Command)) (rest : List Sent) (world : World) →
-    comes from to (Package areas owed commands) ≡ true → world.up ≡ true → IsKept (with_first from to epoch (Package areas owed commands) rest world) →
+    comes from to (Package areas owed commands) ≡ true → world.up ≡ true → IsSoundWorld (with_first from to epoch (Package areas owed commands) rest world) →
     (commands ≡ commands_of world.source.guest.cpus) × (world.destination.has_run ≡ false)
 unfolding commands_in
 package_told SourcePhase.Stopped DestPhase.Discarding epoch areas owed commands rest world is up kept =
-    let told = (kept.wires up).2 in
-    (ap (λ o. elim o [ None ↦ commands | Some frame ↦ commands_in frame commands ]) told.plan, kept.destination_phase)
+    let told = (kept.flight.wires up).2 in
+    (ap (λ o. elim o [ None ↦ commands | Some frame ↦ commands_in frame commands ]) told.plan, kept.phases.destination_phase)
 package_told SourcePhase.Precopy DestPhase.Idle epoch areas owed commands rest world is up kept = absurd (false≢true is)
 package_told SourcePhase.Paused DestPhase.Paused epoch areas owed commands rest world is up kept = absurd (false≢true is)
 package_told _ _ epoch areas owed commands rest world is up kept = absurd (false≢true is)
 
-package_keeps : (epoch : ℕ) (areas : FinMap nat_cmp Prot) (owed : FinSet nat_cmp) (commands : List (Option Command)) (rest : List Sent) (world : World) → world.up ≡ true → world.forward ≡ record { epoch = epoch; frame = Package areas owed commands } ∷ rest → IsKept world →
+package_keeps : (epoch : ℕ) (areas : FinMap nat_cmp Prot) (owed : FinSet nat_cmp) (commands : List (Option Command)) (rest : List Sent) (world : World) → world.up ≡ true → world.forward ≡ record { epoch = epoch; frame = Package areas owed commands } ∷ rest → IsSoundWorld world →
     StillWaits (guest_of world) (guest_of (delivered world (record { epoch = epoch; frame = Package areas owed commands } ∷ rest)))
 package_keeps epoch areas owed commands rest world up first kept k command h =
-    let again = subst (λ w. IsKept (record world { forward = w })) first kept in
+    let again = subst (λ w. IsSoundWorld (record world { forward = w })) first kept in
     let old = with_first world.source.phase world.destination.phase epoch (Package areas owed commands) rest world in
-    let is = first_in_place old.source old.destination (record { epoch = epoch; frame = Package areas owed commands }) rest old.back (again.wires up) in
+    let is = first_in_place old.source old.destination (record { epoch = epoch; frame = Package areas owed commands }) rest old.back (again.flight.wires up) in
     let told = package_told world.source.phase world.destination.phase epoch areas owed commands rest world is up again in
     ap (λ cs. outstanding (processor_at (map taken_over cs) k)) told.0
     ∙ taken_keeps world.source.guest.cpus k
@@ -250,7 +250,7 @@ same_keeps world new is k command h =
     ∙ ap (λ g. outstanding (processor_at (guest_by world.destination.has_run world.source.guest g).cpus k)) is.guest
     ∙ h
 
-delivered_first : (epoch : ℕ) (frame : Frame) (rest : List Sent) (world : World) → world.up ≡ true → world.forward ≡ record { epoch = epoch; frame = frame } ∷ rest → IsKept world → StillWaits (guest_of world) (guest_of (delivered world (record { epoch = epoch; frame = frame } ∷ rest)))
+delivered_first : (epoch : ℕ) (frame : Frame) (rest : List Sent) (world : World) → world.up ≡ true → world.forward ≡ record { epoch = epoch; frame = frame } ∷ rest → IsSoundWorld world → StillWaits (guest_of world) (guest_of (delivered world (record { epoch = epoch; frame = frame } ∷ rest)))
 delivered_first epoch (Package areas owed commands) rest world up first kept k command h = package_keeps epoch areas owed commands rest world up first kept k command h
 delivered_first epoch Advise rest world up first kept k command h = same_keeps world _ (same_took Advise world.destination epoch refl) k command h
 delivered_first epoch (Page page bytes) rest world up first kept k command h = same_keeps world _ (same_took (Page page bytes) world.destination epoch refl) k command h
@@ -287,7 +287,7 @@ same_source world new still k command h = waits_source world.destination.has_run
 abbrev WaitsIn : ℕ → Command → World → Type 0
 WaitsIn k command world = outstanding (processor_at (guest_of world).cpus k) ≡ Some command
 
-waiting_answer : (world : World) (step : Step) (k : ℕ) (command : Command) → IsKept world → is_retry_of step k ≡ false → WaitsIn k command world → Leaves (WaitsIn k command) (answer world step)
+waiting_answer : (world : World) (step : Step) (k : ℕ) (command : Command) → IsSoundWorld world → is_retry_of step k ≡ false → WaitsIn k command world → Leaves (WaitsIn k command) (answer world step)
 waiting_answer world (Step.Issue cpu tries) k command kept other h =
     made-issue _ world cpu tries (λ idle may.
     tried_keeps world cpu tries k command (λ e. idle_none (processor_at (guest_of world).cpus cpu) command idle (ap (λ i. outstanding (processor_at (guest_of world).cpus i)) e ∙ h)) h)
@@ -314,7 +314,7 @@ waiting_answer world (Step.Notice Side.Source) k command kept other h = made-not
 waiting_answer world (Step.Notice Side.Destination) k command kept other h = made-notice _ world Side.Destination (λ started unreleased down. h)
 waiting_answer world Step.Resume k command kept other h = made-resume _ world (λ from to down. same_source world _ (λ i c e. e) k command h)
 
-pub waiting_command : (world : World) (step : Step) (k : ℕ) (command : Command) → IsKept world → is_retry_of step k ≡ false → outstanding (processor_at (guest_of world).cpus k) ≡ Some command →
+pub waiting_command : (world : World) (step : Step) (k : ℕ) (command : Command) → IsSoundWorld world → is_retry_of step k ≡ false → outstanding (processor_at (guest_of world).cpus k) ≡ Some command →
     outstanding (processor_at (guest_of (next world step)).cpus k) ≡ Some command
 waiting_command world step k command kept other h = leaves-next (WaitsIn k command) world step h (waiting_answer world step k command kept other h)
 

@@ -19,7 +19,7 @@ ghost use Rattle.mig_model.specs.Source.{space_of, is_precopy, is_stopped, is_so
 ghost use Rattle.mig_model.specs.Destination.{settled, is_running};
 ghost use Rattle.mig_model.specs.Wire.{Sent};
 ghost use Rattle.mig_model.specs.Migration.{World, guest_of, outcome, next, first_world, after_steps};
-ghost use Rattle.mig_model.specs.Invariant.{IsKept, IsPrecopying, IsSwitching, IsReceiving, current_host};
+ghost use Rattle.mig_model.specs.Invariant.{IsSoundWorld, IsPrecopying, IsSwitching, IsReceiving, current_host};
 ghost use Rattle.mig_model.specs.Parts.{ChangesParts};
 ghost use Rattle.mig_model.specs.Promises.{AreAccesses, IsReached, IsComplete, IsAlone, ArePaired, AreUnderWay, IsPut, IsZeroed, IsTaken, keeps_remaining, IsInPlaceBack, owed_changed, leaves_settled, is_retry_of, story};
 
@@ -144,5 +144,5 @@ pub fn each_step_changes_its_parts()
 
 /// What every world keeps, clause by clause.
 pub fn the_invariant()
-    ensures { (world : World) → IsReached world → IsKept world }
+    ensures { (world : World) → IsReached world → IsSoundWorld world }
 {}
