@@ -10,10 +10,11 @@ use Rattle.mig_base.specs.declared.phase.SourcePhase.{SourcePhase}
 use Rattle.mig_base.specs.declared.refusal.Refusal.{Refusal}
 use Rattle.mig_base.specs.declared.schedule.Step.{Step}
 use Rattle.mig_base.specs.Bytes.{zero_page}
+use Rattle.mig_base.specs.Tests.{is_empty}
 use Rattle.mig_model.specs.Space.{fresh_space}
 use Rattle.mig_model.specs.Wire.{Frame, Sent, Copy, kept_after}
 use Rattle.mig_model.specs.Wire.Frame.{Advise, Page, Zero, Discard, Package, End, Resume}
-use Rattle.mig_model.specs.Migration.{World, is_empty, is_end, after_deliver}
+use Rattle.mig_model.specs.Migration.{World, is_end, after_deliver}
 use Rattle.mig_model.specs.Invariant.{Wires, IsSoundWorld, AreOf, AreWhole, AreFaithful, copies_of, has_copy, flow_of, EpochAt}
 use Rattle.mig_model.specs.Invariant.Flow.{Copies}
 use Rattle.mig_model.proofs.HostLemmas.{get-put}

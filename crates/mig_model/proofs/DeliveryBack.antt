@@ -8,10 +8,11 @@ use Rattle.mig_base.specs.declared.phase.Received.{Received}
 use Rattle.mig_base.specs.declared.phase.SourcePhase.{SourcePhase}
 use Rattle.mig_base.specs.declared.refusal.Refusal.{Refusal}
 use Rattle.mig_base.specs.declared.schedule.Step.{Step}
+use Rattle.mig_base.specs.Tests.{is_empty}
 use Rattle.mig_model.specs.Wire.{Frame, Sent}
 use Rattle.mig_model.specs.Wire.Frame.{Request, Recv, Done}
 use Rattle.mig_model.specs.Migration.{World, after_deliver_back}
-use Rattle.mig_model.specs.Invariant.{IsSoundWorld, IsReceiving, is_none, are_requests_and_done}
+use Rattle.mig_model.specs.Invariant.{IsSoundWorld, IsReceiving, are_requests_and_done}
 use Rattle.mig_model.proofs.FirstFrame.{empty_not, delivered_back}
 use Rattle.mig_model.proofs.FramesBack.{at_back, not_up, request_taken, released_kept, recv_precopy, recv_switched, recv_running}
 use Rattle.mig_model.specs.Log.{no_pages}
@@ -60,7 +61,7 @@ or_none : (b : Bool) → (b || false) ≡ true → b ≡ true
 or_none true h = refl
 or_none false h = absurd (false≢true h)
 
-is_last : (rest : List Sent) → is_none rest ≡ true → rest ≡ []
+is_last : (rest : List Sent) → is_empty rest ≡ true → rest ≡ []
 is_last [] h = refl
 is_last (sent ∷ rest) h = absurd (false≢true h)
 

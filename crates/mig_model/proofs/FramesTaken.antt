@@ -11,6 +11,7 @@ use Rattle.mig_base.specs.declared.phase.SourcePhase.{SourcePhase}
 use Rattle.mig_base.specs.declared.Prot.{Prot}
 use Rattle.mig_base.specs.declared.command.Command.{Command}
 use Rattle.mig_base.proofs.PageLemmas.{same_pages}
+use Rattle.mig_base.specs.Tests.{is_empty}
 use Rattle.mig_model.specs.Host.{IsSound}
 use Rattle.std.specs.Prelude.{length}
 use lib.ListN.{length-map}
@@ -19,7 +20,7 @@ use Rattle.mig_model.specs.Space.{Space}
 use Rattle.mig_model.specs.Wire.{Frame, Sent}
 use Rattle.mig_model.specs.Wire.Frame.{Advise, Page, Zero, Discard, Package, End, Resume, Request, Recv, Done}
 use Rattle.mig_model.specs.Migration.{World}
-use Rattle.mig_model.specs.Invariant.{IsSoundWorld, IsSwitching, IsFlowing, IsReceiving, EpochAt, AreOf, flow_of, is_request, is_done, is_none, are_requests, are_requests_and_done}
+use Rattle.mig_model.specs.Invariant.{IsSoundWorld, IsSwitching, IsFlowing, IsReceiving, EpochAt, AreOf, flow_of, is_request, is_done, are_requests, are_requests_and_done}
 use Rattle.mig_model.specs.Promises.{is_in_place, IsOwnEpoch, IsGood, IsTaken, IsInPlaceBack}
 use Rattle.mig_model.proofs.Stopping.{none_absurd, no_member}
 use Rattle.mig_model.proofs.FirstFrame.{comes, first_in_place, nothing_behind}
@@ -183,7 +184,7 @@ with_back from to sent rest world = record world { source = record world.source 
 
 back_in : (from : SourcePhase) (to : DestPhase) (sent : Sent) (rest : List Sent) (world : World) → world.up ≡ true → IsSoundWorld (with_back from to sent rest world) → IsInPlaceBack (with_back from to sent rest world).source sent.frame
 back_in SourcePhase.Stopped DestPhase.Running sent rest world up kept = request_place sent.frame (with_back SourcePhase.Stopped DestPhase.Running sent rest world).source refl (and_first (is_request sent.frame) (are_requests rest) (kept.flight.wires up).1)
-back_in SourcePhase.Stopped DestPhase.Ended sent rest world up kept = done_place sent.frame (with_back SourcePhase.Stopped DestPhase.Ended sent rest world).source (are_requests_and_done rest) (is_none rest) refl (kept.flight.wires up).2 (kept.flight.wires up).1
+back_in SourcePhase.Stopped DestPhase.Ended sent rest world up kept = done_place sent.frame (with_back SourcePhase.Stopped DestPhase.Ended sent rest world).source (are_requests_and_done rest) (is_empty rest) refl (kept.flight.wires up).2 (kept.flight.wires up).1
 back_in SourcePhase.Stopped DestPhase.Idle sent rest world up kept = absurd (empty_first sent rest (kept.flight.wires up).1)
 back_in SourcePhase.Stopped DestPhase.Advised sent rest world up kept = absurd (empty_first sent rest (kept.flight.wires up).1)
 back_in SourcePhase.Stopped DestPhase.Discarding sent rest world up kept = absurd (empty_first sent rest (kept.flight.wires up).1)

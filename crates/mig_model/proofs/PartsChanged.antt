@@ -8,7 +8,7 @@ use Rattle.mig_base.specs.declared.refusal.Refusal.{Refusal}
 use Rattle.mig_base.specs.declared.schedule.Side.{Side}
 use Rattle.mig_base.specs.declared.schedule.Step.{Step}
 use Rattle.mig_base.specs.declared.command.Command.{Command}
-use Rattle.mig_model.specs.World.{is_access}
+use Rattle.mig_base.specs.Commands.{is_access}
 use Rattle.mig_model.specs.Guest.{Guest, Fault, tried}
 use Rattle.mig_model.specs.Wire.{Frame, Sent, page_frame, sending, sending_if}
 use Rattle.mig_model.specs.Wire.Frame.{Advise, End, Resume}

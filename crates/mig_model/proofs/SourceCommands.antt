@@ -17,7 +17,7 @@ use Rattle.mig_base.specs.Flat.{no_memory, reply_of, after, memory_of, IsFlatRun
 use Rattle.mig_base.proofs.FlatLemmas.{memory_from-push, IsRunFrom-push}
 use Rattle.mig_base.proofs.SetLemmas.{same_members}
 use Rattle.mig_model.specs.Host.{Host, memory, host_changed, host_after, IsSound}
-use Rattle.mig_model.specs.World.{is_access}
+use Rattle.mig_base.specs.Commands.{is_access}
 use Rattle.mig_model.specs.Userfault.{Object, fault_queued, waits_fault}
 use Rattle.mig_model.specs.Space.{Space, IsSoundSpace, is_made, access_of, accessed_by, called, queued_by, call_messages, modes_after}
 use Rattle.mig_model.specs.Guest.{took_by, tried}

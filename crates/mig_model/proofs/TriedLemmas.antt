@@ -14,10 +14,10 @@ use Rattle.mig_base.specs.declared.command.Access.TheVariants.{Answered, Missing
 use Rattle.mig_base.specs.declared.command.Entry.{Entry}
 use Rattle.mig_base.specs.declared.message.Message.{Message}
 use Rattle.mig_base.specs.Flat.{reply_of}
+use Rattle.mig_base.specs.Commands.{is_access, page_of}
 use Rattle.mig_model.specs.Host.{Host, memory, host_changed, host_after, IsSound}
-use Rattle.mig_model.specs.World.{is_access}
 use Rattle.mig_model.specs.Userfault.{Object, Noted, waits_fault, event_queued}
-use Rattle.mig_model.specs.Space.{Space, IsSoundSpace, is_made, page_of, access_of, accessed_by, called, modes_after, call_messages, all_queued, queued_by}
+use Rattle.mig_model.specs.Space.{Space, IsSoundSpace, is_made, access_of, accessed_by, called, modes_after, call_messages, all_queued, queued_by}
 use Rattle.mig_model.specs.Guest.{took_by, space_by}
 use Rattle.mig_model.specs.Cpus.Took.{Answer, Sleep}
 use Rattle.mig_model.specs.Invariant.{AreRight, seen_host}

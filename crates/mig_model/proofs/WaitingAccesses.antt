@@ -13,8 +13,8 @@ use Rattle.mig_base.specs.declared.command.Access.TheVariants.{Answered, Missing
 use Rattle.mig_base.specs.declared.message.Message.{Message}
 use Rattle.mig_base.specs.declared.message.Message.TheVariants.{PageFault, Remap, Remove, Unmap}
 use Rattle.mig_base.specs.Flat.{reply_of}
+use Rattle.mig_base.specs.Commands.{is_access}
 use Rattle.mig_model.specs.Host.{memory}
-use Rattle.mig_model.specs.World.{is_access}
 use Rattle.mig_model.specs.Space.{Space, access_of, queued_by}
 use Rattle.mig_model.specs.Guest.{Guest, is_left_by, read_guest, took_by, tried, Act}
 use Rattle.mig_model.specs.Wire.{Frame, Sent, Copy}

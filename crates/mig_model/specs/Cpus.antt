@@ -6,7 +6,7 @@ use Rattle.mig_base.specs.declared.command.Command.{Command}
 use Rattle.mig_base.specs.declared.command.Entry.{Entry}
 use Rattle.mig_base.specs.declared.command.Reply.{Reply}
 use Rattle.mig_base.specs.declared.cpu_state.CpuState.{CpuState}
-use Rattle.mig_model.specs.Space.{page_of}
+use Rattle.mig_base.specs.Commands.{page_of}
 
 -- what each processor does
 abbrev pub Cpus : Type 0

@@ -13,6 +13,7 @@ use Rattle.mig_base.specs.declared.command.Entry.{Entry}
 use Rattle.mig_base.specs.declared.TheConstants.{PAGE_SIZE, HIGH_PAGE}
 use Rattle.mig_base.specs.declared.message.Message.{Message}
 use Rattle.mig_base.specs.declared.message.Message.TheVariants.{PageFault, Remap, Remove, Unmap}
+use Rattle.mig_base.specs.Tests.{is_empty}
 use Rattle.mig_base.specs.Pages.{map_below}
 use Rattle.mig_base.specs.Flat.{IsFlatRun, memory_of}
 use Rattle.mig_model.specs.Host.{Host, memory}
@@ -165,10 +166,6 @@ abbrev pub is_done : Frame → Bool
 is_done Done = true
 is_done frame = false
 
-abbrev pub is_none : List Sent → Bool
-is_none [] = true
-is_none (sent ∷ rest) = false
-
 -- requests alone, and requests with Done behind them
 abbrev pub are_requests : List Sent → Bool
 are_requests [] = true
@@ -176,7 +173,7 @@ are_requests (sent ∷ rest) = is_request sent.frame && are_requests rest
 
 abbrev pub are_requests_and_done : List Sent → Bool
 are_requests_and_done [] = false
-are_requests_and_done (sent ∷ rest) = is_request sent.frame && are_requests_and_done rest || is_done sent.frame && is_none rest
+are_requests_and_done (sent ∷ rest) = is_request sent.frame && are_requests_and_done rest || is_done sent.frame && is_empty rest
 
 -- What is in flight in each pair of phases, while the link is up
 

@@ -16,7 +16,8 @@ use Rattle.mig_base.specs.declared.command.Reply.{Reply}
 use Rattle.mig_base.specs.declared.command.Entry.{Entry}
 use Rattle.mig_base.specs.declared.message.Message.{Message}
 use Rattle.mig_base.specs.declared.message.Message.TheVariants.{PageFault}
-use Rattle.mig_model.specs.World.{is_access}
+use Rattle.mig_base.specs.Commands.{is_access}
+use Rattle.mig_base.specs.Tests.{first_by, is_empty}
 use Rattle.mig_model.specs.Userfault.{Noted, next_message, changing}
 use Rattle.mig_model.specs.Cpus.Took.{Sleep, Call}
 use Rattle.mig_model.specs.Wire.{Frame, Sent, Copy, is_zeros, page_frame, sending, sending_if}
@@ -75,10 +76,6 @@ with_guest world guest = with_guest_by world.destination.has_run world guest
 
 -- What steps are asked before they are made
 
-abbrev pub is_empty : {A : Type 0} → List A → Bool
-is_empty [] = true
-is_empty (x ∷ xs) = false
-
 -- whether the guest has no such processor
 abbrev pub has_no_cpu : World → ℕ → Bool
 has_no_cpu world cpu = not (nat_lt cpu (length (guest_of world).cpus))
@@ -123,8 +120,7 @@ made effect world = Ok (record { effect = effect; world = world })
 
 -- the first refusal whose test holds, or else the answer
 unfoldable pub unless : List (Bool × Refusal) → Answer → Answer
-unless [] answer = answer
-unless (reason ∷ reasons) answer = if reason.0 then Err reason.1 else unless reasons answer
+unless reasons answer = first_by (λ refusal. Err refusal) reasons answer
 
 -- the source changes so, and sends these frames in its epoch
 abbrev pub source_sends : World → Source → List Frame → World

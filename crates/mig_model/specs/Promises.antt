@@ -17,7 +17,7 @@ use Rattle.mig_base.specs.Ranges.{in_range, pages_of}
 use Rattle.mig_base.specs.Bytes.{zero_page}
 use Rattle.mig_base.specs.Flat.{memory_of}
 use Rattle.mig_model.specs.Host.{memory}
-use Rattle.mig_model.specs.World.{is_access}
+use Rattle.mig_base.specs.Commands.{is_access}
 use Rattle.mig_model.specs.Space.{Space, fresh_space}
 use Rattle.mig_model.specs.Wire.{Frame, Sent}
 use Rattle.mig_model.specs.Wire.Frame.{Advise, Page, Zero, Discard, Package, End, Resume, Request, Recv, Done}
