@@ -46,6 +46,7 @@ pub mod SourceSending
 pub mod PartsChanged
 pub mod PromiseLemmas
 pub mod StaysComplete
+pub mod WirePromises
 pub mod FrameLemmas
 pub mod WorldLemmas
 pub mod Issuing

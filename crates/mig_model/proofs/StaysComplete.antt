@@ -56,10 +56,10 @@ guest_phase : (ran : Bool) (world : World) (guest : Guest) → (with_guest_by ra
 guest_phase true world guest = refl
 guest_phase false world guest = refl
 
-command_phase : (world : World) (cpu : ℕ) (command : Command) → (after_command world cpu command).source.phase ≡ world.source.phase
+pub command_phase : (world : World) (cpu : ℕ) (command : Command) → (after_command world cpu command).source.phase ≡ world.source.phase
 command_phase world cpu command = guest_phase world.destination.has_run world (tried (is_access command) (guest_of world) cpu command)
 
-worked_phase : (act : Act) (world : World) (page : ℕ) → (source_acted_by act world.source page).phase ≡ world.source.phase
+pub worked_phase : (act : Act) (world : World) (page : ℕ) → (source_acted_by act world.source page).phase ≡ world.source.phase
 worked_phase Unprotected world page = refl
 worked_phase Zeroed world page = refl
 worked_phase Woke world page = refl

@@ -1,5 +1,5 @@
 -- What holds of the answer of a step, and so of the world after it.
-use Rattle.std.proofs.Common.{◌≡◌, Bool, true, false, Option, Some, None, List, [], ◌∷◌, refl, subst, if◌then◌else◌}
+use Rattle.std.proofs.Common.{◌≡◌, Bool, true, false, Option, Some, None, List, [], ◌∷◌, refl, subst, ap, if◌then◌else◌}
 use Rattle.std.specs.Prelude.{Ok, Err, Result, IsOk}
 use Rattle.std.proofs.lemmas.Bool.{false≢true}
 use Rattle.mig_base.specs.declared.effect.Effect.{Effect}
@@ -66,3 +66,12 @@ refused_by old (Err other) refusal is = refl
 pub next-refused : (world : World) (step : Step) (refusal : Refusal) → outcome world step ≡ Err refusal → next world step ≡ world
 unfolding next outcome
 next-refused world step refusal is = refused_by world (answer world step) refusal is
+
+-- the effect of a step that is not refused
+effect_is : (effect : Effect) (result : Answer) → Holds (λ made. made.effect ≡ effect) result → IsOk (outcome_by result) → outcome_by result ≡ Ok effect
+effect_is effect (Ok made) h ok = ap (λ e. Ok e) h
+effect_is effect (Err refusal) h ok = absurd (false≢true ok)
+
+pub outcome-ok : (effect : Effect) (world : World) (step : Step) → Holds (λ made. made.effect ≡ effect) (answer world step) → IsOk (outcome world step) → outcome world step ≡ Ok effect
+unfolding outcome
+outcome-ok effect world step h ok = effect_is effect (answer world step) h ok

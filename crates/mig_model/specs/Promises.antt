@@ -19,15 +19,15 @@ use Rattle.mig_base.specs.Flat.{memory_of}
 use Rattle.mig_model.specs.Host.{memory}
 use Rattle.mig_base.specs.Commands.{is_access}
 use Rattle.mig_model.specs.Space.{Space, fresh_space}
-use Rattle.mig_model.specs.Wire.{Frame, Sent}
+use Rattle.mig_model.specs.Wire.{Frame, Sent, sending}
 use Rattle.mig_model.specs.Wire.Frame.{Advise, Page, Zero, Discard, Package, End, Resume, Request, Recv, Done}
 use Rattle.mig_model.specs.Migration.{World, first_world_with, after_steps}
 use Rattle.mig_model.specs.Invariant.{copies_of, has_copy, AreFaithful}
 use Rattle.mig_model.specs.Cpus.{outstanding, processor_at}
 use Rattle.mig_model.specs.Guest.{is_present}
-use Rattle.mig_model.specs.Log.{no_pages, present}
-use Rattle.mig_model.specs.Source.{Source, is_released, is_source_paused, is_stopped, space_of}
-use Rattle.mig_model.specs.Destination.{Destination, arrived, settled}
+use Rattle.mig_model.specs.Log.{no_pages}
+use Rattle.mig_model.specs.Source.{Source, is_released, is_source_paused, is_stopped, source_answers, source_took, space_of}
+use Rattle.mig_model.specs.Destination.{Destination, destination_answers, destination_took, settled}
 
 -- a world that some list of steps leads to, from a first world with some counts
 pub record IsReached (world : World) : Type 0 where
@@ -182,6 +182,56 @@ AllAccess processors = (k : ℕ) (command : Command) → outstanding (processor_
 pub record AreAccesses (world : World) : Type 0 where
   pub source : AllAccess world.source.guest.cpus
   pub destination : AllAccess world.destination.guest.cpus
+
+-- Deliveries
+
+-- a Deliver has taken exactly the first frame of the wire. What it leaves of the destination, and the frames that this answers, are a
+-- function of the destination as it was and of the frame with its epoch
+pub record IsDelivered (old new : World) (sent : Sent) (rest : List Sent) : Type 0 where
+  pub destination : new.destination ≡ destination_took old.destination sent.epoch sent.frame
+  pub forward : new.forward ≡ rest
+  pub back : new.back ≡ sending old.back new.destination.epoch (destination_answers old.destination sent.frame)
+
+-- the same of the wire back and the source
+pub record IsDeliveredBack (old new : World) (sent : Sent) (rest : List Sent) : Type 0 where
+  pub source : new.source ≡ source_took old.source sent.frame
+  pub back : new.back ≡ rest
+  pub forward : new.forward ≡ sending old.forward new.source.epoch (source_answers old.source sent.frame)
+
+-- the steps that take from the wire to the destination, and those that take from the wire back
+abbrev pub takes_forward : Step → Bool
+takes_forward Step.Deliver = true
+takes_forward Step.Break = true
+takes_forward step = false
+
+abbrev pub takes_back : Step → Bool
+takes_back Step.DeliverBack = true
+takes_back Step.Break = true
+takes_back step = false
+
+abbrev pub is_break : Step → Bool
+is_break Step.Break = true
+is_break step = false
+
+abbrev pub is_recv : Frame → Bool
+is_recv (Recv state owed) = true
+is_recv frame = false
+
+-- Completion
+
+-- the frames by which the source knows that the destination has everything
+abbrev pub is_last : Frame → Bool
+is_last Done = true
+is_last (Recv Received.Ended owed) = true
+is_last frame = false
+
+-- a step that takes such a frame
+pub record Completes (world : World) (step : Step) : Type 0 where
+  pub step_is : step ≡ Step.DeliverBack
+  pub sent : Sent
+  pub rest : List Sent
+  pub first : world.back ≡ sent ∷ rest
+  pub last : is_last sent.frame ≡ true
 
 -- Completion can be reached
 

@@ -2,7 +2,8 @@
 //! and resumptions, in any order, those that are refused among them. Each law is a function with an empty body, whose contract is
 //! the law.
 
-ghost use Rattle.std.specs.Prelude.{◌≡◌, ℕ, ◌/◌, ◌∷◌, ◌++◌, ◌==◌, ◌&&◌, not, true, false, if◌then◌else◌, Some, Ok, Err, IsOk, List};
+ghost use Rattle.std.specs.Prelude.{◌≡◌, ◌≢◌, ℕ, ◌*◌, ◌/◌, [], ◌∷◌, ◌++◌, ◌==◌, ◌&&◌, not, true, false, if◌then◌else◌, Some, Ok, Err, IsOk, List};
+ghost use Rattle.std.specs.FinMap.{get};
 ghost use Rattle.std.specs.FinSet.{contains};
 ghost use Rattle.mig_base.specs.declared.effect.Effect.{Effect};
 ghost use Rattle.mig_base.specs.declared.phase.Received.{Received};
@@ -15,13 +16,13 @@ ghost use Rattle.mig_base.specs.Commands.{is_access};
 ghost use Rattle.mig_model.specs.Host.{memory};
 ghost use Rattle.mig_model.specs.Cpus.{outstanding, processor_at, processor_after, entries_of};
 ghost use Rattle.mig_model.specs.Guest.{took_by};
-ghost use Rattle.mig_model.specs.Source.{space_of, is_precopy, is_stopped, is_source_paused};
+ghost use Rattle.mig_model.specs.Source.{is_released, space_of, is_precopy, is_stopped, is_source_paused};
 ghost use Rattle.mig_model.specs.Destination.{settled, is_running};
-ghost use Rattle.mig_model.specs.Wire.{Sent};
+ghost use Rattle.mig_model.specs.Wire.{Sent, Copy};
 ghost use Rattle.mig_model.specs.Migration.{World, guest_of, outcome, next, first_world, after_steps};
 ghost use Rattle.mig_model.specs.Invariant.{IsSoundWorld, IsPrecopying, IsSwitching, IsReceiving, current_host};
-ghost use Rattle.mig_model.specs.Parts.{ChangesParts};
-ghost use Rattle.mig_model.specs.Promises.{AreAccesses, IsReached, IsComplete, IsAlone, ArePaired, AreUnderWay, IsPut, IsZeroed, IsTaken, keeps_remaining, IsInPlaceBack, owed_changed, leaves_settled, is_retry_of, story};
+ghost use Rattle.mig_model.specs.Parts.{Grows, ChangesParts};
+ghost use Rattle.mig_model.specs.Promises.{AreAccesses, IsReached, IsComplete, IsAlone, ArePaired, AreUnderWay, IsPut, IsZeroed, IsTaken, keeps_remaining, IsInPlaceBack, owed_changed, leaves_settled, is_retry_of, IsDelivered, IsDeliveredBack, takes_forward, takes_back, is_break, is_recv, is_last, Completes, story};
 
 /// The commands in the transcript, made in turn on one flat memory, give the replies in it, and what the guest sees is that memory at
 /// the end. Before the destination runs it is the source's; from then on each page is the destination's own, or that of the source
@@ -31,10 +32,13 @@ pub fn every_schedule()
     ensures current { (world : World) → IsReached world → memory (current_host world) ≡ memory_of world.transcript }
 {}
 
-/// Completion: the destination's own pages are the flat memory, the source has none, and nothing is owed or waits. It lasts.
+/// Completion: the destination's own pages are the flat memory, the source has none, and nothing is owed or waits. It lasts. A
+/// migration completes exactly by the taking of Done, or of a Recv of a destination that has ended.
 pub fn completion()
     ensures alone { (world : World) → IsReached world → IsComplete world → IsAlone world }
-    ensures stays { (world : World) (steps : List Step) → IsReached world → IsComplete world → IsComplete (after_steps world steps) }
+    ensures stays { (world : World) (steps : List Step) → IsReached world → IsComplete world → IsComplete (after_steps world steps) × IsAlone (after_steps world steps) }
+    ensures taken { (world : World) (sent : Sent) (rest : List Sent) → IsOk (outcome world Step.DeliverBack) → world.back ≡ sent ∷ rest → is_last sent.frame ≡ true → IsComplete (next world Step.DeliverBack) }
+    ensures only { (world : World) (step : Step) → is_released world.source.phase ≡ false → IsComplete (next world step) → Completes world step }
 {}
 
 /// A migration can be completed: these steps lead there, with nothing to move. So the laws of completion are not about nothing.
@@ -128,11 +132,39 @@ pub fn what_is_entered()
         (next world (Step.Retry cpu)).transcript ≡ world.transcript ++ entries_of cpu command (took_by (is_access command) (guest_of world).space command) }
 {}
 
-/// A page that is pushed remains no longer, and no page comes to remain but by Switch and by a frame that the source takes.
+/// A page that is pushed remains no longer, and no page comes to remain but by Switch and by the taking of a Recv.
 pub fn pages_that_remain()
     ensures push { (world : World) (ticket : Ticket) (q : ℕ) → IsOk (outcome world (Step.Push ticket)) →
         contains (next world (Step.Push ticket)).source.remaining q ≡ (not (q == ticket.page) && contains world.source.remaining q) }
     ensures shrinks { (world : World) (step : Step) (q : ℕ) → keeps_remaining step ≡ true → contains (next world step).source.remaining q ≡ true → contains world.source.remaining q ≡ true }
+    ensures back { (world : World) (sent : Sent) (rest : List Sent) (q : ℕ) → world.back ≡ sent ∷ rest → is_recv sent.frame ≡ false →
+        contains (next world Step.DeliverBack).source.remaining q ≡ true → contains world.source.remaining q ≡ true }
+{}
+
+/// A delivery takes exactly the first frame of its wire. What it leaves of the node that takes it, and the frames that this node
+/// answers, are a function of the node as it was and of the frame with its epoch: nothing passes between the nodes but by the wires.
+pub fn a_delivery_is_a_function()
+    ensures forward { (world : World) (sent : Sent) (rest : List Sent) → IsOk (outcome world Step.Deliver) → world.forward ≡ sent ∷ rest → IsDelivered world (next world Step.Deliver) sent rest }
+    ensures back { (world : World) (sent : Sent) (rest : List Sent) → IsOk (outcome world Step.DeliverBack) → world.back ≡ sent ∷ rest → IsDeliveredBack world (next world Step.DeliverBack) sent rest }
+{}
+
+/// The wires keep the order of their frames, and lose them only by Break: every step but a delivery and Break only puts frames at the
+/// end of a wire. Break empties both wires and takes the link down, and no other step takes it down.
+pub fn the_wires()
+    ensures forward { (world : World) (step : Step) → takes_forward step ≡ false → Grows world.forward (next world step).forward }
+    ensures back { (world : World) (step : Step) → takes_back step ≡ false → Grows world.back (next world step).back }
+    ensures broken { (world : World) → IsOk (outcome world Step.Break) → ((next world Step.Break).forward ≡ []) × ((next world Step.Break).back ≡ []) × ((next world Step.Break).up ≡ false) }
+    ensures up { (world : World) (step : Step) → is_break step ≡ false → world.up ≡ true → (next world step).up ≡ true }
+{}
+
+/// An Install takes exactly the first copy that has arrived. It is installed where its page is owed now, and given up exactly where
+/// that page is owed nowhere.
+pub fn what_is_installed()
+    ensures first { (world : World) (copy : Copy) (rest : List Copy) → IsOk (outcome world Step.Install) → world.destination.arrivals ≡ copy ∷ rest → (next world Step.Install).destination.arrivals ≡ rest }
+    ensures owed { (world : World) (copy : Copy) (rest : List Copy) (page : ℕ) → IsReached world → IsOk (outcome world Step.Install) → world.destination.arrivals ≡ copy ∷ rest → get world.destination.owed page ≡ Some copy.page →
+        outcome world Step.Install ≡ Ok (Effect.Installed (4096 * page) (4096 * copy.page)) }
+    ensures given_up { (world : World) (copy : Copy) (rest : List Copy) → IsOk (outcome world Step.Install) → world.destination.arrivals ≡ copy ∷ rest → ((page : ℕ) → get world.destination.owed page ≢ Some copy.page) →
+        outcome world Step.Install ≡ Ok (Effect.Dropped (4096 * copy.page)) }
 {}
 
 /// Each step changes only its own parts. No step of the source puts anything at the destination but by the wire. A step that is
