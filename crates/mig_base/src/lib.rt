@@ -1,9 +1,10 @@
 //! The words of a migration that every crate shares.
 //!
 //! Addresses, pages and protections; the commands of processors and the replies to them; the steps of a world and their
-//! outcomes; [`Message`], what a userfault object tells, and [`Wake`], whom it wakes; [`PageSet`], a set of pages. What the
-//! commands do to one flat memory is a definition, `specs/Flat.antt`, after mmap(2), munmap(2), mremap(2) and madvise(2): this
-//! crate executes no command.
+//! outcomes, and those of a whole migration in [`schedule`], [`effect`], [`refusal`], [`phase`] and [`cpu_state`]; [`Message`],
+//! what a userfault object tells, and [`Wake`], whom it wakes; [`PageSet`], a set of pages. What the commands do to one flat
+//! memory is a definition, `specs/Flat.antt`, after mmap(2), munmap(2), mremap(2) and madvise(2): this crate executes no
+//! command.
 #![tactic(auto)]
 
 ghost use Rattle.std.specs.Prelude.{◌≡◌, ◌*◌};
@@ -13,10 +14,15 @@ ghost use Rattle.mig_base.specs.declared.TheConstants.{PAGE_SIZE};
 pub mod chunk;
 mod chunks;
 pub mod command;
+pub mod cpu_state;
+pub mod effect;
 pub mod flags;
 pub mod laws;
 pub mod message;
 pub mod page_set;
+pub mod phase;
+pub mod refusal;
+pub mod schedule;
 mod slots;
 pub mod step;
 pub mod wake;

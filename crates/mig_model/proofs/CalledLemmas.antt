@@ -18,6 +18,7 @@ use Rattle.mig_model.proofs.HostLemmas.{is_mapped-memory}
 use Rattle.mig_model.proofs.CommandLemmas.{one_prot_some, remapped_place}
 use Rattle.mig_model.proofs.SeenLemmas.{AreMapped, owed_none}
 use Rattle.mig_model.proofs.SettledCalls.{AreInside, settled_messages, settled-append, gone_if, shifted_if, moved_owed, told_gone, told_shifted, unmap_right, cut_right, remap_right}
+use Rattle.mig_model.specs.Log.{less}
 
 none_absurd : {A : Type 0} → false ≡ true → A
 none_absurd h = absurd (false≢true h)

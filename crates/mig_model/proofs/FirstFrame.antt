@@ -2,30 +2,30 @@
 use Rattle.std.proofs.Common.{◌≡◌, ℕ, Bool, true, false, cond, Option, Some, None, is_some, List, [], ◌∷◌, refl, sym, ap, ◌∙◌}
 use Rattle.std.specs.Option.{option_and_then}
 use Rattle.std.proofs.lemmas.Bool.{false≢true}
+use Rattle.mig_base.specs.declared.phase.DestPhase.{DestPhase}
+use Rattle.mig_base.specs.declared.phase.SourcePhase.{SourcePhase}
+use Rattle.mig_base.specs.declared.refusal.Refusal.{Refusal}
 use Rattle.mig_model.specs.Wire.{Frame, Sent, copy_in}
 use Rattle.mig_model.specs.Wire.Frame.{Page, Zero, Discard, Package, End, Resume}
-use Rattle.mig_model.specs.Nodes.{Source, SourcePhase, Destination, DestinationPhase}
-use Rattle.mig_model.specs.Nodes.SourcePhase.{Idle, Precopy, Stopped, Paused, Released}
-use Rattle.mig_model.specs.Nodes.DestinationPhase.{NotAdvised, Advised, Discarding, Runs, Interrupted, HasEnded}
-use Rattle.mig_model.specs.Migration.{World}
-use Rattle.mig_base.specs.Tests.{first_holding}
-use Rattle.mig_model.specs.Migration as migration
+use Rattle.mig_model.specs.Migration.{World, after_deliver, after_deliver_back, next}
 use Rattle.mig_model.specs.Invariant.{Flow, flow_next, flow_after, Wires}
 use Rattle.mig_model.specs.Invariant.Flow.{BeforeAdvise, Copies, BeforePackage, Pushed, AfterEnd}
+use Rattle.mig_model.specs.Source.{Source}
+use Rattle.mig_model.specs.Destination.{Destination}
 
 -- a world with these phases and wires. Each world is one with its own
-abbrev pub at_state : SourcePhase → DestinationPhase → (ran up : Bool) → List Sent → World → World
+abbrev pub at_state : SourcePhase → DestPhase → (ran up : Bool) → List Sent → World → World
 at_state from to ran up wire world =
     record world { source = record world.source { phase = from }; destination = record world.destination { phase = to; has_run = ran }; forward = wire; up = up }
 
--- Refusals: where there is none, the first test does not hold, nor do the others
+-- a world once the first frame of the wire is delivered, and once the first of the wire back is
+abbrev pub delivered : World → List Sent → World
+delivered world [] = world
+delivered world (sent ∷ rest) = after_deliver world sent rest
 
-tested : (test : Bool) (refusal : migration.Refusal) (rest : Option migration.Refusal) → cond test (Some refusal) rest ≡ None → (test ≡ false) × (rest ≡ None)
-tested true refusal rest h = absurd (let e : Some refusal ≡ None = h in cc)
-tested false refusal rest h = (refl, h)
-
-pub not_refused : (test : Bool) (refusal : migration.Refusal) (rest : List (Bool × migration.Refusal)) → first_holding ((test, refusal) ∷ rest) ≡ None → (test ≡ false) × (first_holding rest ≡ None)
-not_refused test refusal rest h = tested test refusal (first_holding rest) h
+abbrev pub delivered_back : World → List Sent → World
+delivered_back world [] = world
+delivered_back world (sent ∷ rest) = after_deliver_back world sent rest
 
 -- Flows
 
@@ -80,14 +80,14 @@ nothing_behind (sent ∷ wire) flow h = absurd (none_some flow h)
 -- The first frame
 
 -- whether a frame may be the first of the wire in these phases
-abbrev pub comes : SourcePhase → DestinationPhase → Frame → Bool
-comes Precopy NotAdvised frame = is_some (flow_next BeforeAdvise frame)
-comes Precopy Advised frame = is_some (copy_in frame)
-comes Stopped NotAdvised frame = is_some (flow_next BeforeAdvise frame)
-comes Stopped Advised frame = is_some (flow_next Copies frame)
-comes Stopped Discarding frame = is_some (flow_next BeforePackage frame)
-comes Stopped Runs frame = is_some (flow_next Pushed frame)
-comes Paused Interrupted Resume = true
+abbrev pub comes : SourcePhase → DestPhase → Frame → Bool
+comes SourcePhase.Precopy DestPhase.Idle frame = is_some (flow_next BeforeAdvise frame)
+comes SourcePhase.Precopy DestPhase.Advised frame = is_some (copy_in frame)
+comes SourcePhase.Stopped DestPhase.Idle frame = is_some (flow_next BeforeAdvise frame)
+comes SourcePhase.Stopped DestPhase.Advised frame = is_some (flow_next Copies frame)
+comes SourcePhase.Stopped DestPhase.Discarding frame = is_some (flow_next BeforePackage frame)
+comes SourcePhase.Stopped DestPhase.Running frame = is_some (flow_next Pushed frame)
+comes SourcePhase.Paused DestPhase.Paused Resume = true
 comes from to frame = false
 
 copy_first : (frame : Frame) (rest : List Sent) → option_and_then (λ next. flow_after next rest) (flow_next Copies frame) ≡ Some Copies → is_some (copy_in frame) ≡ true
@@ -96,31 +96,31 @@ copy_first (Zero page) rest h = refl
 copy_first (Discard pages) rest h = absurd (ends_late rest h)
 copy_first _ rest h = absurd (none_some Copies h)
 
-resume_first : (sent : Sent) (rest : List Sent) (epoch : ℕ) → sent ∷ rest ≡ record { epoch = epoch; frame = Resume } ∷ [] → comes Paused Interrupted sent.frame ≡ true
-resume_first sent rest epoch h = ap (λ (wire : List Sent). elim wire [ [] ↦ false | s ∷ _ ↦ comes Paused Interrupted s.frame ]) h
+resume_first : (sent : Sent) (rest : List Sent) (epoch : ℕ) → sent ∷ rest ≡ record { epoch = epoch; frame = Resume } ∷ [] → comes SourcePhase.Paused DestPhase.Paused sent.frame ≡ true
+resume_first sent rest epoch h = ap (λ (wire : List Sent). elim wire [ [] ↦ false | s ∷ _ ↦ comes SourcePhase.Paused DestPhase.Paused s.frame ]) h
 
-in_place_by : (from : SourcePhase) (to : DestinationPhase) (source : Source) (destination : Destination) (sent : Sent) (rest back : List Sent)
+in_place_by : (from : SourcePhase) (to : DestPhase) (source : Source) (destination : Destination) (sent : Sent) (rest back : List Sent)
     → Wires (record source { phase = from }) (record destination { phase = to }) (sent ∷ rest) back → comes from to sent.frame ≡ true
-in_place_by Idle to source destination sent rest back w = absurd (empty_not sent rest w.1)
-in_place_by Precopy NotAdvised source destination sent rest back w = first_flows BeforeAdvise sent rest Copies w.0
-in_place_by Precopy Advised source destination sent rest back w = copy_first sent.frame rest w.0
-in_place_by Precopy Discarding source destination sent rest back w = absurd w
-in_place_by Precopy Runs source destination sent rest back w = absurd w
-in_place_by Precopy Interrupted source destination sent rest back w = absurd w
-in_place_by Precopy HasEnded source destination sent rest back w = absurd w
-in_place_by Stopped NotAdvised source destination sent rest back w = first_flows BeforeAdvise sent rest _ w.0
-in_place_by Stopped Advised source destination sent rest back w = first_flows Copies sent rest _ w.0
-in_place_by Stopped Discarding source destination sent rest back w = first_flows BeforePackage sent rest _ w.0
-in_place_by Stopped Runs source destination sent rest back w = first_flows Pushed sent rest _ w.0
-in_place_by Stopped Interrupted source destination sent rest back w = absurd w
-in_place_by Stopped HasEnded source destination sent rest back w = absurd (empty_not sent rest w.0)
-in_place_by Paused NotAdvised source destination sent rest back w = absurd w
-in_place_by Paused Advised source destination sent rest back w = absurd (empty_not sent rest w.0)
-in_place_by Paused Discarding source destination sent rest back w = absurd w
-in_place_by Paused Runs source destination sent rest back w = absurd (empty_not sent rest w.0)
-in_place_by Paused Interrupted source destination sent rest back w = resume_first sent rest source.epoch w.0
-in_place_by Paused HasEnded source destination sent rest back w = absurd (empty_not sent rest w.0)
-in_place_by Released to source destination sent rest back w = absurd (empty_not sent rest w.1)
+in_place_by SourcePhase.Idle to source destination sent rest back w = absurd (empty_not sent rest w.1)
+in_place_by SourcePhase.Precopy DestPhase.Idle source destination sent rest back w = first_flows BeforeAdvise sent rest Copies w.0
+in_place_by SourcePhase.Precopy DestPhase.Advised source destination sent rest back w = copy_first sent.frame rest w.0
+in_place_by SourcePhase.Precopy DestPhase.Discarding source destination sent rest back w = absurd w
+in_place_by SourcePhase.Precopy DestPhase.Running source destination sent rest back w = absurd w
+in_place_by SourcePhase.Precopy DestPhase.Paused source destination sent rest back w = absurd w
+in_place_by SourcePhase.Precopy DestPhase.Ended source destination sent rest back w = absurd w
+in_place_by SourcePhase.Stopped DestPhase.Idle source destination sent rest back w = first_flows BeforeAdvise sent rest _ w.0
+in_place_by SourcePhase.Stopped DestPhase.Advised source destination sent rest back w = first_flows Copies sent rest _ w.0
+in_place_by SourcePhase.Stopped DestPhase.Discarding source destination sent rest back w = first_flows BeforePackage sent rest _ w.0
+in_place_by SourcePhase.Stopped DestPhase.Running source destination sent rest back w = first_flows Pushed sent rest _ w.0
+in_place_by SourcePhase.Stopped DestPhase.Paused source destination sent rest back w = absurd w
+in_place_by SourcePhase.Stopped DestPhase.Ended source destination sent rest back w = absurd (empty_not sent rest w.0)
+in_place_by SourcePhase.Paused DestPhase.Idle source destination sent rest back w = absurd w
+in_place_by SourcePhase.Paused DestPhase.Advised source destination sent rest back w = absurd (empty_not sent rest w.0)
+in_place_by SourcePhase.Paused DestPhase.Discarding source destination sent rest back w = absurd w
+in_place_by SourcePhase.Paused DestPhase.Running source destination sent rest back w = absurd (empty_not sent rest w.0)
+in_place_by SourcePhase.Paused DestPhase.Paused source destination sent rest back w = resume_first sent rest source.epoch w.0
+in_place_by SourcePhase.Paused DestPhase.Ended source destination sent rest back w = absurd (empty_not sent rest w.0)
+in_place_by SourcePhase.Released to source destination sent rest back w = absurd (empty_not sent rest w.1)
 
 -- while the link is up the first frame is never out of place
 pub first_in_place : (source : Source) (destination : Destination) (sent : Sent) (rest back : List Sent) → Wires source destination (sent ∷ rest) back → comes source.phase destination.phase sent.frame ≡ true

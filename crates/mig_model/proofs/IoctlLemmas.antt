@@ -20,6 +20,7 @@ use Rattle.mig_model.specs.Space.{Space, IsSoundSpace}
 use Rattle.mig_model.specs.Ioctls.{left_by, mode_of, is_mapped_in, registered_in, registered, register_error, unregistered_in, range_unregistered, unregister_error, handshake_error, handshaken, put_pages, handed, missing_run, installed, same_area, is_one_area, copy_errors, copy_error, copied, zeropage_errors, zeropage_error, zeropaged, protected_in, writeprotect_errors, writeprotect_error, write_protected, read_error, read_space}
 use Rattle.mig_base.specs.Tests.{first_holding, same_bool, is_every}
 use Rattle.mig_model.proofs.HostLemmas.{get-put}
+use Rattle.mig_model.specs.Log.{present}
 
 none_absurd : {A : Type 0} → false ≡ true → A
 none_absurd h = absurd (false≢true h)

@@ -20,6 +20,8 @@ use Rattle.mig_model.specs.Space.{Space, IsSoundSpace, is_made, access_of}
 use Rattle.mig_model.specs.Invariant.{seen_bytes, seen_host}
 use Rattle.mig_model.proofs.HostLemmas.{cell_at, memory-at}
 use Rattle.mig_model.proofs.ReplyOfLemmas.{prots, reply_of-prots, reply_of-page, reply_of-unmade}
+use Rattle.mig_model.specs.Log.{present}
+use Rattle.mig_model.specs.Promises.{gone}
 
 none_absurd : {A : Type 0} → false ≡ true → A
 none_absurd h = absurd (false≢true h)

@@ -27,6 +27,8 @@ use Rattle.mig_model.specs.Userfault.{Object, Mode, mode_at, fault_queued, event
 use Rattle.mig_model.specs.Space.{Space, fresh_space, IsSoundSpace, access_of, accessed_by, accessed, called, modes_after, protected_after, call_messages, all_queued}
 use Rattle.mig_model.proofs.HostLemmas.{IsSound-empty, memory-none, get-put}
 use Rattle.mig_model.proofs.CommandLemmas.{IsSound-changed, one_prot_some}
+use Rattle.mig_model.specs.Log.{present}
+use Rattle.mig_model.specs.Promises.{gone}
 
 abbrev PageMap : Type 0 → Type 0
 PageMap X = FinMap nat_cmp X

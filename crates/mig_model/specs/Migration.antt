@@ -1,8 +1,15 @@
 -- The machine of the whole migration: what each step of a world answers, and the world after it. The steps are those of processors,
 -- fault handlers, pushers and deliveries, and broken channels and their resumption.
-use Rattle.std.specs.Prelude.{ℕ, ◌+◌, ◌-◌, ◌*◌, ◌^◌, ◌==◌, ◌&&◌, ◌||◌, not, nat_lt, Bool, true, false, Option, Some, None, is_some, Result, Ok, Err, List, [], ◌∷◌, ◌++◌, length}
+use Rattle.std.specs.Prelude.{ℕ, ◌+◌, ◌-◌, ◌*◌, ◌^◌, ◌==◌, ◌&&◌, ◌||◌, not, nat_lt, Bool, true, false, if◌then◌else◌, Option, Some, None, is_some, Result, Ok, Err, List, [], ◌∷◌, ◌++◌, length}
 use Rattle.std.specs.FinSet as finset
 use Rattle.std.specs.FinSet.{contains}
+use Rattle.mig_base.specs.declared.schedule.Step.{Step}
+use Rattle.mig_base.specs.declared.schedule.Ticket.{Ticket}
+use Rattle.mig_base.specs.declared.schedule.Side.{Side}
+use Rattle.mig_base.specs.declared.effect.Effect.{Effect}
+use Rattle.mig_base.specs.declared.refusal.Refusal.{Refusal}
+use Rattle.mig_base.specs.declared.phase.DestPhase.{DestPhase}
+use Rattle.mig_base.specs.declared.phase.SourcePhase.{SourcePhase}
 use Rattle.mig_base.specs.declared.TheConstants.{PAGE_SIZE}
 use Rattle.mig_base.specs.declared.command.Command.{Command}
 use Rattle.mig_base.specs.declared.command.Reply.{Reply}
@@ -10,15 +17,18 @@ use Rattle.mig_base.specs.declared.command.Entry.{Entry}
 use Rattle.mig_base.specs.declared.message.Message.{Message}
 use Rattle.mig_base.specs.declared.message.Message.TheVariants.{PageFault}
 use Rattle.mig_base.specs.Commands.{is_access}
-use Rattle.mig_base.specs.Tests.{is_empty, first_holding}
+use Rattle.mig_base.specs.Tests.{first_by, is_empty}
 use Rattle.mig_model.specs.Userfault.{Noted, next_message, changing}
-use Rattle.mig_model.specs.Guest.{Guest, Fault, Took, is_idle, is_woken, outstanding, processor_at, handed_over, took_by, tried, entries_of, is_present}
-use Rattle.mig_model.specs.Guest.Took.{Answer, Sleep, Call}
-use Rattle.mig_model.specs.Wire.{Frame, Sent, Copy, page_frame, sending, sending_if}
-use Rattle.mig_model.specs.Wire.Frame.{Advise, Page, Zero, End, Resume}
-use Rattle.mig_model.specs.Nodes.{Source, Destination, Act, first_source, first_destination, is_source_idle, is_precopy, is_stopped, is_source_paused, is_released, is_interrupted, least_of, not_clean, less, space_of, bytes_of, source_started, round_made, page_sent, source_read, source_act, source_acted, switch_made, switch_frames, page_pushed, request_served, source_took, source_answers, destination_took, destination_answers, destination_read, destination_act, destination_acted, act_frames, home, install_made}
-use Rattle.mig_model.specs.Nodes.SourcePhase.{Paused}
-use Rattle.mig_model.specs.Nodes.DestinationPhase.{Interrupted}
+use Rattle.mig_model.specs.Cpus.Took.{Sleep, Call}
+use Rattle.mig_model.specs.Wire.{Frame, Sent, Copy, is_zeros, page_frame, sending, sending_if}
+use Rattle.mig_model.specs.Wire.Frame.{Advise, Page, Zero, Discard, Package, End, Resume, Request, Recv, Done}
+use Rattle.mig_model.specs.Guest.Act.{Unprotected, Zeroed, Woke, Forgot, Requested}
+use Rattle.mig_model.specs.Cpus.{Took, entries_of, handed_over, is_idle, is_woken, outstanding, processor_at}
+use Rattle.mig_model.specs.Guest.{Act, Fault, Guest, is_present, took_by, tried}
+use Rattle.mig_model.specs.Log.{least_of, less}
+use Rattle.mig_model.specs.Owed.{home}
+use Rattle.mig_model.specs.Source.{Source, bytes_of, first_source, is_precopy, is_released, is_source_idle, is_source_paused, is_stopped, not_clean, page_pushed, page_sent, request_served, round_made, source_act, source_acted, source_answers, source_read, source_started, source_took, space_of, switch_frames, switch_made}
+use Rattle.mig_model.specs.Destination.{Destination, act_frames, destination_act, destination_acted, destination_answers, destination_read, destination_took, first_destination, install_by, is_dest_paused}
 
 -- A world
 
@@ -40,82 +50,6 @@ first_world_with cpus epoch rounds =
 -- a world in which nothing has happened
 abbrev pub first_world : ℕ → World
 first_world cpus = first_world_with cpus 0 0
-
--- Steps
-
-pub data Side : Type 0 where
-  AtSource : Side
-  AtDestination : Side
-
-pub data Step : Type 0 where
-  -- a processor makes a command, or tries again the one for which it was woken
-  Issue : (cpu : ℕ) → (command : Command) → Step
-  Retry : (cpu : ℕ) → Step
-  -- the source begins a migration, begins a round of pre-copy, and sends the next page of it
-  Start : Step
-  Round : Step
-  Send : Step
-  -- the source's handler reads a message, or works the fault that it has read first
-  SourceRead : Step
-  SourceAct : Step
-  -- the source stops its processors, and sends word of what is to be discarded and what is owed
-  Switch : Step
-  -- a node takes the next frame of its wire
-  Deliver : Step
-  DeliverBack : Step
-  -- the destination's handler reads a message, or works the fault that it has read first; and the next copy that came is installed
-  DestRead : Step
-  DestAct : Step
-  Install : Step
-  -- the source sends an owed page, takes the next request, and says that nothing more is sent
-  Push : (epoch : ℕ) → (page : ℕ) → Step
-  Serve : Step
-  SendEnd : Step
-  -- the channel breaks; a side notices it; and both go on over a new one
-  Break : Step
-  Notice : (side : Side) → Step
-  Reconnect : Step
-
--- what an accepted step did
-pub data Effect : Type 0 where
-  Answered : (cpu : ℕ) → (reply : Reply) → Effect
-  Slept : (cpu : ℕ) → Effect
-  Calls : (cpu : ℕ) → (left : ℕ) → Effect
-  Started : (epoch : ℕ) → Effect
-  RoundMade : (round : ℕ) → (todo : ℕ) → Effect
-  SentPage : (addr : ℕ) → Effect
-  SentZero : (addr : ℕ) → Effect
-  ReadFault : (addr : ℕ) → (wp : Bool) → Effect
-  -- an event, and the processor with its reply where it was the last of its call
-  ReadEvent : (message : Message) → (cpu : ℕ) → (reply : Option Reply) → Effect
-  Acted : (act : Act) → (addr : ℕ) → Effect
-  Switched : (discarded : ℕ) → (owed : ℕ) → Effect
-  TookFrame : (frame : Frame) → Effect
-  Installed : (addr : ℕ) → (source : ℕ) → Effect
-  Dropped : (source : ℕ) → Effect
-  Asked : (addr : ℕ) → Effect
-  EndSent : Effect
-  Broken : Effect
-  Noticed : (side : Side) → Effect
-  Resumed : (epoch : ℕ) → Effect
-
--- why a step was refused, in the order in which the reasons are looked for
-pub data Refusal : Type 0 where
-  NoCpu : Refusal
-  Busy : Refusal
-  NotAsleep : Refusal
-  NotWoken : Refusal
-  Phase : Refusal
-  LinkBroken : Refusal
-  NotBroken : Refusal
-  StaleEpoch : Refusal
-  NothingThere : Refusal
-  Changing : Refusal
-  InstallFirst : Refusal
-  PageNotSendable : Refusal
-  NotRemaining : Refusal
-  PagesLeft : Refusal
-  CountUsed : Refusal
 
 -- Which node runs the processors
 
@@ -140,7 +74,11 @@ with_guest_by false world guest = record world { source = record world.source { 
 abbrev pub with_guest : World → Guest → World
 with_guest world guest = with_guest_by world.destination.has_run world guest
 
--- Refusals
+-- What steps are asked before they are made
+
+-- whether the guest has no such processor
+abbrev pub has_no_cpu : World → ℕ → Bool
+has_no_cpu world cpu = not (nat_lt cpu (length (guest_of world).cpus))
 
 -- whether a migration has started, and whether the source still runs the processors in it
 abbrev pub has_started : World → Bool
@@ -153,73 +91,36 @@ runs_source world = has_started world && not world.source.switched
 abbrev pub is_changing : Guest → Bool
 is_changing guest = nat_lt 0 (changing guest.space.object)
 
-abbrev pub has_message : Guest → Bool
-has_message guest = is_some (next_message guest.space.object)
-
 abbrev pub is_end : Frame → Bool
 is_end End = true
 is_end frame = false
 
--- whether the next frame of the wire says that nothing more is sent
-abbrev pub is_end_next : List Sent → Bool
-is_end_next [] = false
-is_end_next (sent ∷ rest) = is_end sent.frame
-
--- whether a side has noticed that the channel is broken
+-- whether a side has after_notice that the channel is broken
 abbrev pub is_paused_at : World → Side → Bool
-is_paused_at world AtSource = is_source_paused world.source.phase
-is_paused_at world AtDestination = is_interrupted world.destination.phase
+is_paused_at world Side.Source = is_source_paused world.source.phase
+is_paused_at world Side.Destination = is_dest_paused world.destination.phase
 
 -- whether a count is at its greatest
 abbrev pub is_used : ℕ → Bool
 is_used count = not (nat_lt count (2 ^ 32 - 1))
 
--- the reasons for which a step may be refused, in order
-abbrev pub reasons : World → Step → List (Bool × Refusal)
-reasons world (Issue cpu command) =
-    (not (nat_lt cpu (length (guest_of world).processors)), NoCpu) ∷ (not (is_idle (processor_at (guest_of world).processors cpu)), Busy) ∷ (not (runs world), Phase) ∷ []
-reasons world (Retry cpu) =
-    let processor = processor_at (guest_of world).processors cpu in
-    (not (nat_lt cpu (length (guest_of world).processors)), NoCpu) ∷ (not (is_some (outstanding processor)), NotAsleep) ∷ (not (is_woken processor), NotWoken) ∷ (not (runs world), Phase) ∷ []
-reasons world Start = (has_started world, Phase) ∷ (is_used world.source.epoch, CountUsed) ∷ []
-reasons world Round = (not (is_precopy world.source.phase), Phase) ∷ (is_changing world.source.guest, Changing) ∷ (is_used world.source.rounds, CountUsed) ∷ []
-reasons world Send =
-    (not (is_precopy world.source.phase), Phase) ∷ (not world.up, LinkBroken) ∷ (not (is_some (least_of world.source.todo)), NothingThere) ∷ (is_changing world.source.guest, Changing) ∷ []
-reasons world SourceRead = (not (runs_source world), Phase) ∷ (not (has_message world.source.guest), NothingThere) ∷ []
-reasons world SourceAct = (not (runs_source world), Phase) ∷ (is_empty world.source.guest.held, NothingThere) ∷ (is_changing world.source.guest, Changing) ∷ []
-reasons world Switch = (not (is_precopy world.source.phase), Phase) ∷ (not world.up, LinkBroken) ∷ (is_changing world.source.guest, Changing) ∷ []
-reasons world Deliver =
-    (not (has_started world), Phase) ∷ (not world.up, LinkBroken) ∷ (is_empty world.forward, NothingThere) ∷ (is_end_next world.forward && not (is_empty world.destination.arrivals), InstallFirst) ∷ []
-reasons world DeliverBack = (not (has_started world), Phase) ∷ (not world.up, LinkBroken) ∷ (is_empty world.back, NothingThere) ∷ []
-reasons world DestRead = (not world.destination.has_run, Phase) ∷ (not (has_message world.destination.guest), NothingThere) ∷ []
-reasons world DestAct = (not world.destination.has_run, Phase) ∷ (is_empty world.destination.guest.held, NothingThere) ∷ (is_changing world.destination.guest, Changing) ∷ []
-reasons world Install = (not world.destination.has_run, Phase) ∷ (is_empty world.destination.arrivals, NothingThere) ∷ (is_changing world.destination.guest, Changing) ∷ []
-reasons world (Push epoch page) =
-    (not (is_stopped world.source.phase), Phase) ∷ (not world.up, LinkBroken) ∷ (not (epoch == world.source.epoch), StaleEpoch) ∷ (not (is_present (space_of world.source) page), PageNotSendable)
-    ∷ (not (contains world.source.remaining page), NotRemaining) ∷ []
-reasons world Serve = (not (is_stopped world.source.phase), Phase) ∷ (not world.up, LinkBroken) ∷ (is_empty world.source.asked, NothingThere) ∷ []
-reasons world SendEnd =
-    (not (is_stopped world.source.phase) || world.source.ended == world.source.epoch, Phase) ∷ (not world.up, LinkBroken) ∷ (is_some (least_of world.source.remaining), PagesLeft) ∷ []
-reasons world Break = (not (has_started world) || is_released world.source.phase, Phase) ∷ (not world.up, LinkBroken) ∷ []
-reasons world (Notice side) = (not (has_started world) || is_released world.source.phase || is_paused_at world side, Phase) ∷ (world.up, NotBroken) ∷ []
-reasons world Reconnect = (not (is_source_paused world.source.phase && is_interrupted world.destination.phase), Phase) ∷ (world.up, NotBroken) ∷ (is_used world.source.epoch, CountUsed) ∷ []
+-- Answers
 
--- why a step is refused, if it is
-abbrev pub refusal_of : World → Step → Option Refusal
-refusal_of world step = first_holding (reasons world step)
+-- what an accepted step did, and the world after it
+pub record Made : Type 0 where
+  pub effect : Effect
+  pub world : World
 
--- What an accepted step does
+-- what a step answers
+abbrev pub Answer : Type 0
+Answer = Result Made Refusal
 
--- a command is tried where the guest runs: what took effect is entered
-abbrev pub command_tried : World → ℕ → Command → World
-command_tried world cpu command =
-    record (with_guest world (tried (is_access command) (guest_of world) cpu command)) {
-      transcript = world.transcript ++ entries_of cpu command (took_by (is_access command) (guest_of world).space command);
-    }
+abbrev pub made : Effect → World → Answer
+made effect world = Ok (record { effect = effect; world = world })
 
-abbrev pub retried : World → ℕ → Option Command → World
-retried world cpu None = world
-retried world cpu (Some command) = command_tried world cpu command
+-- the first refusal whose test holds, or else the answer
+unfoldable pub unless : List (Bool × Refusal) → Answer → Answer
+unless reasons answer = first_by (λ refusal. Err refusal) reasons answer
 
 -- the source changes so, and sends these frames in its epoch
 abbrev pub source_sends : World → Source → List Frame → World
@@ -229,156 +130,300 @@ source_sends world node frames = record world { source = node; forward = sending
 abbrev pub destination_sends : World → Destination → List Frame → World
 destination_sends world node frames = record world { destination = node; back = sending_if world.up world.back node.epoch frames }
 
-abbrev pub sent_by : World → Option ℕ → World
-sent_by world None = world
-sent_by world (Some page) = source_sends world (page_sent world.source page) (page_frame page (bytes_of world.source page) ∷ [])
+-- Issue and Retry: a command is tried where the guest runs, and what took effect is entered
 
-abbrev pub read_by_source : World → Option Noted → World
-read_by_source world None = world
-read_by_source world (Some noted) = record world { source = source_read world.source noted }
+abbrev pub after_command : World → ℕ → Command → World
+after_command world cpu command =
+    record (with_guest world (tried (is_access command) (guest_of world) cpu command)) {
+      transcript = world.transcript ++ entries_of cpu command (took_by (is_access command) (guest_of world).space command);
+    }
 
-abbrev pub acted_by_source : World → List Fault → World
-acted_by_source world [] = world
-acted_by_source world (fault ∷ rest) = record world { source = source_acted world.source fault }
+abbrev pub try_effect : ℕ → Took → Effect
+try_effect cpu (Took.Answer reply) = Effect.Answered cpu reply
+try_effect cpu Sleep = Effect.Asleep cpu
+try_effect cpu (Call reply left) = Effect.InCall cpu left
 
-abbrev pub delivered : World → List Sent → World
-delivered world [] = world
-delivered world (sent ∷ rest) =
-    destination_sends (record world { forward = rest }) (destination_took world.destination sent.epoch sent.frame) (destination_answers world.destination sent.frame)
+abbrev pub try_command : World → ℕ → Command → Answer
+try_command world cpu command = made (try_effect cpu (took_by (is_access command) (guest_of world).space command)) (after_command world cpu command)
 
-abbrev pub delivered_back : World → List Sent → World
-delivered_back world [] = world
-delivered_back world (sent ∷ rest) = source_sends (record world { back = rest }) (source_took world.source sent.frame) (source_answers world.source sent.frame)
+abbrev pub issue : World → ℕ → Command → Answer
+issue world cpu command =
+    unless
+    ((has_no_cpu world cpu, Refusal.NoCpu) ∷ (not (is_idle (processor_at (guest_of world).cpus cpu)), Refusal.Busy) ∷ (not (runs world), Refusal.Phase) ∷ [])
+    (try_command world cpu command)
 
-abbrev pub read_by_destination : World → Option Noted → World
-read_by_destination world None = world
-read_by_destination world (Some noted) = record world { destination = destination_read world.destination noted }
+abbrev pub retry_command : World → ℕ → Option Command → Answer
+retry_command world cpu None = Err Refusal.NotAsleep
+retry_command world cpu (Some command) =
+    unless ((not (is_woken (processor_at (guest_of world).cpus cpu)), Refusal.NotWoken) ∷ (not (runs world), Refusal.Phase) ∷ []) (try_command world cpu command)
 
-abbrev pub acted_by_destination : World → List Fault → World
-acted_by_destination world [] = world
-acted_by_destination world (fault ∷ rest) =
-    destination_sends world (destination_acted world.destination fault) (act_frames (destination_act world.destination fault) world.destination)
+abbrev pub retry : World → ℕ → Answer
+retry world cpu = unless ((has_no_cpu world cpu, Refusal.NoCpu) ∷ []) (retry_command world cpu (outstanding (processor_at (guest_of world).cpus cpu)))
 
-abbrev pub noticed : World → Side → World
-noticed world AtSource = record world { source = record world.source { phase = Paused } }
-noticed world AtDestination = record world { destination = record world.destination { phase = Interrupted } }
+-- Start and Round: the source registers its pages, and tells the destination or plans what is to be sent
 
-abbrev pub reconnected : World → World
-reconnected world = source_sends (record world { up = true }) (record world.source { epoch = world.source.epoch + 1 }) (Resume ∷ [])
+abbrev pub after_start : World → World
+after_start world = source_sends world (source_started world.source) (Advise ∷ [])
 
--- the world after a step that is not refused
-abbrev pub accepted : World → Step → World
-accepted world (Issue cpu command) = command_tried world cpu command
-accepted world (Retry cpu) = retried world cpu (outstanding (processor_at (guest_of world).processors cpu))
-accepted world Start = source_sends world (source_started world.source) (Advise ∷ [])
-accepted world Round = record world { source = round_made world.source }
-accepted world Send = sent_by world (least_of world.source.todo)
-accepted world SourceRead = read_by_source world (next_message (space_of world.source).object)
-accepted world SourceAct = acted_by_source world world.source.guest.held
-accepted world Switch = source_sends world (switch_made world.source) (switch_frames world.source)
-accepted world Deliver = delivered world world.forward
-accepted world DeliverBack = delivered_back world world.back
-accepted world DestRead = read_by_destination world (next_message world.destination.guest.space.object)
-accepted world DestAct = acted_by_destination world world.destination.guest.held
-accepted world Install = record world { destination = install_made world.destination world.destination.arrivals }
-accepted world (Push epoch page) = source_sends world (page_pushed world.source page) (page_frame page (bytes_of world.source page) ∷ [])
-accepted world Serve = record world { source = request_served world.source }
-accepted world SendEnd = source_sends world (record world.source { ended = world.source.epoch }) (End ∷ [])
-accepted world Break = record world { forward = []; back = []; up = false }
-accepted world (Notice side) = noticed world side
-accepted world Reconnect = reconnected world
+abbrev pub start : World → Answer
+start world =
+    unless ((has_started world, Refusal.Phase) ∷ (is_used world.source.epoch, Refusal.CountUsed) ∷ []) (made (Effect.Started (world.source.epoch + 1)) (after_start world))
 
--- What it is called
+abbrev pub after_round : World → World
+after_round world = record world { source = round_made world.source }
 
-abbrev pub effect_of_try : ℕ → Took → Effect
-effect_of_try cpu (Answer reply) = Answered cpu reply
-effect_of_try cpu Sleep = Slept cpu
-effect_of_try cpu (Call reply left) = Calls cpu left
+abbrev pub round : World → Answer
+round world =
+    unless
+    ((not (is_precopy world.source.phase), Refusal.Phase) ∷ (is_changing world.source.guest, Refusal.Changing) ∷ (is_used world.source.rounds, Refusal.CountUsed) ∷ [])
+    (made (Effect.RoundMade (world.source.rounds + 1) (finset.len (not_clean world.source))) (after_round world))
 
-abbrev pub try_effect : World → ℕ → Command → Effect
-try_effect world cpu command = effect_of_try cpu (took_by (is_access command) (guest_of world).space command)
-
-abbrev pub retry_effect : World → ℕ → Option Command → Effect
-retry_effect world cpu None = Slept cpu
-retry_effect world cpu (Some command) = try_effect world cpu command
+-- Send: the least page of the round is protected, then read and sent
 
 -- a page that was sent, or a page of zeros
-abbrev pub sent_effect : Frame → Effect
-sent_effect (Zero page) = SentZero (PAGE_SIZE * page)
-sent_effect (Page page bytes) = SentPage (PAGE_SIZE * page)
-sent_effect frame = EndSent
+abbrev pub page_effect : ℕ → List ℕ → Effect
+page_effect page bytes = if is_zeros bytes then Effect.SentZero (PAGE_SIZE * page) else Effect.SentPage (PAGE_SIZE * page)
 
-abbrev pub send_effect : World → Option ℕ → Effect
-send_effect world None = EndSent
-send_effect world (Some page) = sent_effect (page_frame page (bytes_of world.source page))
+abbrev pub after_send : World → ℕ → World
+after_send world page = source_sends world (page_sent world.source page) (page_frame page (bytes_of world.source page) ∷ [])
 
-abbrev pub message_effect : Guest → ℕ → Message → Effect
-message_effect guest cpu (PageFault addr write wp) = ReadFault addr wp
-message_effect guest cpu message = ReadEvent message cpu (handed_over (processor_at guest.processors cpu))
+abbrev pub send_page : World → Option ℕ → Answer
+send_page world None = Err Refusal.NothingThere
+send_page world (Some page) =
+    unless ((is_changing world.source.guest, Refusal.Changing) ∷ []) (made (page_effect page (bytes_of world.source page)) (after_send world page))
 
-abbrev pub read_effect : Guest → Option Noted → Effect
-read_effect guest None = EndSent
-read_effect guest (Some noted) = message_effect guest noted.cpu noted.message
+abbrev pub send : World → Answer
+send world = unless ((not (is_precopy world.source.phase), Refusal.Phase) ∷ (not world.up, Refusal.Broken) ∷ []) (send_page world (least_of world.source.log.todo))
 
-abbrev pub act_effect : (Fault → Act) → List Fault → Effect
-act_effect act [] = EndSent
-act_effect act (fault ∷ rest) = Acted (act fault) (PAGE_SIZE * fault.page)
+-- SourceRead and SourceAct: its handler reads the next message, and resolves the first fault that it has read
 
-abbrev pub took_effect : List Sent → Effect
-took_effect [] = EndSent
-took_effect (sent ∷ rest) = TookFrame sent.frame
+-- an event that was read, with the reply of its call where it was the last of that
+abbrev pub event_effect : Message → ℕ → Option Reply → Effect
+event_effect event cpu None = Effect.ReadEvent event
+event_effect event cpu (Some reply) = Effect.ReadLast event cpu reply
 
-abbrev pub install_effect_by : Option ℕ → ℕ → Effect
-install_effect_by None source = Dropped (PAGE_SIZE * source)
-install_effect_by (Some page) source = Installed (PAGE_SIZE * page) (PAGE_SIZE * source)
+abbrev pub read_effect : Guest → ℕ → Message → Effect
+read_effect guest cpu (PageFault addr write wp) = Effect.ReadFault addr wp
+read_effect guest cpu message = event_effect message cpu (handed_over (processor_at guest.cpus cpu))
 
-abbrev pub install_effect : Destination → List Copy → Effect
-install_effect node [] = EndSent
-install_effect node (copy ∷ rest) = install_effect_by (home node.owed copy.page) copy.page
+-- what a handler has made of a fault at an address
+abbrev pub act_effect : Act → ℕ → Effect
+act_effect Unprotected addr = Effect.Unprotected addr
+act_effect Zeroed addr = Effect.Zeroed addr
+act_effect Woke addr = Effect.Woke addr
+act_effect Forgot addr = Effect.Forgot addr
+act_effect (Requested origin) addr = Effect.Requested (PAGE_SIZE * origin) addr
 
-abbrev pub serve_effect : List ℕ → Effect
-serve_effect [] = EndSent
-serve_effect (page ∷ pages) = Asked (PAGE_SIZE * page)
+abbrev pub after_source_read : World → Noted → World
+after_source_read world noted = record world { source = source_read world.source noted }
 
--- what a step that is not refused is called
-abbrev pub effect_of : World → Step → Effect
-effect_of world (Issue cpu command) = try_effect world cpu command
-effect_of world (Retry cpu) = retry_effect world cpu (outstanding (processor_at (guest_of world).processors cpu))
-effect_of world Start = Started (world.source.epoch + 1)
-effect_of world Round = RoundMade (world.source.rounds + 1) (finset.len (not_clean world.source))
-effect_of world Send = send_effect world (least_of world.source.todo)
-effect_of world SourceRead = read_effect world.source.guest (next_message (space_of world.source).object)
-effect_of world SourceAct = act_effect (source_act world.source) world.source.guest.held
-effect_of world Switch = Switched (finset.len (less world.source.sent world.source.clean)) (finset.len (not_clean world.source))
-effect_of world Deliver = took_effect world.forward
-effect_of world DeliverBack = took_effect world.back
-effect_of world DestRead = read_effect world.destination.guest (next_message world.destination.guest.space.object)
-effect_of world DestAct = act_effect (destination_act world.destination) world.destination.guest.held
-effect_of world Install = install_effect world.destination world.destination.arrivals
-effect_of world (Push epoch page) = sent_effect (page_frame page (bytes_of world.source page))
-effect_of world Serve = serve_effect world.source.asked
-effect_of world SendEnd = EndSent
-effect_of world Break = Broken
-effect_of world (Notice side) = Noticed side
-effect_of world Reconnect = Resumed (world.source.epoch + 1)
+abbrev pub source_read_next : World → Option Noted → Answer
+source_read_next world None = Err Refusal.NothingThere
+source_read_next world (Some noted) = made (read_effect world.source.guest noted.cpu noted.message) (after_source_read world noted)
 
--- Runs
+abbrev pub read_at_source : World → Answer
+read_at_source world = unless ((not (runs_source world), Refusal.Phase) ∷ []) (source_read_next world (next_message (space_of world.source).object))
 
--- what a step answers: its effect, or why it was refused
-abbrev pub outcome_by : Option Refusal → Effect → Result Effect Refusal
-outcome_by None effect = Ok effect
-outcome_by (Some refusal) effect = Err refusal
+abbrev pub after_source_act : World → Fault → World
+after_source_act world fault = record world { source = source_acted world.source fault }
+
+abbrev pub source_act_first : World → List Fault → Answer
+source_act_first world [] = Err Refusal.NothingThere
+source_act_first world (fault ∷ rest) =
+    unless ((is_changing world.source.guest, Refusal.Changing) ∷ [])
+    (made (act_effect (source_act world.source fault) (PAGE_SIZE * fault.page)) (after_source_act world fault))
+
+abbrev pub act_at_source : World → Answer
+act_at_source world = unless ((not (runs_source world), Refusal.Phase) ∷ []) (source_act_first world world.source.log.held)
+
+-- Switch: the source stops its processors, and hands them over
+
+abbrev pub after_switch : World → World
+after_switch world = source_sends world (switch_made world.source) (switch_frames world.source)
+
+abbrev pub switch : World → Answer
+switch world =
+    unless ((not (is_precopy world.source.phase), Refusal.Phase) ∷ (not world.up, Refusal.Broken) ∷ (is_changing world.source.guest, Refusal.Changing) ∷ [])
+    (made (Effect.Switched (finset.len (less world.source.log.sent world.source.log.clean)) (finset.len (not_clean world.source))) (after_switch world))
+
+-- Deliver and DeliverBack: a node takes the first frame of its wire, and answers
+
+abbrev pub frame_effect : Frame → Effect
+frame_effect Advise = Effect.TookAdvise
+frame_effect (Page page bytes) = Effect.TookPage (PAGE_SIZE * page)
+frame_effect (Zero page) = Effect.TookZero (PAGE_SIZE * page)
+frame_effect (Discard pages) = Effect.TookDiscard (finset.len pages)
+frame_effect (Package areas owed commands) = Effect.TookPackage (finset.len owed)
+frame_effect End = Effect.TookEnd
+frame_effect Resume = Effect.TookResume
+frame_effect (Request page) = Effect.TookRequest (PAGE_SIZE * page)
+frame_effect (Recv state owed) = Effect.TookRecv state (finset.len owed)
+frame_effect Done = Effect.TookDone
+
+abbrev pub after_deliver : World → Sent → List Sent → World
+after_deliver world sent rest =
+    destination_sends (record world { forward = rest }) (destination_took world.destination sent.epoch sent.frame) (destination_answers world.destination sent.frame)
+
+abbrev pub deliver_first : World → List Sent → Answer
+deliver_first world [] = Err Refusal.NothingThere
+deliver_first world (sent ∷ rest) =
+    unless ((is_end sent.frame && not (is_empty world.destination.arrivals), Refusal.InstallFirst) ∷ []) (made (frame_effect sent.frame) (after_deliver world sent rest))
+
+abbrev pub deliver : World → Answer
+deliver world = unless ((not (has_started world), Refusal.Phase) ∷ (not world.up, Refusal.Broken) ∷ []) (deliver_first world world.forward)
+
+abbrev pub after_deliver_back : World → Sent → List Sent → World
+after_deliver_back world sent rest = source_sends (record world { back = rest }) (source_took world.source sent.frame) (source_answers world.source sent.frame)
+
+abbrev pub deliver_back_first : World → List Sent → Answer
+deliver_back_first world [] = Err Refusal.NothingThere
+deliver_back_first world (sent ∷ rest) = made (frame_effect sent.frame) (after_deliver_back world sent rest)
+
+abbrev pub deliver_back : World → Answer
+deliver_back world = unless ((not (has_started world), Refusal.Phase) ∷ (not world.up, Refusal.Broken) ∷ []) (deliver_back_first world world.back)
+
+-- DestRead and DestAct: the destination's handler
+
+abbrev pub after_dest_read : World → Noted → World
+after_dest_read world noted = record world { destination = destination_read world.destination noted }
+
+abbrev pub destination_read_next : World → Option Noted → Answer
+destination_read_next world None = Err Refusal.NothingThere
+destination_read_next world (Some noted) =
+    made (read_effect world.destination.guest noted.cpu noted.message) (after_dest_read world noted)
+
+abbrev pub read_at_destination : World → Answer
+read_at_destination world = unless ((not world.destination.has_run, Refusal.Phase) ∷ []) (destination_read_next world (next_message world.destination.guest.space.object))
+
+abbrev pub after_dest_act : World → Fault → World
+after_dest_act world fault =
+    destination_sends world (destination_acted world.destination fault) (act_frames (destination_act world.destination fault) world.destination)
+
+abbrev pub destination_act_first : World → List Fault → Answer
+destination_act_first world [] = Err Refusal.NothingThere
+destination_act_first world (fault ∷ rest) =
+    unless ((is_changing world.destination.guest, Refusal.Changing) ∷ [])
+    (made (act_effect (destination_act world.destination fault) (PAGE_SIZE * fault.page)) (after_dest_act world fault))
+
+abbrev pub act_at_destination : World → Answer
+act_at_destination world = unless ((not world.destination.has_run, Refusal.Phase) ∷ []) (destination_act_first world world.destination.held)
+
+-- Install: the first copy that has arrived is installed where its page is owed now, or given up
+
+abbrev pub install_effect : Option ℕ → ℕ → Effect
+install_effect None origin = Effect.Dropped (PAGE_SIZE * origin)
+install_effect (Some page) origin = Effect.Installed (PAGE_SIZE * page) (PAGE_SIZE * origin)
+
+abbrev pub after_install : World → Copy → List Copy → World
+after_install world copy rest = record world { destination = install_by (home world.destination.owed copy.page) world.destination copy rest }
+
+abbrev pub install_first : World → List Copy → Answer
+install_first world [] = Err Refusal.NothingThere
+install_first world (copy ∷ rest) =
+    unless ((is_changing world.destination.guest, Refusal.Changing) ∷ [])
+    (made (install_effect (home world.destination.owed copy.page) copy.page) (after_install world copy rest))
+
+abbrev pub install : World → Answer
+install world = unless ((not world.destination.has_run, Refusal.Phase) ∷ []) (install_first world world.destination.arrivals)
+
+-- Push, Serve and End: a stopped source sends what is owed
+
+abbrev pub after_push : World → ℕ → World
+after_push world page = source_sends world (page_pushed world.source page) (page_frame page (bytes_of world.source page) ∷ [])
+
+abbrev pub push : World → Ticket → Answer
+push world ticket =
+    unless
+    ((not (is_stopped world.source.phase), Refusal.Phase) ∷ (not world.up, Refusal.Broken) ∷ (not (ticket.epoch == world.source.epoch), Refusal.StaleEpoch)
+    ∷ (not (is_present (space_of world.source) ticket.page), Refusal.PageNotSendable) ∷ (not (contains world.source.remaining ticket.page), Refusal.NotRemaining) ∷ [])
+    (made (page_effect ticket.page (bytes_of world.source ticket.page)) (after_push world ticket.page))
+
+abbrev pub after_serve : World → List ℕ → World
+after_serve world pages = record world { source = request_served world.source pages }
+
+abbrev pub serve_first : World → List ℕ → Answer
+serve_first world [] = Err Refusal.NothingThere
+serve_first world (page ∷ pages) = made (Effect.Asked (PAGE_SIZE * page)) (after_serve world pages)
+
+abbrev pub serve : World → Answer
+serve world = unless ((not (is_stopped world.source.phase), Refusal.Phase) ∷ (not world.up, Refusal.Broken) ∷ []) (serve_first world world.source.asked)
+
+abbrev pub after_end : World → World
+after_end world = source_sends world (record world.source { end_epoch = world.source.epoch }) (End ∷ [])
+
+abbrev pub send_end : World → Answer
+send_end world =
+    unless
+    ((not (is_stopped world.source.phase) || world.source.end_epoch == world.source.epoch, Refusal.Phase) ∷ (not world.up, Refusal.Broken)
+    ∷ (is_some (least_of world.source.remaining), Refusal.PagesLeft) ∷ [])
+    (made Effect.EndSent (after_end world))
+
+-- Break, Notice and Resume: the channel breaks, both sides notice it, and they go on over a new one in a new epoch
+
+abbrev pub after_break : World → World
+after_break world = record world { forward = []; back = []; up = false }
+
+abbrev pub break : World → Answer
+break world =
+    unless ((not (has_started world) || is_released world.source.phase, Refusal.Phase) ∷ (not world.up, Refusal.Broken) ∷ [])
+    (made Effect.Broken (after_break world))
+
+abbrev pub after_notice : World → Side → World
+after_notice world Side.Source = record world { source = record world.source { phase = SourcePhase.Paused } }
+after_notice world Side.Destination = record world { destination = record world.destination { phase = DestPhase.Paused } }
+
+abbrev pub notice : World → Side → Answer
+notice world side =
+    unless ((not (has_started world) || is_released world.source.phase || is_paused_at world side, Refusal.Phase) ∷ (world.up, Refusal.NotBroken) ∷ [])
+    (made (Effect.Noticed side) (after_notice world side))
+
+abbrev pub after_resume : World → World
+after_resume world = source_sends (record world { up = true }) (record world.source { epoch = world.source.epoch + 1 }) (Resume ∷ [])
+
+abbrev pub resume : World → Answer
+resume world =
+    unless ((not (is_source_paused world.source.phase && is_dest_paused world.destination.phase), Refusal.Phase) ∷ (world.up, Refusal.NotBroken) ∷ (is_used world.source.epoch, Refusal.CountUsed) ∷ [])
+    (made (Effect.Resumed (world.source.epoch + 1)) (after_resume world))
+
+-- Steps
+
+-- what a step answers: its effect with the world after it, or why it was refused
+abbrev pub answer : World → Step → Answer
+answer world (Step.Issue cpu command) = issue world cpu command
+answer world (Step.Retry cpu) = retry world cpu
+answer world Step.Start = start world
+answer world Step.Round = round world
+answer world Step.Send = send world
+answer world Step.SourceRead = read_at_source world
+answer world Step.SourceAct = act_at_source world
+answer world Step.Switch = switch world
+answer world Step.Deliver = deliver world
+answer world Step.DeliverBack = deliver_back world
+answer world Step.DestRead = read_at_destination world
+answer world Step.DestAct = act_at_destination world
+answer world Step.Install = install world
+answer world (Step.Push ticket) = push world ticket
+answer world Step.Serve = serve world
+answer world Step.End = send_end world
+answer world Step.Break = break world
+answer world (Step.Notice side) = notice world side
+answer world Step.Resume = resume world
+
+-- its effect, or why it was refused
+abbrev pub outcome_by : Answer → Result Effect Refusal
+outcome_by (Ok made) = Ok made.effect
+outcome_by (Err refusal) = Err refusal
 
 unfoldable pub outcome : World → Step → Result Effect Refusal
-outcome world step = outcome_by (refusal_of world step) (effect_of world step)
+outcome world step = outcome_by (answer world step)
 
--- the world after a step. A refused step changes nothing
-abbrev pub next_by : Option Refusal → World → World → World
-next_by None old new = new
-next_by (Some refusal) old new = old
+-- the world after it. A refused step changes nothing
+abbrev pub next_by : World → Answer → World
+next_by world (Ok made) = made.world
+next_by world (Err refusal) = world
 
 unfoldable pub next : World → Step → World
-next world step = next_by (refusal_of world step) world (accepted world step)
+next world step = next_by world (answer world step)
 
 -- the world after steps made in turn, whether accepted or refused
 abbrev pub after_steps : World → List Step → World

@@ -1,11 +1,12 @@
 -- Which parts of a world each step of the whole migration may change. Every other part stays as it was: no step of the source puts
 -- anything at the destination but by the wire.
 use Rattle.std.specs.Prelude.{◌≡◌, true, false, List, ◌++◌}
+use Rattle.mig_base.specs.declared.phase.DestPhase.{DestPhase}
+use Rattle.mig_base.specs.declared.phase.SourcePhase.{SourcePhase}
+use Rattle.mig_base.specs.declared.schedule.Side.{Side}
+use Rattle.mig_base.specs.declared.schedule.Step.{Step}
 use Rattle.mig_model.specs.Wire.{Sent}
-use Rattle.mig_model.specs.Nodes.{SourcePhase, DestinationPhase}
-use Rattle.mig_model.specs.Migration.{World, Step}
-use Rattle.mig_model.specs.Migration.Step.{Issue, Retry, Start, Round, Send, SourceRead, SourceAct, Switch, Deliver, DeliverBack, DestRead, DestAct, Install, Push, Serve, SendEnd, Break, Notice, Reconnect}
-use Rattle.mig_model.specs.Migration.Side.{AtSource, AtDestination}
+use Rattle.mig_model.specs.Migration.{World}
 
 -- something was put at the end of a wire, or nothing
 pub record Grows (old new : List Sent) : Type 0 where
@@ -69,7 +70,7 @@ pub record SourcePhaseAlone (old new : World) : Type 0 where
   pub is : new ≡ record old { source = record old.source { phase = phase } }
 
 pub record DestinationPhaseAlone (old new : World) : Type 0 where
-  pub phase : DestinationPhase
+  pub phase : DestPhase
   pub is : new ≡ record old { destination = record old.destination { phase = phase } }
 
 -- the link, the source's epoch, and the end of the wire to the destination
@@ -82,23 +83,23 @@ pub record LinkAlone (old new : World) : Type 0 where
 
 -- the parts that a step may change
 abbrev pub ChangesParts : World → Step → World → Type 0
-ChangesParts old (Issue cpu command) new = GuestAlone old new
-ChangesParts old (Retry cpu) new = GuestAlone old new
-ChangesParts old Start new = SourceAlone old new
-ChangesParts old Round new = SourceAlone old new
-ChangesParts old Send new = SourceAlone old new
-ChangesParts old SourceRead new = SourceAlone old new
-ChangesParts old SourceAct new = SourceAlone old new
-ChangesParts old Switch new = SourceAlone old new
-ChangesParts old Deliver new = Delivers old new
-ChangesParts old DeliverBack new = DeliversBack old new
-ChangesParts old DestRead new = DestinationAlone old new
-ChangesParts old DestAct new = DestinationAlone old new
-ChangesParts old Install new = DestinationAlone old new
-ChangesParts old (Push epoch page) new = SourceAlone old new
-ChangesParts old Serve new = SourceAlone old new
-ChangesParts old SendEnd new = SourceAlone old new
-ChangesParts old Break new = WiresAlone old new
-ChangesParts old (Notice AtSource) new = SourcePhaseAlone old new
-ChangesParts old (Notice AtDestination) new = DestinationPhaseAlone old new
-ChangesParts old Reconnect new = LinkAlone old new
+ChangesParts old (Step.Issue cpu command) new = GuestAlone old new
+ChangesParts old (Step.Retry cpu) new = GuestAlone old new
+ChangesParts old Step.Start new = SourceAlone old new
+ChangesParts old Step.Round new = SourceAlone old new
+ChangesParts old Step.Send new = SourceAlone old new
+ChangesParts old Step.SourceRead new = SourceAlone old new
+ChangesParts old Step.SourceAct new = SourceAlone old new
+ChangesParts old Step.Switch new = SourceAlone old new
+ChangesParts old Step.Deliver new = Delivers old new
+ChangesParts old Step.DeliverBack new = DeliversBack old new
+ChangesParts old Step.DestRead new = DestinationAlone old new
+ChangesParts old Step.DestAct new = DestinationAlone old new
+ChangesParts old Step.Install new = DestinationAlone old new
+ChangesParts old (Step.Push ticket) new = SourceAlone old new
+ChangesParts old Step.Serve new = SourceAlone old new
+ChangesParts old Step.End new = SourceAlone old new
+ChangesParts old Step.Break new = WiresAlone old new
+ChangesParts old (Step.Notice Side.Source) new = SourcePhaseAlone old new
+ChangesParts old (Step.Notice Side.Destination) new = DestinationPhaseAlone old new
+ChangesParts old Step.Resume new = LinkAlone old new

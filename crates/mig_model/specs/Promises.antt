@@ -3,6 +3,10 @@ use Rattle.std.specs.Prelude.{length, ◌≢◌, ◌≡◌, ℕ, ◌+◌, ◌-�
 use Rattle.std.specs.FinMap as finmap
 use Rattle.std.specs.FinMap.{get, contains_key}
 use Rattle.std.specs.FinSet.{contains}
+use Rattle.mig_base.specs.declared.cpu_state.CpuState.{CpuState}
+use Rattle.mig_base.specs.declared.phase.DestPhase.{DestPhase}
+use Rattle.mig_base.specs.declared.phase.Received.{Received}
+use Rattle.mig_base.specs.declared.schedule.Step.{Step}
 use Rattle.mig_base.specs.declared.TheConstants.{PAGE_SIZE}
 use Rattle.mig_base.specs.declared.command.Errno.TheVariants.{Enomem}
 use Rattle.mig_base.specs.declared.command.Command.{Command}
@@ -15,15 +19,15 @@ use Rattle.mig_base.specs.Flat.{memory_of}
 use Rattle.mig_model.specs.Host.{memory}
 use Rattle.mig_base.specs.Commands.{is_access}
 use Rattle.mig_model.specs.Space.{Space, fresh_space}
-use Rattle.mig_model.specs.Guest.{Processor, is_present, outstanding, processor_at}
-use Rattle.mig_model.specs.Wire.{Frame, Sent}
-use Rattle.mig_model.specs.Wire.Received.{NotRun, Running}
+use Rattle.mig_model.specs.Wire.{Frame, Sent, sending}
 use Rattle.mig_model.specs.Wire.Frame.{Advise, Page, Zero, Discard, Package, End, Resume, Request, Recv, Done}
-use Rattle.mig_model.specs.Nodes.{Source, Destination, DestinationPhase, no_pages, space_of, settled, is_released, is_stopped, is_source_paused}
-use Rattle.mig_model.specs.Nodes.DestinationPhase.{NotAdvised, Advised, Discarding, Runs, Interrupted}
-use Rattle.mig_model.specs.Migration.{World, Step, first_world_with, after_steps}
-use Rattle.mig_model.specs.Migration.Step.{Issue, Retry, Install, Start, Switch, Deliver, DeliverBack, SendEnd}
+use Rattle.mig_model.specs.Migration.{World, first_world_with, after_steps}
 use Rattle.mig_model.specs.Invariant.{copies_of, has_copy, AreFaithful}
+use Rattle.mig_model.specs.Cpus.{outstanding, processor_at}
+use Rattle.mig_model.specs.Guest.{is_present}
+use Rattle.mig_model.specs.Log.{no_pages}
+use Rattle.mig_model.specs.Source.{Source, is_released, is_source_paused, is_stopped, source_answers, source_took, space_of}
+use Rattle.mig_model.specs.Destination.{Destination, destination_answers, destination_took, settled}
 
 -- a world that some list of steps leads to, from a first world with some counts
 pub record IsReached (world : World) : Type 0 where
@@ -83,23 +87,23 @@ pub record IsZeroed (old new : Space) (page : ℕ) : Type 0 where
 
 -- the steps by which no page comes to remain: all but Switch and the taking of a frame that comes back
 abbrev pub keeps_remaining : Step → Bool
-keeps_remaining Switch = false
-keeps_remaining DeliverBack = false
+keeps_remaining Step.Switch = false
+keeps_remaining Step.DeliverBack = false
 keeps_remaining step = true
 
 -- Frames
 
 -- the frames that a destination takes in a phase; any other is out of place
-abbrev pub is_in_place : DestinationPhase → Frame → Bool
-is_in_place NotAdvised Advise = true
-is_in_place Advised (Page page bytes) = true
-is_in_place Advised (Zero page) = true
-is_in_place Advised (Discard pages) = true
-is_in_place Discarding (Package areas owed commands) = true
-is_in_place Runs (Page page bytes) = true
-is_in_place Runs (Zero page) = true
-is_in_place Runs End = true
-is_in_place Interrupted Resume = true
+abbrev pub is_in_place : DestPhase → Frame → Bool
+is_in_place DestPhase.Idle Advise = true
+is_in_place DestPhase.Advised (Page page bytes) = true
+is_in_place DestPhase.Advised (Zero page) = true
+is_in_place DestPhase.Advised (Discard pages) = true
+is_in_place DestPhase.Discarding (Package areas owed commands) = true
+is_in_place DestPhase.Running (Page page bytes) = true
+is_in_place DestPhase.Running (Zero page) = true
+is_in_place DestPhase.Running End = true
+is_in_place DestPhase.Paused Resume = true
 is_in_place phase frame = false
 
 -- the epoch that a frame has to be of: Advise may be of any, Resume of a later one than the destination's, and any other of its own
@@ -115,7 +119,7 @@ IsGood node (Package areas owed commands) =
     ((page : ℕ) → contains owed page ≡ true → contains_key node.kept page ≡ false)
     × ((page : ℕ) → contains owed page ≡ true → contains_key areas page ≡ true)
     × ((page : ℕ) → contains_key node.kept page ≡ true → contains_key areas page ≡ true)
-    × (length commands ≡ length node.guest.processors)
+    × (length commands ≡ length node.guest.cpus)
 IsGood node End = node.arrivals ≡ [] → node.owed ≡ finmap.empty
 IsGood node frame = Unit {0}
 
@@ -129,11 +133,11 @@ pub record IsTaken (node : Destination) (sent : Sent) : Type 0 where
 -- pages it has. Only a destination that runs lists pages, and one runs or has ended only after the switch
 abbrev pub IsInPlaceBack : Source → Frame → Type 0
 IsInPlaceBack node (Request page) = is_stopped node.phase ≡ true
-IsInPlaceBack node Done = (is_stopped node.phase ≡ true) × (node.ended ≡ node.epoch)
+IsInPlaceBack node Done = (is_stopped node.phase ≡ true) × (node.end_epoch ≡ node.epoch)
 IsInPlaceBack node (Recv state owed) =
     (is_source_paused node.phase ≡ true) × ((page : ℕ) → contains owed page ≡ true → is_present (space_of node) page ≡ true)
-    × (state ≢ Running → owed ≡ no_pages)
-    × (state ≢ NotRun → node.switched ≡ true)
+    × (state ≢ Received.Running → owed ≡ no_pages)
+    × (state ≢ Received.NotRun → node.switched ≡ true)
 IsInPlaceBack node frame = ⊥
 
 -- The settled relation
@@ -157,31 +161,80 @@ owed_changed owed (DontNeed addr len) Done = gone owed (addr / PAGE_SIZE) (pages
 owed_changed owed (DontNeed addr len) (Refused Enomem) = gone owed (addr / PAGE_SIZE) (pages_of len)
 owed_changed owed _ _ = owed
 
--- the steps that are neither a map call, an install, nor a Retry, whose command is told apart
+-- the steps that are neither a map call nor an install
 abbrev pub leaves_settled : Step → Bool
-leaves_settled (Issue cpu command) = is_access command
-leaves_settled (Retry cpu) = false
-leaves_settled Install = false
+leaves_settled (Step.Issue cpu command) = is_access command
+leaves_settled Step.Install = false
 leaves_settled step = true
 
 -- Waiting commands
 
 -- whether a step is the Retry of a processor
 abbrev pub is_retry_of : Step → ℕ → Bool
-is_retry_of (Retry cpu) k = cpu == k
+is_retry_of (Step.Retry cpu) k = cpu == k
 is_retry_of step k = false
 
 -- each command that a processor still has to make is a load or a store
-abbrev pub AllAccess : List Processor → Type 0
+abbrev pub AllAccess : List CpuState → Type 0
 AllAccess processors = (k : ℕ) (command : Command) → outstanding (processor_at processors k) ≡ Some command → is_access command ≡ true
 
 -- so on both nodes: only a load or a store waits
 pub record AreAccesses (world : World) : Type 0 where
-  pub source : AllAccess world.source.guest.processors
-  pub destination : AllAccess world.destination.guest.processors
+  pub source : AllAccess world.source.guest.cpus
+  pub destination : AllAccess world.destination.guest.cpus
+
+-- Deliveries
+
+-- a Deliver has taken exactly the first frame of the wire. What it leaves of the destination, and the frames that this answers, are a
+-- function of the destination as it was and of the frame with its epoch
+pub record IsDelivered (old new : World) (sent : Sent) (rest : List Sent) : Type 0 where
+  pub destination : new.destination ≡ destination_took old.destination sent.epoch sent.frame
+  pub forward : new.forward ≡ rest
+  pub back : new.back ≡ sending old.back new.destination.epoch (destination_answers old.destination sent.frame)
+
+-- the same of the wire back and the source
+pub record IsDeliveredBack (old new : World) (sent : Sent) (rest : List Sent) : Type 0 where
+  pub source : new.source ≡ source_took old.source sent.frame
+  pub back : new.back ≡ rest
+  pub forward : new.forward ≡ sending old.forward new.source.epoch (source_answers old.source sent.frame)
+
+-- the steps that take from the wire to the destination, and those that take from the wire back
+abbrev pub takes_forward : Step → Bool
+takes_forward Step.Deliver = true
+takes_forward Step.Break = true
+takes_forward step = false
+
+abbrev pub takes_back : Step → Bool
+takes_back Step.DeliverBack = true
+takes_back Step.Break = true
+takes_back step = false
+
+abbrev pub is_break : Step → Bool
+is_break Step.Break = true
+is_break step = false
+
+abbrev pub is_recv : Frame → Bool
+is_recv (Recv state owed) = true
+is_recv frame = false
+
+-- Completion
+
+-- the frames by which the source knows that the destination has everything
+abbrev pub is_last : Frame → Bool
+is_last Done = true
+is_last (Recv Received.Ended owed) = true
+is_last frame = false
+
+-- a step that takes such a frame
+pub record Completes (world : World) (step : Step) : Type 0 where
+  pub step_is : step ≡ Step.DeliverBack
+  pub sent : Sent
+  pub rest : List Sent
+  pub first : world.back ≡ sent ∷ rest
+  pub last : is_last sent.frame ≡ true
 
 -- Completion can be reached
 
 -- the steps of a migration in which nothing is owed
 abbrev pub story : List Step
-story = Start ∷ Switch ∷ Deliver ∷ Deliver ∷ Deliver ∷ SendEnd ∷ Deliver ∷ DeliverBack ∷ []
+story = Step.Start ∷ Step.Switch ∷ Step.Deliver ∷ Step.Deliver ∷ Step.Deliver ∷ Step.End ∷ Step.Deliver ∷ Step.DeliverBack ∷ []

@@ -5,15 +5,10 @@ use Rattle.std.specs.List.{list_all}
 use Rattle.std.specs.Ordering.{nat_cmp}
 use Rattle.std.specs.FinMap.{FinMap, insert, retain_keys}
 use Rattle.std.specs.FinSet.{FinSet, contains}
+use Rattle.mig_base.specs.declared.phase.Received.{Received}
 use Rattle.mig_base.specs.declared.Prot.{Prot}
 use Rattle.mig_base.specs.declared.command.Command.{Command}
 use Rattle.mig_base.specs.Bytes.{zero_page}
-
--- how far a destination came before a break: it has not run, it runs, or it has ended
-pub data Received : Type 0 where
-  NotRun : Received
-  Running : Received
-  Ended : Received
 
 -- a message of one node to the other
 pub data Frame : Type 0 where
@@ -44,8 +39,11 @@ pub record Sent : Type 0 where
   pub frame : Frame
 
 -- the frame of a page that is sent: bytes that are all zeros are not sent one by one
+abbrev pub is_zeros : List ℕ → Bool
+is_zeros bytes = list_all (λ byte. byte == 0) bytes
+
 abbrev pub page_frame : ℕ → List ℕ → Frame
-page_frame page bytes = if list_all (λ byte. byte == 0) bytes then Zero page else Page page bytes
+page_frame page bytes = if is_zeros bytes then Zero page else Page page bytes
 
 -- a copy of a page
 pub record Copy : Type 0 where

@@ -1,0 +1,140 @@
+//! What an accepted step of a whole migration did, as it is told.
+
+use crate::phase::Received;
+use crate::schedule::Side;
+use crate::{Addr, Message, Reply};
+
+/// What an accepted step did. Addresses are those of pages.
+#[derive(Clone, Copy, Debug, PartialEq, Eq)]
+pub enum Effect {
+    /// The command of a processor was answered.
+    Answered {
+        cpu: u8,
+        reply: Reply,
+    },
+    /// A processor sleeps on the page of its load or store.
+    Asleep {
+        cpu: u8,
+    },
+    /// A processor is in a map call until that many messages have been read.
+    InCall {
+        cpu: u8,
+        messages: u8,
+    },
+    /// A migration has begun, in this epoch.
+    Started {
+        epoch: u32,
+    },
+    /// A round has begun, with that many pages to be sent.
+    RoundMade {
+        round: u32,
+        todo: u32,
+    },
+    /// A page was sent.
+    SentPage {
+        addr: Addr,
+    },
+    /// A page of zeros was sent.
+    SentZero {
+        addr: Addr,
+    },
+    /// A page fault was read: a write-protect fault, or one of a missing page.
+    ReadFault {
+        addr: Addr,
+        wp: bool,
+    },
+    /// An event was read, and others of its call are unread.
+    ReadEvent {
+        event: Message,
+    },
+    /// The last event of a map call was read, and the processor has its reply.
+    ReadLast {
+        event: Message,
+        cpu: u8,
+        reply: Reply,
+    },
+    /// The protection of a page was cleared.
+    Unprotected {
+        addr: Addr,
+    },
+    /// A missing page was made zeros.
+    Zeroed {
+        addr: Addr,
+    },
+    /// The sleepers of a page were woken: it is there.
+    Woke {
+        addr: Addr,
+    },
+    /// The sleepers of a page were woken: it is no longer mapped, or no longer registered.
+    Forgot {
+        addr: Addr,
+    },
+    /// A page of the source was asked for: the one that is owed at the address.
+    Requested {
+        origin: Addr,
+        addr: Addr,
+    },
+    /// The source has stopped: how many pages it told the destination to discard, and how many it owes.
+    Switched {
+        discard: u32,
+        owed: u32,
+    },
+    /// The destination knows of the migration.
+    TookAdvise,
+    /// The destination has the bytes of a page.
+    TookPage {
+        addr: Addr,
+    },
+    /// The destination knows that a page is zeros.
+    TookZero {
+        addr: Addr,
+    },
+    /// The destination has dropped its copies of that many pages.
+    TookDiscard {
+        pages: u32,
+    },
+    /// The destination runs the processors, and is owed that many pages.
+    TookPackage {
+        owed: u32,
+    },
+    /// The destination knows that nothing more is sent.
+    TookEnd,
+    /// The destination goes on after a break.
+    TookResume,
+    /// The source knows that a page is asked for.
+    TookRequest {
+        addr: Addr,
+    },
+    /// The source knows how far the destination has come, and that it needs that many pages.
+    TookRecv {
+        state: Received,
+        pages: u32,
+    },
+    /// The source knows that the destination has everything, and has given up its memory.
+    TookDone,
+    /// A copy was installed at the address, from the page of the source that was owed there.
+    Installed {
+        addr: Addr,
+        origin: Addr,
+    },
+    /// A copy of a page of the source was given up: it is owed nowhere.
+    Dropped {
+        origin: Addr,
+    },
+    /// A request was taken.
+    Asked {
+        addr: Addr,
+    },
+    /// The destination is told that nothing more is sent.
+    EndSent,
+    /// The channel is broken.
+    Broken,
+    /// A side has noticed that the channel is broken.
+    Noticed {
+        side: Side,
+    },
+    /// Both sides go on over a new channel, in this epoch.
+    Resumed {
+        epoch: u32,
+    },
+}

@@ -1,0 +1,45 @@
+//! The phases of the two nodes, as QEMU's postcopy document has them (docs/devel/migration/postcopy.rst, "Postcopy states" and
+//! "Postcopy recovery").
+
+/// The phases of the source.
+#[derive(Clone, Copy, Debug, PartialEq, Eq)]
+pub enum SourcePhase {
+    /// No migration has begun.
+    Idle,
+    /// A migration has begun, and the source runs the processors.
+    Precopy,
+    /// The source has stopped its processors for good, and sends what is owed.
+    Stopped,
+    /// The source has noticed that the channel is broken.
+    Paused,
+    /// The migration is complete, and the source has given up its memory.
+    Released,
+}
+
+/// The phases of the destination.
+#[derive(Clone, Copy, Debug, PartialEq, Eq)]
+pub enum DestPhase {
+    /// It knows of no migration.
+    Idle,
+    /// It keeps the copies of pages that come.
+    Advised,
+    /// It has dropped the copies that are out of date, and waits for the package.
+    Discarding,
+    /// It runs the processors.
+    Running,
+    /// It has noticed that the channel is broken. Where it has run the processors they go on.
+    Paused,
+    /// It runs the processors, and nothing more comes.
+    Ended,
+}
+
+/// How far the destination had come when the channel broke.
+#[derive(Clone, Copy, Debug, PartialEq, Eq)]
+pub enum Received {
+    /// It has not run the processors.
+    NotRun,
+    /// It has run the processors, and may still be owed pages.
+    Running,
+    /// It was told that nothing more is sent.
+    Ended,
+}

@@ -1,0 +1,36 @@
+//! Why a step of a whole migration is refused.
+
+/// Why a step is refused. Where several reasons apply the first of this list is given. A refused step changes nothing.
+#[derive(Clone, Copy, Debug, PartialEq, Eq)]
+pub enum Refusal {
+    /// The guest has no such processor.
+    NoCpu = 1,
+    /// The processor makes a command already.
+    Busy = 2,
+    /// The processor waits for no page.
+    NotAsleep = 3,
+    /// The processor still sleeps.
+    NotWoken = 4,
+    /// A node is not in a phase that allows the step.
+    Phase = 5,
+    /// The channel is broken.
+    Broken = 6,
+    /// The channel is not broken.
+    NotBroken = 7,
+    /// The ticket is of another epoch.
+    StaleEpoch = 8,
+    /// There is nothing to take.
+    NothingThere = 9,
+    /// An event of the address space is unread.
+    Changing = 10,
+    /// A copy that has arrived is to be installed first.
+    InstallFirst = 11,
+    /// The source does not have the page.
+    PageNotSendable = 12,
+    /// The page is not owed, or was pushed in this epoch.
+    NotRemaining = 13,
+    /// Owed pages are still to be pushed.
+    PagesLeft = 14,
+    /// A count is at its greatest value.
+    CountUsed = 15,
+}

@@ -1,0 +1,62 @@
+//! What may happen next in the world of a whole migration. A list of these is a schedule.
+
+use crate::{Command, PageNo};
+
+/// One step of a world: one event of a processor, a handler, a pusher, a delivery or the channel.
+#[derive(Clone, Copy, Debug, PartialEq, Eq)]
+pub enum Step {
+    /// A processor makes a command.
+    Issue { cpu: u8, command: Command },
+    /// A processor that was woken tries its command again.
+    Retry { cpu: u8 },
+    /// The source begins a migration: it registers its pages, and tells the destination.
+    Start,
+    /// The source begins a round of pre-copy: QEMU's bitmap sync.
+    Round,
+    /// The source sends the least page of the round.
+    Send,
+    /// The source's handler reads a message.
+    SourceRead,
+    /// The source's handler resolves the first fault that it has read.
+    SourceAct,
+    /// The source stops its processors for good, and hands them over.
+    Switch,
+    /// The destination takes the first frame of the forward wire.
+    Deliver,
+    /// The source takes the first frame of the back wire.
+    DeliverBack,
+    /// The destination's handler reads a message.
+    DestRead,
+    /// The destination's handler resolves the first fault that it has read.
+    DestAct,
+    /// The destination installs the first copy that has arrived.
+    Install,
+    /// The source sends an owed page.
+    Push(Ticket),
+    /// The source takes the first request of the destination.
+    Serve,
+    /// The source tells the destination that nothing more is sent.
+    End,
+    /// The channel breaks, and what is in flight is lost.
+    Break,
+    /// A side notices that the channel is broken.
+    Notice(Side),
+    /// Both sides go on over a new channel.
+    Resume,
+}
+
+/// A page to be pushed, and the epoch for which it was claimed.
+#[derive(Clone, Copy, Debug, PartialEq, Eq)]
+pub struct Ticket {
+    pub epoch: u32,
+    pub page: PageNo,
+}
+
+/// A side of the channel.
+#[derive(Clone, Copy, Debug, PartialEq, Eq)]
+pub enum Side {
+    /// The source's.
+    Source,
+    /// The destination's.
+    Destination,
+}
