@@ -1,4 +1,4 @@
-use Rattle.std.proofs.Common.{◌∙◌, sym}
+use Rattle.std.proofs.Common.{◌∙◌, sym, arith}
 use Rattle.uffd_ioctl.specs.MapCalls.{host_of}
 use Rattle.uffd_ioctl.proofs.MapCallLemmas.{past_no_prot, one_prot_answer, test_past}
 use Rattle.uffd_ioctl.proofs.map_calls.has_one_prot.Goals as goal
