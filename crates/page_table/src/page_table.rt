@@ -212,6 +212,3 @@ impl PageTable {
         Ok(())
     }
 }
-
-#[cfg(test)]
-mod tests;

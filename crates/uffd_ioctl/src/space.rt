@@ -669,6 +669,3 @@ impl Space {
         }
     }
 }
-
-#[cfg(test)]
-mod tests;
