@@ -66,7 +66,10 @@ impl Destination {
     pub fn has_run(&self) -> bool
         ensures { result ≡ has_run self.now.phase }
     {
-        matches!(self.phase, DestinationPhase::Running | DestinationPhase::Ended)
+        matches!(
+            self.phase,
+            DestinationPhase::Running | DestinationPhase::Ended
+        )
     }
 
     /// Makes a command on the host. Want of memory changes nothing.
