@@ -12,8 +12,6 @@ mod edit;
 mod gap;
 mod moves;
 mod search;
-#[cfg(test)]
-mod tests;
 mod within;
 
 ghost use Rattle.std.specs.Prelude.{◌≡◌, ℕ, ◌+◌, ◌/◌, ◌≤◌, ◌<◌, ◌⊎◌, OnOk, OnErr, IfOk, IfSome, IfNone, if◌then◌else◌};

@@ -66,12 +66,10 @@ impl Destination {
     pub fn has_run(&self) -> bool
         ensures { result ≡ has_run self.now.phase }
     {
-        match self.phase {
-            DestinationPhase::Idle | DestinationPhase::Advised | DestinationPhase::Discarding => {
-                false
-            }
-            DestinationPhase::Running | DestinationPhase::Ended => true,
-        }
+        matches!(
+            self.phase,
+            DestinationPhase::Running | DestinationPhase::Ended
+        )
     }
 
     /// Makes a command on the host. Want of memory changes nothing.
@@ -84,12 +82,12 @@ impl Destination {
     }
 
     /// Takes a frame that is in place. Where there is no memory for it, it comes back and nothing has changed.
-    pub fn take(&mut self, sent: Sent) -> Result<Effect, Sent>
+    pub fn take(&mut self, sent: Sent) -> Result<Effect, (NoMemory, Sent)>
         requires in_place { is_in_place self.old.phase (frame_value sent.frame) ≡ true }
         requires sound { IsFrameSound self.old (frame_value sent.frame) }
         ensures effect { IfOk result (λ effect. effect ≡ took (frame_value sent.frame)) }
         ensures ok { OnOk result (self.new ≡ destination_took self.old sent.epoch (frame_value sent.frame)) }
-        ensures frame { IfErr result (λ back. sent_value back ≡ sent_value sent) }
+        ensures frame { IfErr result (λ e. sent_value e.1 ≡ sent_value sent) }
         ensures err { OnErr result (self.new ≡ self.old) }
     {
         let Sent { epoch, frame } = sent;
@@ -134,54 +132,63 @@ fn take_page(
     epoch: u32,
     page: PageNo,
     bytes: Box<[u8; 4096]>,
-) -> Result<Effect, Sent>
+) -> Result<Effect, (NoMemory, Sent)>
     requires page { page < HIGH_PAGE }
     requires open { kept.old.protected ≡ set.empty }
     ensures open { kept.new.protected ≡ set.empty }
     ensures effect { IfOk result (λ effect. effect ≡ Effect.TookPage (4096 * page)) }
     ensures ok { OnOk result (kept.new.bytes ≡ map.insert kept.old.bytes page bytes.value) }
-    ensures frame { IfErr result (λ back. sent_value back ≡ record { epoch = epoch; frame = Page page bytes.value }) }
+    ensures frame { IfErr result (λ e. sent_value e.1 ≡ record { epoch = epoch; frame = Page page bytes.value }) }
     ensures err { OnErr result (kept.new.bytes ≡ kept.old.bytes) }
 {
     match keep(kept, page, bytes) {
         Ok(()) => Ok(Effect::TookPage {
             addr: address_of(page),
         }),
-        Err(bytes) => Err(Sent {
-            epoch,
-            frame: Frame::Page { page, bytes },
-        }),
+        Err((NoMemory, bytes)) => {
+            let frame = Frame::Page { page, bytes };
+            Err((NoMemory, Sent { epoch, frame }))
+        }
     }
 }
 
 /// Takes a page of zeros. Where there is no memory for it, the frame comes back and nothing has changed.
-fn take_zero(alloc: Global, kept: &mut PageTable, epoch: u32, page: PageNo) -> Result<Effect, Sent>
+fn take_zero(
+    alloc: Global,
+    kept: &mut PageTable,
+    epoch: u32,
+    page: PageNo,
+) -> Result<Effect, (NoMemory, Sent)>
     requires page { page < HIGH_PAGE }
     requires open { kept.old.protected ≡ set.empty }
     ensures open { kept.new.protected ≡ set.empty }
     ensures effect { IfOk result (λ effect. effect ≡ Effect.TookZero (4096 * page)) }
     ensures ok { OnOk result (kept.new.bytes ≡ map.insert kept.old.bytes page zero_page) }
-    ensures frame { IfErr result (λ back. sent_value back ≡ record { epoch = epoch; frame = Zero page }) }
+    ensures frame { IfErr result (λ e. sent_value e.1 ≡ record { epoch = epoch; frame = Zero page }) }
     ensures err { OnErr result (kept.new.bytes ≡ kept.old.bytes) }
 {
     match keep_zero(alloc, kept, page) {
         Ok(()) => Ok(Effect::TookZero {
             addr: address_of(page),
         }),
-        Err(NoMemory) => Err(Sent {
-            epoch,
-            frame: Frame::Zero { page },
-        }),
+        Err(NoMemory) => {
+            let frame = Frame::Zero { page };
+            Err((NoMemory, Sent { epoch, frame }))
+        }
     }
 }
 
 /// Keeps the newest copy of a page. Where there is no memory for it, the bytes come back and nothing has changed.
-fn keep(kept: &mut PageTable, page: PageNo, bytes: Box<[u8; 4096]>) -> Result<(), Box<[u8; 4096]>>
+fn keep(
+    kept: &mut PageTable,
+    page: PageNo,
+    bytes: Box<[u8; 4096]>,
+) -> Result<(), (NoMemory, Box<[u8; 4096]>)>
     requires page { page < HIGH_PAGE }
     requires open { kept.old.protected ≡ set.empty }
     ensures open { kept.new.protected ≡ set.empty }
     ensures ok { OnOk result (kept.new.bytes ≡ map.insert kept.old.bytes page bytes.value) }
-    ensures back { IfErr result (λ back. back ≡ bytes) }
+    ensures back { IfErr result (λ e. e.1 ≡ bytes) }
     ensures err { OnErr result (kept.new.bytes ≡ kept.old.bytes) }
 {
     match kept.put(page, bytes) {
@@ -190,7 +197,7 @@ fn keep(kept: &mut PageTable, page: PageNo, bytes: Box<[u8; 4096]>) -> Result<()
             kept.replace(page, bytes);
             Ok(())
         }
-        Err((PutFault::NoMemory, bytes)) => Err(bytes),
+        Err((PutFault::NoMemory, bytes)) => Err((NoMemory, bytes)),
     }
 }
 

@@ -1,9 +1,10 @@
 //! The world: its processors, its two nodes, the wires between them and the transcript.
 
 ghost use Rattle.std.specs.Prelude.{◌≡◌, ◌≤◌, ◌<◌, ◌⊎◌, ◌&&◌, ◌||◌, ◌++◌, not, None, IfOk, OnOk, OnErr, IfErr, option_to_list};
+ghost use Rattle.mig_base.specs.declared.TheConstants.{MAX_CPUS};
 ghost use Rattle.mig_base.specs.Flat.{IsFlatRun, memory_of, reply_of};
 ghost use Rattle.mig_model.specs.Host.{memory};
-ghost use Rattle.mig_model.specs.Node.{is_idle as phase_is_idle, is_precopy as phase_is_precopy, is_stopped as phase_is_stopped, has_switched as phase_has_switched, has_run, answers};
+ghost use Rattle.mig_model.specs.Node.{has_switched as phase_has_switched, has_run, answers};
 ghost use Rattle.mig_model.specs.World.{first_world, first_world_with, active_host, running_host, phase_of, refusal_of, accepted, effect_of, Happens, IsRun};
 ghost use Rattle.mig_base.specs.Commands.{is_access as is_load_or_store};
 ghost use Rattle.std.specs.VecDeque.{deque_len, deque_capacity};
@@ -54,18 +55,18 @@ impl Model for World {
 impl World {
     /// A world in which nothing has happened, with 1 to 16 processors; any other number is refused as NoCpu.
     pub fn new(alloc: Global, cpus: u8) -> Result<World, Refusal>
-        ensures count { IfOk result (λ _. (1 ≤ cpus) × (cpus ≤ 16)) }
+        ensures count { IfOk result (λ _. (1 ≤ cpus) × (cpus ≤ MAX_CPUS)) }
         ensures ok { IfOk result (λ world. world ≡ first_world cpus) }
-        ensures err { IfErr result (λ e. (e ≡ Refusal.NoCpu) × ((cpus ≡ 0) ⊎ (16 < cpus))) }
+        ensures err { IfErr result (λ e. (e ≡ Refusal.NoCpu) × ((cpus ≡ 0) ⊎ (MAX_CPUS < cpus))) }
     {
         World::with_counts(alloc, cpus, 0, 0)
     }
 
     /// The same, where the epoch and the number of rounds stand at these counts.
     pub fn with_counts(alloc: Global, cpus: u8, epoch: u32, rounds: u32) -> Result<World, Refusal>
-        ensures count { IfOk result (λ _. (1 ≤ cpus) × (cpus ≤ 16)) }
+        ensures count { IfOk result (λ _. (1 ≤ cpus) × (cpus ≤ MAX_CPUS)) }
         ensures ok { IfOk result (λ world. world ≡ first_world_with cpus epoch rounds) }
-        ensures err { IfErr result (λ e. (e ≡ Refusal.NoCpu) × ((cpus ≡ 0) ⊎ (16 < cpus))) }
+        ensures err { IfErr result (λ e. (e ≡ Refusal.NoCpu) × ((cpus ≡ 0) ⊎ (MAX_CPUS < cpus))) }
     {
         if cpus == 0 || cpus > MAX_CPUS {
             return Err(Refusal::NoCpu);
@@ -88,6 +89,7 @@ impl World {
         ensures flat { IsFlatRun self.new.transcript }
         ensures memory { memory (active_host self.new) ≡ memory_of self.new.transcript }
     {
+        // The clauses on the transcript rest on the invariant, which is known where a field is read.
         let _ = &self.transcript;
         if let Some(refusal) = self.refusal(step) {
             return Err(refusal);
@@ -108,14 +110,16 @@ impl World {
             Step::Issue { command, .. } if !may_issue(&self.source, &self.destination, command) => {
                 Some(Refusal::Phase)
             }
-            Step::Start if !is_idle(phase) => Some(Refusal::Phase),
+            Step::Start if phase != SourcePhase::Idle => Some(Refusal::Phase),
             Step::Start if self.source.epoch() == u32::MAX => Some(Refusal::CountUsed),
-            Step::Switch if !is_precopy(phase) => Some(Refusal::Phase),
-            Step::Deliver if is_idle(phase) => Some(Refusal::Phase),
+            Step::Switch if phase != SourcePhase::Precopy => Some(Refusal::Phase),
+            Step::Deliver if phase == SourcePhase::Idle => Some(Refusal::Phase),
             Step::Deliver if self.forward.is_empty() => Some(Refusal::NothingThere),
-            Step::DeliverBack if is_idle(phase) => Some(Refusal::Phase),
+            Step::DeliverBack if phase == SourcePhase::Idle => Some(Refusal::Phase),
             Step::DeliverBack if self.back.is_empty() => Some(Refusal::NothingThere),
-            Step::End if !is_stopped(phase) || self.source.has_sent_end() => Some(Refusal::Phase),
+            Step::End if phase != SourcePhase::Stopped || self.source.has_sent_end() => {
+                Some(Refusal::Phase)
+            }
             Step::Issue { .. }
             | Step::Start
             | Step::Switch
@@ -251,6 +255,7 @@ impl World {
         ensures flat { IsFlatRun self.new.transcript }
         ensures memory { memory (active_host self.new) ≡ memory_of self.new.transcript }
     {
+        // The clauses on the transcript rest on the invariant, which is known where a field is read.
         let _ = &self.transcript;
         let mut outcomes = Vec::with_capacity(alloc, steps.len())?;
         for step in steps {
@@ -287,42 +292,11 @@ impl World {
     }
 }
 
-/// Whether a phase is Idle.
-fn is_idle(phase: SourcePhase) -> bool
-    ensures { result ≡ phase_is_idle phase }
-{
-    match phase {
-        SourcePhase::Idle => true,
-        SourcePhase::Precopy | SourcePhase::Stopped | SourcePhase::Released => false,
-    }
-}
-
-fn is_precopy(phase: SourcePhase) -> bool
-    ensures { result ≡ phase_is_precopy phase }
-{
-    match phase {
-        SourcePhase::Precopy => true,
-        SourcePhase::Idle | SourcePhase::Stopped | SourcePhase::Released => false,
-    }
-}
-
-fn is_stopped(phase: SourcePhase) -> bool
-    ensures { result ≡ phase_is_stopped phase }
-{
-    match phase {
-        SourcePhase::Stopped => true,
-        SourcePhase::Idle | SourcePhase::Precopy | SourcePhase::Released => false,
-    }
-}
-
 /// Whether the source has stopped its processors for good.
 fn has_switched(phase: SourcePhase) -> bool
     ensures { result ≡ phase_has_switched phase }
 {
-    match phase {
-        SourcePhase::Stopped | SourcePhase::Released => true,
-        SourcePhase::Idle | SourcePhase::Precopy => false,
-    }
+    matches!(phase, SourcePhase::Stopped | SourcePhase::Released)
 }
 
 /// Whether a host takes the command now.
@@ -366,7 +340,7 @@ fn take_first(
     let answer = answer_to(&sent);
     match destination.take(sent) {
         Ok(effect) => Ok((effect, answer)),
-        Err(sent) => {
+        Err((NoMemory, sent)) => {
             forward.push_front_reserved(sent);
             Err(NoMemory)
         }
@@ -400,6 +374,3 @@ fn answer_to(sent: &Sent) -> Option<Sent>
         | Frame::Done => None,
     }
 }
-
-#[cfg(test)]
-mod tests;

@@ -223,6 +223,3 @@ impl PageTable {
         Ok(())
     }
 }
-
-#[cfg(test)]
-mod tests;

@@ -151,6 +151,3 @@ impl Space {
         self.pages.present()
     }
 }
-
-#[cfg(test)]
-mod tests;

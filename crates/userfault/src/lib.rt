@@ -17,8 +17,6 @@
 mod modes;
 mod noted;
 pub mod object;
-#[cfg(test)]
-mod tests;
 
 pub use crate::modes::Mode;
 pub use crate::object::Userfault;

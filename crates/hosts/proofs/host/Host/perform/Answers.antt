@@ -24,3 +24,6 @@ returns-in-Answered-clause-memory c =
 pub returns-in_ok-reply-2-clause-memory : goal.returns-in_ok-reply-2-clause-memory
 returns-in_ok-reply-2-clause-memory c =
     memory_kept c.self.inside.space.host c.args.self.now c.map_call.new.self.host c.args.command c.self.view_is c.self.invariant.sound.host (called_host c.self.inside.space c.map_call.new.self 0 c.args.command c.self.invariant c.in_ok-reply-2.ensures.space)
+
+pub returns-in_ok-reply-2-clause-reply : goal.returns-in_ok-reply-2-clause-reply
+returns-in_ok-reply-2-clause-reply c = c.in_ok-reply-2.ensures.reply ∙ ap (λ h. reply_of (memory h) c.args.command) c.self.view_is

@@ -1,0 +1,190 @@
+//! `PageSet`, call by call.
+
+use crate::ranges::inside;
+use mig_base::{HIGH_PAGE, NoMemory, PageNo, PageSet, Run};
+use std::alloc::Global;
+use std::process::Abort;
+use std::test::Fail;
+
+/// A call with its arguments. A range is a first page and a count.
+#[derive(Clone, Copy)]
+enum Call {
+    Insert(PageNo),
+    InsertRange(PageNo, u32),
+    Remove(PageNo),
+    RemoveRange(PageNo, u32),
+    Contains(PageNo),
+    Len,
+    Next(PageNo, bool),
+    Ranges,
+}
+
+use Call::{Contains, Insert, InsertRange, Len, Next, Ranges, Remove, RemoveRange};
+
+#[derive(Clone, Copy, Debug, PartialEq, Eq)]
+enum Answer {
+    Done,
+    Is(bool),
+    /// A count, or a page.
+    Number(u32),
+    /// The first runs, each a first page and a count.
+    Runs([Option<(PageNo, u32)>; 4]),
+}
+
+use Answer::{Done, Is, Number, Runs};
+
+/// The ends of the first runs of a set, found without memory.
+fn seen(rt: &impl Abort, set: &PageSet) -> [(PageNo, PageNo); 4] {
+    let mut seen = [(0, 0); 4];
+    let mut from = 0;
+    for place in seen.iter_mut() {
+        inside(rt, from, 0);
+        let first = set.next(from, true);
+        let end = set.next(first, false);
+        *place = (first, end);
+        from = end;
+    }
+    seen
+}
+
+fn first_runs(runs: &[Run]) -> [Option<(PageNo, u32)>; 4] {
+    let mut found = [None; 4];
+    for (place, run) in found.iter_mut().zip(runs) {
+        *place = Some((run.first, run.count));
+    }
+    found
+}
+
+fn make(
+    rt: &impl Abort,
+    alloc: Global,
+    set: &mut PageSet,
+    call: Call,
+) -> Result<Answer, NoMemory> {
+    match call {
+        Insert(page) => {
+            inside(rt, page, 1);
+            set.insert(page)?;
+        }
+        InsertRange(first, count) => {
+            inside(rt, first, count);
+            set.insert_range(first, count)?;
+        }
+        Remove(page) => {
+            inside(rt, page, 1);
+            set.remove(page);
+        }
+        RemoveRange(first, count) => {
+            inside(rt, first, count);
+            set.remove_range(first, count);
+        }
+        Contains(page) => return Ok(Is(set.contains(page))),
+        Len => return Ok(Number(set.len())),
+        Next(from, want) => {
+            inside(rt, from, 0);
+            return Ok(Number(set.next(from, want)));
+        }
+        Ranges => return Ok(Runs(first_runs(set.ranges(alloc)?.as_slice()))),
+    }
+    Ok(Done)
+}
+
+fn play(rt: &impl Abort, alloc: Global, steps: &[(Call, Answer)]) -> Result<(), Fail> {
+    let mut set = PageSet::new(alloc);
+    for (i, (call, wanted)) in steps.iter().enumerate() {
+        let before = seen(rt, &set);
+        let mut answer = make(rt, alloc, &mut set, *call);
+        if answer == Err(NoMemory) {
+            assert_eq!(rt; seen(rt, &set), before, "step {i}");
+            answer = make(rt, alloc, &mut set, *call);
+        }
+        assert_eq!(rt; answer, Ok(*wanted), "step {i}");
+    }
+    let before = seen(rt, &set);
+    let mut copy = match set.copy() {
+        Ok(copy) => copy,
+        Err(NoMemory) => set.copy()?,
+    };
+    assert_eq!(rt; seen(rt, &copy), before);
+    copy.remove_range(0, HIGH_PAGE);
+    assert_eq!(rt; copy.len(), 0);
+    assert_eq!(rt; seen(rt, &set), before);
+    Ok(())
+}
+
+const TOUCHING: [(Call, Answer); 11] = [
+    (Ranges, Runs([None; 4])),
+    (Insert(0x10), Done),
+    (Insert(0x11), Done),
+    (Insert(0x13), Done),
+    (Ranges, Runs([Some((0x10, 2)), Some((0x13, 1)), None, None])),
+    (Len, Number(3)),
+    (RemoveRange(0x11, 2), Done),
+    (Ranges, Runs([Some((0x10, 1)), Some((0x13, 1)), None, None])),
+    (Remove(0x10), Done),
+    (Next(0, true), Number(0x13)),
+    (Next(0x13, false), Number(0x14)),
+];
+
+#[test]
+fn touching_pages_are_one_run(rt: HostRuntime) -> Result<(), Fail> {
+    play(&rt, rt.alloc(), &TOUCHING)
+}
+
+/// A range across two borders of chunks, and one of no page.
+const WHOLE: [(Call, Answer); 6] = [
+    (Insert(0x400), Done),
+    (Contains(0x400), Is(true)),
+    (InsertRange(0x3ff, 0x402), Done),
+    (Ranges, Runs([Some((0x3ff, 0x402)), None, None, None])),
+    (InsertRange(0x20, 0), Done),
+    (Len, Number(0x402)),
+];
+
+#[test]
+fn a_range_is_put_in_whole(rt: HostRuntime) -> Result<(), Fail> {
+    play(&rt, rt.alloc(), &WHOLE)
+}
+
+/// Runs across the borders of words and of chunks.
+const BORDERS: [(Call, Answer); 9] = [
+    (Insert(0x3f), Done),
+    (Insert(0x40), Done),
+    (Insert(0x3ff), Done),
+    (Insert(0x400), Done),
+    (Ranges, Runs([Some((0x3f, 2)), Some((0x3ff, 2)), None, None])),
+    (RemoveRange(0x40, 0x3c0), Done),
+    (Ranges, Runs([Some((0x3f, 1)), Some((0x400, 1)), None, None])),
+    (Contains(0x400), Is(true)),
+    (Contains(0x3ff), Is(false)),
+];
+
+#[test]
+fn runs_cross_borders(rt: HostRuntime) -> Result<(), Fail> {
+    play(&rt, rt.alloc(), &BORDERS)
+}
+
+/// The first page that may be mapped and the last, so that the list of chunks grows far.
+const FAR: [(Call, Answer); 13] = [
+    (Insert(0x10), Done),
+    (Insert(0xf_ffff), Done),
+    (Insert(0x1400), Done),
+    (Insert(0x1400), Done),
+    (Len, Number(3)),
+    (
+        Ranges,
+        Runs([Some((0x10, 1)), Some((0x1400, 1)), Some((0xf_ffff, 1)), None]),
+    ),
+    (Next(0x1401, true), Number(0xf_ffff)),
+    (Next(0x10_0000, true), Number(0x10_0000)),
+    (Next(0xf_ffff, false), Number(0x10_0000)),
+    (Contains(0xffff_ffff), Is(false)),
+    (RemoveRange(0, 0x10_0000), Done),
+    (Len, Number(0)),
+    (Next(0, true), Number(0x10_0000)),
+];
+
+#[test]
+fn pages_far_apart(rt: HostRuntime) -> Result<(), Fail> {
+    play(&rt, rt.alloc(), &FAR)
+}
