@@ -3,6 +3,7 @@
 ghost use Rattle.std.specs.Prelude.{◌≡◌};
 ghost use Rattle.engine.specs.declared.fault.RunFault.TheVariants.{NoMemory as OutOfMemory};
 
+use mig_base::NoMemory;
 use std::alloc::{AllocError, AllocFailed};
 use thiserror::Error;
 
@@ -21,6 +22,14 @@ pub enum RunFault {
     /// A growth was refused. All output of the lines before the present one was written.
     #[error("no memory")]
     NoMemory,
+}
+
+impl From<NoMemory> for RunFault {
+    ghost from_gives = { λ _ e. e ≡ OutOfMemory };
+
+    fn from(_e: NoMemory) -> RunFault {
+        RunFault::NoMemory
+    }
 }
 
 impl From<AllocError> for RunFault {

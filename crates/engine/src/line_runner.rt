@@ -2,7 +2,7 @@
 
 ghost use Rattle.std.specs.Prelude.{◌≡◌, ◌<◌, ◌≤◌, ◌++◌, ℕ, List, [], OnOk, OnErr, IfErr, IfOk, length, drop, string_bytes};
 ghost use Rattle.std.specs.Io.KnownBytes.{Appends};
-ghost use Rattle.engine.specs.declared.fault.RunFault.TheVariants.{WriteFault, NoMemory};
+ghost use Rattle.engine.specs.declared.fault.RunFault.TheVariants.{WriteFault, NoMemory as OutOfMemory};
 ghost use Rattle.script.specs.declared.line.Language.TheVariants.{Script as AScript, Transcript as ATranscript};
 ghost use Rattle.script.specs.declared.line.Line.TheVariants.{Make, Enter};
 ghost use Rattle.engine.specs.Script.{entry_lines};
@@ -11,11 +11,11 @@ ghost use Rattle.engine.specs.WorldState.{first_state};
 
 use crate::fault::RunFault;
 use hosts::World;
-use mig_base::{Entry, Refusal, Step};
+use mig_base::{Entry, NoMemory, Refusal, Step};
 use report::print_entry;
 use script::parse::parse;
 use script::{Language, Line, Token, print_line};
-use std::alloc::{AllocError, Global};
+use std::alloc::Global;
 use std::io::Write;
 use std::marker::Model;
 
@@ -54,7 +54,7 @@ pub fn write_out<W: Write>(writer: &mut W, bytes: &[u8]) -> Result<(), RunFault>
 }
 
 /// Prints the lines of entries behind a text.
-fn print_entries(text: &mut String, entries: &[Entry]) -> Result<(), AllocError>
+fn print_entries(text: &mut String, entries: &[Entry]) -> Result<(), NoMemory>
     ensures { OnOk result (string_bytes text.new ≡ string_bytes text.old ++ entry_lines entries.now) }
 {
     for entry in entries {
@@ -66,7 +66,7 @@ fn print_entries(text: &mut String, entries: &[Entry]) -> Result<(), AllocError>
 /// Makes a step, and puts what the mode prints of it in the place of a text.
 fn make_step(world: &mut World, mode: Mode, step: Step, text: &mut String) -> Result<(), RunFault>
     ensures ok { OnOk result (Makes mode world.old step world.new (string_bytes text.new)) }
-    ensures fault { IfErr result (λ fault. fault ≡ NoMemory) }
+    ensures fault { IfErr result (λ fault. fault ≡ OutOfMemory) }
 {
     text.clear();
     let count = world.transcript().len();
@@ -120,7 +120,7 @@ impl LineRunner {
         requires low { 1 ≤ cpus }
         requires high { cpus ≤ 16 }
         ensures ok { IfOk result (λ runner. (runner.work ≡ Running mode (first_state cpus)) × (runner.output ≡ [])) }
-        ensures err { IfErr result (λ fault. fault ≡ NoMemory) }
+        ensures err { IfErr result (λ fault. fault ≡ OutOfMemory) }
     {
         let Ok(world) = World::new(alloc, cpus) else {
             return Err(RunFault::NoMemory);
@@ -161,7 +161,7 @@ impl LineRunner {
     fn make(&mut self, step: Step) -> Result<(), RunFault>
         requires { language_of_work self.old.work ≡ AScript }
         ensures ok { OnOk result (Takes self.old (Make step) self.new) }
-        ensures fault { IfErr result (λ fault. fault ≡ NoMemory) }
+        ensures fault { IfErr result (λ fault. fault ≡ OutOfMemory) }
         ensures kept { OnErr result (self.new.output ≡ self.old.output) }
     {
         match &mut self.job {
@@ -178,7 +178,7 @@ impl LineRunner {
     fn enter(&mut self, entry: Entry) -> Result<(), RunFault>
         requires { language_of_work self.old.work ≡ ATranscript }
         ensures ok { OnOk result (Takes self.old (Enter entry) self.new) }
-        ensures fault { IfErr result (λ fault. fault ≡ NoMemory) }
+        ensures fault { IfErr result (λ fault. fault ≡ OutOfMemory) }
         ensures kept { OnErr result (self.new.output ≡ self.old.output) }
     {
         match &mut self.job {

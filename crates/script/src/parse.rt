@@ -14,8 +14,7 @@ ghost use Rattle.script.specs.Parsing.{prot_from, place_from, target_from, acces
 use crate::line::{Language, Line};
 use crate::parse_entry::entry_in;
 use crate::token::{Keyword, Token, next_word, read_tokens};
-use mig_base::{Addr, Command, Place, Prot, Step};
-use std::alloc::AllocError;
+use mig_base::{Addr, Command, NoMemory, Place, Prot, Step};
 
 #[tactic(auto, unfolding(crate::specs::Parsing::prot_from))]
 fn prot_of(keyword: Keyword) -> Option<Prot>
@@ -188,7 +187,7 @@ fn step_of(tokens: &[Token]) -> Option<Step>
 }
 
 /// The step that the words of a text spell. The tokens are replaced.
-fn step_in(tokens: &mut Vec<Token>, text: &[u8]) -> Result<Option<Step>, AllocError>
+fn step_in(tokens: &mut Vec<Token>, text: &[u8]) -> Result<Option<Step>, NoMemory>
     ensures found { IfOk result (λ found. IfSome found (λ step. SpellsStep (words_of text.now) step)) }
     ensures none { IfOk result (λ found. IfNone found ((step : StepOf) → SpellsStep (words_of text.now) step → ⊥)) }
 {
@@ -215,7 +214,7 @@ pub fn parse(
     language: Language,
     tokens: &mut Vec<Token>,
     text: &[u8],
-) -> Result<Option<Line>, AllocError>
+) -> Result<Option<Line>, NoMemory>
     ensures found { IfOk result (λ found. IfSome found (λ line. Spells language text.now line)) }
     ensures none { IfOk result (λ found. IfNone found ((line : LineOf) → Spells language text.now line → ⊥)) }
 {

@@ -8,8 +8,7 @@ ghost use Rattle.script.specs.Parsing.{errno_from, reply_from, is_arrow as is_ar
 
 use crate::parse::command_of;
 use crate::token::{Keyword, Token, read_tokens};
-use mig_base::{Entry, Errno, Reply};
-use std::alloc::AllocError;
+use mig_base::{Entry, Errno, NoMemory, Reply};
 
 #[tactic(auto, unfolding(crate::specs::Parsing::errno_from))]
 fn errno_of(keyword: Keyword) -> Option<Errno>
@@ -94,7 +93,7 @@ fn entry_of(tokens: &[Token]) -> Option<Entry>
 }
 
 /// The entry that the words of a text spell. The tokens are replaced.
-pub fn entry_in(tokens: &mut Vec<Token>, text: &[u8]) -> Result<Option<Entry>, AllocError>
+pub fn entry_in(tokens: &mut Vec<Token>, text: &[u8]) -> Result<Option<Entry>, NoMemory>
     ensures found { IfOk result (λ found. IfSome found (λ entry. SpellsEntry (words_of text.now) entry)) }
     ensures none { IfOk result (λ found. IfNone found ((entry : EntryOf) → SpellsEntry (words_of text.now) entry → ⊥)) }
 {

@@ -1,12 +1,14 @@
 //! How the outcome of a step is printed.
 
-ghost use Rattle.std.specs.Prelude.{◌≡◌, ◌++◌, OnOk, Some, string_bytes};
+ghost use Rattle.std.specs.Prelude.{◌≡◌, ◌++◌, OnOk, OnErr, Some, string_bytes};
 ghost use Rattle.script.specs.Printed.{outcome_line, outcome_text, effect_text, refusal_name};
 
-use mig_base::{Effect, Refusal};
+use mig_base::{Effect, NoMemory, Refusal};
 use report::ReplyText;
-use std::alloc::AllocError;
 use std::fmt;
+
+/// The room that is made for a line, in bytes: more than any has.
+const LINE: usize = 64;
 
 /// The name of a refusal.
 #[derive(Clone, Copy)]
@@ -76,11 +78,15 @@ impl fmt::Display for OutcomeText {
     }
 }
 
-/// Prints the line of an outcome, with its line feed, behind a text.
+/// Prints the line of an outcome, with its line feed, behind a text. Out of memory leaves the text as it was.
 #[tactic(auto, unfolding(crate::specs::Printed::outcome_line))]
-pub fn print_line(text: &mut String, outcome: Result<Effect, Refusal>) -> Result<(), AllocError>
-    ensures { OnOk result (string_bytes text.new ≡ string_bytes text.old ++ outcome_line outcome) }
+pub fn print_line(text: &mut String, outcome: Result<Effect, Refusal>) -> Result<(), NoMemory>
+    ensures ok { OnOk result (string_bytes text.new ≡ string_bytes text.old ++ outcome_line outcome) }
+    ensures err { OnErr result (string_bytes text.new ≡ string_bytes text.old) }
 {
     let outcome = OutcomeText(outcome);
-    write!(text, "{outcome}\n")
+    let mut line = String::with_capacity(*text.allocator(), LINE)?;
+    write!(line, "{outcome}\n")?;
+    text.push_str(&line)?;
+    Ok(())
 }

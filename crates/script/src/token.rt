@@ -9,7 +9,7 @@ ghost use Rattle.script.specs.declared.token.Keyword.{Keyword as KeywordOf};
 ghost use Rattle.script.specs.Words.{words_of, HasNone, IsNumber, keyword_text, IsToken, AreTokens, FirstWord};
 
 use memchr::memchr;
-use std::alloc::{AllocError, Global};
+use mig_base::NoMemory;
 
 /// A word of scripts or transcripts.
 #[derive(Clone, Copy, Debug, PartialEq, Eq)]
@@ -223,7 +223,7 @@ pub fn next_word(text: &[u8]) -> Option<(&[u8], &[u8])>
 }
 
 /// Puts what the words of a text stand for in the place of these tokens. False if a word stands for none.
-pub fn read_tokens(tokens: &mut Vec<Token>, text: &[u8]) -> Result<bool, AllocError>
+pub fn read_tokens(tokens: &mut Vec<Token>, text: &[u8]) -> Result<bool, NoMemory>
     ensures found { IfOk result (λ found. OnTrue found (AreTokens tokens.new.items (words_of text.now))) }
     ensures none { IfOk result (λ found. OnFalse found ((tokens : List TokenOf) → AreTokens tokens (words_of text.now) → ⊥)) }
 {
@@ -233,7 +233,9 @@ pub fn read_tokens(tokens: &mut Vec<Token>, text: &[u8]) -> Result<bool, AllocEr
         let Some(token) = token_of(word) else {
             return Ok(false);
         };
-        tokens.push(token)?;
+        let Ok(()) = tokens.push(token) else {
+            return Err(NoMemory);
+        };
         rest = behind;
     }
     Ok(true)

@@ -7,5 +7,5 @@ returns-in_default-token_of-clause-none c =
 
 pub loop-word-preserved : goal.loop-word-preserved
 loop-word-preserved c =
-    rw c.in_ok-push.ensures.items
+    rw c.in-Ok.ensures.items
     (tokens_more c.args.text.now c.loop-word.tokens.items c.loop-word.rest.now c.in-Some.word.now c.in-Some.behind.now c.in-Some-token_of.token c.loop-word.invariant c.in-Some.ensures.found c.in-Some-token_of.ensures.found)
