@@ -114,7 +114,7 @@ fn verdict(alloc: Global, script: &[u8]) -> io::Result<String> {
     let mut text = Vec::new(alloc);
     print_check(alloc, &mut text, &transcript)?;
     let text = String::from_utf8_lossy(alloc, &text)?;
-    text.trim_end().to_string(alloc)
+    Ok(text.trim_end().to_string(alloc)?)
 }
 
 fn read(rt: &HostRuntime, name: &str, ending: &str) -> io::Result<Vec<u8>> {
