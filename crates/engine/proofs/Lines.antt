@@ -1,9 +1,9 @@
 -- Where the lines of a script end.
-use Rattle.std.proofs.Common.{◌≡◌, ℕ, ◌≤◌, List, [], ◌∷◌, ◌++◌, length, refl, sym, ap, subst, ◌∙◌, append_assoc, arith, inl}
+use Rattle.std.proofs.Common.{◌≡◌, ℕ, List, [], ◌∷◌, ◌++◌, sym, ap, subst, ◌∙◌, append_assoc, inl}
 use Rattle.script.specs.declared.line.Language.{Language}
 use Rattle.script.specs.declared.line.Line.{Line}
 use Rattle.script.specs.declared.line.Line.TheVariants.{Skipped, Make, Enter}
-use Rattle.script.specs.Lines.{HasNoFeed, EndedLine, Reads}
+use Rattle.script.specs.Lines.{EndedLine, Reads}
 use Rattle.engine.specs.Engine.{Work, Running, Keeping, language_of, Does, Works, ReadsEnded}
 
 ended_more : (l : Language) (bytes : List ℕ) (line : Line) (mid more : List ℕ) → EndedLine l bytes line mid → EndedLine l (bytes ++ more) line (mid ++ more)
