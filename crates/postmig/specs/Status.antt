@@ -1,7 +1,7 @@
 -- The exit statuses of the program.
 use Rattle.std.specs.Prelude.{ℕ, Bool, true, false}
-use Rattle.postmig.specs.declared.fault.RunFault.{RunFault}
-use Rattle.postmig.specs.declared.fault.RunFault.TheVariants.{Line, ReadFault, WriteFault, NoMemory}
+use Rattle.engine.specs.declared.fault.RunFault.{RunFault}
+use Rattle.engine.specs.declared.fault.RunFault.TheVariants.{Line, ReadFault, WriteFault, NoMemory}
 
 -- the status of a run to its end, or of a check with this answer
 abbrev pub answer_status : Bool → ℕ

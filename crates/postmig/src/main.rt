@@ -2,38 +2,22 @@
 //!
 //! `postmig run` reads a script from standard input and writes one line for each step to standard output, or with
 //! `--transcript` one for each command that took effect; `postmig check` reads such a transcript, and says whether it is that of
-//! one flat memory. `docs/SCRIPT.md` says what a script is. [`engine`] reads and writes, [`script`] finds the lines, [`parse`],
-//! [`parse_entry`] and [`token`] read them, [`line_runner`] does them, [`print`] prints outcomes, [`check`] judges. What a run
-//! writes is defined in `specs/Script.antt`, and stands on the contract of [`engine::run_script`]; what a check writes, in
-//! `specs/Checking.antt`, on that of [`check::check_script`].
+//! one flat memory. `docs/SCRIPT.md` says what a script is. This crate has the command line and the exit statuses, which are
+//! `specs/Status.antt`; what a run or a check reads and writes is the crate `engine`.
 #![tactic(auto)]
 
 ghost use Rattle.std.specs.Prelude.{◌≡◌, ◌≤◌, IfOk, IfErr};
 ghost use Rattle.postmig.specs.Status.{answer_status, fault_status};
 
-mod check;
-mod engine;
-mod fault;
-mod laws;
-mod line;
-mod line_runner;
-mod parse;
-mod parse_entry;
-mod print;
-mod script;
-#[cfg(test)]
-mod tests;
-mod token;
-
-use crate::check::check_script;
-use crate::engine::run_script;
-use crate::fault::RunFault;
-use crate::line_runner::Mode;
 use clap::error::ErrorKind;
 use clap::{Arg, ArgAction, ArgMatches, Command, value_parser};
+use engine::{Mode, RunFault, check_script, run_script};
 use std::alloc::{AllocError, Global};
 use std::process::ExitCode;
 use std::{env, io};
+
+/// What `--version` prints behind the program's name.
+const VERSION: &str = "0.1.0";
 
 const ALL_DONE: u8 = 0;
 
@@ -45,7 +29,7 @@ const NO_FLAT_RUN: u8 = 3;
 
 const NO_MEMORY: u8 = 4;
 
-/// The command line: `postmig run [--cpus N] [--transcript]`, or `postmig check`.
+/// The command line: `postmig run [--cpus N] [--transcript]`, `postmig check`, or `postmig --version`.
 fn command_line<'a>(alloc: Global) -> Result<Command<'a>, AllocError> {
     let cpus = Arg::new(alloc, "cpus")
         .long("cpus")
@@ -66,6 +50,7 @@ fn command_line<'a>(alloc: Global) -> Result<Command<'a>, AllocError> {
     );
     Command::new(alloc, "postmig")
         .about("Runs scripts on a model of post-copy live migration")
+        .version(VERSION)
         .subcommand_required(true)
         .subcommand(run)?
         .subcommand(check)

@@ -59,14 +59,22 @@ abbrev pub target_text : Option ℕ → List ℕ
 target_text None = []
 target_text (Some addr) = codes " fixed " ++ hexadecimal addr
 
+-- the words of a call of mmap, as in a script
+abbrev pub mmap_text : ℕ → Prot → Place → List ℕ
+mmap_text len prot place = codes "mmap " ++ decimal len ++ codes " " ++ prot_text prot ++ place_text place
+
+-- the words of a call of mremap, as in a script
+abbrev pub mremap_text : ℕ → ℕ → ℕ → Bool → Option ℕ → List ℕ
+mremap_text addr old_len new_len may_move fixed =
+    codes "mremap " ++ hexadecimal addr ++ codes " " ++ decimal old_len ++ codes " " ++ decimal new_len ++ may_move_text may_move ++ target_text fixed
+
 -- the words of a command, as in a script
 abbrev pub command_text : Command → List ℕ
 command_text (Load addr width) = codes "load " ++ hexadecimal addr ++ codes " " ++ decimal width
 command_text (Store addr width value) = codes "store " ++ hexadecimal addr ++ codes " " ++ decimal width ++ codes " " ++ hexadecimal value
-command_text (Mmap len prot place) = codes "mmap " ++ decimal len ++ codes " " ++ prot_text prot ++ place_text place
+command_text (Mmap len prot place) = mmap_text len prot place
 command_text (Munmap addr len) = codes "munmap " ++ hexadecimal addr ++ codes " " ++ decimal len
-command_text (Mremap addr old_len new_len may_move fixed) =
-    codes "mremap " ++ hexadecimal addr ++ codes " " ++ decimal old_len ++ codes " " ++ decimal new_len ++ may_move_text may_move ++ target_text fixed
+command_text (Mremap addr old_len new_len may_move fixed) = mremap_text addr old_len new_len may_move fixed
 command_text (DontNeed addr len) = codes "dontneed " ++ hexadecimal addr ++ codes " " ++ decimal len
 
 -- an entry: its processor, its command and its reply

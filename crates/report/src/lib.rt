@@ -10,8 +10,6 @@
 
 pub mod check;
 pub mod laws;
-#[cfg(test)]
-mod tests;
 pub mod texts;
 
 pub use crate::check::CheckFault;

@@ -1,11 +1,13 @@
 //! How commands, replies and entries are printed.
 
-ghost use Rattle.std.specs.Prelude.{◌≡◌, ◌++◌, OnOk, Some, string_bytes};
-ghost use Rattle.report.specs.Texts.{errno_name, reply_text, prot_text, place_text, may_move_text, target_text, command_text, entry_text, entry_line};
+ghost use Rattle.std.specs.Prelude.{◌≡◌, ◌++◌, OnOk, OnErr, Some, string_bytes};
+ghost use Rattle.report.specs.Texts.{errno_name, reply_text, prot_text, place_text, may_move_text, target_text, mmap_text, mremap_text, command_text, entry_text, entry_line};
 
-use mig_base::{Addr, Command, Entry, Errno, Place, Prot, Reply};
-use std::alloc::AllocError;
+use mig_base::{Addr, Command, Entry, Errno, NoMemory, Place, Prot, Reply};
 use std::fmt;
+
+/// The room that is made for a line, in bytes: more than most have.
+const LINE: usize = 128;
 
 /// The name of an error number.
 #[derive(Clone, Copy)]
@@ -112,6 +114,48 @@ impl fmt::Display for TargetText {
     }
 }
 
+/// The words of a call of mmap, as a script has them.
+#[derive(Clone, Copy)]
+struct MmapText {
+    len: u64,
+    prot: Prot,
+    place: Place,
+}
+
+impl fmt::Display for MmapText {
+    ghost output = { λ x. Some (mmap_text x.len x.prot x.place) };
+
+    fn fmt<W: fmt::Write>(&self, f: &mut fmt::Formatter<W>) -> fmt::Result {
+        let len = self.len;
+        let prot = ProtText(self.prot);
+        let place = PlaceText(self.place);
+        write!(f, "mmap {len} {prot}{place}")
+    }
+}
+
+/// The words of a call of mremap, as a script has them.
+#[derive(Clone, Copy)]
+struct MremapText {
+    addr: Addr,
+    old_len: u64,
+    new_len: u64,
+    may_move: bool,
+    fixed: Option<Addr>,
+}
+
+impl fmt::Display for MremapText {
+    ghost output = { λ x. Some (mremap_text x.addr x.old_len x.new_len x.may_move x.fixed) };
+
+    fn fmt<W: fmt::Write>(&self, f: &mut fmt::Formatter<W>) -> fmt::Result {
+        let addr = self.addr;
+        let old_len = self.old_len;
+        let new_len = self.new_len;
+        let may_move = MayMoveText(self.may_move);
+        let target = TargetText(self.fixed);
+        write!(f, "mremap 0x{addr:x} {old_len} {new_len}{may_move}{target}")
+    }
+}
+
 /// The words of a command, as a script has them.
 #[derive(Clone, Copy)]
 struct CommandText(Command);
@@ -130,9 +174,12 @@ impl fmt::Display for CommandText {
                 prot,
                 place,
             } => {
-                let prot = ProtText(prot);
-                let place = PlaceText(place);
-                write!(f, "mmap {addr_len} {prot}{place}")
+                let call = MmapText {
+                    len: addr_len,
+                    prot,
+                    place,
+                };
+                write!(f, "{call}")
             }
             Command::Munmap { addr, len } => write!(f, "munmap 0x{addr:x} {len}"),
             Command::Mremap {
@@ -142,9 +189,14 @@ impl fmt::Display for CommandText {
                 may_move,
                 fixed,
             } => {
-                let may_move = MayMoveText(may_move);
-                let target = TargetText(fixed);
-                write!(f, "mremap 0x{addr:x} {old_len} {new_len}{may_move}{target}")
+                let call = MremapText {
+                    addr,
+                    old_len,
+                    new_len,
+                    may_move,
+                    fixed,
+                };
+                write!(f, "{call}")
             }
             Command::DontNeed { addr, len } => write!(f, "dontneed 0x{addr:x} {len}"),
         }
@@ -166,11 +218,15 @@ impl fmt::Display for EntryText {
     }
 }
 
-/// Prints the transcript line of an entry, with its line feed, behind a text.
+/// Prints the transcript line of an entry, with its line feed, behind a text. Out of memory leaves the text as it was.
 #[tactic(auto, unfolding(crate::specs::Texts::entry_line))]
-pub fn print_entry(text: &mut String, entry: Entry) -> Result<(), AllocError>
-    ensures { OnOk result (string_bytes text.new ≡ string_bytes text.old ++ entry_line entry) }
+pub fn print_entry(text: &mut String, entry: Entry) -> Result<(), NoMemory>
+    ensures ok { OnOk result (string_bytes text.new ≡ string_bytes text.old ++ entry_line entry) }
+    ensures err { OnErr result (string_bytes text.new ≡ string_bytes text.old) }
 {
     let entry = EntryText(entry);
-    write!(text, "{entry}\n")
+    let mut line = String::with_capacity(*text.allocator(), LINE)?;
+    write!(line, "{entry}\n")?;
+    text.push_str(&line)?;
+    Ok(())
 }

@@ -1,0 +1,12 @@
+use Rattle.std.proofs.Common.{◌≡◌, ◌*◌, ◌≤◌, []}
+use Rattle.script.specs.Lines.{HasNoFeed}
+use Rattle.engine.proofs.Whole.{Ran}
+use Rattle.engine.proofs.run.read_lines.Given as goal
+
+abbrev pub invariant-loop : goal.invariant-loop
+invariant-loop g l = record {
+  ran : Ran l.fn.script.work (g.R.Read.remaining l.fn.reader) (g.R.Read.remaining l.reader) l.script (g.W.Write.contents l.fn.writer) (g.W.Write.contents l.writer);
+  clean : l.script.output ≡ [];
+  one : HasNoFeed l.script.line;
+  number : l.script.number ≤ 16384 * l.counter;
+}

@@ -1,0 +1,70 @@
+-- What is written for a transcript that is checked.
+use Rattle.std.specs.Prelude.{◌≡◌, ℕ, ◌<◌, Bool, true, false, List, [], ◌∷◌, ◌++◌, length, codes, Option}
+use Rattle.std.specs.Fmt.{decimal}
+use Rattle.std.specs.Io.KnownBytes.{Appends}
+use Rattle.mig_base.specs.declared.command.Entry.{Entry}
+use Rattle.mig_base.specs.declared.command.Reply.{Reply}
+use Rattle.mig_base.specs.Flat.{IsFlatRun}
+use Rattle.report.specs.Texts.{reply_text}
+use Rattle.report.specs.Checks.{FirstWrong}
+use Rattle.script.specs.declared.line.Language.TheVariants as language
+use Rattle.script.specs.declared.line.Line.{Line}
+use Rattle.script.specs.declared.line.Line.TheVariants.{Skipped, Make, Enter}
+use Rattle.engine.specs.declared.fault.RunFault.{RunFault}
+use Rattle.engine.specs.declared.fault.RunFault.TheVariants as faults
+use Rattle.script.specs.Lines.{Reads}
+use Rattle.engine.specs.Script.{StopsBy}
+
+-- the entries of lines
+abbrev pub entries_of : List Line → List Entry
+entries_of [] = []
+entries_of (Skipped ∷ lines) = entries_of lines
+entries_of (Make step ∷ lines) = entries_of lines
+entries_of (Enter entry ∷ lines) = entry ∷ entries_of lines
+
+-- the input is a transcript of these entries
+abbrev pub IsTranscript : List ℕ → List Entry → Type 0
+IsTranscript input entries = (lines : List Line) × Reads language.Transcript input lines [] × (entries ≡ entries_of lines)
+
+-- ok, and how many entries there are
+abbrev pub ok_line : ℕ → List ℕ
+ok_line count = codes "ok " ++ decimal count ++ 10 ∷ []
+
+-- wrong, the index of an entry, counted from 0, and the reply that one flat memory gives there
+abbrev pub wrong_line : ℕ → Reply → List ℕ
+wrong_line index expected = codes "wrong " ++ decimal index ++ codes " expected " ++ reply_text expected ++ 10 ∷ []
+
+-- whether the entries are a flat run, and the line that says so
+abbrev pub IsVerdict : List Entry → Bool → List ℕ → Type 0
+IsVerdict entries true text = IsFlatRun entries × (text ≡ ok_line (length entries))
+IsVerdict entries false text = (index : ℕ) × (expected : Reply) × FirstWrong entries index expected × (text ≡ wrong_line index expected)
+
+-- the input is a transcript, and its verdict was written
+pub record Checks (input : List ℕ) (answer : Bool) (before after : Option (List ℕ)) : Type 0 where
+  pub entries : List Entry
+  pub text : List ℕ
+  pub transcript : IsTranscript input entries
+  pub verdict : IsVerdict entries answer text
+  pub appends : Appends before after text
+
+-- the input is a transcript, and a part of its verdict is missing in what was written
+pub record ChecksUnwritten (input : List ℕ) (before after : Option (List ℕ)) : Type 0 where
+  pub entries : List Entry
+  pub answer : Bool
+  pub written : List ℕ
+  pub more : List ℕ
+  pub transcript : IsTranscript input entries
+  pub verdict : IsVerdict entries answer (written ++ more)
+  pub missing : 0 < length more
+  pub appends : Appends before after written
+
+-- nothing is written for the lines
+abbrev pub Silent : List Line → List ℕ → Type 0
+Silent lines text = text ≡ []
+
+-- how a check ends with a fault: before its verdict nothing is written
+abbrev pub CheckStops : List ℕ → Option (List ℕ) → RunFault → Option (List ℕ) → Option (List ℕ) → Type 0
+CheckStops input unread (faults.Line n) before after = StopsBy language.Transcript Silent input unread (faults.Line n) before after
+CheckStops input unread faults.ReadFault before after = StopsBy language.Transcript Silent input unread faults.ReadFault before after
+CheckStops input unread faults.WriteFault before after = ChecksUnwritten input before after
+CheckStops input unread faults.NoMemory before after = StopsBy language.Transcript Silent input unread faults.NoMemory before after

@@ -1,0 +1,250 @@
+-- What the parts of the engine do, told of the bytes of one piece.
+use Rattle.std.specs.Prelude.{◌≡◌, ℕ, ◌+◌, ◌<◌, ◌⊎◌, Bool, true, false, List, [], ◌∷◌, ◌++◌, length, Option, IfSome, ⊤, refl}
+use Rattle.std.proofs.Common.{inl, inr}
+use Rattle.std.specs.Coded.{Coded, code_by, coded×, coded⊎, coded_ℕ, coded_bool, coded_list}
+use Rattle.std.specs.Io.KnownBytes.{Appends}
+use Rattle.mig_base.specs.declared.step.Step.{Step}
+use Rattle.mig_base.specs.declared.command.Entry.{Entry}
+use Rattle.mig_base.specs.contracts.command.Entry as entry
+use Rattle.script.specs.declared.line.Language.{Language}
+use Rattle.script.specs.declared.line.Language.TheVariants as language
+use Rattle.script.specs.declared.line.Line.{Line}
+use Rattle.script.specs.declared.line.Line.TheVariants.{Skipped, Make, Enter}
+use Rattle.engine.specs.declared.line_runner.Mode.{Mode}
+use Rattle.engine.specs.declared.line_runner.Mode.TheVariants.{Lines, Transcript}
+use Rattle.engine.specs.declared.line_runner.Job.{Job}
+use Rattle.engine.specs.declared.line_runner.Job.TheVariants.{Run, Keep}
+use Rattle.engine.specs.declared.fault.RunFault.{RunFault}
+use Rattle.engine.specs.declared.fault.RunFault.TheVariants as faults
+use Rattle.script.specs.Spelling.{Spells}
+use Rattle.script.specs.Lines.{EndedLine, Reads, BeginsWrong}
+use Rattle.engine.specs.Script.{printed}
+use Rattle.script.specs.Printed.{Outcome}
+use Rattle.engine.specs.WorldState.{WorldState, coded_state, Answered}
+
+-- Work: a world that is run, or the entries that are kept
+
+pub data Work : Type 0 where
+  -- steps are made on a world, and printed as the mode says
+  Running : (mode : Mode) → (state : WorldState) → Work
+  -- entries are kept
+  Keeping : (entries : List Entry) → Work
+
+abbrev pub mode_test : Mode → Bool
+mode_test Lines = false
+mode_test Transcript = true
+
+abbrev pub tested_mode : Bool → Mode
+tested_mode false = Lines
+tested_mode true = Transcript
+
+abbrev pub tested_mode-mode_test : (mode : Mode) → tested_mode (mode_test mode) ≡ mode
+tested_mode-mode_test Lines = refl
+tested_mode-mode_test Transcript = refl
+
+abbrev pub coded_mode : Coded Mode
+coded_mode = code_by Bool coded_bool mode_test tested_mode tested_mode-mode_test
+
+abbrev pub WorkParts : Type 0
+WorkParts = (Mode × WorldState) ⊎ List Entry
+
+abbrev pub work_parts : Work → WorkParts
+work_parts (Running mode state) = inl (mode, state)
+work_parts (Keeping entries) = inr entries
+
+abbrev pub parts_work : WorkParts → Work
+parts_work (inl parts) = Running parts.0 parts.1
+parts_work (inr entries) = Keeping entries
+
+abbrev pub parts_work-work_parts : (work : Work) → parts_work (work_parts work) ≡ work
+parts_work-work_parts (Running mode state) = refl
+parts_work-work_parts (Keeping entries) = refl
+
+abbrev pub coded_work : Coded Work
+coded_work = code_by WorkParts (coded⊎ (coded× coded_mode coded_state) (coded_list entry.the_row.coded)) work_parts parts_work parts_work-work_parts
+
+-- the work of a job
+abbrev pub work_of : Job → Work
+work_of (Run world mode) = Running mode world
+work_of (Keep entries) = Keeping entries.items
+
+-- the language of its lines
+abbrev pub language_of : Work → Language
+language_of (Running mode state) = language.Script
+language_of (Keeping entries) = language.Transcript
+
+-- the entries that were kept
+abbrev pub kept_entries : Work → List Entry
+kept_entries (Running mode state) = []
+kept_entries (Keeping entries) = entries
+
+-- no entry is kept yet
+abbrev pub nothing_kept : Work
+nothing_kept = Keeping []
+
+-- what a step makes of a world, and what is printed of it
+abbrev pub Makes : Mode → WorldState → Step → WorldState → List ℕ → Type 0
+Makes mode old step new text = (outcome : Outcome) × Answered old step outcome new × (text ≡ printed mode old outcome new)
+
+-- what a line makes of the work, and its output
+abbrev pub Does : Work → Line → Work → List ℕ → Type 0
+Does old Skipped new text = (new ≡ old) × (text ≡ [])
+Does (Running mode old) (Make step) new text = (state : WorldState) × (new ≡ Running mode state) × Makes mode old step state text
+Does (Running mode old) (Enter entry) new text = ⊥
+Does (Keeping entries) (Make step) new text = ⊥
+Does (Keeping entries) (Enter entry) new text = (new ≡ Keeping (entries ++ entry ∷ [])) × (text ≡ [])
+
+-- what lines make of the work, and their output
+abbrev pub Works : Work → List Line → Work → List ℕ → Type 0
+Works old [] new text = (new ≡ old) × (text ≡ [])
+Works old (line ∷ lines) new text = (mid : Work) × (out : List ℕ) × (more : List ℕ) × Does old line mid out × (text ≡ out ++ more) × Works mid lines new more
+
+-- the output that lines have, from this work on
+abbrev pub Outputs : Work → List Line → List ℕ → Type 0
+Outputs start lines text = (end : Work) × Works start lines end text
+
+-- work, and the output that is not written yet
+pub record Gathered : Type 0 where
+  pub work : Work
+  pub output : List ℕ
+
+abbrev pub coded_gathered : Coded Gathered
+coded_gathered = code_by (Work × List ℕ) (coded× coded_work (coded_list coded_ℕ)) (λ g. (g.work, g.output)) (λ p. record { work = p.0; output = p.1 }) (λ _. refl)
+
+-- work, the output that is not written yet, the bytes of the line that has no end yet, and how many lines came before it
+pub record Place : Type 0 where
+  pub work : Work
+  pub output : List ℕ
+  pub line : List ℕ
+  pub number : ℕ
+
+abbrev pub coded_place : Coded Place
+coded_place =
+    code_by (Work × (List ℕ × (List ℕ × ℕ))) (coded× coded_work (coded× (coded_list coded_ℕ) (coded× (coded_list coded_ℕ) coded_ℕ)))
+    (λ a. (a.work, (a.output, (a.line, a.number)))) (λ p. record { work = p.0; output = p.1.0; line = p.1.1.0; number = p.1.1.1 }) (λ _. refl)
+
+-- the place before the first byte
+abbrev pub start_of : Work → Place
+start_of work = record { work = work; output = []; line = []; number = 0 }
+
+-- the bytes are these lines, each with its line feed, and then rest
+abbrev pub ReadsEnded : Language → List ℕ → List Line → List ℕ → Type 0
+ReadsEnded language bytes [] rest = bytes ≡ rest
+ReadsEnded language bytes (line ∷ lines) rest = (mid : List ℕ) × EndedLine language bytes line mid × ReadsEnded language mid lines rest
+
+-- Lines
+
+-- the line was done, and its output gathered
+pub record Takes (old : Gathered) (line : Line) (new : Gathered) : Type 0 where
+  pub out : List ℕ
+  pub does : Does old.work line new.work out
+  pub gathers : new.output ≡ old.output ++ out
+
+-- the same, where the line is that of the text
+abbrev pub Made : Gathered → List ℕ → Gathered → Type 0
+Made old text new = (line : Line) × Spells (language_of old.work) text line × Takes old line new
+
+-- the line of this number and text was not done to its end
+abbrev pub MakeFault : Language → ℕ → List ℕ → RunFault → Type 0
+MakeFault language number text (faults.Line n) = (n ≡ number) × ((line : Line) → Spells language text line → ⊥)
+MakeFault language number text faults.ReadFault = ⊥
+MakeFault language number text faults.WriteFault = ⊥
+MakeFault language number text faults.NoMemory = ⊤
+
+-- Pieces
+
+-- these bytes lead from one place to the other, and this is their output
+pub record Advances (old : Place) (bytes : List ℕ) (new : Place) (text : List ℕ) : Type 0 where
+  pub lines : List Line
+  pub reads : ReadsEnded (language_of old.work) (old.line ++ bytes) lines new.line
+  pub number : new.number ≡ old.number + length lines
+  pub works : Works old.work lines new.work text
+
+-- the same, and the output was gathered
+pub record Fed (old : Place) (bytes : List ℕ) (new : Place) : Type 0 where
+  pub text : List ℕ
+  pub advances : Advances old bytes new text
+  pub gathers : new.output ≡ old.output ++ text
+
+-- a line is wrong, whatever comes after these bytes; text is the output of those before
+pub record FaultAt (old : Place) (bytes : List ℕ) (n : ℕ) (text : List ℕ) : Type 0 where
+  pub lines : List Line
+  pub rest : List ℕ
+  pub end : Work
+  pub reads : ReadsEnded (language_of old.work) (old.line ++ bytes) lines rest
+  pub number : n ≡ old.number + length lines + 1
+  pub wrong : (more : List ℕ) → BeginsWrong (language_of old.work) (rest ++ more)
+  pub works : Works old.work lines end text
+
+-- some lines were done, and this is a front of their output
+pub record FaultWithin (old : Place) (bytes text more : List ℕ) : Type 0 where
+  pub lines : List Line
+  pub rest : List ℕ
+  pub end : Work
+  pub reads : ReadsEnded (language_of old.work) (old.line ++ bytes) lines rest
+  pub works : Works old.work lines end (text ++ more)
+
+-- a fault among these bytes; text is the output of the lines before it
+abbrev pub Faults : Place → List ℕ → RunFault → List ℕ → Type 0
+Faults old bytes (faults.Line n) text = FaultAt old bytes n text
+Faults old bytes faults.ReadFault text = ⊥
+Faults old bytes faults.WriteFault text = ⊥
+Faults old bytes faults.NoMemory text = FaultWithin old bytes text []
+
+-- the same, and the output was gathered
+pub record FedUntil (old : Place) (bytes : List ℕ) (fault : RunFault) (output : List ℕ) : Type 0 where
+  pub text : List ℕ
+  pub faults : Faults old bytes fault text
+  pub gathers : output ≡ old.output ++ text
+
+-- Pieces with their output written
+
+-- a front of the bytes went out, and some are missing
+abbrev pub Front : List ℕ → Option (List ℕ) → Option (List ℕ) → Type 0
+Front bytes before after = (written : List ℕ) × (more : List ℕ) × (bytes ≡ written ++ more) × (0 < length more) × Appends before after written
+
+-- the bytes lead from one place to the other, and all output was written
+pub record Passes (old : Place) (bytes : List ℕ) (new : Place) (before after : Option (List ℕ)) : Type 0 where
+  pub text : List ℕ
+  pub advances : Advances old bytes new text
+  pub appends : Appends before after text
+
+-- a fault among these bytes: all output before it was written, or a front where writing failed
+abbrev pub Halts : Place → List ℕ → RunFault → Option (List ℕ) → Option (List ℕ) → Type 0
+Halts old bytes (faults.Line n) before after = (text : List ℕ) × FaultAt old bytes n text × Appends before after text
+Halts old bytes faults.ReadFault before after = ⊥
+Halts old bytes faults.WriteFault before after = (text : List ℕ) × (more : List ℕ) × FaultWithin old bytes text more × (0 < length more) × Appends before after text
+Halts old bytes faults.NoMemory before after = (text : List ℕ) × FaultWithin old bytes text [] × Appends before after text
+
+-- The last line, which lacks its line feed
+
+-- the open line, or nothing, was done, and what comes after its front rest is left
+pub record Closes (old : Place) (end : Work) (rest written more : List ℕ) (before after : Option (List ℕ)) : Type 0 where
+  pub lines : List Line
+  pub reads : Reads (language_of old.work) old.line lines rest
+  pub works : Works old.work lines end (written ++ more)
+  pub appends : Appends before after written
+
+-- the open line is wrong
+pub record ClosesWrong (old : Place) (n : ℕ) (before after : Option (List ℕ)) : Type 0 where
+  pub number : n ≡ old.number + 1
+  pub wrong : BeginsWrong (language_of old.work) old.line
+  pub appends : Appends before after []
+
+-- a fault at the open line
+abbrev pub CloseFault : Place → RunFault → Option (List ℕ) → Option (List ℕ) → Type 0
+CloseFault old (faults.Line n) before after = ClosesWrong old n before after
+CloseFault old faults.ReadFault before after = ⊥
+CloseFault old faults.WriteFault before after = (end : Work) × (rest : List ℕ) × (written : List ℕ) × (more : List ℕ) × (0 < length more) × Closes old end rest written more before after
+CloseFault old faults.NoMemory before after = (end : Work) × (rest : List ℕ) × (written : List ℕ) × Closes old end rest written [] before after
+
+-- The whole input
+
+-- the whole input was read, and all its output written
+pub record ReadsAll (start : Work) (input : List ℕ) (end : Work) (unread before after : Option (List ℕ)) : Type 0 where
+  pub lines : List Line
+  pub text : List ℕ
+  pub reads : Reads (language_of start) input lines []
+  pub left : IfSome unread (λ bytes. bytes ≡ [])
+  pub works : Works start lines end text
+  pub appends : Appends before after text

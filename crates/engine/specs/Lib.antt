@@ -1,0 +1,4 @@
+pub mod Checking
+pub mod Engine
+pub mod Script
+pub mod WorldState

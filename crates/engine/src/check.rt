@@ -1,0 +1,78 @@
+//! Whether the transcript that a reader gives is that of one flat memory.
+
+ghost use Rattle.std.specs.Prelude.{◌≡◌, ◌++◌, [], OnOk, IfOk, IfErr, IfSome, string_bytes};
+ghost use Rattle.engine.specs.declared.fault.RunFault.TheVariants.{NoMemory};
+ghost use Rattle.engine.specs.Checking.{IsVerdict, Checks, CheckStops};
+ghost use Rattle.engine.specs.Engine.{start_of, nothing_kept};
+
+use crate::fault::RunFault;
+use crate::line_runner::{LineRunner, write_out};
+use crate::run::read_lines;
+use crate::script_reader::ScriptReader;
+use mig_base::Entry;
+use report::check::check;
+use report::{CheckFault, ReplyText};
+use std::alloc::Global;
+use std::io::{Read, Write};
+
+/// Reads a whole transcript, and writes whether it is that of one flat memory: `ok N`, where it has N entries, and true; or
+/// `wrong I expected REPLY`, where the entry at index I is the first with another reply than the flat memory's, and false.
+///
+/// Nothing is written before the whole input was read. At most 4,294,967,295 reads are made; a transcript that needs more ends
+/// with a read fault. An interrupted read or write is a fault.
+pub fn check_script<R: Read, W: Write>(
+    alloc: Global,
+    reader: &mut R,
+    writer: &mut W,
+) -> Result<bool, RunFault>
+    ensures ok { IfOk result (λ answer. IfSome (R.remaining reader.old) (λ input.
+        Checks input answer (W.contents writer.old) (W.contents writer.new))) }
+    ensures fault { IfErr result (λ fault. IfSome (R.remaining reader.old) (λ input.
+        CheckStops input (R.remaining reader.new) fault (W.contents writer.old) (W.contents writer.new))) }
+{
+    let mut script = ScriptReader::new(alloc, LineRunner::keeping(alloc));
+    let mut verdict = String::new(alloc);
+    answer_of(alloc, reader, writer, &mut script, &mut verdict)
+}
+
+/// Reads the entries of a whole transcript, and writes the verdict on them, whose text is left behind.
+fn answer_of<R: Read, W: Write>(
+    alloc: Global,
+    reader: &mut R,
+    writer: &mut W,
+    script: &mut ScriptReader,
+    verdict: &mut String,
+) -> Result<bool, RunFault>
+    requires start { script.old ≡ start_of nothing_kept }
+    requires empty { string_bytes verdict.old ≡ [] }
+    ensures ok { IfOk result (λ answer. IfSome (R.remaining reader.old) (λ input.
+        Checks input answer (W.contents writer.old) (W.contents writer.new))) }
+    ensures fault { IfErr result (λ fault. IfSome (R.remaining reader.old) (λ input.
+        CheckStops input (R.remaining reader.new) fault (W.contents writer.old) (W.contents writer.new))) }
+{
+    read_lines(reader, writer, script)?;
+    let answer = judge(alloc, script.entries(), verdict)?;
+    write_out(writer, verdict.as_bytes())?;
+    Ok(answer)
+}
+
+/// Whether entries are a flat run. Behind the text goes the line that says so.
+fn judge(alloc: Global, entries: &[Entry], text: &mut String) -> Result<bool, RunFault>
+    requires { string_bytes text.old ≡ [] }
+    ensures ok { IfOk result (λ answer. IsVerdict entries.now answer (string_bytes text.new)) }
+    ensures err { IfErr result (λ fault. fault ≡ NoMemory) }
+{
+    match check(alloc, entries) {
+        Ok(()) => {
+            let count = entries.len();
+            write!(text, "ok {count}\n")?;
+            Ok(true)
+        }
+        Err(CheckFault::Wrong { index, expected }) => {
+            let expected = ReplyText(expected);
+            write!(text, "wrong {index} expected {expected}\n")?;
+            Ok(false)
+        }
+        Err(CheckFault::NoMemory) => Err(RunFault::NoMemory),
+    }
+}

@@ -1,0 +1,49 @@
+//! How a run ends before its script does.
+
+ghost use Rattle.std.specs.Prelude.{◌≡◌};
+ghost use Rattle.engine.specs.declared.fault.RunFault.TheVariants.{NoMemory as OutOfMemory};
+
+use mig_base::NoMemory;
+use std::alloc::{AllocError, AllocFailed};
+use thiserror::Error;
+
+/// Why a run of a script ended before the script did.
+#[derive(Clone, Copy, Debug, PartialEq, Eq, Error)]
+pub enum RunFault {
+    /// The line of this number, counted from 1, is no script line. All output of the lines before it was written.
+    #[error("line {0}: not a script line")]
+    Line(u64),
+    /// A read failed, or more than 4,294,967,295 were needed. All output of the lines read was written.
+    #[error("read fault")]
+    ReadFault,
+    /// A write failed, or took no byte. A front of the output of the lines read was written.
+    #[error("write fault")]
+    WriteFault,
+    /// A growth was refused. All output of the lines before the present one was written.
+    #[error("no memory")]
+    NoMemory,
+}
+
+impl From<NoMemory> for RunFault {
+    ghost from_gives = { λ _ e. e ≡ OutOfMemory };
+
+    fn from(_e: NoMemory) -> RunFault {
+        RunFault::NoMemory
+    }
+}
+
+impl From<AllocError> for RunFault {
+    ghost from_gives = { λ _ e. e ≡ OutOfMemory };
+
+    fn from(_e: AllocError) -> RunFault {
+        RunFault::NoMemory
+    }
+}
+
+impl<T: Drop> From<AllocFailed<T>> for RunFault {
+    ghost from_gives = { λ _ e. e ≡ OutOfMemory };
+
+    fn from(_e: AllocFailed<T>) -> RunFault {
+        RunFault::NoMemory
+    }
+}

@@ -1,0 +1,25 @@
+//! Laws about what scripts and transcripts mean. The functions do nothing: their contracts are the laws.
+
+ghost use Rattle.std.specs.Prelude.{◌≡◌, ◌<◌, ℕ, List, [], ◌∷◌, ◌++◌, length};
+ghost use Rattle.mig_base.specs.Flat.{IsFlatRun};
+ghost use Rattle.script.specs.declared.line.Line.{Line};
+ghost use Rattle.script.specs.declared.line.Language.{Language};
+ghost use Rattle.engine.specs.declared.line_runner.Mode.{Mode};
+ghost use Rattle.engine.specs.declared.line_runner.Mode.TheVariants.{Transcript};
+ghost use Rattle.script.specs.Words.{HasNone, words_of};
+ghost use Rattle.script.specs.Spelling.{Spells};
+ghost use Rattle.script.specs.Lines.{Reads, BeginsWrong};
+ghost use Rattle.engine.specs.Script.{entry_lines, Runs};
+ghost use Rattle.engine.specs.WorldState.{WorldState, first_state};
+
+/// Lines have one output in each mode, and lead to one state.
+pub fn one_output()
+    ensures { (mode : Mode) (start : WorldState) (lines : List Line) (s t : WorldState) (a b : List ℕ) → Runs mode start lines s a → Runs mode start lines t b → (s ≡ t) × (a ≡ b) }
+{}
+
+/// What is printed as a transcript is the whole transcript of the world, from its first entry to its last, and that is a run
+/// of one flat memory.
+pub fn transcript_of_a_run()
+    ensures text { (cpus : ℕ) (lines : List Line) (end : WorldState) (text : List ℕ) → Runs Transcript (first_state cpus) lines end text → text ≡ entry_lines end.transcript }
+    ensures flat { (cpus : ℕ) (lines : List Line) (end : WorldState) (text : List ℕ) → Runs Transcript (first_state cpus) lines end text → IsFlatRun end.transcript }
+{}

@@ -1,0 +1,23 @@
+//! Runs scripts of steps on a world, and checks transcripts against one flat memory.
+//!
+//! [`run_script`] reads a script and writes one line for each step, or one for each command that took effect, as its [`Mode`]
+//! says; [`check_script`] reads such a transcript, and says whether it is that of one flat memory. Both read and write in pieces.
+//! A [`RunFault`] says what ended a run early. [`ScriptReader`] finds the lines in what is read, and [`LineRunner`] does each.
+//! What a run writes is `specs/Script.antt`, what a check writes `specs/Checking.antt`, and [`laws`] says that there is no other
+//! output. `docs/SCRIPT.md` says what a script is.
+//!
+//! The crate names no file, no command line and no exit status: readers and writers are its callers'.
+#![tactic(auto)]
+
+pub mod check;
+pub mod fault;
+pub mod laws;
+pub mod line_runner;
+pub mod run;
+pub mod script_reader;
+
+pub use crate::check::check_script;
+pub use crate::fault::RunFault;
+pub use crate::line_runner::{LineRunner, Mode};
+pub use crate::run::run_script;
+pub use crate::script_reader::ScriptReader;

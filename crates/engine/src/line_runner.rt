@@ -1,0 +1,218 @@
+//! Doing one line: a step of a script is made on a world, and an entry of a transcript is kept.
+
+ghost use Rattle.std.specs.Prelude.{◌≡◌, ◌<◌, ◌≤◌, ◌++◌, ℕ, List, [], OnOk, OnErr, IfErr, IfOk, length, drop, string_bytes};
+ghost use Rattle.std.specs.Io.KnownBytes.{Appends};
+ghost use Rattle.engine.specs.declared.fault.RunFault.TheVariants.{WriteFault, NoMemory as OutOfMemory};
+ghost use Rattle.script.specs.declared.line.Language.TheVariants.{Script as AScript, Transcript as ATranscript};
+ghost use Rattle.script.specs.declared.line.Line.TheVariants.{Make, Enter};
+ghost use Rattle.engine.specs.Script.{entry_lines};
+ghost use Rattle.engine.specs.Engine.{Running, Keeping, Gathered, coded_gathered, work_of, language_of as language_of_work, kept_entries, Makes, Takes, Made, MakeFault, Front};
+ghost use Rattle.engine.specs.WorldState.{first_state};
+
+use crate::fault::RunFault;
+use hosts::World;
+use mig_base::{Entry, NoMemory, Refusal, Step};
+use report::print_entry;
+use script::parse::parse;
+use script::{Language, Line, Token, print_line};
+use std::alloc::Global;
+use std::io::Write;
+use std::marker::Model;
+
+/// What a run writes.
+#[derive(Clone, Copy, Debug, PartialEq, Eq)]
+pub enum Mode {
+    /// One line for each step, with its outcome.
+    Lines,
+    /// One line for each entry of the transcript, as it is made.
+    Transcript,
+}
+
+/// What is done with the lines.
+#[derive(Drop)]
+pub enum Job {
+    /// Their steps are made on a world, and printed as the mode says.
+    Run { world: World, mode: Mode },
+    /// Their entries are kept.
+    Keep { entries: Vec<Entry> },
+}
+
+/// Writes all of the bytes. A write that takes none is a fault.
+pub fn write_out<W: Write>(writer: &mut W, bytes: &[u8]) -> Result<(), RunFault>
+    ensures ok { OnOk result (Appends (W.contents writer.old) (W.contents writer.new) bytes.now) }
+    ensures fault { IfErr result (λ fault. fault ≡ WriteFault) }
+    ensures front { OnErr result (Front bytes.now (W.contents writer.old) (W.contents writer.new)) }
+{
+    let mut rest = bytes;
+    while !rest.is_empty() {
+        match writer.write(rest) {
+            Ok(0) | Err(_) => return Err(RunFault::WriteFault),
+            Ok(taken) => rest = &rest[taken..],
+        }
+    }
+    Ok(())
+}
+
+/// Prints the lines of entries behind a text.
+fn print_entries(text: &mut String, entries: &[Entry]) -> Result<(), NoMemory>
+    ensures { OnOk result (string_bytes text.new ≡ string_bytes text.old ++ entry_lines entries.now) }
+{
+    for entry in entries {
+        print_entry(text, *entry)?;
+    }
+    Ok(())
+}
+
+/// Makes a step, and puts what the mode prints of it in the place of a text.
+fn make_step(world: &mut World, mode: Mode, step: Step, text: &mut String) -> Result<(), RunFault>
+    ensures ok { OnOk result (Makes mode world.old step world.new (string_bytes text.new)) }
+    ensures fault { IfErr result (λ fault. fault ≡ OutOfMemory) }
+{
+    text.clear();
+    let count = world.transcript().len();
+    let outcome = world.step(step);
+    if let Err(Refusal::NoMemory) = outcome {
+        return Err(RunFault::NoMemory);
+    }
+    match mode {
+        Mode::Lines => print_line(text, outcome)?,
+        Mode::Transcript => print_entries(text, &world.transcript()[count..])?,
+    }
+    Ok(())
+}
+
+/// Does lines, and gathers their output.
+#[derive(Drop)]
+pub struct LineRunner {
+    job: Job,
+    /// The tokens of the last line, kept for their room.
+    tokens: Vec<Token>,
+    /// What was printed last, kept for its room.
+    printed: String,
+    /// The output that is not written yet.
+    output: Vec<u8>,
+}
+
+impl Model for LineRunner {
+    ghost Value = { Gathered };
+
+    ghost coded = { coded_gathered };
+
+    ghost view = { λ r. record { work = work_of r.job; output = r.output.items } };
+}
+
+impl LineRunner {
+    /// Does lines as the job says. There is no output yet.
+    fn new(alloc: Global, job: Job) -> LineRunner
+        ensures work { result.work ≡ work_of job }
+        ensures output { result.output ≡ [] }
+    {
+        LineRunner {
+            job,
+            tokens: Vec::new(alloc),
+            printed: String::new(alloc),
+            output: Vec::new(alloc),
+        }
+    }
+
+    /// Makes steps on a new world of so many processors.
+    pub fn on_world(alloc: Global, cpus: u8, mode: Mode) -> Result<LineRunner, RunFault>
+        requires low { 1 ≤ cpus }
+        requires high { cpus ≤ 16 }
+        ensures ok { IfOk result (λ runner. (runner.work ≡ Running mode (first_state cpus)) × (runner.output ≡ [])) }
+        ensures err { IfErr result (λ fault. fault ≡ OutOfMemory) }
+    {
+        let Ok(world) = World::new(alloc, cpus) else {
+            return Err(RunFault::NoMemory);
+        };
+        Ok(LineRunner::new(alloc, Job::Run { world, mode }))
+    }
+
+    /// Keeps entries, of which there are none yet.
+    pub fn keeping(alloc: Global) -> LineRunner
+        ensures work { result.work ≡ Keeping [] }
+        ensures output { result.output ≡ [] }
+    {
+        let entries = Vec::new(alloc);
+        LineRunner::new(alloc, Job::Keep { entries })
+    }
+
+    /// The language of the lines.
+    fn language(&self) -> Language
+        ensures { result ≡ language_of_work self.now.work }
+    {
+        match self.job {
+            Job::Run { .. } => Language::Script,
+            Job::Keep { .. } => Language::Transcript,
+        }
+    }
+
+    /// The entries that were kept, none where steps are made.
+    pub fn entries(&self) -> &[Entry]
+        ensures { result.now ≡ kept_entries self.now.work }
+    {
+        match &self.job {
+            Job::Run { .. } => &[],
+            Job::Keep { entries } => entries,
+        }
+    }
+
+    /// Makes a step, and gathers what is printed of it.
+    fn make(&mut self, step: Step) -> Result<(), RunFault>
+        requires { language_of_work self.old.work ≡ AScript }
+        ensures ok { OnOk result (Takes self.old (Make step) self.new) }
+        ensures fault { IfErr result (λ fault. fault ≡ OutOfMemory) }
+        ensures kept { OnErr result (self.new.output ≡ self.old.output) }
+    {
+        match &mut self.job {
+            Job::Run { world, mode } => {
+                make_step(world, *mode, step, &mut self.printed)?;
+                self.output.extend_from_slice(self.printed.as_bytes())?;
+                Ok(())
+            }
+            Job::Keep { .. } => unreachable!(),
+        }
+    }
+
+    /// Keeps an entry.
+    fn enter(&mut self, entry: Entry) -> Result<(), RunFault>
+        requires { language_of_work self.old.work ≡ ATranscript }
+        ensures ok { OnOk result (Takes self.old (Enter entry) self.new) }
+        ensures fault { IfErr result (λ fault. fault ≡ OutOfMemory) }
+        ensures kept { OnErr result (self.new.output ≡ self.old.output) }
+    {
+        match &mut self.job {
+            Job::Run { .. } => unreachable!(),
+            Job::Keep { entries } => {
+                entries.push(entry)?;
+                Ok(())
+            }
+        }
+    }
+
+    /// Does the line of this number and text. At a fault nothing of it is in the output.
+    pub fn run_line(&mut self, number: u64, text: &[u8]) -> Result<(), RunFault>
+        ensures ok { OnOk result (Made self.old text.now self.new) }
+        ensures fault { IfErr result (λ fault. MakeFault (language_of_work self.old.work) number text.now fault) }
+        ensures kept { OnErr result (self.new.output ≡ self.old.output) }
+    {
+        match parse(self.language(), &mut self.tokens, text)? {
+            None => Err(RunFault::Line(number)),
+            Some(Line::Skipped) => Ok(()),
+            Some(Line::Make(step)) => self.make(step),
+            Some(Line::Enter(entry)) => self.enter(entry),
+        }
+    }
+
+    /// Writes the output that was gathered. At a fault a front of it was written.
+    pub fn write_output<W: Write>(&mut self, writer: &mut W) -> Result<(), RunFault>
+        ensures ok { OnOk result (Appends (W.contents writer.old) (W.contents writer.new) self.old.output) }
+        ensures none { OnOk result (self.new ≡ record self.old { output = [] }) }
+        ensures fault { IfErr result (λ fault. fault ≡ WriteFault) }
+        ensures front { OnErr result (Front self.old.output (W.contents writer.old) (W.contents writer.new)) }
+    {
+        write_out(writer, &self.output)?;
+        self.output.clear();
+        Ok(())
+    }
+}

@@ -1,0 +1,153 @@
+//! A script or a transcript that is being read: where its lines end, and their numbers.
+
+ghost use Rattle.std.specs.Prelude.{◌≡◌, ◌+◌, ◌<◌, ◌≤◌, ◌^◌, ◌++◌, ℕ, List, [], ◌∷◌, length, OnOk, OnErr, IfErr, IfOk, IfSome, IfNone, vec_len};
+ghost use Rattle.std.specs.Str.Lines.{strip_carriage_return};
+ghost use Rattle.script.specs.Lines.{HasNoFeed};
+ghost use Rattle.engine.specs.Engine.{Place, coded_place, kept_entries, start_of, Fed, FedUntil, Passes, Halts, Closes, CloseFault};
+
+use crate::fault::RunFault;
+use crate::line_runner::LineRunner;
+use memchr::memchr;
+use mig_base::Entry;
+use std::alloc::Global;
+use std::io::Write;
+use std::marker::Model;
+
+/// The most bytes of a line, its line feed not counted.
+const MAX_LINE: usize = 256;
+
+/// A line before its line feed, without a carriage return at its end.
+fn without_return(raw: &[u8]) -> &[u8]
+    ensures { result.now ≡ strip_carriage_return raw.now }
+{
+    match raw {
+        [text @ .., b'\r'] => text,
+        _ => raw,
+    }
+}
+
+/// What comes before the first line feed, and what comes after it.
+fn split_line(bytes: &[u8]) -> Option<(&[u8], &[u8])>
+    ensures front { IfSome result (λ parts. HasNoFeed parts.0.now) }
+    ensures whole { IfSome result (λ parts. bytes.now ≡ parts.0.now ++ 10 ∷ parts.1.now) }
+    ensures none { IfNone result (HasNoFeed bytes.now) }
+{
+    let end = memchr(b'\n', bytes)?;
+    Some((&bytes[..end], &bytes[end + 1..]))
+}
+
+/// A script or a transcript that is being read.
+#[derive(Drop)]
+pub struct ScriptReader {
+    runner: LineRunner,
+    /// The bytes of the line that has no end yet.
+    line: Vec<u8>,
+    /// How many lines came before it.
+    number: u64,
+}
+
+impl Model for ScriptReader {
+    ghost Value = { Place };
+
+    ghost coded = { coded_place };
+
+    ghost view = { λ s. record { work = s.runner.work; output = s.runner.output; line = s.line.items; number = s.number } };
+
+    ghost invariant = { λ s. (vec_len s.line ≤ 256) × HasNoFeed s.line.items };
+}
+
+impl ScriptReader {
+    /// The start, where nothing was read.
+    pub fn new(alloc: Global, runner: LineRunner) -> ScriptReader
+        requires { runner.output ≡ [] }
+        ensures { result ≡ start_of runner.work }
+    {
+        ScriptReader {
+            runner,
+            line: Vec::new(alloc),
+            number: 0,
+        }
+    }
+
+    /// The entries that were kept, none where steps are made.
+    pub fn entries(&self) -> &[Entry]
+        ensures { result.now ≡ kept_entries self.now.work }
+    {
+        self.runner.entries()
+    }
+
+    /// Takes bytes of the open line, among which no line feed is.
+    fn hold(&mut self, bytes: &[u8]) -> Result<(), RunFault>
+        requires feed { HasNoFeed bytes.now }
+        requires number { self.old.number + 1 < 2 ^ 64 }
+        ensures ok { OnOk result (self.new ≡ record self.old { line = self.old.line ++ bytes.now }) }
+        ensures fault { IfErr result (λ fault. FedUntil self.old bytes.now fault self.new.output) }
+    {
+        if bytes.len() > MAX_LINE - self.line.len() {
+            return Err(RunFault::Line(self.number + 1));
+        }
+        self.line.extend_from_slice(bytes)?;
+        Ok(())
+    }
+
+    /// Does the line that ends with these bytes and a line feed.
+    fn end_line(&mut self, bytes: &[u8]) -> Result<(), RunFault>
+        requires feed { HasNoFeed bytes.now }
+        requires number { self.old.number + 1 < 2 ^ 64 }
+        ensures ok { OnOk result (Fed self.old (bytes.now ++ 10 ∷ []) self.new) }
+        ensures number { OnOk result (self.new.number ≡ self.old.number + 1) }
+        ensures fault { IfErr result (λ fault. FedUntil self.old (bytes.now ++ 10 ∷ []) fault self.new.output) }
+    {
+        self.hold(bytes)?;
+        self.runner
+            .run_line(self.number + 1, without_return(&self.line))?;
+        self.line.clear();
+        self.number += 1;
+        Ok(())
+    }
+
+    /// Takes the next bytes, does each line that ends in them, and gathers the output.
+    fn feed(&mut self, bytes: &[u8]) -> Result<(), RunFault>
+        requires { self.old.number + length bytes.now + 1 < 2 ^ 64 }
+        ensures ok { OnOk result (Fed self.old bytes.now self.new) }
+        ensures number { OnOk result (self.new.number ≤ self.old.number + length bytes.now) }
+        ensures fault { IfErr result (λ fault. FedUntil self.old bytes.now fault self.new.output) }
+    {
+        let mut rest = bytes;
+        while let Some((front, behind)) = split_line(rest) {
+            self.end_line(front)?;
+            rest = behind;
+        }
+        self.hold(rest)
+    }
+
+    /// Takes the next bytes, does each line that ends in them, and writes the output.
+    pub fn run_piece<W: Write>(&mut self, writer: &mut W, bytes: &[u8]) -> Result<(), RunFault>
+        requires clean { self.old.output ≡ [] }
+        requires number { self.old.number + length bytes.now + 1 < 2 ^ 64 }
+        ensures ok { OnOk result (Passes self.old bytes.now self.new (W.contents writer.old) (W.contents writer.new)) }
+        ensures clean { OnOk result (self.new.output ≡ []) }
+        ensures number { OnOk result (self.new.number ≤ self.old.number + length bytes.now) }
+        ensures fault { IfErr result (λ fault. Halts self.old bytes.now fault (W.contents writer.old) (W.contents writer.new)) }
+        ensures open { HasNoFeed self.new.line }
+    {
+        let fed = self.feed(bytes);
+        self.runner.write_output(writer)?;
+        fed
+    }
+
+    /// Does the last line, if it lacks its line feed, and writes its output.
+    pub fn finish<W: Write>(&mut self, writer: &mut W) -> Result<(), RunFault>
+        requires clean { self.old.output ≡ [] }
+        requires number { self.old.number + 1 < 2 ^ 64 }
+        ensures ok { OnOk result ((text : List ℕ) × Closes self.old self.new.work [] text [] (W.contents writer.old) (W.contents writer.new)) }
+        ensures fault { IfErr result (λ fault. CloseFault self.old fault (W.contents writer.old) (W.contents writer.new)) }
+    {
+        if self.line.is_empty() {
+            return Ok(());
+        }
+        let run = self.runner.run_line(self.number + 1, &self.line);
+        self.runner.write_output(writer)?;
+        run
+    }
+}

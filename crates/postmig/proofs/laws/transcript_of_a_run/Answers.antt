@@ -1,5 +1,0 @@
-use Rattle.postmig.proofs.Transcripts.{printed_transcript, flat_transcript}
-use Rattle.postmig.proofs.laws.transcript_of_a_run.Goals as goal
-
-pub returns : goal.returns
-returns c = record { text = printed_transcript; flat = flat_transcript }

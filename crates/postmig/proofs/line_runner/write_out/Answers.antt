@@ -1,6 +1,0 @@
-use Rattle.postmig.proofs.Writes.{wrote_more, slice_rest}
-use Rattle.postmig.proofs.line_runner.write_out.Goals as goal
-
-pub loop-rest-preserved : goal.loop-rest-preserved
-loop-rest-preserved g c =
-    rw (slice_rest c.in-Ok.taken c.loop-rest.rest.now) (wrote_more c.args.bytes.now c.loop-rest.rest.now c.in-Ok.taken _ _ _ c.loop-rest.invariant c.in-Ok.ensures.bytes)

@@ -1,0 +1,5 @@
+pub mod Lines
+pub mod Parsing
+pub mod Printed
+pub mod Spelling
+pub mod Words

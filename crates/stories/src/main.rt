@@ -1,0 +1,172 @@
+//! Plays stories: scripts and transcripts that lie in `data/`, each with what it must print beside it.
+//!
+//! The file `stories` names one a line, by a [`Kind`] and the name of its files. For each story one line goes to standard output,
+//! which says whether the story printed what is stored, and of a script also what a check says of its transcript. The exit status
+//! is 1 where one did not, and 2 where a file cannot be read. A further story is a line and its files. Runs have two processors.
+#![tactic(auto)]
+
+use engine::{Mode, RunFault, check_script, run_script};
+use std::alloc::{AllocError, Global};
+use std::process::ExitCode;
+use std::{fs, io};
+
+const CPUS: u8 = 2;
+
+const DIFFERS: u8 = 1;
+
+const NOT_PLAYED: u8 = 2;
+
+/// What is done with the files of a story.
+#[derive(Clone, Copy, PartialEq, Eq)]
+enum Kind {
+    /// `NAME.script` is run, and prints `NAME.out`.
+    Run,
+    /// `NAME.script` is run for its transcript, and prints `NAME.transcript`.
+    Print,
+    /// `NAME.transcript` is checked, which prints `NAME.out`.
+    Check,
+    /// Each line of `NAME.lines` is a script of its own. They print `NAME.out`.
+    Lines,
+    /// Each line of `NAME.entries` is a transcript of its own. Their checks print `NAME.out`.
+    Entries,
+}
+
+impl Kind {
+    fn from_word(word: &str) -> Option<Kind> {
+        match word {
+            "run" => Some(Kind::Run),
+            "print" => Some(Kind::Print),
+            "check" => Some(Kind::Check),
+            "lines" => Some(Kind::Lines),
+            "entries" => Some(Kind::Entries),
+            _ => None,
+        }
+    }
+
+    /// What the name of the file ends with that is read.
+    fn input(self) -> &'static str {
+        match self {
+            Kind::Run | Kind::Print => "script",
+            Kind::Check => "transcript",
+            Kind::Lines => "lines",
+            Kind::Entries => "entries",
+        }
+    }
+
+    /// What the name of the file ends with that has what must be printed.
+    fn output(self) -> &'static str {
+        match self {
+            Kind::Print => "transcript",
+            _ => "out",
+        }
+    }
+}
+
+/// Puts the message of a fault behind what was printed before it.
+fn print_fault(alloc: Global, text: &mut Vec<u8>, fault: Option<RunFault>) -> Result<(), AllocError> {
+    if let Some(fault) = fault {
+        let line = format!(in alloc; "{fault}\n")?;
+        text.extend_from_slice(line.as_bytes())?;
+    }
+    Ok(())
+}
+
+/// Prints what a run of a script prints behind a text, and then its fault.
+fn print_run(alloc: Global, text: &mut Vec<u8>, script: &[u8], mode: Mode) -> Result<(), AllocError> {
+    let mut reader = script;
+    let outcome = run_script(alloc, &mut reader, text, CPUS, mode);
+    print_fault(alloc, text, outcome.err())
+}
+
+/// Prints what a check of a transcript prints behind a text, and then its fault.
+fn print_check(alloc: Global, text: &mut Vec<u8>, transcript: &[u8]) -> Result<(), AllocError> {
+    let mut reader = transcript;
+    let outcome = check_script(alloc, &mut reader, text);
+    print_fault(alloc, text, outcome.err())
+}
+
+/// Prints what a story of a kind prints, from what its file has.
+fn printed(alloc: Global, kind: Kind, input: &[u8]) -> Result<Vec<u8>, AllocError> {
+    let mut text = Vec::new(alloc);
+    match kind {
+        Kind::Run => print_run(alloc, &mut text, input, Mode::Lines)?,
+        Kind::Print => print_run(alloc, &mut text, input, Mode::Transcript)?,
+        Kind::Check => print_check(alloc, &mut text, input)?,
+        Kind::Lines => {
+            for line in input.split(|byte| *byte == b'\n') {
+                print_run(alloc, &mut text, line, Mode::Lines)?;
+            }
+        }
+        Kind::Entries => {
+            for line in input.split(|byte| *byte == b'\n') {
+                print_check(alloc, &mut text, line)?;
+            }
+        }
+    }
+    Ok(text)
+}
+
+/// What a check says of the transcript of a script, without its line feed.
+fn verdict(alloc: Global, script: &[u8]) -> io::Result<String> {
+    let mut transcript = Vec::new(alloc);
+    let mut reader = script;
+    let _ = run_script(alloc, &mut reader, &mut transcript, CPUS, Mode::Transcript);
+    let mut text = Vec::new(alloc);
+    print_check(alloc, &mut text, &transcript)?;
+    let text = String::from_utf8_lossy(alloc, &text)?;
+    Ok(text.trim_end().to_string(alloc)?)
+}
+
+fn read(rt: &HostRuntime, name: &str, ending: &str) -> io::Result<Vec<u8>> {
+    let path = format!(in rt.alloc(); "{name}.{ending}")?;
+    fs::read(rt, path.as_str())
+}
+
+/// Plays a story, and says whether it printed what is stored.
+fn play(rt: &HostRuntime, kind: Kind, name: &str) -> io::Result<bool> {
+    let input = read(rt, name, kind.input())?;
+    let stored = read(rt, name, kind.output())?;
+    Ok(printed(rt.alloc(), kind, &input)? == stored)
+}
+
+/// Plays the story of a line, and prints how it went.
+fn play_line(rt: &HostRuntime, line: &str) -> io::Result<bool> {
+    let Some((word, name)) = line.split_once(' ') else {
+        println!(rt; "{line}: not a story")?;
+        return Ok(false);
+    };
+    let Some(kind) = Kind::from_word(word) else {
+        println!(rt; "{line}: not a story")?;
+        return Ok(false);
+    };
+    let same = play(rt, kind, name)?;
+    let says = if same { "as stored" } else { "DIFFERS" };
+    if kind == Kind::Run {
+        let verdict = verdict(rt.alloc(), &read(rt, name, kind.input())?)?;
+        println!(rt; "{line}: {says}, transcript {verdict}")?;
+    } else {
+        println!(rt; "{line}: {says}")?;
+    }
+    Ok(same)
+}
+
+/// Plays all stories, and says whether each printed what is stored.
+fn play_all(rt: &HostRuntime) -> io::Result<bool> {
+    let stories = fs::read_to_string(rt, "stories")?;
+    let mut all = true;
+    for line in stories.lines() {
+        all &= play_line(rt, line)?;
+    }
+    Ok(all)
+}
+
+fn main(rt: HostRuntime) -> ExitCode {
+    match play_all(&rt) {
+        Ok(true) => ExitCode::SUCCESS,
+        Ok(false) => ExitCode::from(DIFFERS),
+        Err(error) => {
+            let _ = eprintln!(&rt; "stories: {error}");
+            ExitCode::from(NOT_PLAYED)
+        }
+    }
+}
