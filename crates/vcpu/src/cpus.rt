@@ -99,7 +99,7 @@ impl Cpus {
     }
 
     /// Whether processor `k` may begin a command: `Busy` unless it is idle, `NoCpu` where there is no such processor.
-    pub fn idle(&self, k: u8) -> Result<(), Refusal>
+    pub fn ensure_idle(&self, k: u8) -> Result<(), Refusal>
         ensures { result ≡ idle_answer self.now k }
     {
         match self.state(k)? {
@@ -127,7 +127,7 @@ impl Cpus {
         ensures ok { OnOk result (self.new ≡ set self.old k (CpuState.Asleep command)) }
         ensures err { OnErr result (self.new ≡ self.old) }
     {
-        self.idle(k)?;
+        self.ensure_idle(k)?;
         self.put(usize::from(k), CpuState::Asleep(command));
         Ok(())
     }
@@ -140,7 +140,7 @@ impl Cpus {
         ensures ok { OnOk result (self.new ≡ set self.old k (CpuState.InCall reply left)) }
         ensures err { OnErr result (self.new ≡ self.old) }
     {
-        self.idle(k)?;
+        self.ensure_idle(k)?;
         self.put(usize::from(k), CpuState::InCall { reply, left });
         Ok(())
     }
@@ -166,18 +166,14 @@ impl Cpus {
         let CpuState::InCall { reply, left } = self.state(k)? else {
             return Err(Refusal::NotAsleep);
         };
-        if left > 1 {
-            self.put(
-                usize::from(k),
-                CpuState::InCall {
-                    reply,
-                    left: left - 1,
-                },
-            );
-            return Ok(None);
-        }
-        self.put(usize::from(k), CpuState::Idle);
-        Ok(Some(reply))
+        let (state, handed_over) = if left > 1 {
+            let left = left - 1;
+            (CpuState::InCall { reply, left }, None)
+        } else {
+            (CpuState::Idle, Some(reply))
+        };
+        self.put(usize::from(k), state);
+        Ok(handed_over)
     }
 
     /// Wakes those that sleep on a page.
