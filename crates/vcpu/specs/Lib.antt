@@ -1,0 +1,3 @@
+pub mod Processors
+pub mod Sleepers
+pub mod Answers

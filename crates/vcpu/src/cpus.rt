@@ -1,0 +1,243 @@
+//! The processors of a guest.
+
+ghost use Rattle.std.specs.Prelude.{◌≡◌, ℕ, ◌==◌, ◌<◌, ◌≤◌, ◌↔◌, true, false, map, set, length, OnOk, OnErr, IfOk};
+ghost use Rattle.mig_model.specs.World.{is_access};
+ghost use Rattle.mig_model.specs.Guest.{idle_processors, processor_at, outstanding, taken_over, all_woken, message_less, in_bytes};
+ghost use Rattle.vcpu.specs.Processors.{HasMessage};
+ghost use Rattle.vcpu.specs.Answers.{is_count, state_answer, idle_answer, outstanding_answer, woken_answer, message_answer};
+
+use crate::fault::NewFault;
+use crate::sleepers::Sleepers;
+use mig_base::cpu_state::CpuState;
+use mig_base::refusal::Refusal;
+use mig_base::{Addr, Command, MAX_CPUS, NoMemory, PageNo, Reply};
+use std::alloc::Global;
+use std::marker::Model;
+
+/// The processors of a guest, 1 to 16, by their numbers from 0 on. Only `new`, `copy` and `commands` take memory. A call
+/// that is refused changes nothing.
+#[derive(Debug, Drop)]
+pub struct Cpus {
+    alloc: Global,
+    states: Vec<CpuState>,
+}
+
+impl Model for Cpus {
+    ghost use Rattle.std.specs.Prelude.{List};
+    ghost use Rattle.mig_base.specs.declared.cpu_state.CpuState.{CpuState};
+
+    ghost Value = { List CpuState };
+
+    ghost use Rattle.vcpu.specs.Processors.{AreProcessors};
+
+    ghost view = { λ a. a.states.items };
+
+    ghost invariant = { λ a. AreProcessors a.states.items };
+}
+
+impl Cpus {
+    /// `n` processors, all idle. `NoCpu` unless `n` is 1 to 16.
+    pub fn new(alloc: Global, n: u8) -> Result<Self, NewFault>
+        ensures cpus { IfOk result (λ cpus. cpus ≡ idle_processors n) }
+        ensures no_cpu { (result ≡ Err NewFault.NoCpu) ↔ (is_count n ≡ false) }
+    {
+        if n == 0 || n > MAX_CPUS {
+            return Err(NewFault::NoCpu);
+        }
+        let states = vec![in alloc; CpuState::Idle; usize::from(n)]?;
+        Ok(Cpus { alloc, states })
+    }
+
+    /// Equal processors, of memory of their own.
+    pub fn copy(&self) -> Result<Self, NoMemory>
+        ensures { IfOk result (λ copy. copy ≡ self.now) }
+    {
+        let states = Vec::from_slice(self.alloc, &self.states)?;
+        Ok(Cpus {
+            alloc: self.alloc,
+            states,
+        })
+    }
+
+    /// How many processors there are.
+    pub fn count(&self) -> u8
+        ensures count { result ≡ length self.now }
+        ensures range { (1 ≤ result) × (result ≤ MAX_CPUS) }
+    {
+        self.states.len() as u8
+    }
+
+    /// What processor `k` does. `NoCpu` where there is none.
+    pub fn state(&self, k: u8) -> Result<CpuState, Refusal>
+        ensures answer { result ≡ state_answer self.now k }
+        ensures message { IfOk result HasMessage }
+    {
+        match self.states.get(usize::from(k)) {
+            Some(state) => Ok(*state),
+            None => Err(Refusal::NoCpu),
+        }
+    }
+
+    /// The command that processor `k` still has to make: that of a processor that sleeps or was woken. `NoCpu` where there is no
+    /// such processor.
+    pub fn outstanding(&self, k: u8) -> Result<Option<Command>, Refusal>
+        ensures { result ≡ outstanding_answer self.now k }
+    {
+        Ok(command_of(self.state(k)?))
+    }
+
+    /// The commands that the processors still have to make, in the order of their numbers.
+    pub fn commands(&self) -> Result<Vec<Option<Command>>, NoMemory>
+        ensures { IfOk result (λ commands. commands.items ≡ map outstanding self.now) }
+    {
+        let commands = self
+            .states
+            .iter()
+            .map(|state| command_of(*state))
+            .collect(self.alloc)?;
+        Ok(commands)
+    }
+
+    /// Whether processor `k` may begin a command: `Busy` unless it is idle, `NoCpu` where there is no such processor.
+    pub fn ensure_idle(&self, k: u8) -> Result<(), Refusal>
+        ensures { result ≡ idle_answer self.now k }
+    {
+        match self.state(k)? {
+            CpuState::Idle => Ok(()),
+            _ => Err(Refusal::Busy),
+        }
+    }
+
+    /// The command that processor `k`, which was woken, has to try again. `NoCpu` where there is no such processor, `NotAsleep`
+    /// where it is idle or in a call, `NotWoken` where it still sleeps.
+    pub fn woken(&self, k: u8) -> Result<Command, Refusal>
+        ensures { result ≡ woken_answer self.now k }
+    {
+        match self.state(k)? {
+            CpuState::Woken(command) => Ok(command),
+            CpuState::Asleep(_) => Err(Refusal::NotWoken),
+            CpuState::Idle | CpuState::InCall { .. } => Err(Refusal::NotAsleep),
+        }
+    }
+
+    /// Processor `k` sleeps on the page of a load or a store. `NoCpu` where there is no such processor, `Busy` unless it is idle.
+    pub fn sleep(&mut self, k: u8, command: Command) -> Result<(), Refusal>
+        requires { is_access command ≡ true }
+        ensures answer { result ≡ idle_answer self.old k }
+        ensures ok { OnOk result (self.new ≡ set self.old k (CpuState.Asleep command)) }
+        ensures err { OnErr result (self.new ≡ self.old) }
+    {
+        self.ensure_idle(k)?;
+        self.put(usize::from(k), CpuState::Asleep(command));
+        Ok(())
+    }
+
+    /// Processor `k` is in a map call, which returns `reply` once `left` messages have been read. `NoCpu` where there is no such
+    /// processor, `Busy` unless it is idle.
+    pub fn call_sleeps(&mut self, k: u8, reply: Reply, left: u8) -> Result<(), Refusal>
+        requires { 0 < left }
+        ensures answer { result ≡ idle_answer self.old k }
+        ensures ok { OnOk result (self.new ≡ set self.old k (CpuState.InCall reply left)) }
+        ensures err { OnErr result (self.new ≡ self.old) }
+    {
+        self.ensure_idle(k)?;
+        self.put(usize::from(k), CpuState::InCall { reply, left });
+        Ok(())
+    }
+
+    /// Hands out the command of processor `k`, which was woken, and leaves it idle. Refused as `woken` is.
+    pub fn take(&mut self, k: u8) -> Result<Command, Refusal>
+        ensures answer { result ≡ woken_answer self.old k }
+        ensures ok { OnOk result (self.new ≡ set self.old k CpuState.Idle) }
+        ensures err { OnErr result (self.new ≡ self.old) }
+    {
+        let command = self.woken(k)?;
+        self.put(usize::from(k), CpuState::Idle);
+        Ok(command)
+    }
+
+    /// A message of the call of processor `k` was read. The last one hands over the reply, and leaves the processor idle. `NoCpu`
+    /// where there is no such processor, `NotAsleep` unless it is in a call.
+    pub fn message_read(&mut self, k: u8) -> Result<Option<Reply>, Refusal>
+        ensures answer { result ≡ message_answer self.old k }
+        ensures ok { OnOk result (self.new ≡ set self.old k (message_less (processor_at self.old k))) }
+        ensures err { OnErr result (self.new ≡ self.old) }
+    {
+        let CpuState::InCall { reply, left } = self.state(k)? else {
+            return Err(Refusal::NotAsleep);
+        };
+        let (state, handed_over) = if left > 1 {
+            let left = left - 1;
+            (CpuState::InCall { reply, left }, None)
+        } else {
+            (CpuState::Idle, Some(reply))
+        };
+        self.put(usize::from(k), state);
+        Ok(handed_over)
+    }
+
+    /// Wakes those that sleep on a page.
+    pub fn wake_page(&mut self, page: PageNo)
+        ensures { self.new ≡ all_woken (λ q. q == page) self.old }
+    {
+        self.wake(Sleepers::OnPage(page));
+    }
+
+    /// Wakes those that sleep on a page of the bytes from `start` up to, not with, `end`. Both are multiples of the page size.
+    pub fn wake_range(&mut self, start: Addr, end: Addr)
+        ensures { self.new ≡ all_woken (in_bytes start end) self.old }
+    {
+        self.wake(Sleepers::Between { start, end });
+    }
+
+    /// Wakes all that sleep.
+    pub fn wake_all(&mut self)
+        ensures { self.new ≡ all_woken (λ page. true) self.old }
+    {
+        self.wake(Sleepers::OnAnyPage);
+    }
+
+    /// The processors take over from those of another host, which hands each its outstanding command, to be tried again. One that
+    /// is handed none is idle.
+    pub fn take_over(&mut self, commands: &[Option<Command>])
+        requires { length commands.now ≡ length self.old }
+        ensures { self.new ≡ map taken_over commands.now }
+    {
+        for (k, command) in commands.iter().enumerate() {
+            self.put(k, state_taken_over(*command));
+        }
+    }
+
+    ghost use Rattle.vcpu.specs.Sleepers.{are_woken};
+
+    fn wake(&mut self, sleepers: Sleepers)
+        ensures { self.new ≡ all_woken (are_woken sleepers) self.old }
+    {
+        sleepers.wake(&mut self.states);
+    }
+
+    fn put(&mut self, k: usize, state: CpuState)
+        requires cpu { k < length self.old }
+        requires message { HasMessage state }
+        ensures { self.new ≡ set self.old k state }
+    {
+        self.states[k] = state;
+    }
+}
+
+/// The command that a processor still has to make.
+fn command_of(state: CpuState) -> Option<Command>
+    ensures { result ≡ outstanding state }
+{
+    match state {
+        CpuState::Asleep(command) | CpuState::Woken(command) => Some(command),
+        CpuState::Idle | CpuState::InCall { .. } => None,
+    }
+}
+
+/// The processor that was handed the command.
+fn state_taken_over(command: Option<Command>) -> CpuState
+    ensures { result ≡ taken_over command }
+{
+    command.map_or(CpuState::Idle, CpuState::Woken)
+}

@@ -1,0 +1,63 @@
+//! Whom a call wakes.
+
+ghost use Rattle.std.specs.Prelude.{◌≡◌};
+ghost use Rattle.mig_model.specs.Space.{page_of};
+ghost use Rattle.mig_model.specs.Guest.{woken_if, all_woken};
+
+use mig_base::cpu_state::CpuState;
+use mig_base::{Addr, Command, PAGE_SIZE, PageNo};
+
+/// Those who sleep on some pages.
+#[derive(Clone, Copy)]
+pub enum Sleepers {
+    /// On this page.
+    OnPage(PageNo),
+    /// On a page of the bytes from `start` up to, not with, `end`. Both are multiples of the page size.
+    Between { start: Addr, end: Addr },
+    /// On any page.
+    OnAnyPage,
+}
+
+impl Sleepers {
+    ghost use Rattle.vcpu.specs.Sleepers.{are_woken};
+
+    /// Whether those who sleep on the page are among them.
+    fn contain(self, page: u64) -> bool
+        ensures { result ≡ are_woken self page }
+    {
+        match self {
+            Sleepers::OnPage(woken) => page == u64::from(woken),
+            Sleepers::Between { start, end } => start / PAGE_SIZE <= page && page < end / PAGE_SIZE,
+            Sleepers::OnAnyPage => true,
+        }
+    }
+
+    /// The processor, woken if it is one of them.
+    fn wake_one(self, processor: CpuState) -> CpuState
+        ensures { result ≡ woken_if (are_woken self) processor }
+    {
+        match processor {
+            CpuState::Asleep(command) if self.contain(page_of(command)) => CpuState::Woken(command),
+            _ => processor,
+        }
+    }
+
+    /// Wakes them.
+    pub fn wake(self, processors: &mut [CpuState])
+        ensures { processors.new ≡ all_woken (are_woken self) processors.old }
+    {
+        for processor in processors.iter_mut() {
+            *processor = self.wake_one(*processor);
+        }
+    }
+}
+
+/// The page of a load or a store. No processor sleeps in another command.
+fn page_of(command: Command) -> u64
+    ensures { result ≡ page_of command }
+{
+    match command {
+        Command::Load { addr, .. } | Command::Store { addr, .. } => addr / PAGE_SIZE,
+        _ => 0,
+    }
+}
