@@ -48,7 +48,9 @@ fn command_line<'a>(alloc: Global) -> Result<Command<'a>, AllocError> {
     let check = Command::new(alloc, "check").about(
         "Says whether the transcript on standard input is that of one flat memory",
     );
+    // (the name in usage lines, whatever the file is called)
     Command::new(alloc, "postmig")
+        .bin_name("postmig")?
         .about("Runs scripts on a model of post-copy live migration")
         .version(VERSION)
         .subcommand_required(true)
