@@ -1,9 +1,9 @@
 //! The words of a migration that every crate shares.
 //!
 //! Addresses, pages and protections; the commands of processors and the replies to them; the steps of a world and their
-//! outcomes; [`Message`], what a userfault object tells, and [`Wake`], whom it wakes; [`PageSet`], a set of pages. What the
-//! commands do to one flat memory is a definition, `specs/Flat.antt`, after mmap(2), munmap(2), mremap(2) and madvise(2): this
-//! crate executes no command.
+//! outcomes; [`Message`], what a userfault object tells, [`Wake`], whom it wakes, and [`flags`], the numbers of its calls;
+//! [`PageSet`], a set of pages. What the commands do to one flat memory is a definition, `specs/Flat.antt`, after mmap(2),
+//! munmap(2), mremap(2) and madvise(2): this crate executes no command.
 #![tactic(auto)]
 
 ghost use Rattle.std.specs.Prelude.{◌≡◌, ◌*◌};
