@@ -79,6 +79,8 @@ pub enum Effect {
         discard: u32,
         owed: u32,
     },
+    /// That many bytes were moved, and completed no frame.
+    Moved { bytes: u64 },
     /// The destination knows of the migration.
     TookAdvise,
     /// The destination has the bytes of a page.

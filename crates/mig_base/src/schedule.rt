@@ -21,10 +21,10 @@ pub enum Step {
     SourceAct,
     /// The source stops its processors for good, and hands them over.
     Switch,
-    /// The destination takes the first frame of the forward wire.
-    Deliver,
-    /// The source takes the first frame of the back wire.
-    DeliverBack,
+    /// At most `n` bytes reach the destination, and none past the first frame that they complete, which it takes.
+    Deliver { n: u64 },
+    /// At most `n` bytes reach the source, and none past the first frame that they complete, which it takes.
+    DeliverBack { n: u64 },
     /// The destination's handler reads a message.
     DestRead,
     /// The destination's handler resolves the first fault that it has read.

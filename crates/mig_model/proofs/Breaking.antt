@@ -12,6 +12,7 @@ use Rattle.mig_model.specs.Migration.{World, has_started, after_break, after_not
 use Rattle.mig_model.specs.Invariant.{IsSoundWorld, AreWhole, copies_of, AreFaithful, AreOf}
 use Rattle.mig_model.specs.Source.{is_released, is_source_idle, is_source_paused}
 use Rattle.mig_model.specs.Destination.{is_dest_paused}
+use Rattle.mig_model.proofs.HeldLemmas.{fits-more}
 
 started_not_idle : (phase : SourcePhase) → not (is_source_idle phase) ≡ true → phase ≢ SourcePhase.Idle
 started_not_idle SourcePhase.Idle h e = false≢true h
@@ -60,6 +61,7 @@ kept-break world kept started unreleased =
         not_ahead = kept.epochs.not_ahead;
         epoch_at = λ up. absurd (false≢true up);
       };
+      held = record { forward_held = refl; back_held = refl };
     }
 
 -- before Switch End was not sent, whatever the phase is once a migration has started
@@ -112,6 +114,7 @@ kept-notice_source world kept started down =
         wires = λ up. link_down world.up down up;
       };
       epochs = kept.epochs;
+      held = kept.held;
     }
 
 pub kept-notice_destination : (world : World) → IsSoundWorld world → world.up ≡ false → IsSoundWorld (after_notice world Side.Destination)
@@ -146,6 +149,7 @@ kept-notice_destination world kept down =
         not_ahead = kept.epochs.not_ahead;
         epoch_at = λ up. link_down world.up down up;
       };
+      held = kept.held;
     }
 
 -- Resume: both sides have noticed that the link is down, and nothing is in flight
@@ -163,7 +167,7 @@ resumed_in SourcePhase.Paused DestPhase.Paused world is_from is_to down kept =
     let epoch = world.source.epoch + 1 in
     let before = kept.pushing.ended_before in
     let late = kept.epochs.not_ahead in
-    let one : world.forward ++ record { epoch = epoch; frame = Resume } ∷ [] ≡ record { epoch = epoch; frame = Resume } ∷ [] = ap (λ f. f ++ record { epoch = epoch; frame = Resume } ∷ []) nothing.0 in
+    let one : world.forward.frames ++ record { epoch = epoch; frame = Resume } ∷ [] ≡ record { epoch = epoch; frame = Resume } ∷ [] = ap (λ f. f ++ record { epoch = epoch; frame = Resume } ∷ []) nothing.0 in
     let ended : world.source.end_epoch ≢ epoch = λ h. absurd (omega (arith, before, h)) in
     record {
       memory = kept.memory;
@@ -196,6 +200,7 @@ resumed_in SourcePhase.Paused DestPhase.Paused world is_from is_to down kept =
         not_ahead = omega (arith, late);
         epoch_at = λ up. omega (arith, late);
       };
+      held = record { forward_held = fits-more world.forward.frames world.forward.held epoch (Resume ∷ []) kept.held.forward_held; back_held = kept.held.back_held };
     }
 resumed_in SourcePhase.Idle to world is_from is_to down kept = absurd (false≢true is_from)
 resumed_in SourcePhase.Precopy to world is_from is_to down kept = absurd (false≢true is_from)

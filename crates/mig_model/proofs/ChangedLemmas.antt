@@ -19,6 +19,7 @@ use Rattle.mig_model.specs.Invariant.{seen_host}
 use Rattle.mig_model.proofs.HostLemmas.{get-put}
 use Rattle.mig_model.proofs.SeenLemmas.{PageMap, AreMapped, overlay, get-seen}
 use Rattle.mig_model.specs.Promises.{gone, moved_owed, owed_changed}
+use Rattle.mig_model.specs.Migration.{start}
 
 none_absurd : {A : Type 0} → false ≡ true → A
 none_absurd h = absurd (false≢true h)

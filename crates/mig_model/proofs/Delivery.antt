@@ -1,5 +1,5 @@
 -- The destination takes a frame: Advise, a copy, a Discard, Resume.
-use Rattle.std.proofs.Common.{◌≡◌, ◌≢◌, ℕ, ◌≤◌, ◌&&◌, ◌||◌, Bool, true, false, cond, not, eqb, Option, Some, None, List, [], ◌∷◌, refl, sym, ap, ◌∙◌, subst, arith, length}
+use Rattle.std.proofs.Common.{◌≡◌, ◌≢◌, ℕ, ◌≤◌, ◌&&◌, ◌||◌, Bool, true, false, cond, not, eqb, Option, Some, None, List, [], ◌∷◌, refl, sym, ap, ◌∙◌, subst, arith, length, ◌<◌}
 use Rattle.std.specs.Ordering.{nat_cmp}
 use Rattle.std.specs.FinMap as finmap
 use Rattle.std.specs.FinMap.{FinMap, get, insert, get-retain_keys, nat_cmp-IsAntisymmetric}
@@ -15,7 +15,7 @@ use Rattle.mig_model.specs.Space.{fresh_space}
 use Rattle.mig_model.specs.Wire.{Frame, Sent, Copy, kept_after}
 use Rattle.mig_model.specs.Wire.Frame.{Advise, Page, Zero, Discard, Package, End, Resume}
 use Rattle.mig_model.specs.Migration.{World, is_end, after_deliver}
-use Rattle.mig_model.specs.Invariant.{Wires, IsSoundWorld, AreOf, AreWhole, AreFaithful, copies_of, has_copy, flow_of, EpochAt}
+use Rattle.mig_model.specs.Invariant.{Wires, IsSoundWorld, AreOf, AreWhole, AreFaithful, copies_of, has_copy, flow_of, EpochAt, AreSoundWires}
 use Rattle.mig_model.specs.Invariant.Flow.{Copies}
 use Rattle.mig_model.proofs.HostLemmas.{get-put}
 use Rattle.mig_model.proofs.WireLemmas.{has_copy-append, AreFaithful-append}
@@ -25,6 +25,7 @@ use Rattle.mig_model.proofs.EndTaken.{end_taken}
 use Rattle.mig_model.proofs.ResumeTaken.{resume_taken}
 use Rattle.mig_model.specs.Source.{Source}
 use Rattle.mig_model.specs.Destination.{Destination}
+use Rattle.mig_model.proofs.HeldLemmas.{fits-none}
 
 not_up : true ≡ false → ⊥
 not_up h = false≢true (sym h)
@@ -32,17 +33,18 @@ not_up h = false≢true (sym h)
 -- Advise: the wires are what they were
 advise_taken : (from : SourcePhase) (ran : Bool) (epoch : ℕ) (rest : List Sent) (world : World) →
     let old : World = at_state from DestPhase.Idle ran true (record { epoch = epoch; frame = Advise } ∷ rest) world in
-    let new : World = delivered old old.forward in
-    IsSoundWorld old → Wires new.source new.destination new.forward new.back → IsSoundWorld new
+    let new : World = delivered old old.forward.frames in
+    IsSoundWorld old → Wires new.source new.destination new.forward.frames new.back.frames → IsSoundWorld new
 advise_taken from ran epoch rest world kept on_wires =
     let old : World = at_state from DestPhase.Idle ran true (record { epoch = epoch; frame = Advise } ∷ rest) world in
-    let new : World = delivered old old.forward in
+    let new : World = delivered old old.forward.frames in
     let kept_advised : new.destination.phase ≡ DestPhase.Idle → new.destination.kept ≡ finmap.empty = λ h. cc in
-    let wires : new.up ≡ true → Wires new.source new.destination new.forward new.back = λ u. on_wires in
-    let down : new.up ≡ false → (new.forward ≡ []) × (new.back ≡ []) × (new.source.phase ≢ SourcePhase.Idle) × (new.source.phase ≢ SourcePhase.Released) = λ h. absurd (not_up h) in
-    let forward_epoch : AreOf new.source.epoch new.forward = kept.epochs.forward_epoch.1 in
+    let wires : new.up ≡ true → Wires new.source new.destination new.forward.frames new.back.frames = λ u. on_wires in
+    let down : new.up ≡ false → (new.forward.frames ≡ []) × (new.back.frames ≡ []) × (new.source.phase ≢ SourcePhase.Idle) × (new.source.phase ≢ SourcePhase.Released) = λ h. absurd (not_up h) in
+    let forward_epoch : AreOf new.source.epoch new.forward.frames = kept.epochs.forward_epoch.1 in
     let epochs : new.destination.epoch ≤ new.source.epoch = let e = kept.epochs.forward_epoch.0 in omega (arith, e) in
     let epoch_at : new.up ≡ true → EpochAt new.destination.phase new.destination.epoch new.source.epoch = λ u. kept.epochs.forward_epoch.0 in
+    let held : AreSoundWires new.forward new.back = record { forward_held = fits-none rest; back_held = kept.held.back_held } in
     assumption
 
 -- A copy while the destination does not run
@@ -62,19 +64,20 @@ whole_put kept page bytes n whole q held h = put_whole (eqb q page) bytes held (
 -- the kept table is folded over the wire as before
 copy_kept : (from : SourcePhase) (epoch page : ℕ) (bytes : List ℕ) (rest : List Sent) (world : World) →
     let old : World = at_state from DestPhase.Advised false true (record { epoch = epoch; frame = Page page bytes } ∷ rest) world in
-    let new : World = delivered old old.forward in
-    IsSoundWorld old → Wires new.source new.destination new.forward new.back → IsSoundWorld new
+    let new : World = delivered old old.forward.frames in
+    IsSoundWorld old → Wires new.source new.destination new.forward.frames new.back.frames → IsSoundWorld new
 copy_kept from epoch page bytes rest world kept on_wires =
     let old : World = at_state from DestPhase.Advised false true (record { epoch = epoch; frame = Page page bytes } ∷ rest) world in
-    let new : World = delivered old old.forward in
+    let new : World = delivered old old.forward.frames in
     let kept_none : new.destination.has_run ≡ true → new.destination.kept ≡ finmap.empty = λ h. absurd (false≢true h) in
     let kept_advised : new.destination.phase ≡ DestPhase.Idle → new.destination.kept ≡ finmap.empty = λ h. cc in
     let kept_whole : (q : ℕ) (held : List ℕ) → get new.destination.kept q ≡ Some held → length held ≡ 4096 = whole_put world.destination.kept page bytes kept.copies.copies_whole.0 kept.copies.kept_whole in
-    let copies_whole : AreWhole (copies_of new.forward) = kept.copies.copies_whole.1 in
-    let flight_faithful : new.destination.has_run ≡ true → AreFaithful new.source.guest.space.host.bytes (copies_of new.forward) = λ h. absurd (false≢true h) in
-    let wires : new.up ≡ true → Wires new.source new.destination new.forward new.back = λ u. on_wires in
-    let down : new.up ≡ false → (new.forward ≡ []) × (new.back ≡ []) × (new.source.phase ≢ SourcePhase.Idle) × (new.source.phase ≢ SourcePhase.Released) = λ h. absurd (not_up h) in
-    let forward_epoch : AreOf new.source.epoch new.forward = kept.epochs.forward_epoch.1 in
+    let copies_whole : AreWhole (copies_of new.forward.frames) = kept.copies.copies_whole.1 in
+    let flight_faithful : new.destination.has_run ≡ true → AreFaithful new.source.guest.space.host.bytes (copies_of new.forward.frames) = λ h. absurd (false≢true h) in
+    let wires : new.up ≡ true → Wires new.source new.destination new.forward.frames new.back.frames = λ u. on_wires in
+    let down : new.up ≡ false → (new.forward.frames ≡ []) × (new.back.frames ≡ []) × (new.source.phase ≢ SourcePhase.Idle) × (new.source.phase ≢ SourcePhase.Released) = λ h. absurd (not_up h) in
+    let forward_epoch : AreOf new.source.epoch new.forward.frames = kept.epochs.forward_epoch.1 in
+    let held : AreSoundWires new.forward new.back = record { forward_held = fits-none rest; back_held = kept.held.back_held } in
     assumption
 
 -- A Discard
@@ -91,18 +94,19 @@ whole_discarded kept pages whole q held h =
 
 discard_taken : (epoch : ℕ) (pages : FinSet nat_cmp) (rest : List Sent) (world : World) →
     let old : World = at_state SourcePhase.Stopped DestPhase.Advised false true (record { epoch = epoch; frame = Discard pages } ∷ rest) world in
-    IsSoundWorld old → IsSoundWorld (delivered old old.forward)
+    IsSoundWorld old → IsSoundWorld (delivered old old.forward.frames)
 discard_taken epoch pages rest world kept =
     let old : World = at_state SourcePhase.Stopped DestPhase.Advised false true (record { epoch = epoch; frame = Discard pages } ∷ rest) world in
-    let new : World = delivered old old.forward in
+    let new : World = delivered old old.forward.frames in
     let w = kept.flight.wires refl in
     let kept_none : new.destination.has_run ≡ true → new.destination.kept ≡ finmap.empty = λ h. absurd (false≢true h) in
     let kept_advised : new.destination.phase ≡ DestPhase.Idle → new.destination.kept ≡ finmap.empty = λ h. cc in
     let kept_whole : (q : ℕ) (held : List ℕ) → get new.destination.kept q ≡ Some held → length held ≡ 4096 = whole_discarded world.destination.kept pages kept.copies.kept_whole in
-    let wires : new.up ≡ true → Wires new.source new.destination new.forward new.back =
+    let wires : new.up ≡ true → Wires new.source new.destination new.forward.frames new.back.frames =
     λ u. (w.0, w.1, record { owed = w.2.owed; plan = w.2.plan; owed_present = w.2.owed_present; kept_rest = w.2.kept_rest; whereabouts = w.2.whereabouts; faithful = w.2.faithful }) in
-    let down : new.up ≡ false → (new.forward ≡ []) × (new.back ≡ []) × (new.source.phase ≢ SourcePhase.Idle) × (new.source.phase ≢ SourcePhase.Released) = λ h. absurd (not_up h) in
-    let forward_epoch : AreOf new.source.epoch new.forward = kept.epochs.forward_epoch.1 in
+    let down : new.up ≡ false → (new.forward.frames ≡ []) × (new.back.frames ≡ []) × (new.source.phase ≢ SourcePhase.Idle) × (new.source.phase ≢ SourcePhase.Released) = λ h. absurd (not_up h) in
+    let forward_epoch : AreOf new.source.epoch new.forward.frames = kept.epochs.forward_epoch.1 in
+    let held : AreSoundWires new.forward new.back = record { forward_held = fits-none rest; back_held = kept.held.back_held } in
     assumption
 
 -- A copy while the destination runs
@@ -119,20 +123,20 @@ came false false false false h = absurd (false≢true h)
 
 copy_arrives : (epoch page : ℕ) (bytes : List ℕ) (rest : List Sent) (world : World) →
     let old : World = at_state SourcePhase.Stopped DestPhase.Running true true (record { epoch = epoch; frame = Page page bytes } ∷ rest) world in
-    IsSoundWorld old → IsSoundWorld (delivered old old.forward)
+    IsSoundWorld old → IsSoundWorld (delivered old old.forward.frames)
 copy_arrives epoch page bytes rest world kept =
     let old : World = at_state SourcePhase.Stopped DestPhase.Running true true (record { epoch = epoch; frame = Page page bytes } ∷ rest) world in
-    let new : World = delivered old old.forward in
+    let new : World = delivered old old.forward.frames in
     let copy : Copy = record { page = page; bytes = bytes } in
     let w = kept.flight.wires refl in
-    let faithful : AreFaithful old.source.guest.space.host.bytes (copies_of old.forward) = kept.flight.flight_faithful refl in
+    let faithful : AreFaithful old.source.guest.space.host.bytes (copies_of old.forward.frames) = kept.flight.flight_faithful refl in
     let not_run : new.destination.has_run ≡ false → (new.destination.owed ≡ finmap.empty) × (new.destination.guest.space ≡ fresh_space) × (new.destination.arrivals ≡ []) = λ h. absurd (not_up h) in
-    let copies_whole : AreWhole (copies_of new.forward) = kept.copies.copies_whole.1 in
+    let copies_whole : AreWhole (copies_of new.forward.frames) = kept.copies.copies_whole.1 in
     let arrivals_faithful : new.destination.has_run ≡ true → AreFaithful new.source.guest.space.host.bytes new.destination.arrivals =
     λ r. AreFaithful-append new.source.guest.space.host.bytes world.destination.arrivals (copy ∷ []) (kept.owing.arrivals_faithful refl) (faithful.0, tt) in
-    let flight_faithful : new.destination.has_run ≡ true → AreFaithful new.source.guest.space.host.bytes (copies_of new.forward) = λ r. faithful.1 in
+    let flight_faithful : new.destination.has_run ≡ true → AreFaithful new.source.guest.space.host.bytes (copies_of new.forward.frames) = λ r. faithful.1 in
     let ended_empty : new.destination.ended ≡ true → (new.destination.owed ≡ finmap.empty) × (new.destination.arrivals ≡ []) = λ h. absurd (false≢true (sym kept.phases.destination_phase.1 ∙ h)) in
-    let wires : new.up ≡ true → Wires new.source new.destination new.forward new.back =
+    let wires : new.up ≡ true → Wires new.source new.destination new.forward.frames new.back.frames =
     λ u. (
       w.0,
       w.1,
@@ -142,8 +146,9 @@ copy_arrives epoch page bytes rest world kept =
             ∙ came (contains world.source.remaining origin) (eqb page origin) (has_copy (copies_of rest) origin) (has_copy world.destination.arrivals origin) (w.2.whereabouts q origin h);
       },
     ) in
-    let down : new.up ≡ false → (new.forward ≡ []) × (new.back ≡ []) × (new.source.phase ≢ SourcePhase.Idle) × (new.source.phase ≢ SourcePhase.Released) = λ h. absurd (not_up h) in
-    let forward_epoch : AreOf new.source.epoch new.forward = kept.epochs.forward_epoch.1 in
+    let down : new.up ≡ false → (new.forward.frames ≡ []) × (new.back.frames ≡ []) × (new.source.phase ≢ SourcePhase.Idle) × (new.source.phase ≢ SourcePhase.Released) = λ h. absurd (not_up h) in
+    let forward_epoch : AreOf new.source.epoch new.forward.frames = kept.epochs.forward_epoch.1 in
+    let held : AreSoundWires new.forward new.back = record { forward_held = fits-none rest; back_held = kept.held.back_held } in
     assumption
 
 -- A page of zeros is a copy of zeros
@@ -160,20 +165,24 @@ zero_wires SourcePhase.Paused DestPhase.Paused source destination epoch page res
 zero_wires from to source destination epoch page rest back w =
     absurd (false≢true (first_in_place (record source { phase = from }) (record destination { phase = to }) (record { epoch = epoch; frame = Zero page }) rest back w))
 
+zeros_shorter : (held : ℕ) → held < 16 → held < 4112
+zeros_shorter held h = omega (arith, h)
+
 as_page : (from : SourcePhase) (to : DestPhase) (ran : Bool) (epoch page : ℕ) (rest : List Sent) (world : World) →
     IsSoundWorld (at_state from to ran true (record { epoch = epoch; frame = Zero page } ∷ rest) world) →
     IsSoundWorld (at_state from to ran true (record { epoch = epoch; frame = Page page zero_page } ∷ rest) world)
 as_page from to ran epoch page rest world kept =
     let new : World = at_state from to ran true (record { epoch = epoch; frame = Page page zero_page } ∷ rest) world in
-    let wires : new.up ≡ true → Wires new.source new.destination new.forward new.back = λ u. zero_wires from to world.source new.destination epoch page rest world.back (kept.flight.wires refl) in
-    let down : new.up ≡ false → (new.forward ≡ []) × (new.back ≡ []) × (new.source.phase ≢ SourcePhase.Idle) × (new.source.phase ≢ SourcePhase.Released) = λ h. absurd (not_up h) in
+    let wires : new.up ≡ true → Wires new.source new.destination new.forward.frames new.back.frames = λ u. zero_wires from to world.source new.destination epoch page rest world.back.frames (kept.flight.wires refl) in
+    let down : new.up ≡ false → (new.forward.frames ≡ []) × (new.back.frames ≡ []) × (new.source.phase ≢ SourcePhase.Idle) × (new.source.phase ≢ SourcePhase.Released) = λ h. absurd (not_up h) in
+    let held : AreSoundWires new.forward new.back = record { forward_held = zeros_shorter world.forward.held kept.held.forward_held; back_held = kept.held.back_held } in
     assumption
 
 -- The frames in their phases
 
 precopy_unadvised : (ran : Bool) (epoch : ℕ) (frame : Frame) (rest : List Sent) (world : World) →
     let old : World = at_state SourcePhase.Precopy DestPhase.Idle ran true (record { epoch = epoch; frame = frame } ∷ rest) world in
-    IsSoundWorld old → IsSoundWorld (delivered old old.forward)
+    IsSoundWorld old → IsSoundWorld (delivered old old.forward.frames)
 precopy_unadvised ran epoch Advise rest world kept =
     let w = kept.flight.wires refl in
     advise_taken SourcePhase.Precopy ran epoch rest world kept (w.0, w.1, record { clean_copy = w.2.clean_copy; copies_sent = w.2.copies_sent })
@@ -181,7 +190,7 @@ precopy_unadvised ran epoch _ rest world kept = absurd (none_some Copies (kept.f
 
 stopped_unadvised : (ran : Bool) (epoch : ℕ) (frame : Frame) (rest : List Sent) (world : World) →
     let old : World = at_state SourcePhase.Stopped DestPhase.Idle ran true (record { epoch = epoch; frame = frame } ∷ rest) world in
-    IsSoundWorld old → IsSoundWorld (delivered old old.forward)
+    IsSoundWorld old → IsSoundWorld (delivered old old.forward.frames)
 stopped_unadvised ran epoch Advise rest world kept =
     let w = kept.flight.wires refl in
     advise_taken SourcePhase.Stopped ran epoch rest world kept
@@ -190,14 +199,14 @@ stopped_unadvised ran epoch _ rest world kept = absurd (none_some (flow_of (reco
 
 precopy_copy : (epoch page : ℕ) (bytes : List ℕ) (rest : List Sent) (world : World) →
     let old : World = at_state SourcePhase.Precopy DestPhase.Advised false true (record { epoch = epoch; frame = Page page bytes } ∷ rest) world in
-    IsSoundWorld old → IsSoundWorld (delivered old old.forward)
+    IsSoundWorld old → IsSoundWorld (delivered old old.forward.frames)
 precopy_copy epoch page bytes rest world kept =
     let w = kept.flight.wires refl in
     copy_kept SourcePhase.Precopy epoch page bytes rest world kept (w.0, w.1, record { clean_copy = w.2.clean_copy; copies_sent = w.2.copies_sent })
 
 stopped_copy : (epoch page : ℕ) (bytes : List ℕ) (rest : List Sent) (world : World) →
     let old : World = at_state SourcePhase.Stopped DestPhase.Advised false true (record { epoch = epoch; frame = Page page bytes } ∷ rest) world in
-    IsSoundWorld old → IsSoundWorld (delivered old old.forward)
+    IsSoundWorld old → IsSoundWorld (delivered old old.forward.frames)
 stopped_copy epoch page bytes rest world kept =
     let w = kept.flight.wires refl in
     copy_kept SourcePhase.Stopped epoch page bytes rest world kept
@@ -205,7 +214,7 @@ stopped_copy epoch page bytes rest world kept =
 
 precopy_advised : (epoch : ℕ) (frame : Frame) (rest : List Sent) (world : World) →
     let old : World = at_state SourcePhase.Precopy DestPhase.Advised false true (record { epoch = epoch; frame = frame } ∷ rest) world in
-    IsSoundWorld old → IsSoundWorld (delivered old old.forward)
+    IsSoundWorld old → IsSoundWorld (delivered old old.forward.frames)
 precopy_advised epoch (Page page bytes) rest world kept = precopy_copy epoch page bytes rest world kept
 precopy_advised epoch (Zero page) rest world kept = precopy_copy epoch page zero_page rest world (as_page SourcePhase.Precopy DestPhase.Advised false epoch page rest world kept)
 precopy_advised epoch (Discard pages) rest world kept = absurd (ends_late rest (kept.flight.wires refl).0)
@@ -213,7 +222,7 @@ precopy_advised epoch _ rest world kept = absurd (none_some Copies (kept.flight.
 
 stopped_advised : (epoch : ℕ) (frame : Frame) (rest : List Sent) (world : World) →
     let old : World = at_state SourcePhase.Stopped DestPhase.Advised false true (record { epoch = epoch; frame = frame } ∷ rest) world in
-    IsSoundWorld old → IsSoundWorld (delivered old old.forward)
+    IsSoundWorld old → IsSoundWorld (delivered old old.forward.frames)
 stopped_advised epoch (Page page bytes) rest world kept = stopped_copy epoch page bytes rest world kept
 stopped_advised epoch (Zero page) rest world kept = stopped_copy epoch page zero_page rest world (as_page SourcePhase.Stopped DestPhase.Advised false epoch page rest world kept)
 stopped_advised epoch (Discard pages) rest world kept = discard_taken epoch pages rest world kept
@@ -221,7 +230,7 @@ stopped_advised epoch _ rest world kept = absurd (none_some (flow_of (record wor
 
 stopped_discarding : (epoch : ℕ) (frame : Frame) (rest : List Sent) (world : World) →
     let old : World = at_state SourcePhase.Stopped DestPhase.Discarding false true (record { epoch = epoch; frame = frame } ∷ rest) world in
-    IsSoundWorld old → IsSoundWorld (delivered old old.forward)
+    IsSoundWorld old → IsSoundWorld (delivered old old.forward.frames)
 stopped_discarding epoch (Package areas owed commands) rest world kept = package_taken epoch areas owed commands rest world kept
 stopped_discarding epoch _ rest world kept = absurd (none_some (flow_of (record world.source { phase = SourcePhase.Stopped })) (kept.flight.wires refl).0)
 
@@ -235,7 +244,7 @@ none_waits (copy ∷ arrivals) h = absurd (not_up h)
 
 stopped_running : (epoch : ℕ) (frame : Frame) (rest : List Sent) (world : World) → IsFree frame world →
     let old : World = at_state SourcePhase.Stopped DestPhase.Running true true (record { epoch = epoch; frame = frame } ∷ rest) world in
-    IsSoundWorld old → IsSoundWorld (delivered old old.forward)
+    IsSoundWorld old → IsSoundWorld (delivered old old.forward.frames)
 stopped_running epoch (Page page bytes) rest world free kept = copy_arrives epoch page bytes rest world kept
 stopped_running epoch (Zero page) rest world free kept = copy_arrives epoch page zero_page rest world (as_page SourcePhase.Stopped DestPhase.Running true epoch page rest world kept)
 stopped_running epoch End rest world free kept = end_taken epoch rest world (none_waits world.destination.arrivals free) kept
@@ -246,7 +255,7 @@ is_resume_first frame epoch source_epoch rest h = ap (λ (wire : List Sent). eli
 
 paused_interrupted : (ran : Bool) (epoch : ℕ) (frame : Frame) (rest : List Sent) (world : World) → frame ≡ Resume →
     let old : World = at_state SourcePhase.Paused DestPhase.Paused ran true (record { epoch = epoch; frame = frame } ∷ rest) world in
-    IsSoundWorld old → IsSoundWorld (delivered old old.forward)
+    IsSoundWorld old → IsSoundWorld (delivered old old.forward.frames)
 paused_interrupted ran epoch frame rest world is =
     subst (λ f. IsSoundWorld (at_state SourcePhase.Paused DestPhase.Paused ran true (record { epoch = epoch; frame = f } ∷ rest) world) →
     IsSoundWorld (delivered (at_state SourcePhase.Paused DestPhase.Paused ran true (record { epoch = epoch; frame = f } ∷ rest) world) (record { epoch = epoch; frame = f } ∷ rest)))
@@ -254,7 +263,7 @@ paused_interrupted ran epoch frame rest world is =
 
 delivered_in : (from : SourcePhase) (to : DestPhase) (ran : Bool) (sent : Sent) (rest : List Sent) (world : World) → IsFree sent.frame world →
     let old : World = at_state from to ran true (sent ∷ rest) world in
-    IsSoundWorld old → IsSoundWorld (delivered old old.forward)
+    IsSoundWorld old → IsSoundWorld (delivered old old.forward.frames)
 delivered_in SourcePhase.Precopy DestPhase.Idle ran sent rest world free kept = precopy_unadvised ran sent.epoch sent.frame rest world kept
 delivered_in SourcePhase.Precopy DestPhase.Advised false sent rest world free kept = precopy_advised sent.epoch sent.frame rest world kept
 delivered_in SourcePhase.Precopy DestPhase.Advised true sent rest world free kept = absurd (not_up kept.phases.destination_phase)
@@ -266,12 +275,12 @@ delivered_in SourcePhase.Stopped DestPhase.Discarding true sent rest world free 
 delivered_in SourcePhase.Stopped DestPhase.Running true sent rest world free kept = stopped_running sent.epoch sent.frame rest world free kept
 delivered_in SourcePhase.Stopped DestPhase.Running false sent rest world free kept = absurd (false≢true kept.phases.destination_phase.0)
 delivered_in SourcePhase.Paused DestPhase.Paused ran sent rest world free kept = paused_interrupted ran sent.epoch sent.frame rest world (is_resume_first sent.frame sent.epoch world.source.epoch rest (kept.flight.wires refl).0) kept
-delivered_in from to ran sent rest world free kept = absurd (false≢true (first_in_place (record world.source { phase = from }) (record world.destination { phase = to; has_run = ran }) sent rest world.back (kept.flight.wires refl)))
+delivered_in from to ran sent rest world free kept = absurd (false≢true (first_in_place (record world.source { phase = from }) (record world.destination { phase = to; has_run = ran }) sent rest world.back.frames (kept.flight.wires refl)))
 
 delivered_by : (up : Bool) (sent : Sent) (rest : List Sent) (world : World) → up ≡ true → IsFree sent.frame world →
-    IsSoundWorld (record world { up = up; forward = sent ∷ rest }) → IsSoundWorld (after_deliver (record world { up = up; forward = sent ∷ rest }) sent rest)
+    IsSoundWorld (record world { up = up; forward = record world.forward { frames = sent ∷ rest } }) → IsSoundWorld (after_deliver (record world { up = up; forward = record world.forward { frames = sent ∷ rest } }) sent rest)
 delivered_by true sent rest world h free kept = delivered_in world.source.phase world.destination.phase world.destination.has_run sent rest world free kept
 delivered_by false sent rest world h free kept = absurd (false≢true h)
 
-pub kept-deliver : (world : World) (sent : Sent) (rest : List Sent) → IsSoundWorld world → world.forward ≡ sent ∷ rest → world.up ≡ true → IsFree sent.frame world → IsSoundWorld (after_deliver world sent rest)
-kept-deliver world sent rest kept first up free = delivered_by world.up sent rest world up free (subst (λ wire. IsSoundWorld (record world { forward = wire })) first kept)
+pub kept-deliver : (world : World) (sent : Sent) (rest : List Sent) → IsSoundWorld world → world.forward.frames ≡ sent ∷ rest → world.up ≡ true → IsFree sent.frame world → IsSoundWorld (after_deliver world sent rest)
+kept-deliver world sent rest kept first up free = delivered_by world.up sent rest world up free (subst (λ wire. IsSoundWorld (record world { forward = record world.forward { frames = wire } })) first kept)

@@ -21,7 +21,7 @@ use Rattle.mig_model.specs.Log.{no_pages}
 
 recv_not_run : (switched : Bool) (owed : FinSet nat_cmp) (epoch : ℕ) (rest : List Sent) (world : World) → rest ≡ [] →
     let old : World = at_back SourcePhase.Paused DestPhase.Advised false switched [] (record { epoch = epoch; frame = Recv Received.NotRun owed } ∷ rest) world in
-    IsSoundWorld old → IsSoundWorld (delivered_back old old.back)
+    IsSoundWorld old → IsSoundWorld (delivered_back old old.back.frames)
 recv_not_run false owed epoch rest world last kept = recv_precopy owed epoch rest world kept last
 recv_not_run true owed epoch rest world last kept = recv_switched owed epoch rest world kept last
 
@@ -67,8 +67,8 @@ is_last (sent ∷ rest) h = absurd (false≢true h)
 
 -- a request, while the destination runs
 stopped_runs : (ran switched : Bool) (epoch : ℕ) (frame : Frame) (rest : List Sent) (world : World) →
-    let old : World = at_back SourcePhase.Stopped DestPhase.Running ran switched world.forward (record { epoch = epoch; frame = frame } ∷ rest) world in
-    IsSoundWorld old → IsSoundWorld (delivered_back old old.back)
+    let old : World = at_back SourcePhase.Stopped DestPhase.Running ran switched world.forward.frames (record { epoch = epoch; frame = frame } ∷ rest) world in
+    IsSoundWorld old → IsSoundWorld (delivered_back old old.back.frames)
 stopped_runs ran switched epoch (Request page) rest world kept =
     let w = kept.flight.wires refl in
     request_taken DestPhase.Running ran switched epoch page rest world kept (w.0, w.1, record { whereabouts = w.2.whereabouts })
@@ -76,8 +76,8 @@ stopped_runs ran switched epoch _ rest world kept = absurd (false≢true (kept.f
 
 -- a request or Done, once it has ended
 stopped_ended : (ran switched : Bool) (epoch : ℕ) (frame : Frame) (rest : List Sent) (world : World) →
-    let old : World = at_back SourcePhase.Stopped DestPhase.Ended ran switched world.forward (record { epoch = epoch; frame = frame } ∷ rest) world in
-    IsSoundWorld old → IsSoundWorld (delivered_back old old.back)
+    let old : World = at_back SourcePhase.Stopped DestPhase.Ended ran switched world.forward.frames (record { epoch = epoch; frame = frame } ∷ rest) world in
+    IsSoundWorld old → IsSoundWorld (delivered_back old old.back.frames)
 stopped_ended ran switched epoch (Request page) rest world kept =
     let w = kept.flight.wires refl in
     request_taken DestPhase.Ended ran switched epoch page rest world kept (w.0, or_none (are_requests_and_done rest) w.1, w.2)
@@ -85,12 +85,12 @@ stopped_ended false switched epoch Done rest world kept = absurd (false≢true (
 stopped_ended true false epoch Done rest world kept = absurd (false≢true kept.phases.source_phase)
 stopped_ended true true epoch Done rest world kept =
     let w = kept.flight.wires refl in
-    released_kept SourcePhase.Stopped world.forward (record { epoch = epoch; frame = Done } ∷ rest) rest world kept w.0 (is_last rest w.1)
+    released_kept SourcePhase.Stopped world.forward.frames (record { epoch = epoch; frame = Done } ∷ rest) rest world kept w.0 (is_last rest w.1)
 stopped_ended ran switched epoch _ rest world kept = absurd (false≢true (kept.flight.wires refl).1)
 
 back_in : (from : SourcePhase) (to : DestPhase) (ran switched : Bool) (sent : Sent) (rest : List Sent) (world : World) →
-    let old : World = at_back from to ran switched world.forward (sent ∷ rest) world in
-    IsSoundWorld old → IsSoundWorld (delivered_back old old.back)
+    let old : World = at_back from to ran switched world.forward.frames (sent ∷ rest) world in
+    IsSoundWorld old → IsSoundWorld (delivered_back old old.back.frames)
 back_in SourcePhase.Idle to ran switched sent rest world kept = absurd (empty_not sent rest (kept.flight.wires refl).2)
 back_in SourcePhase.Precopy DestPhase.Idle ran switched sent rest world kept = absurd (empty_not sent rest (kept.flight.wires refl).1)
 back_in SourcePhase.Precopy DestPhase.Advised ran switched sent rest world kept = absurd (empty_not sent rest (kept.flight.wires refl).1)
@@ -99,16 +99,16 @@ back_in SourcePhase.Stopped DestPhase.Advised ran switched sent rest world kept 
 back_in SourcePhase.Stopped DestPhase.Discarding ran switched sent rest world kept = absurd (empty_not sent rest (kept.flight.wires refl).1)
 back_in SourcePhase.Stopped DestPhase.Running ran switched sent rest world kept = stopped_runs ran switched sent.epoch sent.frame rest world kept
 back_in SourcePhase.Stopped DestPhase.Ended ran switched sent rest world kept = stopped_ended ran switched sent.epoch sent.frame rest world kept
-back_in SourcePhase.Paused DestPhase.Advised ran switched sent rest world kept = at_advised ran switched world.forward (sent ∷ rest) world kept
-back_in SourcePhase.Paused DestPhase.Running ran switched sent rest world kept = at_runs ran switched world.forward (sent ∷ rest) world kept
+back_in SourcePhase.Paused DestPhase.Advised ran switched sent rest world kept = at_advised ran switched world.forward.frames (sent ∷ rest) world kept
+back_in SourcePhase.Paused DestPhase.Running ran switched sent rest world kept = at_runs ran switched world.forward.frames (sent ∷ rest) world kept
 back_in SourcePhase.Paused DestPhase.Paused ran switched sent rest world kept = absurd (empty_not sent rest (kept.flight.wires refl).1)
-back_in SourcePhase.Paused DestPhase.Ended ran switched sent rest world kept = at_ended ran switched world.forward (sent ∷ rest) world kept
+back_in SourcePhase.Paused DestPhase.Ended ran switched sent rest world kept = at_ended ran switched world.forward.frames (sent ∷ rest) world kept
 back_in SourcePhase.Released to ran switched sent rest world kept = absurd (empty_not sent rest (kept.flight.wires refl).2)
 back_in from to ran switched sent rest world kept = absurd (kept.flight.wires refl)
 
-back_by : (up : Bool) (sent : Sent) (rest : List Sent) (world : World) → up ≡ true → IsSoundWorld (record world { up = up; back = sent ∷ rest }) → IsSoundWorld (after_deliver_back (record world { up = up; back = sent ∷ rest }) sent rest)
+back_by : (up : Bool) (sent : Sent) (rest : List Sent) (world : World) → up ≡ true → IsSoundWorld (record world { up = up; back = record world.back { frames = sent ∷ rest } }) → IsSoundWorld (after_deliver_back (record world { up = up; back = record world.back { frames = sent ∷ rest } }) sent rest)
 back_by true sent rest world h kept = back_in world.source.phase world.destination.phase world.destination.has_run world.source.switched sent rest world kept
 back_by false sent rest world h kept = absurd (false≢true h)
 
-pub kept-deliver_back : (world : World) (sent : Sent) (rest : List Sent) → IsSoundWorld world → world.back ≡ sent ∷ rest → world.up ≡ true → IsSoundWorld (after_deliver_back world sent rest)
-kept-deliver_back world sent rest kept first up = back_by world.up sent rest world up (subst (λ wire. IsSoundWorld (record world { back = wire })) first kept)
+pub kept-deliver_back : (world : World) (sent : Sent) (rest : List Sent) → IsSoundWorld world → world.back.frames ≡ sent ∷ rest → world.up ≡ true → IsSoundWorld (after_deliver_back world sent rest)
+kept-deliver_back world sent rest kept first up = back_by world.up sent rest world up (subst (λ wire. IsSoundWorld (record world { back = record world.back { frames = wire } })) first kept)

@@ -19,11 +19,11 @@ use Rattle.mig_model.specs.Userfault.{Noted, is_registered}
 use Rattle.mig_model.specs.Space.{Space}
 use Rattle.mig_model.specs.Ioctls.{put_pages}
 use Rattle.mig_model.specs.Guest.{Fault, is_forgotten, is_present, zero_installed, resolved}
-use Rattle.mig_model.specs.Wire.{Sent, sending_if}
+use Rattle.mig_model.specs.Wire.{Sent, wire_if}
 use Rattle.mig_model.specs.Wire.Frame.{Request}
 use Rattle.mig_model.specs.Guest.Act.{Zeroed, Woke, Forgot, Requested}
 use Rattle.mig_model.specs.Migration.{World, destination_sends, after_dest_act, is_changing, runs}
-use Rattle.mig_model.specs.Invariant.{IsSoundWorld, Wires, AreOf, EpochAt, are_requests, is_request, seen_host, seen_bytes}
+use Rattle.mig_model.specs.Invariant.{IsSoundWorld, Wires, AreOf, EpochAt, are_requests, is_request, seen_host, seen_bytes, HeldFits}
 use Rattle.mig_model.proofs.HostLemmas.{memory-at, same_memory}
 use Rattle.mig_model.proofs.SettledLemmas.{none_some, none_absurd, eqb_true}
 use Rattle.mig_model.proofs.DestinationRead.{kept-handled}
@@ -33,6 +33,7 @@ use Rattle.mig_model.specs.Log.{forgotten, present}
 use Rattle.mig_model.specs.Owed.{is_requested, requesting}
 use Rattle.mig_model.specs.Source.{Source, space_of}
 use Rattle.mig_model.specs.Destination.{Destination, act_frames, destination_act_by, destination_acted_by, is_running}
+use Rattle.mig_model.proofs.HeldLemmas.{fits-append}
 
 -- A page of zeros
 
@@ -129,8 +130,8 @@ up_not_down : {A : Type 0} (up : Bool) → up ≡ true → up ≡ false → A
 up_not_down up h k = none_absurd (sym k ∙ h)
 
 -- only the wire back has changed
-pub kept-back : (world : World) (back : List Sent) → world.up ≡ true → AreOf world.source.epoch back → Wires world.source world.destination world.forward back → IsSoundWorld world → IsSoundWorld (record world { back = back })
-kept-back world back up epoch wires kept =
+pub kept-back : (world : World) (back : List Sent) → world.up ≡ true → AreOf world.source.epoch back → Wires world.source world.destination world.forward.frames back → HeldFits back world.back.held → IsSoundWorld world → IsSoundWorld (record world { back = record world.back { frames = back } })
+kept-back world back up epoch wires fits kept =
     record {
       memory = kept.memory;
       spaces = kept.spaces;
@@ -150,22 +151,24 @@ kept-back world back up epoch wires kept =
         not_ahead = kept.epochs.not_ahead;
         epoch_at = kept.epochs.epoch_at;
       };
+      held = record { forward_held = kept.held.forward_held; back_held = fits };
     }
 
 -- a request is sent where the destination runs and the page was not asked for yet, and is lost where the link is down
 sent_back : (up asked runs : Bool) (world : World) (source : ℕ) → world.up ≡ up → is_running world.destination.phase ≡ runs → IsSoundWorld world →
-    IsSoundWorld (record world { back = sending_if up world.back world.destination.epoch (if asked || not runs then [] else Request source ∷ []) })
+    IsSoundWorld (record world { back = wire_if up world.back world.destination.epoch (if asked || not runs then [] else Request source ∷ []) })
 sent_back false asked runs world source up running kept = kept
 sent_back true true runs world source up running kept = kept
 sent_back true false false world source up running kept = kept
 sent_back true false true world source up running kept =
     let sent : Sent = record { epoch = world.destination.epoch; frame = Request source } in
-    kept-back world (world.back ++ sent ∷ []) up
-    (AreOf-push world.source.epoch world.back sent (running_epoch world.destination.phase world.destination.epoch world.source.epoch running (kept.epochs.epoch_at up)) kept.epochs.back_epoch)
-    (request_wires world.source.phase world.destination.phase world.source world.destination world.forward world.back sent refl running (kept.flight.wires up)) kept
+    kept-back world (world.back.frames ++ sent ∷ []) up
+    (AreOf-push world.source.epoch world.back.frames sent (running_epoch world.destination.phase world.destination.epoch world.source.epoch running (kept.epochs.epoch_at up)) kept.epochs.back_epoch)
+    (request_wires world.source.phase world.destination.phase world.source world.destination world.forward.frames world.back.frames sent refl running (kept.flight.wires up))
+    (fits-append world.back.frames (sent ∷ []) world.back.held kept.held.back_held) kept
 
 -- nothing is sent
-nothing_sent : (up : Bool) (world : World) → world.up ≡ up → IsSoundWorld world → IsSoundWorld (record world { back = sending_if up world.back world.destination.epoch [] })
+nothing_sent : (up : Bool) (world : World) → world.up ≡ up → IsSoundWorld world → IsSoundWorld (record world { back = wire_if up world.back world.destination.epoch [] })
 nothing_sent false world up kept = kept
 nothing_sent true world up kept = kept
 

@@ -116,8 +116,8 @@ kept-tried_at true world cpu command is ran kept =
     let not_run : new.destination.has_run ≡ false → (new.destination.owed ≡ finmap.empty) × (new.destination.guest.space ≡ fresh_space) × (new.destination.arrivals ≡ []) =
     λ never. absurd (false≢true (sym never ∙ ran)) in
     let pairs_missing : (page origin : ℕ) → settled new.destination page ≡ Some origin → (contains new.destination.guest.space.object.missing page ≡ true) × (is_present new.destination.guest.space page ≡ false) = ready.pairs in
-    let wires : new.up ≡ true → Wires new.source new.destination new.forward new.back =
-    λ up. wires-with_guest world.source world.destination new.destination.guest world.forward world.back (kept.flight.wires up) in
+    let wires : new.up ≡ true → Wires new.source new.destination new.forward.frames new.back.frames =
+    λ up. wires-with_guest world.source world.destination new.destination.guest world.forward.frames world.back.frames (kept.flight.wires up) in
     assumption
 
 pub kept-command_at_destination : (world : World) (cpu : ℕ) (command : Command) → world.destination.has_run ≡ true → IsSoundWorld world → IsSoundWorld (after_command world cpu command)

@@ -161,9 +161,10 @@ kept-handled world guest held owed requests arrivals installed dropped faults ke
       flight = record {
         flight_faithful = kept.flight.flight_faithful;
         down = kept.flight.down;
-        wires = λ up. wires_handled world.source.phase world.destination.phase world.source world.destination world.forward world.back guest held owed requests arrivals installed dropped faults new.values new.copies (kept.flight.wires up);
+        wires = λ up. wires_handled world.source.phase world.destination.phase world.source world.destination world.forward.frames world.back.frames guest held owed requests arrivals installed dropped faults new.values new.copies (kept.flight.wires up);
       };
       epochs = kept.epochs;
+      held = kept.held;
     }
 
 -- A message is read

@@ -12,12 +12,13 @@ use Rattle.mig_base.proofs.PageLemmas.{same_pages}
 use Rattle.mig_model.specs.Wire.{Sent, Copy}
 use Rattle.mig_model.specs.Wire.Frame.{End, Done}
 use Rattle.mig_model.specs.Migration.{World}
-use Rattle.mig_model.specs.Invariant.{Wires, IsSoundWorld, IsFlowing, AreOf, copies_of, has_copy, flow_of, RanAt}
+use Rattle.mig_model.specs.Invariant.{Wires, IsSoundWorld, IsFlowing, AreOf, copies_of, has_copy, flow_of, RanAt, AreSoundWires}
 use Rattle.mig_model.specs.Invariant.Flow.{Pushed, AfterEnd}
 use Rattle.mig_model.proofs.WireLemmas.{AreOf-append, are_requests_and_done-push}
 use Rattle.mig_model.proofs.FirstFrame.{at_state, nothing_behind, delivered}
 use Rattle.mig_model.specs.Log.{no_pages}
 use Rattle.mig_model.specs.Source.{Source}
+use Rattle.mig_model.proofs.HeldLemmas.{fits-append, fits-none}
 
 eqb_true : (a b : ℕ) → eqb a b ≡ true → a ≡ b
 eqb_true a b h = grind (arith, nat_tests)
@@ -44,14 +45,14 @@ none_owed (Some x) never = absurd (never x refl)
 
 pub end_taken : (epoch : ℕ) (rest : List Sent) (world : World) →
     let old : World = at_state SourcePhase.Stopped DestPhase.Running true true (record { epoch = epoch; frame = End } ∷ rest) world in
-    world.destination.arrivals ≡ [] → IsSoundWorld old → IsSoundWorld (delivered old old.forward)
+    world.destination.arrivals ≡ [] → IsSoundWorld old → IsSoundWorld (delivered old old.forward.frames)
 end_taken epoch rest world free kept =
     let old : World = at_state SourcePhase.Stopped DestPhase.Running true true (record { epoch = epoch; frame = End } ∷ rest) world in
-    let new : World = delivered old old.forward in
+    let new : World = delivered old old.forward.frames in
     let w = kept.flight.wires refl in
     let last = nothing_behind rest (flow_of old.source) w.0 in
     let ended : old.source.end_epoch ≡ old.source.epoch = ended_now old.source last.1 in
-    let flowing : IsFlowing old.source old.destination old.forward = w.2 in
+    let flowing : IsFlowing old.source old.destination old.forward.frames = w.2 in
     let no_pair : world.destination.owed ≡ finmap.empty =
     same_pages world.destination.owed finmap.empty (λ page.
     none_owed (get world.destination.owed page) (λ origin h. nowhere world.source.remaining rest world.destination.arrivals origin (kept.pushing.end_sent ended) last.0 free (flowing.whereabouts page origin h))
@@ -60,9 +61,10 @@ end_taken epoch rest world free kept =
     let ended_after_run : new.destination.ended ≡ true → new.destination.has_run ≡ true = λ h. refl in
     let kept_advised : new.destination.phase ≡ DestPhase.Idle → new.destination.kept ≡ finmap.empty = λ h. cc in
     let ended_empty : new.destination.ended ≡ true → (new.destination.owed ≡ finmap.empty) × (new.destination.arrivals ≡ []) = λ h. (no_pair, free) in
-    let wires : new.up ≡ true → Wires new.source new.destination new.forward new.back =
-    λ u. (last.0, are_requests_and_done-push world.back (record { epoch = world.destination.epoch; frame = Done }) refl w.1, ended) in
-    let down : new.up ≡ false → (new.forward ≡ []) × (new.back ≡ []) × (new.source.phase ≢ SourcePhase.Idle) × (new.source.phase ≢ SourcePhase.Released) = λ h. absurd (false≢true (sym h)) in
-    let forward_epoch : AreOf new.source.epoch new.forward = kept.epochs.forward_epoch.1 in
-    let back_epoch : AreOf new.source.epoch new.back = AreOf-append world.source.epoch world.back (record { epoch = world.destination.epoch; frame = Done } ∷ []) kept.epochs.back_epoch (kept.epochs.epoch_at refl, tt) in
+    let wires : new.up ≡ true → Wires new.source new.destination new.forward.frames new.back.frames =
+    λ u. (last.0, are_requests_and_done-push world.back.frames (record { epoch = world.destination.epoch; frame = Done }) refl w.1, ended) in
+    let down : new.up ≡ false → (new.forward.frames ≡ []) × (new.back.frames ≡ []) × (new.source.phase ≢ SourcePhase.Idle) × (new.source.phase ≢ SourcePhase.Released) = λ h. absurd (false≢true (sym h)) in
+    let forward_epoch : AreOf new.source.epoch new.forward.frames = kept.epochs.forward_epoch.1 in
+    let back_epoch : AreOf new.source.epoch new.back.frames = AreOf-append world.source.epoch world.back.frames (record { epoch = world.destination.epoch; frame = Done } ∷ []) kept.epochs.back_epoch (kept.epochs.epoch_at refl, tt) in
+    let held : AreSoundWires new.forward new.back = record { forward_held = fits-none rest; back_held = fits-append world.back.frames (record { epoch = world.destination.epoch; frame = Done } ∷ []) world.back.held kept.held.back_held } in
     assumption

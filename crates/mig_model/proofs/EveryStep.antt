@@ -4,7 +4,7 @@ use Rattle.mig_base.specs.declared.refusal.Refusal.{Refusal}
 use Rattle.mig_base.specs.declared.schedule.Side.{Side}
 use Rattle.mig_base.specs.declared.schedule.Step.{Step}
 use Rattle.mig_base.specs.declared.command.Command.{Command}
-use Rattle.mig_model.specs.Migration.{World, first_world_with, next, after_steps, after_command, runs, answer}
+use Rattle.mig_model.specs.Migration.{World, first_world_with, next, after_steps, after_command, runs, answer, after_move, after_move_back, is_short}
 use Rattle.mig_model.specs.Invariant.{IsSoundWorld}
 use Rattle.mig_model.specs.Promises.{IsReached, IsComplete}
 use Rattle.mig_model.proofs.Breaking.{kept-break, kept-notice_source, kept-notice_destination, kept-resume}
@@ -25,6 +25,8 @@ use Rattle.mig_model.proofs.StaysComplete.{complete-next}
 use Rattle.mig_model.proofs.StepLemmas.{Leaves, leaves-next}
 use Rattle.mig_model.proofs.StepCases.{made-break, made-deliver, made-deliver_back, made-dest_act, made-dest_read, made-end, made-install, made-issue, made-notice, made-push, made-resume, made-retry, made-round, made-send, made-serve, made-source_act, made-source_read, made-start, made-switch}
 use Rattle.mig_model.specs.Log.{present}
+use Rattle.mig_model.specs.Wire.{Sent}
+use Rattle.mig_model.proofs.HeldLemmas.{fits-moved}
 
 -- Commands: the node that runs the guest makes them
 
@@ -40,6 +42,38 @@ command_by false world cpu command is may kept = kept-command_at_source world cp
 kept-command : (world : World) (cpu : ℕ) (command : Command) → runs world ≡ true → IsSoundWorld world → IsSoundWorld (after_command world cpu command)
 kept-command world cpu command may kept = command_by world.destination.has_run world cpu command refl may kept
 
+-- bytes that complete no frame change nothing else
+
+kept-move : (world : World) (n : ℕ) (sent : Sent) (rest : List Sent) → IsSoundWorld world → world.forward.frames ≡ sent ∷ rest → is_short world.forward sent.frame n ≡ true → IsSoundWorld (after_move world n)
+kept-move world n sent rest kept is short =
+    record {
+      memory = kept.memory;
+      spaces = kept.spaces;
+      phases = kept.phases;
+      precopy = kept.precopy;
+      pushing = kept.pushing;
+      copies = kept.copies;
+      owing = kept.owing;
+      flight = kept.flight;
+      epochs = kept.epochs;
+      held = record { forward_held = fits-moved world.forward n sent rest is short; back_held = kept.held.back_held };
+    }
+
+kept-move_back : (world : World) (n : ℕ) (sent : Sent) (rest : List Sent) → IsSoundWorld world → world.back.frames ≡ sent ∷ rest → is_short world.back sent.frame n ≡ true → IsSoundWorld (after_move_back world n)
+kept-move_back world n sent rest kept is short =
+    record {
+      memory = kept.memory;
+      spaces = kept.spaces;
+      phases = kept.phases;
+      precopy = kept.precopy;
+      pushing = kept.pushing;
+      copies = kept.copies;
+      owing = kept.owing;
+      flight = kept.flight;
+      epochs = kept.epochs;
+      held = record { forward_held = kept.held.forward_held; back_held = fits-moved world.back n sent rest is short };
+    }
+
 pub kept-answer : (world : World) (step : Step) → IsSoundWorld world → Leaves IsSoundWorld (answer world step)
 kept-answer world (Step.Issue cpu command) kept = made-issue _ world cpu command (λ idle may. kept-command world cpu command may kept)
 kept-answer world (Step.Retry cpu) kept = made-retry _ world cpu (λ command waits woken may. kept-command world cpu command may kept)
@@ -49,8 +83,8 @@ kept-answer world Step.Send kept = made-send _ world (λ page is precopy up quie
 kept-answer world Step.SourceRead kept = made-source_read _ world (λ noted is started unswitched. kept-source_read world noted kept is started unswitched)
 kept-answer world Step.SourceAct kept = made-source_act _ world (λ fault rest is started unswitched quiet. kept-source_act world fault kept started unswitched)
 kept-answer world Step.Switch kept = made-switch _ world (λ precopy up quiet. kept-switch world kept precopy up quiet)
-kept-answer world Step.Deliver kept = made-deliver _ world (λ sent rest is started up free. kept-deliver world sent rest kept is up free)
-kept-answer world Step.DeliverBack kept = made-deliver_back _ world (λ sent rest is started up. kept-deliver_back world sent rest kept is up)
+kept-answer world (Step.Deliver n) kept = made-deliver _ world n (λ sent rest is short. kept-move world n sent rest kept is short) (λ sent rest is full started up free. kept-deliver world sent rest kept is up free)
+kept-answer world (Step.DeliverBack n) kept = made-deliver_back _ world n (λ sent rest is short. kept-move_back world n sent rest kept is short) (λ sent rest is full started up. kept-deliver_back world sent rest kept is up)
 kept-answer world Step.DestRead kept = made-dest_read _ world (λ noted is ran. kept-dest_read world noted kept is ran)
 kept-answer world Step.DestAct kept = made-dest_act _ world (λ fault rest is ran quiet. kept-dest_act world fault rest kept is ran quiet)
 kept-answer world Step.Install kept = made-install _ world (λ copy rest is ran quiet. kept-install world copy rest kept is ran quiet)

@@ -16,7 +16,7 @@ use Rattle.mig_model.specs.Destination.{Destination}
 -- a world with these phases and wires. Each world is one with its own
 abbrev pub at_state : SourcePhase → DestPhase → (ran up : Bool) → List Sent → World → World
 at_state from to ran up wire world =
-    record world { source = record world.source { phase = from }; destination = record world.destination { phase = to; has_run = ran }; forward = wire; up = up }
+    record world { source = record world.source { phase = from }; destination = record world.destination { phase = to; has_run = ran }; forward = record world.forward { frames = wire }; up = up }
 
 -- a world once the first frame of the wire is delivered, and once the first of the wire back is
 abbrev pub delivered : World → List Sent → World

@@ -93,4 +93,5 @@ kept-first cpus epoch rounds =
         not_ahead = omega arith;
         epoch_at = λ h. tt;
       };
+      held = record { forward_held = refl; back_held = refl };
     }

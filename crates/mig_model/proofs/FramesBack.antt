@@ -19,23 +19,24 @@ use Rattle.mig_model.specs.Host.{Host, memory, IsSound}
 use Rattle.mig_model.specs.Userfault.{Noted}
 use Rattle.mig_model.specs.Space.{fresh_space, IsSoundSpace}
 use Rattle.mig_model.specs.Guest.{is_present, is_changed_by}
-use Rattle.mig_model.specs.Wire.{Sent, kept_after}
+use Rattle.mig_model.specs.Wire.{Sent, kept_after, wire_behind}
 use Rattle.mig_model.specs.Wire.Frame.{Discard, Request, Recv}
 use Rattle.mig_model.specs.Migration.{World, start}
-use Rattle.mig_model.specs.Invariant.{Wires, IsSoundWorld, IsPrecopying, IsSwitching, IsFlowing, AreOf, AreRight, AreFaithful, SwitchedAt, copies_of, has_copy, is_unread, are_requests, seen_host, current_host, flow_of}
+use Rattle.mig_model.specs.Invariant.{Wires, IsSoundWorld, IsPrecopying, IsSwitching, IsFlowing, AreOf, AreRight, AreFaithful, SwitchedAt, copies_of, has_copy, is_unread, are_requests, seen_host, current_host, flow_of, AreSoundWires}
 use Rattle.mig_model.specs.Invariant.Flow.{AfterEnd, Pushed}
 use Rattle.mig_model.proofs.FrameLemmas.{discard_none}
 use Rattle.mig_model.proofs.SpaceLemmas.{IsSoundSpace-fresh}
 use Rattle.mig_model.proofs.FirstFrame.{none_some, delivered_back}
 use Rattle.mig_model.specs.Log.{no_pages, present}
 use Rattle.mig_model.specs.Owed.{owed_after, settled_by}
-use Rattle.mig_model.specs.Source.{Source, released, space_of}
+use Rattle.mig_model.specs.Source.{Source, released, space_of, rebuild_frames}
 use Rattle.mig_model.specs.Destination.{settled}
+use Rattle.mig_model.proofs.HeldLemmas.{fits-more, fits-none}
 
 -- a world with these phases and this wire back, whose link is up
 abbrev pub at_back : SourcePhase → DestPhase → (ran switched : Bool) → (forward back : List Sent) → World → World
 at_back from to ran switched forward back world =
-    record world { source = record world.source { phase = from; switched = switched }; destination = record world.destination { phase = to; has_run = ran }; forward = forward; back = back; up = true }
+    record world { source = record world.source { phase = from; switched = switched }; destination = record world.destination { phase = to; has_run = ran }; forward = record world.forward { frames = forward }; back = record world.back { frames = back }; up = true }
 
 pub not_up : true ≡ false → ⊥
 not_up h = false≢true (sym h)
@@ -46,15 +47,16 @@ none_in page h = absurd (false≢true (sym (contains-empty nat_cmp page) ∙ h))
 -- A request
 
 pub request_taken : (to : DestPhase) (ran switched : Bool) (epoch page : ℕ) (rest : List Sent) (world : World) →
-    let old : World = at_back SourcePhase.Stopped to ran switched world.forward (record { epoch = epoch; frame = Request page } ∷ rest) world in
-    let new : World = delivered_back old old.back in
-    IsSoundWorld old → Wires new.source new.destination new.forward new.back → IsSoundWorld new
+    let old : World = at_back SourcePhase.Stopped to ran switched world.forward.frames (record { epoch = epoch; frame = Request page } ∷ rest) world in
+    let new : World = delivered_back old old.back.frames in
+    IsSoundWorld old → Wires new.source new.destination new.forward.frames new.back.frames → IsSoundWorld new
 request_taken to ran switched epoch page rest world kept on_wires =
-    let old : World = at_back SourcePhase.Stopped to ran switched world.forward (record { epoch = epoch; frame = Request page } ∷ rest) world in
-    let new : World = delivered_back old old.back in
-    let wires : new.up ≡ true → Wires new.source new.destination new.forward new.back = λ u. on_wires in
-    let down : new.up ≡ false → (new.forward ≡ []) × (new.back ≡ []) × (new.source.phase ≢ SourcePhase.Idle) × (new.source.phase ≢ SourcePhase.Released) = λ h. absurd (not_up h) in
-    let back_epoch : AreOf new.source.epoch new.back = kept.epochs.back_epoch.1 in
+    let old : World = at_back SourcePhase.Stopped to ran switched world.forward.frames (record { epoch = epoch; frame = Request page } ∷ rest) world in
+    let new : World = delivered_back old old.back.frames in
+    let wires : new.up ≡ true → Wires new.source new.destination new.forward.frames new.back.frames = λ u. on_wires in
+    let down : new.up ≡ false → (new.forward.frames ≡ []) × (new.back.frames ≡ []) × (new.source.phase ≢ SourcePhase.Idle) × (new.source.phase ≢ SourcePhase.Released) = λ h. absurd (not_up h) in
+    let back_epoch : AreOf new.source.epoch new.back.frames = kept.epochs.back_epoch.1 in
+    let held : AreSoundWires new.forward new.back = record { forward_held = kept.held.forward_held; back_held = fits-none rest } in
     assumption
 
 -- A source that is released
@@ -84,11 +86,11 @@ seen_alone here there other owed h = ap (seen_host here there) h ∙ sym (ap (se
 
 pub released_kept : (from : SourcePhase) (forward back rest : List Sent) (world : World) →
     let old : World = at_back from DestPhase.Ended true true forward back world in
-    let new : World = record old { source = released old.source; back = rest } in
+    let new : World = record old { source = released old.source; back = wire_behind rest } in
     IsSoundWorld old → forward ≡ [] → rest ≡ [] → IsSoundWorld new
 released_kept from forward back rest world kept none last =
     let old : World = at_back from DestPhase.Ended true true forward back world in
-    let new : World = record old { source = released old.source; back = rest } in
+    let new : World = record old { source = released old.source; back = wire_behind rest } in
     let ended : world.destination.ended ≡ true = kept.phases.destination_phase in
     let bare = kept.owing.ended_empty ended in
     let holds : memory (current_host new) ≡ memory_of new.transcript =
@@ -109,11 +111,12 @@ released_kept from forward back rest world kept none last =
     let origins_present : (page origin : ℕ) → get new.destination.owed page ≡ Some origin → is_present (space_of new.source) origin ≡ true =
     λ page origin h. absurd (none_some origin (sym (get-empty nat_cmp page) ∙ sym (ap (λ o. get o page) bare.0) ∙ h)) in
     let arrivals_faithful : new.destination.has_run ≡ true → AreFaithful (space_of new.source).host.bytes new.destination.arrivals = λ h. subst (AreFaithful fresh_space.host.bytes) (sym bare.1) tt in
-    let flight_faithful : new.destination.has_run ≡ true → AreFaithful (space_of new.source).host.bytes (copies_of new.forward) = λ h. subst (λ wire. AreFaithful fresh_space.host.bytes (copies_of wire)) (sym none) tt in
+    let flight_faithful : new.destination.has_run ≡ true → AreFaithful (space_of new.source).host.bytes (copies_of new.forward.frames) = λ h. subst (λ wire. AreFaithful fresh_space.host.bytes (copies_of wire)) (sym none) tt in
     let released_empty : new.source.phase ≡ SourcePhase.Released → (space_of new.source ≡ fresh_space) × (new.source.remaining ≡ no_pages) = λ h. (refl, refl) in
-    let wires : new.up ≡ true → Wires new.source new.destination new.forward new.back = λ u. (refl, none, last) in
-    let down : new.up ≡ false → (new.forward ≡ []) × (new.back ≡ []) × (new.source.phase ≢ SourcePhase.Idle) × (new.source.phase ≢ SourcePhase.Released) = λ h. absurd (not_up h) in
-    let back_epoch : AreOf new.source.epoch new.back = subst (AreOf world.source.epoch) (sym last) tt in
+    let wires : new.up ≡ true → Wires new.source new.destination new.forward.frames new.back.frames = λ u. (refl, none, last) in
+    let down : new.up ≡ false → (new.forward.frames ≡ []) × (new.back.frames ≡ []) × (new.source.phase ≢ SourcePhase.Idle) × (new.source.phase ≢ SourcePhase.Released) = λ h. absurd (not_up h) in
+    let back_epoch : AreOf new.source.epoch new.back.frames = subst (AreOf world.source.epoch) (sym last) tt in
+    let held : AreSoundWires new.forward new.back = record { forward_held = kept.held.forward_held; back_held = fits-none rest } in
     assumption
 
 -- Recv
@@ -124,10 +127,10 @@ no_copy page kept h = ap (λ k. contains_key k page) h ∙ ap is_some (get-empty
 -- it has not run, and the source still makes rounds: all is sent anew
 pub recv_precopy : (owed : FinSet nat_cmp) (epoch : ℕ) (rest : List Sent) (world : World) →
     let old : World = at_back SourcePhase.Paused DestPhase.Advised false false [] (record { epoch = epoch; frame = Recv Received.NotRun owed } ∷ rest) world in
-    IsSoundWorld old → rest ≡ [] → IsSoundWorld (delivered_back old old.back)
+    IsSoundWorld old → rest ≡ [] → IsSoundWorld (delivered_back old old.back.frames)
 recv_precopy owed epoch rest world kept last =
     let old : World = at_back SourcePhase.Paused DestPhase.Advised false false [] (record { epoch = epoch; frame = Recv Received.NotRun owed } ∷ rest) world in
-    let new : World = delivered_back old old.back in
+    let new : World = delivered_back old old.back.frames in
     let w = kept.flight.wires refl in
     let source_phase : SwitchedAt new.source.phase new.source.switched = refl in
     let before_switch : new.source.switched ≡ false → (new.source.remaining ≡ no_pages) × (new.source.end_epoch ≢ new.source.epoch ⊎ (new.source.phase ≡ SourcePhase.Idle)) =
@@ -138,14 +141,15 @@ recv_precopy owed epoch rest world kept last =
     let clean_protected : new.source.switched ≡ false → (page : ℕ) → contains new.source.log.clean page ≡ true → is_unread (space_of new.source).object.events page ≡ false → contains (space_of new.source).protected page ≡ true = λ s page h. none_in page h in
     let todo_sendable : new.source.switched ≡ false → (page : ℕ) → contains new.source.log.todo page ≡ true → is_unread (space_of new.source).object.events page ≡ false → (is_present (space_of new.source) page ≡ true) × (contains (space_of new.source).object.protect page ≡ true) = λ s page h. none_in page h in
     let released_empty : new.source.phase ≡ SourcePhase.Released → (space_of new.source ≡ fresh_space) × (new.source.remaining ≡ no_pages) = λ h. absurd (let e : SourcePhase.Precopy ≡ SourcePhase.Released = h in cc) in
-    let precopying : IsPrecopying new.source new.destination.kept new.forward =
+    let precopying : IsPrecopying new.source new.destination.kept new.forward.frames =
     record {
       clean_copy = λ page h unread. none_in page h;
       copies_sent = λ page h. absurd (false≢true (sym (no_copy page world.destination.kept w.2) ∙ h));
     } in
-    let wires : new.up ≡ true → Wires new.source new.destination new.forward new.back = λ u. (refl, last, precopying) in
-    let down : new.up ≡ false → (new.forward ≡ []) × (new.back ≡ []) × (new.source.phase ≢ SourcePhase.Idle) × (new.source.phase ≢ SourcePhase.Released) = λ h. absurd (not_up h) in
-    let back_epoch : AreOf new.source.epoch new.back = kept.epochs.back_epoch.1 in
+    let wires : new.up ≡ true → Wires new.source new.destination new.forward.frames new.back.frames = λ u. (refl, last, precopying) in
+    let down : new.up ≡ false → (new.forward.frames ≡ []) × (new.back.frames ≡ []) × (new.source.phase ≢ SourcePhase.Idle) × (new.source.phase ≢ SourcePhase.Released) = λ h. absurd (not_up h) in
+    let back_epoch : AreOf new.source.epoch new.back.frames = kept.epochs.back_epoch.1 in
+    let held : AreSoundWires new.forward new.back = record { forward_held = kept.held.forward_held; back_held = fits-none rest } in
     assumption
 
 eqb_other : (a b : ℕ) → a ≢ b → eqb a b ≡ false
@@ -179,10 +183,10 @@ nothing_kept kept page h =
 -- it has not run, and the source has stopped: a Package that owes all present pages
 pub recv_switched : (owed : FinSet nat_cmp) (epoch : ℕ) (rest : List Sent) (world : World) →
     let old : World = at_back SourcePhase.Paused DestPhase.Advised false true [] (record { epoch = epoch; frame = Recv Received.NotRun owed } ∷ rest) world in
-    IsSoundWorld old → rest ≡ [] → IsSoundWorld (delivered_back old old.back)
+    IsSoundWorld old → rest ≡ [] → IsSoundWorld (delivered_back old old.back.frames)
 recv_switched owed epoch rest world kept last =
     let old : World = at_back SourcePhase.Paused DestPhase.Advised false true [] (record { epoch = epoch; frame = Recv Received.NotRun owed } ∷ rest) world in
-    let new : World = delivered_back old old.back in
+    let new : World = delivered_back old old.back.frames in
     let w = kept.flight.wires refl in
     let fresh : world.source.end_epoch ≢ world.source.epoch = kept.pushing.paused_fresh refl refl in
     let sound : IsSound world.source.guest.space.host = kept.spaces.source_space.host in
@@ -195,7 +199,7 @@ recv_switched owed epoch rest world kept last =
     λ h. absurd (let e : SourcePhase.Stopped ≡ SourcePhase.Idle = h in cc) in
     let released_empty : new.source.phase ≡ SourcePhase.Released → (space_of new.source ≡ fresh_space) × (new.source.remaining ≡ no_pages) = λ h. absurd (let e : SourcePhase.Stopped ≡ SourcePhase.Released = h in cc) in
     let remaining_present : (page : ℕ) → contains new.source.remaining page ≡ true → is_present (space_of new.source) page ≡ true = λ page h. present_tells (ltb page HIGH_PAGE) (is_present world.source.guest.space page) (sym (here page) ∙ h) in
-    let switching : IsSwitching new.source new.destination.kept new.forward =
+    let switching : IsSwitching new.source new.destination.kept new.forward.frames =
     record {
       owed = present world.source.guest.space;
       plan = refl;
@@ -207,20 +211,21 @@ recv_switched owed epoch rest world kept last =
       whereabouts = λ page h. ap (λ b. b || false) h;
       faithful = tt;
     } in
-    let wires : new.up ≡ true → Wires new.source new.destination new.forward new.back = λ u. (flow_pushed world.source fresh, last, switching) in
-    let down : new.up ≡ false → (new.forward ≡ []) × (new.back ≡ []) × (new.source.phase ≢ SourcePhase.Idle) × (new.source.phase ≢ SourcePhase.Released) = λ h. absurd (not_up h) in
-    let forward_epoch : AreOf new.source.epoch new.forward = (refl, (refl, tt)) in
-    let back_epoch : AreOf new.source.epoch new.back = kept.epochs.back_epoch.1 in
+    let wires : new.up ≡ true → Wires new.source new.destination new.forward.frames new.back.frames = λ u. (flow_pushed world.source fresh, last, switching) in
+    let down : new.up ≡ false → (new.forward.frames ≡ []) × (new.back.frames ≡ []) × (new.source.phase ≢ SourcePhase.Idle) × (new.source.phase ≢ SourcePhase.Released) = λ h. absurd (not_up h) in
+    let forward_epoch : AreOf new.source.epoch new.forward.frames = (refl, (refl, tt)) in
+    let back_epoch : AreOf new.source.epoch new.back.frames = kept.epochs.back_epoch.1 in
+    let held : AreSoundWires new.forward new.back = record { forward_held = fits-more [] world.forward.held world.source.epoch (rebuild_frames Received.NotRun old.source) kept.held.forward_held; back_held = fits-none rest } in
     assumption
 
 -- it runs: what it still needs is to be pushed
 pub recv_running : (owed : FinSet nat_cmp) (epoch : ℕ) (rest : List Sent) (world : World) →
     let old : World = at_back SourcePhase.Paused DestPhase.Running true true [] (record { epoch = epoch; frame = Recv Received.Running owed } ∷ rest) world in
     IsSoundWorld old → are_requests rest ≡ true → ((page origin : ℕ) → get world.destination.owed page ≡ Some origin → contains owed origin ≡ true) →
-    ((page : ℕ) → contains owed page ≡ true → is_present world.source.guest.space page ≡ true) → IsSoundWorld (delivered_back old old.back)
+    ((page : ℕ) → contains owed page ≡ true → is_present world.source.guest.space page ≡ true) → IsSoundWorld (delivered_back old old.back.frames)
 recv_running owed epoch rest world kept requests needed owed_present =
     let old : World = at_back SourcePhase.Paused DestPhase.Running true true [] (record { epoch = epoch; frame = Recv Received.Running owed } ∷ rest) world in
-    let new : World = delivered_back old old.back in
+    let new : World = delivered_back old old.back.frames in
     let fresh : world.source.end_epoch ≢ world.source.epoch = kept.pushing.paused_fresh refl refl in
     let source_phase : SwitchedAt new.source.phase new.source.switched = refl in
     let before_switch : new.source.switched ≡ false → (new.source.remaining ≡ no_pages) × (new.source.end_epoch ≢ new.source.epoch ⊎ (new.source.phase ≡ SourcePhase.Idle)) = λ h. absurd (not_up h) in
@@ -230,8 +235,9 @@ recv_running owed epoch rest world kept requests needed owed_present =
     λ h. absurd (let e : SourcePhase.Stopped ≡ SourcePhase.Idle = h in cc) in
     let released_empty : new.source.phase ≡ SourcePhase.Released → (space_of new.source ≡ fresh_space) × (new.source.remaining ≡ no_pages) = λ h. absurd (let e : SourcePhase.Stopped ≡ SourcePhase.Released = h in cc) in
     let remaining_present : (page : ℕ) → contains new.source.remaining page ≡ true → is_present (space_of new.source) page ≡ true = owed_present in
-    let flowing : IsFlowing new.source new.destination new.forward = record { whereabouts = λ page origin h. ap (λ b. b || false || has_copy world.destination.arrivals origin) (needed page origin h) } in
-    let wires : new.up ≡ true → Wires new.source new.destination new.forward new.back = λ u. (flow_pushed world.source fresh, requests, flowing) in
-    let down : new.up ≡ false → (new.forward ≡ []) × (new.back ≡ []) × (new.source.phase ≢ SourcePhase.Idle) × (new.source.phase ≢ SourcePhase.Released) = λ h. absurd (not_up h) in
-    let back_epoch : AreOf new.source.epoch new.back = kept.epochs.back_epoch.1 in
+    let flowing : IsFlowing new.source new.destination new.forward.frames = record { whereabouts = λ page origin h. ap (λ b. b || false || has_copy world.destination.arrivals origin) (needed page origin h) } in
+    let wires : new.up ≡ true → Wires new.source new.destination new.forward.frames new.back.frames = λ u. (flow_pushed world.source fresh, requests, flowing) in
+    let down : new.up ≡ false → (new.forward.frames ≡ []) × (new.back.frames ≡ []) × (new.source.phase ≢ SourcePhase.Idle) × (new.source.phase ≢ SourcePhase.Released) = λ h. absurd (not_up h) in
+    let back_epoch : AreOf new.source.epoch new.back.frames = kept.epochs.back_epoch.1 in
+    let held : AreSoundWires new.forward new.back = record { forward_held = kept.held.forward_held; back_held = fits-none rest } in
     assumption

@@ -105,7 +105,7 @@ package_good source node epoch areas owed commands rest sound told many =
 
 -- a world in these phases, with this first frame
 abbrev pub with_first : SourcePhase → DestPhase → ℕ → Frame → List Sent → World → World
-with_first from to epoch frame rest world = record world { source = record world.source { phase = from }; destination = record world.destination { phase = to }; forward = record { epoch = epoch; frame = frame } ∷ rest }
+with_first from to epoch frame rest world = record world { source = record world.source { phase = from }; destination = record world.destination { phase = to }; forward = record world.forward { frames = record { epoch = epoch; frame = frame } ∷ rest } }
 
 -- both nodes have as many processors
 abbrev pub AreAsMany : World → Type 0
@@ -117,7 +117,7 @@ end_good epoch rest world up kept free =
     let w = kept.flight.wires up in
     let last = nothing_behind rest (flow_of old.source) w.0 in
     let ended : old.source.end_epoch ≡ old.source.epoch = ended_now old.source last.1 in
-    let flowing : IsFlowing old.source old.destination old.forward = w.2 in
+    let flowing : IsFlowing old.source old.destination old.forward.frames = w.2 in
     same_pages world.destination.owed finmap.empty (λ page.
     none_owed (get world.destination.owed page) (λ origin h. nowhere world.source.remaining rest world.destination.arrivals origin (kept.pushing.end_sent ended) last.0 free (flowing.whereabouts page origin h))
     ∙ sym (get-empty nat_cmp page))
@@ -144,14 +144,14 @@ good_of _ _ epoch _ rest world h up kept many = none_absurd h
 taken_in : (from : SourcePhase) (to : DestPhase) (epoch : ℕ) (frame : Frame) (rest : List Sent) (world : World) → world.up ≡ true → IsSoundWorld (with_first from to epoch frame rest world) → AreAsMany world → IsTaken (with_first from to epoch frame rest world).destination (record { epoch = epoch; frame = frame })
 taken_in from to epoch frame rest world up kept many =
     let old = with_first from to epoch frame rest world in
-    let is = first_in_place old.source old.destination (record { epoch = epoch; frame = frame }) rest old.back (kept.flight.wires up) in
+    let is = first_in_place old.source old.destination (record { epoch = epoch; frame = frame }) rest old.back.frames (kept.flight.wires up) in
     let placed = place_of from to frame is in
     record { in_place = placed; own_epoch = epoch_of to old.destination epoch world.source.epoch frame placed kept.epochs.forward_epoch.0 (kept.epochs.epoch_at up); good = good_of from to epoch frame rest world is up kept many }
 
 -- the first frame on the wire to the destination
-pub is_taken : (world : World) (sent : Sent) (rest : List Sent) → IsSoundWorld world → AreAsMany world → world.up ≡ true → world.forward ≡ sent ∷ rest → IsTaken world.destination sent
+pub is_taken : (world : World) (sent : Sent) (rest : List Sent) → IsSoundWorld world → AreAsMany world → world.up ≡ true → world.forward.frames ≡ sent ∷ rest → IsTaken world.destination sent
 is_taken world sent rest kept many up first =
-    taken_in world.source.phase world.destination.phase sent.epoch sent.frame rest world up (subst (λ w. IsSoundWorld (record world { forward = w })) first kept) many
+    taken_in world.source.phase world.destination.phase sent.epoch sent.frame rest world up (subst (λ w. IsSoundWorld (record world { forward = record world.forward { frames = w } })) first kept) many
 
 -- The wire back
 
@@ -180,7 +180,7 @@ recv_place frame state owed node paused present listed switched is = subst (IsIn
 
 -- a world in these phases, with this first frame on the wire back
 abbrev with_back : SourcePhase → DestPhase → Sent → List Sent → World → World
-with_back from to sent rest world = record world { source = record world.source { phase = from }; destination = record world.destination { phase = to }; back = sent ∷ rest }
+with_back from to sent rest world = record world { source = record world.source { phase = from }; destination = record world.destination { phase = to }; back = record world.back { frames = sent ∷ rest } }
 
 back_in : (from : SourcePhase) (to : DestPhase) (sent : Sent) (rest : List Sent) (world : World) → world.up ≡ true → IsSoundWorld (with_back from to sent rest world) → IsInPlaceBack (with_back from to sent rest world).source sent.frame
 back_in SourcePhase.Stopped DestPhase.Running sent rest world up kept = request_place sent.frame (with_back SourcePhase.Stopped DestPhase.Running sent rest world).source refl (and_first (is_request sent.frame) (are_requests rest) (kept.flight.wires up).1)
@@ -207,9 +207,9 @@ back_in SourcePhase.Idle to sent rest world up kept = absurd (empty_first sent r
 back_in SourcePhase.Released to sent rest world up kept = absurd (empty_first sent rest (kept.flight.wires up).2)
 
 -- the first frame on the wire back, and its epoch
-pub is_taken_back : (world : World) (sent : Sent) (rest : List Sent) → IsSoundWorld world → world.up ≡ true → world.back ≡ sent ∷ rest → IsInPlaceBack world.source sent.frame
+pub is_taken_back : (world : World) (sent : Sent) (rest : List Sent) → IsSoundWorld world → world.up ≡ true → world.back.frames ≡ sent ∷ rest → IsInPlaceBack world.source sent.frame
 is_taken_back world sent rest kept up first =
-    back_in world.source.phase world.destination.phase sent rest world up (subst (λ w. IsSoundWorld (record world { back = w })) first kept)
+    back_in world.source.phase world.destination.phase sent rest world up (subst (λ w. IsSoundWorld (record world { back = record world.back { frames = w } })) first kept)
 
-pub back_epoch : (world : World) (sent : Sent) (rest : List Sent) → IsSoundWorld world → world.back ≡ sent ∷ rest → sent.epoch ≡ world.source.epoch
+pub back_epoch : (world : World) (sent : Sent) (rest : List Sent) → IsSoundWorld world → world.back.frames ≡ sent ∷ rest → sent.epoch ≡ world.source.epoch
 back_epoch world sent rest kept first = (subst (λ w. AreOf world.source.epoch w) first kept.epochs.back_epoch).0

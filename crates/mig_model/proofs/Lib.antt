@@ -4,6 +4,7 @@ pub mod CommandLemmas
 pub mod SpaceLemmas
 pub mod IoctlLemmas
 pub mod StepLemmas
+pub mod HeldLemmas
 pub mod StepCases
 pub mod Breaking
 pub mod SendingLemmas

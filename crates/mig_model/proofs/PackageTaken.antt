@@ -22,12 +22,13 @@ use Rattle.mig_model.specs.Guest.{is_present}
 use Rattle.mig_model.specs.Wire.{Sent}
 use Rattle.mig_model.specs.Wire.Frame.{Package}
 use Rattle.mig_model.specs.Migration.{World}
-use Rattle.mig_model.specs.Invariant.{Wires, IsSoundWorld, IsSwitching, AreOf, AreRight, AreFaults, AreFaithful, copies_of, has_copy, RanAt, are_requests, seen_host, seen_bytes, current_host}
+use Rattle.mig_model.specs.Invariant.{Wires, IsSoundWorld, IsSwitching, AreOf, AreRight, AreFaults, AreFaithful, copies_of, has_copy, RanAt, are_requests, seen_host, seen_bytes, current_host, AreSoundWires}
 use Rattle.mig_model.proofs.FirstFrame.{at_state, none_some, delivered}
 use Rattle.mig_model.specs.Log.{no_pages, present}
 use Rattle.mig_model.specs.Owed.{own_places}
 use Rattle.mig_model.specs.Source.{Source, commands_of, space_of}
 use Rattle.mig_model.specs.Destination.{assembled, settled}
+use Rattle.mig_model.proofs.HeldLemmas.{fits-none}
 
 -- Owed pages at their own places
 
@@ -192,10 +193,10 @@ plan_of source kept rest epoch areas owed commands w =
 
 pub package_taken : (epoch : ℕ) (areas : FinMap nat_cmp Prot) (owed : FinSet nat_cmp) (commands : List (Option Command)) (rest : List Sent) (world : World) →
     let old : World = at_state SourcePhase.Stopped DestPhase.Discarding false true (record { epoch = epoch; frame = Package areas owed commands } ∷ rest) world in
-    IsSoundWorld old → IsSoundWorld (delivered old old.forward)
+    IsSoundWorld old → IsSoundWorld (delivered old old.forward.frames)
 package_taken epoch areas owed commands rest world kept =
     let old : World = at_state SourcePhase.Stopped DestPhase.Discarding false true (record { epoch = epoch; frame = Package areas owed commands } ∷ rest) world in
-    let new : World = delivered old old.forward in
+    let new : World = delivered old old.forward.frames in
     let host : Host = world.source.guest.space.host in
     let pages : FinMap nat_cmp (List ℕ) = world.destination.kept in
     let w = kept.flight.wires refl in
@@ -229,9 +230,9 @@ package_taken epoch areas owed commands rest world kept =
     ) in
     let arrivals_faithful : new.destination.has_run ≡ true → AreFaithful new.source.guest.space.host.bytes new.destination.arrivals =
     λ h. subst (AreFaithful host.bytes) (sym (kept.owing.not_run refl).2) tt in
-    let flight_faithful : new.destination.has_run ≡ true → AreFaithful new.source.guest.space.host.bytes (copies_of new.forward) = λ h. plan.faithful in
+    let flight_faithful : new.destination.has_run ≡ true → AreFaithful new.source.guest.space.host.bytes (copies_of new.forward.frames) = λ h. plan.faithful in
     let ended_empty : new.destination.ended ≡ true → (new.destination.owed ≡ finmap.empty) × (new.destination.arrivals ≡ []) = λ h. absurd (false≢true (sym not_ended ∙ h)) in
-    let wires : new.up ≡ true → Wires new.source new.destination new.forward new.back =
+    let wires : new.up ≡ true → Wires new.source new.destination new.forward.frames new.back.frames =
     λ u. (
       w.0,
       ap are_requests w.1,
@@ -242,6 +243,7 @@ package_taken epoch areas owed commands rest world kept =
             (ap (λ q. contains world.source.remaining q || has_copy (copies_of rest) q) own.2 ∙ plan.whereabouts page own.1);
       },
     ) in
-    let down : new.up ≡ false → (new.forward ≡ []) × (new.back ≡ []) × (new.source.phase ≢ SourcePhase.Idle) × (new.source.phase ≢ SourcePhase.Released) = λ h. absurd (false≢true (sym h)) in
-    let forward_epoch : AreOf new.source.epoch new.forward = kept.epochs.forward_epoch.1 in
+    let down : new.up ≡ false → (new.forward.frames ≡ []) × (new.back.frames ≡ []) × (new.source.phase ≢ SourcePhase.Idle) × (new.source.phase ≢ SourcePhase.Released) = λ h. absurd (false≢true (sym h)) in
+    let forward_epoch : AreOf new.source.epoch new.forward.frames = kept.epochs.forward_epoch.1 in
+    let held : AreSoundWires new.forward new.back = record { forward_held = fits-none rest; back_held = kept.held.back_held } in
     assumption

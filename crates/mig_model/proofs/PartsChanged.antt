@@ -1,5 +1,5 @@
 -- Each step of the whole migration changes only its parts.
-use Rattle.std.proofs.Common.{◌≡◌, ℕ, ◌+◌, Bool, true, false, Option, Some, None, List, [], ◌∷◌, ◌++◌, refl, sym, ◌∙◌}
+use Rattle.std.proofs.Common.{◌≡◌, ℕ, ◌+◌, Bool, true, false, Option, Some, None, List, [], ◌∷◌, ◌++◌, refl, sym, ◌∙◌, ap}
 use Rattle.std.proofs.lemmas.Bool.{false≢true}
 use Rattle.std.proofs.lemmas.List.{append_assoc}
 use Rattle.mig_base.specs.declared.phase.DestPhase.{DestPhase}
@@ -10,9 +10,9 @@ use Rattle.mig_base.specs.declared.schedule.Step.{Step}
 use Rattle.mig_base.specs.declared.command.Command.{Command}
 use Rattle.mig_base.specs.Commands.{is_access}
 use Rattle.mig_model.specs.Guest.{Guest, Fault, tried}
-use Rattle.mig_model.specs.Wire.{Frame, Sent, page_frame, sending, sending_if}
+use Rattle.mig_model.specs.Wire.{Frame, Sent, page_frame, sending, Wire, wire_if, wire_with}
 use Rattle.mig_model.specs.Wire.Frame.{Advise, End, Resume}
-use Rattle.mig_model.specs.Migration.{World, next, guest_of, with_guest_by, after_command, source_sends, after_deliver, after_deliver_back, after_dest_act, answer}
+use Rattle.mig_model.specs.Migration.{World, next, guest_of, with_guest_by, after_command, source_sends, after_deliver, after_deliver_back, after_dest_act, answer, after_move, after_move_back}
 use Rattle.mig_model.specs.Parts.{Grows, Shrinks, GuestAlone, SourceAlone, DestinationAlone, Delivers, DeliversBack, ChangesParts}
 use Rattle.mig_model.proofs.Stopping.{append-nil}
 use Rattle.mig_model.proofs.StepLemmas.{Leaves, leaves-next}
@@ -21,19 +21,27 @@ use Rattle.mig_model.specs.Log.{present}
 use Rattle.mig_model.specs.Source.{Source, bytes_of, page_pushed, page_sent, source_answers, source_started, source_took, switch_frames, switch_made}
 use Rattle.mig_model.specs.Destination.{Destination}
 
-as_it_was : (wire : List Sent) → Grows wire wire
-as_it_was wire = record { more = []; is = sym (append-nil wire) }
+as_it_was : (wire : Wire) → Grows wire wire
+as_it_was wire = record { more = []; is = ap (λ f. record wire { frames = f }) (sym (append-nil wire.frames)) }
 
-none_taken : (wire : List Sent) → Shrinks wire wire
+none_taken : (wire : Wire) → Shrinks wire wire
 none_taken wire = record { taken = []; is = refl }
 
-grows_by : (wire : List Sent) (epoch : ℕ) (frames : List Frame) → Grows wire (sending wire epoch frames)
-grows_by wire epoch [] = as_it_was wire
-grows_by wire epoch (frame ∷ frames) =
-    let rest = grows_by (wire ++ record { epoch = epoch; frame = frame } ∷ []) epoch frames in
-    record { more = record { epoch = epoch; frame = frame } ∷ rest.more; is = rest.is ∙ append_assoc wire (record { epoch = epoch; frame = frame } ∷ []) rest.more }
+-- the frames that were put on a wire
+record Longer (old new : List Sent) : Type 0 where
+  more : List Sent
+  is : new ≡ old ++ more
 
-grows_if : (up : Bool) (wire : List Sent) (epoch : ℕ) (frames : List Frame) → Grows wire (sending_if up wire epoch frames)
+longer_by : (frames : List Sent) (epoch : ℕ) (more : List Frame) → Longer frames (sending frames epoch more)
+longer_by frames epoch [] = record { more = []; is = sym (append-nil frames) }
+longer_by frames epoch (frame ∷ more) =
+    let rest = longer_by (frames ++ record { epoch = epoch; frame = frame } ∷ []) epoch more in
+    record { more = record { epoch = epoch; frame = frame } ∷ rest.more; is = rest.is ∙ append_assoc frames (record { epoch = epoch; frame = frame } ∷ []) rest.more }
+
+grows_by : (wire : Wire) (epoch : ℕ) (frames : List Frame) → Grows wire (wire_with wire epoch frames)
+grows_by wire epoch frames = let longer = longer_by wire.frames epoch frames in record { more = longer.more; is = ap (λ f. record wire { frames = f }) longer.is }
+
+grows_if : (up : Bool) (wire : Wire) (epoch : ℕ) (frames : List Frame) → Grows wire (wire_if up wire epoch frames)
 grows_if true wire epoch frames = grows_by wire epoch frames
 grows_if false wire epoch frames = as_it_was wire
 
@@ -88,12 +96,20 @@ acted_alone world fault = record { source = refl; forward = refl; back = grows_i
 delivered_none : (world : World) → Delivers world world
 delivered_none world = record { source = refl; forward = none_taken world.forward; back = as_it_was world.back; up = refl; transcript = refl }
 
-delivered_one : (world : World) (sent : Sent) (rest : List Sent) → world.forward ≡ sent ∷ rest → Delivers world (after_deliver world sent rest)
+delivered_one : (world : World) (sent : Sent) (rest : List Sent) → world.forward.frames ≡ sent ∷ rest → Delivers world (after_deliver world sent rest)
 delivered_one world sent rest is = record { source = refl; forward = record { taken = sent ∷ []; is = is }; back = grows_if world.up world.back _ _; up = refl; transcript = refl }
 
-delivered_back_one : (world : World) (sent : Sent) (rest : List Sent) → world.back ≡ sent ∷ rest → DeliversBack world (after_deliver_back world sent rest)
+delivered_back_one : (world : World) (sent : Sent) (rest : List Sent) → world.back.frames ≡ sent ∷ rest → DeliversBack world (after_deliver_back world sent rest)
 delivered_back_one world sent rest is =
     record { destination = refl; forward = grows_by world.forward (source_took world.source sent.frame).epoch (source_answers world.source sent.frame); back = record { taken = sent ∷ []; is = is }; up = refl; transcript = refl }
+
+-- bytes that complete no frame
+
+moved_one : (world : World) (n : ℕ) → Delivers world (after_move world n)
+moved_one world n = record { source = refl; forward = record { taken = []; is = refl }; back = as_it_was world.back; up = refl; transcript = refl }
+
+moved_back_one : (world : World) (n : ℕ) → DeliversBack world (after_move_back world n)
+moved_back_one world n = record { destination = refl; forward = as_it_was world.forward; back = record { taken = []; is = refl }; up = refl; transcript = refl }
 
 -- what a step that is not refused changes
 made_alone : (world : World) (step : Step) → Leaves (ChangesParts world step) (answer world step)
@@ -105,8 +121,8 @@ made_alone world Step.Send = made-send _ world (λ page is precopy up quiet. sen
 made_alone world Step.SourceRead = made-source_read _ world (λ noted is started unswitched. quiet_source world _)
 made_alone world Step.SourceAct = made-source_act _ world (λ fault rest is started unswitched quiet. quiet_source world _)
 made_alone world Step.Switch = made-switch _ world (λ precopy up quiet. sending_source world (switch_made world.source) (switch_frames world.source))
-made_alone world Step.Deliver = made-deliver _ world (λ sent rest is started up free. delivered_one world sent rest is)
-made_alone world Step.DeliverBack = made-deliver_back _ world (λ sent rest is started up. delivered_back_one world sent rest is)
+made_alone world (Step.Deliver n) = made-deliver _ world n (λ sent rest is short. moved_one world n) (λ sent rest is full started up free. delivered_one world sent rest is)
+made_alone world (Step.DeliverBack n) = made-deliver_back _ world n (λ sent rest is short. moved_back_one world n) (λ sent rest is full started up. delivered_back_one world sent rest is)
 made_alone world Step.DestRead = made-dest_read _ world (λ noted is ran. quiet_destination world _)
 made_alone world Step.DestAct = made-dest_act _ world (λ fault rest is ran quiet. acted_alone world fault)
 made_alone world Step.Install = made-install _ world (λ copy rest is ran quiet. quiet_destination world _)
@@ -122,8 +138,8 @@ made_alone world Step.Resume = made-resume _ world (λ from to down. record { so
 refused_alone : (world : World) (step : Step) → ChangesParts world step world
 refused_alone world (Step.Issue cpu command) = guest_kept world
 refused_alone world (Step.Retry cpu) = guest_kept world
-refused_alone world Step.Deliver = delivered_none world
-refused_alone world Step.DeliverBack = record { destination = refl; forward = as_it_was world.forward; back = none_taken world.back; up = refl; transcript = refl }
+refused_alone world (Step.Deliver n) = delivered_none world
+refused_alone world (Step.DeliverBack n) = record { destination = refl; forward = as_it_was world.forward; back = none_taken world.back; up = refl; transcript = refl }
 refused_alone world Step.DestRead = destination_kept world
 refused_alone world Step.DestAct = destination_kept world
 refused_alone world Step.Install = destination_kept world

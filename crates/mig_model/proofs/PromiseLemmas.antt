@@ -18,7 +18,7 @@ use Rattle.mig_model.specs.Host.{Host, memory, IsSound}
 use Rattle.mig_model.specs.Userfault.{Noted}
 use Rattle.mig_model.specs.Guest.{Fault, is_present}
 use Rattle.mig_model.specs.Guest.Act.{Zeroed}
-use Rattle.mig_model.specs.Migration.{World}
+use Rattle.mig_model.specs.Migration.{World, runs, start}
 use Rattle.mig_model.specs.Invariant.{IsSoundWorld, IsPrecopying, IsSwitching, IsReceiving, RanAt, seen_bytes, seen_host, current_by, copies_of, has_copy}
 use Rattle.mig_model.specs.Promises.{IsComplete, IsAlone, ArePaired, AreUnderWay}
 use Rattle.mig_model.proofs.Stopping.{in_phases, none_absurd}
@@ -133,7 +133,7 @@ none_some : {A : Type 0} (x : A) → None ≡ Some x → ⊥
 none_some x h = cc
 
 whereabouts_in : (from : SourcePhase) (to : DestPhase) (world : World) → is_stopped from ≡ true → world.destination.has_run ≡ true → world.up ≡ true → IsSoundWorld (in_phases from to world) → (page origin : ℕ) → get world.destination.owed page ≡ Some origin →
-    (contains world.source.remaining origin || has_copy (copies_of world.forward) origin || has_copy world.destination.arrivals origin) ≡ true
+    (contains world.source.remaining origin || has_copy (copies_of world.forward.frames) origin || has_copy world.destination.arrivals origin) ≡ true
 whereabouts_in SourcePhase.Stopped DestPhase.Running world stopped ran up kept page origin owed = (kept.flight.wires up).2.whereabouts page origin owed
 whereabouts_in SourcePhase.Stopped DestPhase.Idle world stopped ran up kept page origin owed = absurd (false≢true (sym kept.phases.destination_phase ∙ ran))
 whereabouts_in SourcePhase.Stopped DestPhase.Advised world stopped ran up kept page origin owed = absurd (false≢true (sym kept.phases.destination_phase ∙ ran))
@@ -155,7 +155,7 @@ are_under_way world kept ran =
 
 -- What is in flight
 
-precopying_in : (from : SourcePhase) (to : DestPhase) (world : World) → is_precopy from ≡ true → world.up ≡ true → IsSoundWorld (in_phases from to world) → IsPrecopying (in_phases from to world).source world.destination.kept world.forward
+precopying_in : (from : SourcePhase) (to : DestPhase) (world : World) → is_precopy from ≡ true → world.up ≡ true → IsSoundWorld (in_phases from to world) → IsPrecopying (in_phases from to world).source world.destination.kept world.forward.frames
 precopying_in SourcePhase.Precopy DestPhase.Idle world precopy up kept = (kept.flight.wires up).2
 precopying_in SourcePhase.Precopy DestPhase.Advised world precopy up kept = (kept.flight.wires up).2
 precopying_in SourcePhase.Precopy DestPhase.Discarding world precopy up kept = absurd (kept.flight.wires up)
@@ -167,10 +167,10 @@ precopying_in SourcePhase.Stopped to world precopy up kept = none_absurd precopy
 precopying_in SourcePhase.Paused to world precopy up kept = none_absurd precopy
 precopying_in SourcePhase.Released to world precopy up kept = none_absurd precopy
 
-pub is_precopying : (world : World) → IsSoundWorld world → world.up ≡ true → is_precopy world.source.phase ≡ true → IsPrecopying world.source world.destination.kept world.forward
+pub is_precopying : (world : World) → IsSoundWorld world → world.up ≡ true → is_precopy world.source.phase ≡ true → IsPrecopying world.source world.destination.kept world.forward.frames
 is_precopying world kept up precopy = precopying_in world.source.phase world.destination.phase world precopy up kept
 
-switching_in : (from : SourcePhase) (to : DestPhase) (world : World) → is_stopped from ≡ true → world.up ≡ true → world.destination.has_run ≡ false → IsSoundWorld (in_phases from to world) → IsSwitching (in_phases from to world).source world.destination.kept world.forward
+switching_in : (from : SourcePhase) (to : DestPhase) (world : World) → is_stopped from ≡ true → world.up ≡ true → world.destination.has_run ≡ false → IsSoundWorld (in_phases from to world) → IsSwitching (in_phases from to world).source world.destination.kept world.forward.frames
 switching_in SourcePhase.Stopped DestPhase.Idle world stopped up ran kept = (kept.flight.wires up).2
 switching_in SourcePhase.Stopped DestPhase.Advised world stopped up ran kept = (kept.flight.wires up).2
 switching_in SourcePhase.Stopped DestPhase.Discarding world stopped up ran kept = (kept.flight.wires up).2
@@ -182,11 +182,11 @@ switching_in SourcePhase.Precopy to world stopped up ran kept = none_absurd stop
 switching_in SourcePhase.Paused to world stopped up ran kept = none_absurd stopped
 switching_in SourcePhase.Released to world stopped up ran kept = none_absurd stopped
 
-pub is_switching : (world : World) → IsSoundWorld world → world.up ≡ true → is_stopped world.source.phase ≡ true → world.destination.has_run ≡ false → IsSwitching world.source world.destination.kept world.forward
+pub is_switching : (world : World) → IsSoundWorld world → world.up ≡ true → is_stopped world.source.phase ≡ true → world.destination.has_run ≡ false → IsSwitching world.source world.destination.kept world.forward.frames
 is_switching world kept up stopped ran = switching_in world.source.phase world.destination.phase world stopped up ran kept
 
 receiving_in : (from : SourcePhase) (to : DestPhase) (world : World) → is_source_paused from ≡ true → is_running to ≡ true → world.up ≡ true → IsSoundWorld (in_phases from to world) →
-    IsReceiving (in_phases from to world).source (in_phases from to world).destination Received.Running world.back
+    IsReceiving (in_phases from to world).source (in_phases from to world).destination Received.Running world.back.frames
 receiving_in SourcePhase.Paused DestPhase.Running world paused runs up kept = (kept.flight.wires up).1
 receiving_in SourcePhase.Paused DestPhase.Idle world paused runs up kept = none_absurd runs
 receiving_in SourcePhase.Paused DestPhase.Advised world paused runs up kept = none_absurd runs
@@ -198,7 +198,7 @@ receiving_in SourcePhase.Precopy to world paused runs up kept = none_absurd paus
 receiving_in SourcePhase.Stopped to world paused runs up kept = none_absurd paused
 receiving_in SourcePhase.Released to world paused runs up kept = none_absurd paused
 
-pub is_receiving : (world : World) → IsSoundWorld world → world.up ≡ true → is_source_paused world.source.phase ≡ true → is_running world.destination.phase ≡ true → IsReceiving world.source world.destination Received.Running world.back
+pub is_receiving : (world : World) → IsSoundWorld world → world.up ≡ true → is_source_paused world.source.phase ≡ true → is_running world.destination.phase ≡ true → IsReceiving world.source world.destination Received.Running world.back.frames
 is_receiving world kept up paused runs = receiving_in world.source.phase world.destination.phase world paused runs up kept
 
 -- The zero pages of the handlers

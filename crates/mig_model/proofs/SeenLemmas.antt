@@ -22,6 +22,7 @@ use Rattle.mig_model.proofs.HostLemmas.{cell_at, memory-at}
 use Rattle.mig_model.proofs.ReplyOfLemmas.{prots, reply_of-prots, reply_of-page, reply_of-unmade}
 use Rattle.mig_model.specs.Log.{present}
 use Rattle.mig_model.specs.Promises.{gone}
+use Rattle.mig_model.specs.Migration.{made}
 
 none_absurd : {A : Type 0} → false ≡ true → A
 none_absurd h = absurd (false≢true h)

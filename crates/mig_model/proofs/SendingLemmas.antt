@@ -11,6 +11,7 @@ use Rattle.mig_model.specs.Wire.Frame.{Advise, Page, Zero, Discard, Package, End
 use Rattle.mig_model.specs.Invariant.{Flow, flow_next, flow_after, copies_of, has_copy, AreFaithful, AreWhole, AreOf, is_package, kept_by, behind, package_in}
 use Rattle.mig_model.specs.Invariant.Flow.{BeforeAdvise, Copies, BeforePackage, Pushed, AfterEnd}
 use Rattle.mig_model.proofs.FrameLemmas.{zero_bytes}
+use Rattle.mig_model.specs.Migration.{next}
 
 -- One frame more
 

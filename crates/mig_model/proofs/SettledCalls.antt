@@ -12,6 +12,7 @@ use Rattle.mig_model.specs.Invariant.{IsRight, AreRight}
 use Rattle.mig_model.proofs.SeenLemmas.{owed_none}
 use Rattle.mig_model.specs.Owed.{owed_after, settled_by}
 use Rattle.mig_model.specs.Promises.{gone}
+use Rattle.mig_model.specs.Migration.{start}
 pub use Rattle.mig_model.specs.Promises.{gone, moved_owed, owed_changed}
 
 none_absurd : {A : Type 0} → false ≡ true → A

@@ -14,6 +14,7 @@ use Rattle.mig_model.specs.Userfault.{Noted}
 use Rattle.mig_model.specs.Invariant.{IsRight}
 use Rattle.mig_model.specs.Owed.{home, owed_after, owed_table_after, owes_to, settled_by}
 use Rattle.mig_model.specs.Promises.{gone}
+use Rattle.mig_model.specs.Migration.{start}
 
 pub none_some : {A : Type 0} (x : A) → None ≡ Some x → ⊥
 none_some x h = cc

@@ -191,12 +191,12 @@ acted_settled Forgot node fault page = refl
 acted_settled (Requested source) node fault page = refl
 
 -- a destination that has run takes no Package
-frame_settled : (frame : Frame) (epoch : ℕ) (rest : List Sent) (world : World) → IsSoundWorld world → world.up ≡ true → world.destination.has_run ≡ true → world.forward ≡ record { epoch = epoch; frame = frame } ∷ rest → (page : ℕ) →
+frame_settled : (frame : Frame) (epoch : ℕ) (rest : List Sent) (world : World) → IsSoundWorld world → world.up ≡ true → world.destination.has_run ≡ true → world.forward.frames ≡ record { epoch = epoch; frame = frame } ∷ rest → (page : ℕ) →
     settled (destination_took world.destination epoch frame) page ≡ settled world.destination page
 frame_settled (Package areas owed commands) epoch rest world kept up ran first page =
-    let again = subst (λ w. IsSoundWorld (record world { forward = w })) first kept in
+    let again = subst (λ w. IsSoundWorld (record world { forward = record world.forward { frames = w } })) first kept in
     let old = with_first world.source.phase world.destination.phase epoch (Package areas owed commands) rest world in
-    let is = first_in_place old.source old.destination (record { epoch = epoch; frame = Package areas owed commands }) rest old.back (again.flight.wires up) in
+    let is = first_in_place old.source old.destination (record { epoch = epoch; frame = Package areas owed commands }) rest old.back.frames (again.flight.wires up) in
     absurd (false≢true (sym (package_told world.source.phase world.destination.phase epoch areas owed commands rest world is up again).1 ∙ ran))
 frame_settled Advise epoch rest world kept up ran first page = took_settled Advise world.destination epoch page refl
 frame_settled (Page number bytes) epoch rest world kept up ran first page = took_settled (Page number bytes) world.destination epoch page refl
@@ -222,8 +222,8 @@ settled_answer world Step.Send kept waits ran leaves page = made-send _ world (�
 settled_answer world Step.SourceRead kept waits ran leaves page = made-source_read _ world (λ noted is started unswitched. refl)
 settled_answer world Step.SourceAct kept waits ran leaves page = made-source_act _ world (λ fault rest is started unswitched quiet. refl)
 settled_answer world Step.Switch kept waits ran leaves page = made-switch _ world (λ precopy up quiet. refl)
-settled_answer world Step.Deliver kept waits ran leaves page = made-deliver _ world (λ sent rest is started up free. frame_settled sent.frame sent.epoch rest world kept up ran is page)
-settled_answer world Step.DeliverBack kept waits ran leaves page = made-deliver_back _ world (λ sent rest is started up. refl)
+settled_answer world (Step.Deliver n) kept waits ran leaves page = made-deliver _ world n (λ sent rest is short. refl) (λ sent rest is full started up free. frame_settled sent.frame sent.epoch rest world kept up ran is page)
+settled_answer world (Step.DeliverBack n) kept waits ran leaves page = made-deliver_back _ world n (λ sent rest is short. refl) (λ sent rest is full started up. refl)
 settled_answer world Step.DestRead kept waits ran leaves page =
     made-dest_read _ world (λ noted is runs. read_settled world.destination.guest.space.object.faults world.destination.guest.space.object.events noted world is kept.spaces.destination_faults kept.spaces.destination_events page)
 settled_answer world Step.DestAct kept waits ran leaves page = made-dest_act _ world (λ fault rest is runs quiet. acted_settled (destination_act world.destination fault) world.destination fault.page page)

@@ -13,6 +13,7 @@ use Rattle.mig_model.specs.Invariant.{Flow, flow_next, flow_after, copies_of, Ar
 use Rattle.mig_model.specs.Invariant.Flow.{BeforeAdvise, Copies, BeforePackage, Pushed, AfterEnd}
 use Rattle.mig_model.proofs.HostLemmas.{get-put}
 use Rattle.mig_model.proofs.SourceTests.{none_absurd, and_parts, eqb_tells}
+use Rattle.mig_model.specs.Migration.{next}
 
 -- The frame of a page
 

@@ -14,7 +14,7 @@ use Rattle.mig_model.specs.Space.{IsSoundSpace}
 use Rattle.mig_model.specs.Guest.{Guest, is_present, Fault}
 use Rattle.mig_model.specs.Wire.{Sent}
 use Rattle.mig_model.specs.Migration.{World, next}
-use Rattle.mig_model.specs.Invariant.{IsSoundWorld, IsPrecopying, Wires, AreRight, AreWhole, AreOf, EpochAt, RanAt, SwitchedAt, is_unread, copies_of, current_by}
+use Rattle.mig_model.specs.Invariant.{IsSoundWorld, IsPrecopying, Wires, AreRight, AreWhole, AreOf, EpochAt, RanAt, SwitchedAt, is_unread, copies_of, current_by, HeldFits}
 use Rattle.mig_model.proofs.SourceTests.{none_absurd}
 use Rattle.mig_model.specs.Log.{no_pages}
 use Rattle.mig_model.specs.Source.{Source, space_of}
@@ -44,12 +44,13 @@ pub record IsNext (world : World) (source : Source) (forward : List Sent) (trans
   pub whole : AreWhole (copies_of forward)
   pub protected : (page : ℕ) → contains source.log.clean page ≡ true → is_unread (space_of source).object.events page ≡ false → contains (space_of source).protected page ≡ true
   pub sendable : (page : ℕ) → contains source.log.todo page ≡ true → is_unread (space_of source).object.events page ≡ false → (is_present (space_of source) page ≡ true) × (contains (space_of source).object.protect page ≡ true)
-  pub down : world.up ≡ false → (forward ≡ []) × (world.back ≡ []) × (source.phase ≢ SourcePhase.Idle) × (source.phase ≢ SourcePhase.Released)
-  pub wires : world.up ≡ true → Wires source world.destination forward world.back
+  pub down : world.up ≡ false → (forward ≡ []) × (world.back.frames ≡ []) × (source.phase ≢ SourcePhase.Idle) × (source.phase ≢ SourcePhase.Released)
+  pub wires : world.up ≡ true → Wires source world.destination forward world.back.frames
   pub forward_epoch : AreOf source.epoch forward
-  pub back_epoch : AreOf source.epoch world.back
+  pub back_epoch : AreOf source.epoch world.back.frames
   pub epochs : world.destination.epoch ≤ source.epoch
   pub epoch_at : world.up ≡ true → EpochAt world.destination.phase world.destination.epoch source.epoch
+  pub held : HeldFits forward world.forward.held
 
 pub current_before : (ran : Bool) (here there : Host) (owed : ℕ → Option ℕ) → ran ≡ false → current_by ran here there owed ≡ there
 current_before true here there owed h = none_absurd (sym h)
@@ -71,7 +72,7 @@ released_switched SourcePhase.Stopped switched at h e = absurd (cc)
 released_switched SourcePhase.Paused switched at h e = absurd (cc)
 
 pub renewed : (world : World) (source : Source) (forward : List Sent) (transcript : List Entry) → IsSoundWorld world → world.destination.has_run ≡ false → IsNext world source forward transcript →
-    IsSoundWorld (record world { source = source; forward = forward; transcript = transcript })
+    IsSoundWorld (record world { source = source; forward = record world.forward { frames = forward }; transcript = transcript })
 renewed world source forward transcript kept bare next =
     let owes = (kept.owing.not_run bare).0 in
     record {
@@ -130,6 +131,7 @@ renewed world source forward transcript kept bare next =
         wires = next.wires;
       };
       epochs = record { forward_epoch = next.forward_epoch; back_epoch = next.back_epoch; not_ahead = next.epochs; epoch_at = next.epoch_at };
+      held = record { forward_held = next.held; back_held = kept.held.back_held };
     }
 
 -- A step that changes the guest and the sets of pages alone
@@ -192,7 +194,7 @@ pub changed : (world : World) (guest : Guest) (clean todo : FinSet nat_cmp) (hel
 changed world guest clean todo held rounds faults transcript kept bare unswitched new =
     let source = world.source in
     let before = kept.pushing.before_switch unswitched in
-    renewed world (with_parts source guest clean todo held rounds faults) world.forward transcript kept bare
+    renewed world (with_parts source guest clean todo held rounds faults) world.forward.frames transcript kept bare
     (record {
       flat = new.flat;
       holds = new.holds;
@@ -210,10 +212,11 @@ changed world guest clean todo held rounds faults transcript kept bare unswitche
       protected = new.protected;
       sendable = new.sendable;
       down = kept.flight.down;
-      wires = λ up. wires_changed source.phase world.destination.phase source guest clean todo held rounds faults world.destination world.forward world.back
+      wires = λ up. wires_changed source.phase world.destination.phase source guest clean todo held rounds faults world.destination world.forward.frames world.back.frames
           kept.phases.destination_phase bare kept.phases.ended_after_run kept.phases.source_phase unswitched new.copies (kept.flight.wires up);
       forward_epoch = kept.epochs.forward_epoch;
       back_epoch = kept.epochs.back_epoch;
       epochs = kept.epochs.not_ahead;
       epoch_at = kept.epochs.epoch_at;
+      held = kept.held.forward_held;
     })

@@ -12,6 +12,7 @@ use Rattle.mig_model.specs.Guest.{is_changed_by, in_bytes}
 use Rattle.mig_model.specs.Space.{told, all_queued}
 use Rattle.mig_model.specs.Invariant.{is_unread, IsRight, AreRight}
 use Rattle.mig_model.proofs.SourceTests.{none_absurd, never_true, and_both, or_none, append_nil, less_or_not, lesser_is, in_range_inside}
+use Rattle.mig_model.specs.Migration.{start}
 
 -- Messages and the events that they become
 

@@ -31,6 +31,7 @@ use Rattle.mig_model.specs.Cpus.{is_idle}
 use Rattle.mig_model.specs.Log.{no_pages, present}
 use Rattle.mig_model.specs.Source.{Source, all_registered, for_both, is_precopy, is_source_idle, not_clean, source_started, space_of}
 use Rattle.mig_model.specs.Destination.{Destination}
+use Rattle.mig_model.proofs.HeldLemmas.{fits-more}
 
 -- The source makes rounds of pre-copy
 
@@ -141,7 +142,7 @@ no_copy : {A : Type 0} (kept : FinMap nat_cmp (List ℕ)) (page : ℕ) → kept 
 no_copy kept page none h = none_absurd (sym (ap is_some (ap (λ m. get m page) none ∙ get-empty nat_cmp page)) ∙ h)
 
 abbrev start_wire : World → List Sent
-start_wire world = world.forward ++ record { epoch = world.source.epoch + 1; frame = Advise } ∷ []
+start_wire world = world.forward.frames ++ record { epoch = world.source.epoch + 1; frame = Advise } ∷ []
 
 start_wires : (to : DestPhase) (source : Source) (destination : Destination) (wire back : List Sent) (epoch : ℕ) → to ≡ DestPhase.Idle → wire ≡ record { epoch = epoch; frame = Advise } ∷ [] → back ≡ [] → source.log.clean ≡ no_pages →
     destination.kept ≡ finmap.empty → PrecopyWires source (record destination { phase = to }) wire back
@@ -155,7 +156,7 @@ start_wires to source destination wire back epoch not_advised one none clean kep
       },
     )
 
-started_next : (world : World) → IsSoundWorld world → world.source.phase ≡ SourcePhase.Idle → world.source.switched ≡ false → world.up ≡ true → IsQuiet world.destination.phase world.forward world.back →
+started_next : (world : World) → IsSoundWorld world → world.source.phase ≡ SourcePhase.Idle → world.source.switched ≡ false → world.up ≡ true → IsQuiet world.destination.phase world.forward.frames world.back.frames →
     IsNext world (source_started world.source) (start_wire world) world.transcript
 started_next world kept idle unswitched up quiet =
     let source = world.source in
@@ -182,11 +183,12 @@ started_next world kept idle unswitched up quiet =
       protected = λ page h u. no_page_absurd source.log.clean page empty.0 h;
       sendable = λ page h u. no_page_absurd source.log.todo page empty.1 h;
       down = λ h. none_absurd (sym h ∙ up);
-      wires = λ h. start_wires world.destination.phase (source_started source) world.destination (start_wire world) world.back (source.epoch + 1) quiet.not_advised one quiet.back_none empty.0 (kept.copies.kept_advised quiet.not_advised);
+      wires = λ h. start_wires world.destination.phase (source_started source) world.destination (start_wire world) world.back.frames (source.epoch + 1) quiet.not_advised one quiet.back_none empty.0 (kept.copies.kept_advised quiet.not_advised);
       forward_epoch = subst (AreOf (source.epoch + 1)) (sym one) (refl, tt);
       back_epoch = subst (AreOf (source.epoch + 1)) (sym quiet.back_none) tt;
       epochs = omega (arith, epochs);
       epoch_at = λ h. subst (λ p. EpochAt p world.destination.epoch (source.epoch + 1)) (sym quiet.not_advised) tt;
+      held = fits-more world.forward.frames world.forward.held (source.epoch + 1) (Advise ∷ []) kept.held.forward_held;
     }
 
 pub kept-start : (world : World) → IsSoundWorld world → is_source_idle world.source.phase ≡ true → IsSoundWorld (after_start world)
@@ -195,4 +197,4 @@ kept-start world kept is_idle =
     let unswitched = idle_unswitched world.source.phase world.source.switched idle kept.phases.source_phase in
     let up = never_false world.up (λ down. (kept.flight.down down).2 idle) in
     renewed world (source_started world.source) (start_wire world) world.transcript kept (has_not_run world kept unswitched)
-    (started_next world kept idle unswitched up (idle_wires world.source.phase world.source world.destination world.forward world.back idle (kept.flight.wires up)))
+    (started_next world kept idle unswitched up (idle_wires world.source.phase world.source world.destination world.forward.frames world.back.frames idle (kept.flight.wires up)))

@@ -29,6 +29,7 @@ use Rattle.mig_model.proofs.SourceTests.{in_one_is, none_absurd, and_parts, or_s
 use Rattle.mig_model.proofs.SourceRounds.{precopy_unswitched, never_idle, watched_below}
 use Rattle.mig_model.specs.Log.{least_of, present}
 use Rattle.mig_model.specs.Source.{bytes_of, is_precopy, page_sent, space_of}
+use Rattle.mig_model.proofs.HeldLemmas.{fits-append}
 
 present_bytes : {X : Type 0} (o : Option X) (zeros : X) → is_some o ≡ true → Some (unwrap_or o zeros) ≡ o
 present_bytes None zeros h = none_absurd h
@@ -78,7 +79,7 @@ still_after world page q kept unswitched is h u =
     or_either (eqb q page) (contains world.source.log.clean q) either new old
 
 abbrev page_wire : World → ℕ → List Sent
-page_wire world page = world.forward ++ record { epoch = world.source.epoch; frame = page_frame page (bytes_of world.source page) } ∷ []
+page_wire world page = world.forward.frames ++ record { epoch = world.source.epoch; frame = page_frame page (bytes_of world.source page) } ∷ []
 
 here_or_before : (here : Bool) (bytes : List ℕ) (kept own : Option (List ℕ)) → (here ≡ true → Some bytes ≡ own) → (here ≡ false → kept ≡ own) → cond here (Some bytes) kept ≡ own
 here_or_before true bytes kept own first second = first refl
@@ -93,22 +94,22 @@ was_clean true clean h e = none_absurd (sym e)
 was_clean false clean h e = h
 
 -- the copies of the clean pages are right once the page's own is behind them
-sent_copies : (world : World) (page : ℕ) (flow : Flow) (kept : FinMap nat_cmp (List ℕ)) → IsSent world page → flow_after flow world.forward ≡ Some Copies → IsPrecopying world.source kept world.forward → IsPrecopying (page_sent world.source page) kept (page_wire world page)
+sent_copies : (world : World) (page : ℕ) (flow : Flow) (kept : FinMap nat_cmp (List ℕ)) → IsSent world page → flow_after flow world.forward.frames ≡ Some Copies → IsPrecopying world.source kept world.forward.frames → IsPrecopying (page_sent world.source page) kept (page_wire world page)
 sent_copies world page flow kept is right old =
     let source = world.source in
     let space = space_of source in
     let bytes = bytes_of source page in
-    let newest = kept_by-page world.forward flow kept source.epoch page bytes right is.whole in
+    let newest = kept_by-page world.forward.frames flow kept source.epoch page bytes right is.whole in
     record {
       clean_copy = λ q h u.
-          newest q ∙ here_or_before (eqb q page) bytes (get (kept_by kept world.forward) q) (get space.host.bytes q)
+          newest q ∙ here_or_before (eqb q page) bytes (get (kept_by kept world.forward.frames) q) (get space.host.bytes q)
           (λ e. present_bytes (get space.host.bytes page) zero_page is.present ∙ ap (get space.host.bytes) (sym (eqb_tells q page e)))
           (λ e. old.clean_copy q (was_clean (eqb q page) (contains source.log.clean q) (sym (member_inserted source.log.clean page q) ∙ h) e) u);
       copies_sent = λ q h.
           member_inserted source.log.sent page q ∙ ⊎_elim
           (λ (e : eqb q page ≡ true). ap (λ b. b || contains source.log.sent q) e)
-          (λ (e : is_some (get (kept_by kept world.forward) q) ≡ true). or_second (eqb q page) (contains source.log.sent q) (old.copies_sent q e))
-          (copied_or_before (eqb q page) bytes (get (kept_by kept world.forward) q) (sym (ap is_some (newest q)) ∙ h));
+          (λ (e : is_some (get (kept_by kept world.forward.frames) q) ≡ true). or_second (eqb q page) (contains source.log.sent q) (old.copies_sent q e))
+          (copied_or_before (eqb q page) bytes (get (kept_by kept world.forward.frames) q) (sym (ap is_some (newest q)) ∙ h));
     }
 
 flow_sent : (flow : Flow) (wire : List Sent) (epoch page : ℕ) (bytes : List ℕ) → flow_after flow wire ≡ Some Copies → flow_after flow (wire ++ record { epoch = epoch; frame = page_frame page bytes } ∷ []) ≡ Some Copies
@@ -118,16 +119,16 @@ flow_sent flow wire epoch page bytes right =
     ∙ flow_next-page_frame page bytes
 
 wires_sent : (from : SourcePhase) (to : DestPhase) (world : World) (page : ℕ) → is_precopy from ≡ true → IsSent world page →
-    Wires (record world.source { phase = from }) (record world.destination { phase = to }) world.forward world.back →
-    Wires (record (page_sent world.source page) { phase = from }) (record world.destination { phase = to }) (page_wire world page) world.back
+    Wires (record world.source { phase = from }) (record world.destination { phase = to }) world.forward.frames world.back.frames →
+    Wires (record (page_sent world.source page) { phase = from }) (record world.destination { phase = to }) (page_wire world page) world.back.frames
 wires_sent SourcePhase.Precopy DestPhase.Idle world page now is wires = (
-  flow_sent BeforeAdvise world.forward world.source.epoch page (bytes_of world.source page) wires.0,
+  flow_sent BeforeAdvise world.forward.frames world.source.epoch page (bytes_of world.source page) wires.0,
   wires.1,
   sent_copies (record world { source = record world.source { phase = SourcePhase.Precopy } }) page BeforeAdvise world.destination.kept
       (record { present = is.present; watched = is.watched; whole = is.whole; low = is.low }) wires.0 wires.2,
 )
 wires_sent SourcePhase.Precopy DestPhase.Advised world page now is wires = (
-  flow_sent Copies world.forward world.source.epoch page (bytes_of world.source page) wires.0,
+  flow_sent Copies world.forward.frames world.source.epoch page (bytes_of world.source page) wires.0,
   wires.1,
   sent_copies (record world { source = record world.source { phase = SourcePhase.Precopy } }) page Copies world.destination.kept
       (record { present = is.present; watched = is.watched; whole = is.whole; low = is.low }) wires.0 wires.2,
@@ -160,17 +161,18 @@ sent_next world page kept precopy up unswitched is =
       before = kept.pushing.ended_before;
       fresh = kept.pushing.paused_fresh;
       idle = λ h. never_idle source.phase precopy h;
-      whole = copies_whole-push world.forward (record { epoch = source.epoch; frame = page_frame page (bytes_of source page) }) (record { page = page; bytes = bytes_of source page })
+      whole = copies_whole-push world.forward.frames (record { epoch = source.epoch; frame = page_frame page (bytes_of source page) }) (record { page = page; bytes = bytes_of source page })
           (copy_in-page_frame page (bytes_of source page) is.whole) is.whole kept.copies.copies_whole;
       protected = λ q h u. still_after world page q kept unswitched is h u;
       sendable = λ q h u.
           kept.precopy.todo_sendable unswitched q (and_parts (not (eqb q page)) (contains source.log.todo q) (sym (member_removed source.log.todo page q) ∙ h)).1 u;
       down = λ h. none_absurd (sym h ∙ up);
       wires = λ h. wires_sent source.phase world.destination.phase world page precopy is (kept.flight.wires h);
-      forward_epoch = AreOf-push source.epoch world.forward (page_frame page (bytes_of source page)) kept.epochs.forward_epoch;
+      forward_epoch = AreOf-push source.epoch world.forward.frames (page_frame page (bytes_of source page)) kept.epochs.forward_epoch;
       back_epoch = kept.epochs.back_epoch;
       epochs = kept.epochs.not_ahead;
       epoch_at = kept.epochs.epoch_at;
+      held = fits-append world.forward.frames _ world.forward.held kept.held.forward_held;
     }
 
 no_event : (events : List Noted) → ltb 0 (length events) ≡ false → events ≡ []

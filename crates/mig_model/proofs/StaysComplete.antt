@@ -71,7 +71,7 @@ up_is true h = refl
 up_is false h = absurd (h refl)
 
 -- nothing is on the wire back any more
-back_empty_in : (from : SourcePhase) (world : World) → is_released from ≡ true → IsSoundWorld (in_phases from world.destination.phase world) → is_empty world.back ≡ true
+back_empty_in : (from : SourcePhase) (world : World) → is_released from ≡ true → IsSoundWorld (in_phases from world.destination.phase world) → is_empty world.back.frames ≡ true
 back_empty_in SourcePhase.Released world released kept = ap is_empty (kept.flight.wires (up_is world.up (λ h. (kept.flight.down h).3 refl))).2
 back_empty_in SourcePhase.Idle world released kept = none_absurd released
 back_empty_in SourcePhase.Precopy world released kept = none_absurd released
@@ -82,7 +82,7 @@ still : (old new : SourcePhase) → new ≡ old → is_released old ≡ true →
 still old new is h = ap is_released is ∙ h
 
 -- such a world has nothing on its wire back, so nothing is taken from it
-nothing_back : (world : World) (sent : Sent) (rest : List Sent) → IsSoundWorld world → IsComplete world → world.back ≡ sent ∷ rest → ⊥
+nothing_back : (world : World) (sent : Sent) (rest : List Sent) → IsSoundWorld world → IsComplete world → world.back.frames ≡ sent ∷ rest → ⊥
 nothing_back world sent rest kept done is = false≢true (ap is_empty (sym is) ∙ back_empty_in world.source.phase world done kept)
 
 complete-answer : (world : World) (step : Step) → IsSoundWorld world → IsComplete world → Leaves IsComplete (answer world step)
@@ -94,8 +94,8 @@ complete-answer world Step.Send kept done = made-send _ world (λ page is precop
 complete-answer world Step.SourceRead kept done = made-source_read _ world (λ noted is started unswitched. done)
 complete-answer world Step.SourceAct kept done = made-source_act _ world (λ fault rest is started unswitched quiet. still world.source.phase _ (worked_phase (source_act world.source fault) world fault.page) done)
 complete-answer world Step.Switch kept done = made-switch _ world (λ precopy up quiet. absurd (not_precopy world.source.phase done precopy))
-complete-answer world Step.Deliver kept done = made-deliver _ world (λ sent rest is started up free. done)
-complete-answer world Step.DeliverBack kept done = made-deliver_back _ world (λ sent rest is started up. absurd (nothing_back world sent rest kept done is))
+complete-answer world (Step.Deliver n) kept done = made-deliver _ world n (λ sent rest is short. done) (λ sent rest is full started up free. done)
+complete-answer world (Step.DeliverBack n) kept done = made-deliver_back _ world n (λ sent rest is short. done) (λ sent rest is full started up. absurd (nothing_back world sent rest kept done is))
 complete-answer world Step.DestRead kept done = made-dest_read _ world (λ noted is ran. done)
 complete-answer world Step.DestAct kept done = made-dest_act _ world (λ fault rest is ran quiet. done)
 complete-answer world Step.Install kept done = made-install _ world (λ copy rest is ran quiet. done)

@@ -14,8 +14,8 @@ use Rattle.mig_base.specs.Commands.{is_access}
 use Rattle.mig_model.specs.Userfault.{Noted, next_message}
 use Rattle.mig_model.specs.Guest.{Fault, is_present, took_by}
 use Rattle.mig_model.specs.Wire.{Sent, Copy}
-use Rattle.mig_model.specs.Migration.{World, Made, answer, guest_of, runs, has_started, is_changing, is_end, is_paused_at, try_effect, page_effect, read_effect, act_effect, frame_effect, install_effect, retry_command, send_page, source_read_next, source_act_first, deliver_first, deliver_back_first, destination_read_next, destination_act_first, install_first, serve_first, after_command, after_start, after_round, after_send, after_source_read, after_source_act, after_switch, after_deliver, after_deliver_back, after_dest_read, after_dest_act, after_install, after_push, after_serve, after_end, after_break, after_notice, after_resume}
-use Rattle.mig_model.proofs.StepLemmas.{Holds, holds-unless}
+use Rattle.mig_model.specs.Migration.{World, Made, answer, guest_of, runs, has_started, is_changing, is_end, is_paused_at, try_effect, page_effect, read_effect, act_effect, frame_effect, install_effect, retry_command, send_page, source_read_next, source_act_first, deliver_first, deliver_back_first, destination_read_next, destination_act_first, install_first, serve_first, after_command, after_start, after_round, after_send, after_source_read, after_source_act, after_switch, after_deliver, after_deliver_back, after_dest_read, after_dest_act, after_install, after_push, after_serve, after_end, after_break, after_notice, after_resume, after_move, after_move_back, is_short}
+use Rattle.mig_model.proofs.StepLemmas.{Holds, holds-unless, holds-either}
 use Rattle.mig_model.specs.Cpus.{is_idle, is_woken, outstanding, processor_at}
 use Rattle.mig_model.specs.Log.{least_of, less}
 use Rattle.mig_model.specs.Owed.{home}
@@ -138,26 +138,35 @@ made-end Q world h =
 
 -- Deliveries
 
-deliver_by : (Q : Made → Type 0) (world : World) (wire : List Sent) →
-    ((sent : Sent) (rest : List Sent) → wire ≡ sent ∷ rest → (is_end sent.frame && not (is_empty world.destination.arrivals)) ≡ false →
-    Q (record { effect = frame_effect sent.frame; world = after_deliver world sent rest })) → Holds Q (deliver_first world wire)
-deliver_by Q world [] h = tt
-deliver_by Q world (sent ∷ rest) h = holds-unless Q _ _ (λ t. h sent rest refl t.0)
+deliver_by : (Q : Made → Type 0) (world : World) (n : ℕ) (wire : List Sent) →
+    ((sent : Sent) (rest : List Sent) → wire ≡ sent ∷ rest → is_short world.forward sent.frame n ≡ true → Q (record { effect = Effect.Moved n; world = after_move world n })) →
+    ((sent : Sent) (rest : List Sent) → wire ≡ sent ∷ rest → is_short world.forward sent.frame n ≡ false → (is_end sent.frame && not (is_empty world.destination.arrivals)) ≡ false →
+    Q (record { effect = frame_effect sent.frame; world = after_deliver world sent rest })) → Holds Q (deliver_first world n wire)
+deliver_by Q world n [] moved taken = tt
+deliver_by Q world n (sent ∷ rest) moved taken =
+    holds-either Q (is_short world.forward sent.frame n) _ _ (λ short. moved sent rest refl short) (λ full. holds-unless Q _ _ (λ t. taken sent rest refl full t.0))
 
-pub made-deliver : (Q : Made → Type 0) (world : World) →
-    ((sent : Sent) (rest : List Sent) → world.forward ≡ sent ∷ rest → has_started world ≡ true → world.up ≡ true → (is_end sent.frame && not (is_empty world.destination.arrivals)) ≡ false →
-    Q (record { effect = frame_effect sent.frame; world = after_deliver world sent rest })) → Holds Q (answer world Step.Deliver)
-made-deliver Q world h = holds-unless Q _ _ (λ t. deliver_by Q world world.forward (λ sent rest is free. h sent rest is (not_none _ t.0) (not_none _ t.1.0) free))
+-- bytes are moved, or a frame is taken
+pub made-deliver : (Q : Made → Type 0) (world : World) (n : ℕ) →
+    ((sent : Sent) (rest : List Sent) → world.forward.frames ≡ sent ∷ rest → is_short world.forward sent.frame n ≡ true → Q (record { effect = Effect.Moved n; world = after_move world n })) →
+    ((sent : Sent) (rest : List Sent) → world.forward.frames ≡ sent ∷ rest → is_short world.forward sent.frame n ≡ false → has_started world ≡ true → world.up ≡ true → (is_end sent.frame && not (is_empty world.destination.arrivals)) ≡ false →
+    Q (record { effect = frame_effect sent.frame; world = after_deliver world sent rest })) → Holds Q (answer world (Step.Deliver n))
+made-deliver Q world n moved taken =
+    holds-unless Q _ _ (λ t. deliver_by Q world n world.forward.frames moved (λ sent rest is full free. taken sent rest is full (not_none _ t.0) (not_none _ t.1.0) free))
 
-deliver_back_by : (Q : Made → Type 0) (world : World) (wire : List Sent) →
-    ((sent : Sent) (rest : List Sent) → wire ≡ sent ∷ rest → Q (record { effect = frame_effect sent.frame; world = after_deliver_back world sent rest })) → Holds Q (deliver_back_first world wire)
-deliver_back_by Q world [] h = tt
-deliver_back_by Q world (sent ∷ rest) h = h sent rest refl
+deliver_back_by : (Q : Made → Type 0) (world : World) (n : ℕ) (wire : List Sent) →
+    ((sent : Sent) (rest : List Sent) → wire ≡ sent ∷ rest → is_short world.back sent.frame n ≡ true → Q (record { effect = Effect.Moved n; world = after_move_back world n })) →
+    ((sent : Sent) (rest : List Sent) → wire ≡ sent ∷ rest → is_short world.back sent.frame n ≡ false → Q (record { effect = frame_effect sent.frame; world = after_deliver_back world sent rest })) →
+    Holds Q (deliver_back_first world n wire)
+deliver_back_by Q world n [] moved taken = tt
+deliver_back_by Q world n (sent ∷ rest) moved taken = holds-either Q (is_short world.back sent.frame n) _ _ (λ short. moved sent rest refl short) (λ full. taken sent rest refl full)
 
-pub made-deliver_back : (Q : Made → Type 0) (world : World) →
-    ((sent : Sent) (rest : List Sent) → world.back ≡ sent ∷ rest → has_started world ≡ true → world.up ≡ true → Q (record { effect = frame_effect sent.frame; world = after_deliver_back world sent rest })) →
-    Holds Q (answer world Step.DeliverBack)
-made-deliver_back Q world h = holds-unless Q _ _ (λ t. deliver_back_by Q world world.back (λ sent rest is. h sent rest is (not_none _ t.0) (not_none _ t.1.0)))
+pub made-deliver_back : (Q : Made → Type 0) (world : World) (n : ℕ) →
+    ((sent : Sent) (rest : List Sent) → world.back.frames ≡ sent ∷ rest → is_short world.back sent.frame n ≡ true → Q (record { effect = Effect.Moved n; world = after_move_back world n })) →
+    ((sent : Sent) (rest : List Sent) → world.back.frames ≡ sent ∷ rest → is_short world.back sent.frame n ≡ false → has_started world ≡ true → world.up ≡ true →
+    Q (record { effect = frame_effect sent.frame; world = after_deliver_back world sent rest })) → Holds Q (answer world (Step.DeliverBack n))
+made-deliver_back Q world n moved taken =
+    holds-unless Q _ _ (λ t. deliver_back_by Q world n world.back.frames moved (λ sent rest is full. taken sent rest is full (not_none _ t.0) (not_none _ t.1.0)))
 
 -- The destination
 

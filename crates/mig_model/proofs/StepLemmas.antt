@@ -5,7 +5,7 @@ use Rattle.std.proofs.lemmas.Bool.{false≢true}
 use Rattle.mig_base.specs.declared.effect.Effect.{Effect}
 use Rattle.mig_base.specs.declared.refusal.Refusal.{Refusal}
 use Rattle.mig_base.specs.declared.schedule.Step.{Step}
-use Rattle.mig_model.specs.Migration.{World, Made, Answer, unless, answer, outcome, outcome_by, next, next_by}
+use Rattle.mig_model.specs.Migration.{World, Made, Answer, unless, answer, outcome, outcome_by, next, next_by, made}
 
 -- what holds of a step that is not refused
 abbrev pub Holds : (Made → Type 0) → Answer → Type 0
@@ -30,6 +30,10 @@ pub holds-unless : (Q : Made → Type 0) (reasons : List (Bool × Refusal)) (res
 unfolding unless
 holds-unless Q [] rest h = h tt
 holds-unless Q (reason ∷ reasons) rest h = holds-if Q reason.0 reason.1 (unless reasons rest) (λ one. holds-unless Q reasons rest (λ others. h (one, others)))
+
+pub holds-either : (Q : Made → Type 0) (test : Bool) (one other : Answer) → (test ≡ true → Holds Q one) → (test ≡ false → Holds Q other) → Holds Q (if test then one else other)
+holds-either Q true one other h k = h refl
+holds-either Q false one other h k = k refl
 
 -- what holds of the old world, and of the new one where the step is not refused
 leaves_by : (P : World → Type 0) (old : World) (result : Answer) → P old → Leaves P result → P (next_by old result)

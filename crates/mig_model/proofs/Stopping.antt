@@ -25,6 +25,7 @@ use Rattle.mig_model.specs.Invariant.Flow.{BeforeAdvise, Copies, BeforePackage, 
 use Rattle.mig_model.proofs.SendingLemmas.{flow_sent, copies_of-append, AreWhole-append, AreFaithful-append, has_copy-append, AreOf-one, has_package, copies_of-page, page_flow}
 use Rattle.mig_model.specs.Log.{least_of, no_pages, present}
 use Rattle.mig_model.specs.Source.{Source, bytes_of, is_stopped, page_pushed, request_served, space_of}
+use Rattle.mig_model.proofs.HeldLemmas.{fits-more}
 
 -- a world in these phases
 abbrev pub in_phases : SourcePhase → DestPhase → World → World
@@ -122,21 +123,21 @@ abbrev pub stopped_at : DestPhase → World → World
 stopped_at to world = in_phases SourcePhase.Stopped to world
 
 pushed_wires : (to : DestPhase) (world : World) (page : ℕ) → get (space_of world.source).host.bytes page ≡ Some (bytes_of world.source page) → length (bytes_of world.source page) ≡ 4096 → world.source.end_epoch ≢ world.source.epoch →
-    ((flow : Flow) → flow_after flow world.forward ≡ Some (flow_of world.source) → flow_after flow (world.forward ++ pushed_frame world.source page ∷ []) ≡ Some (flow_of world.source)) →
-    StoppedWires (stopped_at to world).source (stopped_at to world).destination world.forward world.back → StoppedWires (page_pushed (stopped_at to world).source page) (stopped_at to world).destination (world.forward ++ pushed_frame world.source page ∷ []) world.back
-pushed_wires DestPhase.Idle world page held whole other flows old = (flows BeforeAdvise old.0, old.1, pushed_switching (stopped_at DestPhase.Idle world).source world.destination.kept world.forward page held whole old.2)
-pushed_wires DestPhase.Advised world page held whole other flows old = (flows Copies old.0, old.1, pushed_switching (stopped_at DestPhase.Advised world).source world.destination.kept world.forward page held whole old.2)
-pushed_wires DestPhase.Discarding world page held whole other flows old = (flows BeforePackage old.0, old.1, pushed_switching (stopped_at DestPhase.Discarding world).source world.destination.kept world.forward page held whole old.2)
+    ((flow : Flow) → flow_after flow world.forward.frames ≡ Some (flow_of world.source) → flow_after flow (world.forward.frames ++ pushed_frame world.source page ∷ []) ≡ Some (flow_of world.source)) →
+    StoppedWires (stopped_at to world).source (stopped_at to world).destination world.forward.frames world.back.frames → StoppedWires (page_pushed (stopped_at to world).source page) (stopped_at to world).destination (world.forward.frames ++ pushed_frame world.source page ∷ []) world.back.frames
+pushed_wires DestPhase.Idle world page held whole other flows old = (flows BeforeAdvise old.0, old.1, pushed_switching (stopped_at DestPhase.Idle world).source world.destination.kept world.forward.frames page held whole old.2)
+pushed_wires DestPhase.Advised world page held whole other flows old = (flows Copies old.0, old.1, pushed_switching (stopped_at DestPhase.Advised world).source world.destination.kept world.forward.frames page held whole old.2)
+pushed_wires DestPhase.Discarding world page held whole other flows old = (flows BeforePackage old.0, old.1, pushed_switching (stopped_at DestPhase.Discarding world).source world.destination.kept world.forward.frames page held whole old.2)
 pushed_wires DestPhase.Running world page held whole other flows old =
     let more = pushed_frame world.source page ∷ [] in
-    let copies : copies_of (world.forward ++ more) ≡ copies_of world.forward ++ record { page = page; bytes = bytes_of world.source page } ∷ [] =
-    copies_of-append world.forward more ∙ ap (λ c. copies_of world.forward ++ c) (copies_of-page world.source.epoch page (bytes_of world.source page) whole) in (
+    let copies : copies_of (world.forward.frames ++ more) ≡ copies_of world.forward.frames ++ record { page = page; bytes = bytes_of world.source page } ∷ [] =
+    copies_of-append world.forward.frames more ∙ ap (λ c. copies_of world.forward.frames ++ c) (copies_of-page world.source.epoch page (bytes_of world.source page) whole) in (
       flows Pushed old.0,
       old.1,
       record {
         whereabouts = λ q origin owed.
             ap (λ c. contains (finset.remove world.source.remaining page) origin || has_copy c origin || has_copy world.destination.arrivals origin) copies
-            ∙ pushed_flowing world.source.remaining (copies_of world.forward) world.destination.arrivals page origin (bytes_of world.source page) (old.2.whereabouts q origin owed);
+            ∙ pushed_flowing world.source.remaining (copies_of world.forward.frames) world.destination.arrivals page origin (bytes_of world.source page) (old.2.whereabouts q origin owed);
       },
     )
 pushed_wires DestPhase.Paused world page held whole other flows old = absurd old
@@ -162,9 +163,9 @@ pushed_in SourcePhase.Stopped to world page stopped up present remains kept =
     let whole : length (bytes_of source page) ≡ 4096 = kept.spaces.source_space.host.whole page (bytes_of source page) held in
     let other = not_ended source page kept.pushing.end_sent remains in
     let still = flow_open source other in
-    let copies : copies_of (world.forward ++ more) ≡ copies_of world.forward ++ record { page = page; bytes = bytes_of source page } ∷ [] =
-    copies_of-append world.forward more ∙ ap (λ c. copies_of world.forward ++ c) (copies_of-page source.epoch page (bytes_of source page) whole) in
-    let flows = λ (flow : Flow) (h : flow_after flow world.forward ≡ Some (flow_of source)). flow_sent flow Pushed Pushed world.forward (pushed_frame source page) (h ∙ ap (λ f. Some f) still) (page_flow page (bytes_of source page)).1 ∙ ap (λ f. Some f) (sym still) in
+    let copies : copies_of (world.forward.frames ++ more) ≡ copies_of world.forward.frames ++ record { page = page; bytes = bytes_of source page } ∷ [] =
+    copies_of-append world.forward.frames more ∙ ap (λ c. copies_of world.forward.frames ++ c) (copies_of-page source.epoch page (bytes_of source page) whole) in
+    let flows = λ (flow : Flow) (h : flow_after flow world.forward.frames ≡ Some (flow_of source)). flow_sent flow Pushed Pushed world.forward.frames (pushed_frame source page) (h ∙ ap (λ f. Some f) still) (page_flow page (bytes_of source page)).1 ∙ ap (λ f. Some f) (sym still) in
     record {
       memory = kept.memory;
       spaces = kept.spaces;
@@ -182,20 +183,21 @@ pushed_in SourcePhase.Stopped to world page stopped up present remains kept =
         kept_none = kept.copies.kept_none;
         kept_advised = kept.copies.kept_advised;
         kept_whole = kept.copies.kept_whole;
-        copies_whole = subst AreWhole (sym copies) (AreWhole-append (copies_of world.forward) _ kept.copies.copies_whole (whole, tt));
+        copies_whole = subst AreWhole (sym copies) (AreWhole-append (copies_of world.forward.frames) _ kept.copies.copies_whole (whole, tt));
       };
       owing = kept.owing;
       flight = record {
-        flight_faithful = λ ran. subst (λ c. AreFaithful bytes c) (sym copies) (AreFaithful-append bytes (copies_of world.forward) _ (kept.flight.flight_faithful ran) (held, tt));
+        flight_faithful = λ ran. subst (λ c. AreFaithful bytes c) (sym copies) (AreFaithful-append bytes (copies_of world.forward.frames) _ (kept.flight.flight_faithful ran) (held, tt));
         down = λ h. absurd (false≢true (sym h ∙ up));
         wires = λ h. pushed_wires to world page held whole other flows (kept.flight.wires h);
       };
       epochs = record {
-        forward_epoch = AreOf-one source.epoch world.forward (page_frame page (bytes_of source page)) kept.epochs.forward_epoch;
+        forward_epoch = AreOf-one source.epoch world.forward.frames (page_frame page (bytes_of source page)) kept.epochs.forward_epoch;
         back_epoch = kept.epochs.back_epoch;
         not_ahead = kept.epochs.not_ahead;
         epoch_at = kept.epochs.epoch_at;
       };
+      held = record { forward_held = fits-more world.forward.frames world.forward.held source.epoch (page_frame page (bytes_of source page) ∷ []) kept.held.forward_held; back_held = kept.held.back_held };
     }
 pushed_in SourcePhase.Idle to world page stopped up present remains kept = none_absurd stopped
 pushed_in SourcePhase.Precopy to world page stopped up present remains kept = none_absurd stopped
@@ -207,8 +209,8 @@ kept-push world page kept stopped up present remains = pushed_in world.source.ph
 
 -- Serve
 
-served_wires : (to : DestPhase) (world : World) (pages : List ℕ) → StoppedWires (stopped_at to world).source (stopped_at to world).destination world.forward world.back →
-    StoppedWires (request_served (stopped_at to world).source pages) (stopped_at to world).destination world.forward world.back
+served_wires : (to : DestPhase) (world : World) (pages : List ℕ) → StoppedWires (stopped_at to world).source (stopped_at to world).destination world.forward.frames world.back.frames →
+    StoppedWires (request_served (stopped_at to world).source pages) (stopped_at to world).destination world.forward.frames world.back.frames
 served_wires DestPhase.Idle world pages old = (old.0, old.1, record { owed = old.2.owed; plan = old.2.plan; owed_present = old.2.owed_present; kept_rest = old.2.kept_rest; whereabouts = old.2.whereabouts; faithful = old.2.faithful })
 served_wires DestPhase.Advised world pages old = (old.0, old.1, record { owed = old.2.owed; plan = old.2.plan; owed_present = old.2.owed_present; kept_rest = old.2.kept_rest; whereabouts = old.2.whereabouts; faithful = old.2.faithful })
 served_wires DestPhase.Discarding world pages old = (old.0, old.1, record { owed = old.2.owed; plan = old.2.plan; owed_present = old.2.owed_present; kept_rest = old.2.kept_rest; whereabouts = old.2.whereabouts; faithful = old.2.faithful })
@@ -232,6 +234,7 @@ served_in SourcePhase.Stopped to world pages stopped kept =
         wires = λ up. served_wires to world pages (kept.flight.wires up);
       };
       epochs = kept.epochs;
+      held = kept.held;
     }
 served_in SourcePhase.Idle to world pages stopped kept = none_absurd stopped
 served_in SourcePhase.Precopy to world pages stopped kept = none_absurd stopped
@@ -313,13 +316,13 @@ ended_switching source kept forward old =
     }
 
 ended_wires : (to : DestPhase) (world : World) → eqb world.source.end_epoch world.source.epoch ≡ false →
-    ((flow : Flow) → flow_after flow world.forward ≡ Some (flow_of world.source) → flow_after flow (world.forward ++ end_frame world.source ∷ []) ≡ Some (flow_of (end_sent_by world.source))) →
-    StoppedWires (stopped_at to world).source (stopped_at to world).destination world.forward world.back → StoppedWires (end_sent_by (stopped_at to world).source) (stopped_at to world).destination (world.forward ++ end_frame world.source ∷ []) world.back
-ended_wires DestPhase.Idle world other flows old = (flows BeforeAdvise old.0, old.1, ended_switching (stopped_at DestPhase.Idle world).source world.destination.kept world.forward old.2)
-ended_wires DestPhase.Advised world other flows old = (flows Copies old.0, old.1, ended_switching (stopped_at DestPhase.Advised world).source world.destination.kept world.forward old.2)
-ended_wires DestPhase.Discarding world other flows old = (flows BeforePackage old.0, old.1, ended_switching (stopped_at DestPhase.Discarding world).source world.destination.kept world.forward old.2)
+    ((flow : Flow) → flow_after flow world.forward.frames ≡ Some (flow_of world.source) → flow_after flow (world.forward.frames ++ end_frame world.source ∷ []) ≡ Some (flow_of (end_sent_by world.source))) →
+    StoppedWires (stopped_at to world).source (stopped_at to world).destination world.forward.frames world.back.frames → StoppedWires (end_sent_by (stopped_at to world).source) (stopped_at to world).destination (world.forward.frames ++ end_frame world.source ∷ []) world.back.frames
+ended_wires DestPhase.Idle world other flows old = (flows BeforeAdvise old.0, old.1, ended_switching (stopped_at DestPhase.Idle world).source world.destination.kept world.forward.frames old.2)
+ended_wires DestPhase.Advised world other flows old = (flows Copies old.0, old.1, ended_switching (stopped_at DestPhase.Advised world).source world.destination.kept world.forward.frames old.2)
+ended_wires DestPhase.Discarding world other flows old = (flows BeforePackage old.0, old.1, ended_switching (stopped_at DestPhase.Discarding world).source world.destination.kept world.forward.frames old.2)
 ended_wires DestPhase.Running world other flows old =
-    let copies : copies_of (world.forward ++ end_frame world.source ∷ []) ≡ copies_of world.forward = copies_of-append world.forward (end_frame world.source ∷ []) ∙ append-nil (copies_of world.forward) in (
+    let copies : copies_of (world.forward.frames ++ end_frame world.source ∷ []) ≡ copies_of world.forward.frames = copies_of-append world.forward.frames (end_frame world.source ∷ []) ∙ append-nil (copies_of world.forward.frames) in (
       flows Pushed old.0,
       old.1,
       record {
@@ -336,8 +339,8 @@ ended_in SourcePhase.Stopped to world stopped up other none kept =
     let nothing = nothing_remains (in_phases SourcePhase.Stopped to world) kept none in
     let before : flow_of source ≡ Pushed = ap (λ b. cond b AfterEnd Pushed) other in
     let after : flow_of (end_sent_by source) ≡ AfterEnd = ap (λ b. cond b AfterEnd Pushed) (eqb-refl source.epoch) in
-    let copies : copies_of (world.forward ++ end_frame source ∷ []) ≡ copies_of world.forward = copies_of-append world.forward (end_frame source ∷ []) ∙ append-nil (copies_of world.forward) in
-    let flows = λ (flow : Flow) (h : flow_after flow world.forward ≡ Some (flow_of source)). flow_sent flow Pushed AfterEnd world.forward (end_frame source) (h ∙ ap (λ f. Some f) before) refl ∙ ap (λ f. Some f) (sym after) in
+    let copies : copies_of (world.forward.frames ++ end_frame source ∷ []) ≡ copies_of world.forward.frames = copies_of-append world.forward.frames (end_frame source ∷ []) ∙ append-nil (copies_of world.forward.frames) in
+    let flows = λ (flow : Flow) (h : flow_after flow world.forward.frames ≡ Some (flow_of source)). flow_sent flow Pushed AfterEnd world.forward.frames (end_frame source) (h ∙ ap (λ f. Some f) before) refl ∙ ap (λ f. Some f) (sym after) in
     record {
       memory = kept.memory;
       spaces = kept.spaces;
@@ -364,11 +367,12 @@ ended_in SourcePhase.Stopped to world stopped up other none kept =
         wires = λ h. ended_wires to world other flows (kept.flight.wires h);
       };
       epochs = record {
-        forward_epoch = AreOf-one source.epoch world.forward End kept.epochs.forward_epoch;
+        forward_epoch = AreOf-one source.epoch world.forward.frames End kept.epochs.forward_epoch;
         back_epoch = kept.epochs.back_epoch;
         not_ahead = kept.epochs.not_ahead;
         epoch_at = kept.epochs.epoch_at;
       };
+      held = record { forward_held = fits-more world.forward.frames world.forward.held source.epoch (End ∷ []) kept.held.forward_held; back_held = kept.held.back_held };
     }
 ended_in SourcePhase.Idle to world stopped up other none kept = none_absurd stopped
 ended_in SourcePhase.Precopy to world stopped up other none kept = none_absurd stopped

@@ -23,7 +23,8 @@ use Rattle.mig_model.proofs.SendingLemmas.{flow_sent, copies_of-append, AreOf-on
 use Rattle.mig_model.proofs.Stopping.{in_phases, none_absurd, flow_open, append-nil, present_below, stopped_not_paused, stopped_not_released}
 use Rattle.mig_model.proofs.FirstFrame.{nothing_behind}
 use Rattle.mig_model.specs.Log.{less, present}
-use Rattle.mig_model.specs.Source.{Source, commands_of, is_precopy, not_clean, space_of, switch_made}
+use Rattle.mig_model.specs.Source.{Source, commands_of, is_precopy, not_clean, space_of, switch_made, switch_frames}
+use Rattle.mig_model.proofs.HeldLemmas.{fits-more}
 
 pub member_less : (set other : FinSet nat_cmp) (q : ℕ) → contains (less set other) q ≡ (contains set q && not (contains other q))
 member_less set other q = contains-retain set (λ page. not (contains other page)) q (λ x e. ap (λ k. not (contains other k)) (sym (nat_cmp-IsAntisymmetric q x e)))
@@ -102,14 +103,14 @@ member_not_clean source page = member_less (present (space_of source)) source.lo
 owed_is_present : (source : Source) (page : ℕ) → contains (not_clean source) page ≡ true → is_present (space_of source) page ≡ true
 owed_is_present source page h = and_right (ltb page HIGH_PAGE) _ (and_left (ltb page HIGH_PAGE && is_present (space_of source) page) _ (sym (member_not_clean source page) ∙ h))
 
-switching : (flow : Flow) (world : World) → IsSoundWorld world → (space_of world.source).object.events ≡ [] → flow_after flow world.forward ≡ Some Copies → IsPrecopying world.source world.destination.kept world.forward →
-    IsSwitching (switch_made world.source) world.destination.kept (switched_wire world.source world.forward)
+switching : (flow : Flow) (world : World) → IsSoundWorld world → (space_of world.source).object.events ≡ [] → flow_after flow world.forward.frames ≡ Some Copies → IsPrecopying world.source world.destination.kept world.forward.frames →
+    IsSwitching (switch_made world.source) world.destination.kept (switched_wire world.source world.forward.frames)
 switching flow world kept quiet flows old =
     let source = world.source in
     let more = discard_frame source ∷ package_frame source ∷ [] in
-    let joined : switched_wire source world.forward ≡ world.forward ++ more = append_assoc world.forward (discard_frame source ∷ []) (package_frame source ∷ []) in
-    let there = has_no_package flow world.destination.kept world.forward more flows in
-    let nothing_behind : copies_of (behind (switched_wire source world.forward)) ≡ [] = ap (λ w. copies_of (behind w)) joined ∙ ap copies_of there.behind_then in
+    let joined : switched_wire source world.forward.frames ≡ world.forward.frames ++ more = append_assoc world.forward.frames (discard_frame source ∷ []) (package_frame source ∷ []) in
+    let there = has_no_package flow world.destination.kept world.forward.frames more flows in
+    let nothing_behind : copies_of (behind (switched_wire source world.forward.frames)) ≡ [] = ap (λ w. copies_of (behind w)) joined ∙ ap copies_of there.behind_then in
     record {
       owed = not_clean source;
       plan = ap package_in joined ∙ there.plan;
@@ -117,24 +118,24 @@ switching flow world kept quiet flows old =
       kept_rest = λ page.
           ap (λ w. get (kept_by world.destination.kept w) page) joined
           ∙ ap (λ k. get k page) there.kept_then
-          ∙ get-discarded (kept_by world.destination.kept world.forward) (less source.log.sent source.log.clean) page
-          ∙ ap (λ b. cond b None (get (kept_by world.destination.kept world.forward) page)) (member_less source.log.sent source.log.clean page)
-          ∙ rest_of (contains source.log.clean page) (contains source.log.sent page) (ltb page HIGH_PAGE) (is_present (space_of source) page) (get (kept_by world.destination.kept world.forward) page) (get (space_of source).host.bytes page)
+          ∙ get-discarded (kept_by world.destination.kept world.forward.frames) (less source.log.sent source.log.clean) page
+          ∙ ap (λ b. cond b None (get (kept_by world.destination.kept world.forward.frames) page)) (member_less source.log.sent source.log.clean page)
+          ∙ rest_of (contains source.log.clean page) (contains source.log.sent page) (ltb page HIGH_PAGE) (is_present (space_of source) page) (get (kept_by world.destination.kept world.forward.frames) page) (get (space_of source).host.bytes page)
           (λ clean. old.clean_copy page clean (ap (λ e. is_unread e page) quiet)) (old.copies_sent page) refl
           (λ is. low_true page (present_below (space_of source) page kept.spaces.source_space.host is))
           ∙ sym (ap (λ b. cond b None (get (space_of source).host.bytes page)) (member_not_clean source page));
-      whereabouts = λ page h. ap (λ b. b || has_copy (copies_of (behind (switched_wire source world.forward))) page) h;
+      whereabouts = λ page h. ap (λ b. b || has_copy (copies_of (behind (switched_wire source world.forward.frames))) page) h;
       faithful = subst (λ c. AreFaithful (space_of source).host.bytes c) (sym nothing_behind) tt;
     }
 
-flows_on : (flow : Flow) (world : World) → flow_after flow world.forward ≡ Some Copies → world.source.end_epoch ≢ world.source.epoch → flow_after flow (switched_wire world.source world.forward) ≡ Some (flow_of world.source)
+flows_on : (flow : Flow) (world : World) → flow_after flow world.forward.frames ≡ Some Copies → world.source.end_epoch ≢ world.source.epoch → flow_after flow (switched_wire world.source world.forward.frames) ≡ Some (flow_of world.source)
 flows_on flow world h other =
-    flow_sent flow BeforePackage Pushed (world.forward ++ discard_frame world.source ∷ []) (package_frame world.source) (flow_sent flow Copies BeforePackage world.forward (discard_frame world.source) h refl) refl
+    flow_sent flow BeforePackage Pushed (world.forward.frames ++ discard_frame world.source ∷ []) (package_frame world.source) (flow_sent flow Copies BeforePackage world.forward.frames (discard_frame world.source) h refl) refl
     ∙ ap (λ f. Some f) (sym (flow_open world.source other))
 
 switched_wires : (to : DestPhase) (world : World) → IsSoundWorld (in_phases SourcePhase.Precopy to world) → (space_of world.source).object.events ≡ [] → world.source.end_epoch ≢ world.source.epoch →
-    PrecopyWires (in_phases SourcePhase.Precopy to world).source (in_phases SourcePhase.Precopy to world).destination world.forward world.back →
-    StoppedWires (switch_made (in_phases SourcePhase.Precopy to world).source) (in_phases SourcePhase.Precopy to world).destination (switched_wire world.source world.forward) world.back
+    PrecopyWires (in_phases SourcePhase.Precopy to world).source (in_phases SourcePhase.Precopy to world).destination world.forward.frames world.back.frames →
+    StoppedWires (switch_made (in_phases SourcePhase.Precopy to world).source) (in_phases SourcePhase.Precopy to world).destination (switched_wire world.source world.forward.frames) world.back.frames
 switched_wires DestPhase.Idle world kept quiet other old =
     (flows_on BeforeAdvise world old.0 other, old.1, switching BeforeAdvise (in_phases SourcePhase.Precopy DestPhase.Idle world) kept quiet old.0 old.2)
 switched_wires DestPhase.Advised world kept quiet other old =
@@ -157,9 +158,9 @@ switched_in : (from : SourcePhase) (to : DestPhase) (world : World) → is_preco
 switched_in SourcePhase.Precopy to world precopy up quiet kept =
     let source = world.source in
     let other : source.end_epoch ≢ source.epoch = was_not_ended _ (kept.pushing.before_switch kept.phases.source_phase).1 in
-    let copies : copies_of (switched_wire source world.forward) ≡ copies_of world.forward =
-    copies_of-append (world.forward ++ discard_frame source ∷ []) (package_frame source ∷ []) ∙ append-nil (copies_of (world.forward ++ discard_frame source ∷ []))
-    ∙ copies_of-append world.forward (discard_frame source ∷ []) ∙ append-nil (copies_of world.forward) in
+    let copies : copies_of (switched_wire source world.forward.frames) ≡ copies_of world.forward.frames =
+    copies_of-append (world.forward.frames ++ discard_frame source ∷ []) (package_frame source ∷ []) ∙ append-nil (copies_of (world.forward.frames ++ discard_frame source ∷ []))
+    ∙ copies_of-append world.forward.frames (discard_frame source ∷ []) ∙ append-nil (copies_of world.forward.frames) in
     let sound = kept.spaces.source_space in
     record {
       memory = kept.memory;
@@ -206,11 +207,12 @@ switched_in SourcePhase.Precopy to world precopy up quiet kept =
         wires = λ h. switched_wires to world kept quiet other (kept.flight.wires h);
       };
       epochs = record {
-        forward_epoch = AreOf-one source.epoch (world.forward ++ discard_frame source ∷ []) (package_frame source).frame (AreOf-one source.epoch world.forward (discard_frame source).frame kept.epochs.forward_epoch);
+        forward_epoch = AreOf-one source.epoch (world.forward.frames ++ discard_frame source ∷ []) (package_frame source).frame (AreOf-one source.epoch world.forward.frames (discard_frame source).frame kept.epochs.forward_epoch);
         back_epoch = kept.epochs.back_epoch;
         not_ahead = kept.epochs.not_ahead;
         epoch_at = kept.epochs.epoch_at;
       };
+      held = record { forward_held = fits-more world.forward.frames world.forward.held source.epoch (switch_frames source) kept.held.forward_held; back_held = kept.held.back_held };
     }
 switched_in SourcePhase.Idle to world precopy up quiet kept = none_absurd precopy
 switched_in SourcePhase.Stopped to world precopy up quiet kept = none_absurd precopy

@@ -32,6 +32,7 @@ use Rattle.mig_model.specs.Cpus.{Took, access_took, call_took, entries_of}
 use Rattle.mig_model.specs.Log.{present}
 use Rattle.mig_model.specs.Owed.{settled_by}
 use Rattle.mig_model.specs.Promises.{owed_changed}
+use Rattle.mig_model.specs.Migration.{made, start}
 
 none_absurd : {A : Type 0} → false ≡ true → A
 none_absurd h = absurd (false≢true h)

@@ -204,12 +204,12 @@ unmoved : (world : World) → Wait world → AfterFrame world world.destination.
 unmoved world all = destination_like world world.destination.guest.cpus (unchanged world.destination.guest.cpus) all
 
 -- the commands of a Package are those that wait at the source
-frame_all : (frame : Frame) (epoch : ℕ) (rest : List Sent) (world : World) → IsSoundWorld world → world.up ≡ true → world.forward ≡ record { epoch = epoch; frame = frame } ∷ rest → Wait world →
+frame_all : (frame : Frame) (epoch : ℕ) (rest : List Sent) (world : World) → IsSoundWorld world → world.up ≡ true → world.forward.frames ≡ record { epoch = epoch; frame = frame } ∷ rest → Wait world →
     AfterFrame world (destination_took world.destination epoch frame).guest.cpus
 frame_all (Package areas owed commands) epoch rest world kept up first all =
-    let again = subst (λ w. IsSoundWorld (record world { forward = w })) first kept in
+    let again = subst (λ w. IsSoundWorld (record world { forward = record world.forward { frames = w } })) first kept in
     let old = with_first world.source.phase world.destination.phase epoch (Package areas owed commands) rest world in
-    let is = first_in_place old.source old.destination (record { epoch = epoch; frame = Package areas owed commands }) rest old.back (again.flight.wires up) in
+    let is = first_in_place old.source old.destination (record { epoch = epoch; frame = Package areas owed commands }) rest old.back.frames (again.flight.wires up) in
     let told = package_told world.source.phase world.destination.phase epoch areas owed commands rest world is up again in
     let new = source_like world _ (taken_like world.source.guest.cpus) all in
     subst (λ cs. AfterFrame world (map taken_over cs)) (sym told.0) (new.0, taken_many world.source.guest.cpus)
@@ -236,11 +236,11 @@ waits_answer world Step.SourceAct kept all =
     made-source_act _ world (λ fault rest is started unswitched quiet.
     let new = source_like world _ (source_act_like (source_act world.source fault) world.source fault.page) all in record { source = new.0; destination = all.destination; many = new.1 })
 waits_answer world Step.Switch kept all = made-switch _ world (λ precopy up quiet. record { source = all.source; destination = all.destination; many = all.many })
-waits_answer world Step.Deliver kept all =
-    made-deliver _ world (λ sent rest is started up free.
+waits_answer world (Step.Deliver n) kept all =
+    made-deliver _ world n (λ sent rest is short. record { source = all.source; destination = all.destination; many = all.many }) (λ sent rest is full started up free.
     let new = frame_all sent.frame sent.epoch rest world kept up is all in record { source = all.source; destination = new.0; many = new.1 })
-waits_answer world Step.DeliverBack kept all =
-    made-deliver_back _ world (λ sent rest is started up.
+waits_answer world (Step.DeliverBack n) kept all =
+    made-deliver_back _ world n (λ sent rest is short. record { source = all.source; destination = all.destination; many = all.many }) (λ sent rest is full started up.
     let new = source_like world _ (took_like sent.frame world.source) all in record { source = new.0; destination = all.destination; many = new.1 })
 waits_answer world Step.DestRead kept all =
     made-dest_read _ world (λ noted is ran.

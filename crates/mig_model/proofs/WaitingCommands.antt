@@ -230,12 +230,12 @@ package_told SourcePhase.Precopy DestPhase.Idle epoch areas owed commands rest w
 package_told SourcePhase.Paused DestPhase.Paused epoch areas owed commands rest world is up kept = absurd (false≢true is)
 package_told _ _ epoch areas owed commands rest world is up kept = absurd (false≢true is)
 
-package_keeps : (epoch : ℕ) (areas : FinMap nat_cmp Prot) (owed : FinSet nat_cmp) (commands : List (Option Command)) (rest : List Sent) (world : World) → world.up ≡ true → world.forward ≡ record { epoch = epoch; frame = Package areas owed commands } ∷ rest → IsSoundWorld world →
+package_keeps : (epoch : ℕ) (areas : FinMap nat_cmp Prot) (owed : FinSet nat_cmp) (commands : List (Option Command)) (rest : List Sent) (world : World) → world.up ≡ true → world.forward.frames ≡ record { epoch = epoch; frame = Package areas owed commands } ∷ rest → IsSoundWorld world →
     StillWaits (guest_of world) (guest_of (delivered world (record { epoch = epoch; frame = Package areas owed commands } ∷ rest)))
 package_keeps epoch areas owed commands rest world up first kept k command h =
-    let again = subst (λ w. IsSoundWorld (record world { forward = w })) first kept in
+    let again = subst (λ w. IsSoundWorld (record world { forward = record world.forward { frames = w } })) first kept in
     let old = with_first world.source.phase world.destination.phase epoch (Package areas owed commands) rest world in
-    let is = first_in_place old.source old.destination (record { epoch = epoch; frame = Package areas owed commands }) rest old.back (again.flight.wires up) in
+    let is = first_in_place old.source old.destination (record { epoch = epoch; frame = Package areas owed commands }) rest old.back.frames (again.flight.wires up) in
     let told = package_told world.source.phase world.destination.phase epoch areas owed commands rest world is up again in
     ap (λ cs. outstanding (processor_at (map taken_over cs) k)) told.0
     ∙ taken_keeps world.source.guest.cpus k
@@ -249,7 +249,7 @@ same_keeps world new is k command h =
     ∙ ap (λ g. outstanding (processor_at (guest_by world.destination.has_run world.source.guest g).cpus k)) is.guest
     ∙ h
 
-delivered_first : (epoch : ℕ) (frame : Frame) (rest : List Sent) (world : World) → world.up ≡ true → world.forward ≡ record { epoch = epoch; frame = frame } ∷ rest → IsSoundWorld world → StillWaits (guest_of world) (guest_of (delivered world (record { epoch = epoch; frame = frame } ∷ rest)))
+delivered_first : (epoch : ℕ) (frame : Frame) (rest : List Sent) (world : World) → world.up ≡ true → world.forward.frames ≡ record { epoch = epoch; frame = frame } ∷ rest → IsSoundWorld world → StillWaits (guest_of world) (guest_of (delivered world (record { epoch = epoch; frame = frame } ∷ rest)))
 delivered_first epoch (Package areas owed commands) rest world up first kept k command h = package_keeps epoch areas owed commands rest world up first kept k command h
 delivered_first epoch Advise rest world up first kept k command h = same_keeps world _ (same_took Advise world.destination epoch refl) k command h
 delivered_first epoch (Page page bytes) rest world up first kept k command h = same_keeps world _ (same_took (Page page bytes) world.destination epoch refl) k command h
@@ -298,8 +298,8 @@ waiting_answer world Step.SourceRead k command kept other h = made-source_read _
 waiting_answer world Step.SourceAct k command kept other h =
     made-source_act _ world (λ fault rest is started unswitched quiet. same_source world _ (waits_source_act (source_act world.source fault) world.source fault.page) k command h)
 waiting_answer world Step.Switch k command kept other h = made-switch _ world (λ precopy up quiet. same_source world _ (λ i c e. e) k command h)
-waiting_answer world Step.Deliver k command kept other h = made-deliver _ world (λ sent rest is started up free. delivered_first sent.epoch sent.frame rest world up is kept k command h)
-waiting_answer world Step.DeliverBack k command kept other h = made-deliver_back _ world (λ sent rest is started up. same_source world _ (took_keeps sent.frame world.source) k command h)
+waiting_answer world (Step.Deliver n) k command kept other h = made-deliver _ world n (λ sent rest is short. h) (λ sent rest is full started up free. delivered_first sent.epoch sent.frame rest world up is kept k command h)
+waiting_answer world (Step.DeliverBack n) k command kept other h = made-deliver_back _ world n (λ sent rest is short. h) (λ sent rest is full started up. same_source world _ (took_keeps sent.frame world.source) k command h)
 waiting_answer world Step.DestRead k command kept other h =
     made-dest_read _ world (λ noted is ran.
     waits_destination world.destination.has_run world.source.guest world.destination.guest (destination_read world.destination noted).guest (waits_read world.destination.guest noted.cpu noted.message) k command h)

@@ -7,6 +7,7 @@ use Rattle.std.proofs.lemmas.Bool.{false≢true}
 use Rattle.mig_model.specs.Wire.{Frame, Sent, Copy, copy_in, kept_after, sending}
 use Rattle.mig_model.specs.Wire.Frame.{Request}
 use Rattle.mig_model.specs.Invariant.{Flow, flow_next, flow_after, copies_of, has_copy, AreFaithful, AreWhole, is_package, kept_by, behind, package_in, AreOf, is_request, is_done, are_requests, are_requests_and_done}
+use Rattle.mig_model.specs.Migration.{next}
 
 -- Frames that are sent stand behind those in flight
 

@@ -10,12 +10,12 @@ use Rattle.mig_base.specs.declared.phase.Received.{Received}
 use Rattle.mig_base.specs.declared.phase.SourcePhase.{SourcePhase}
 use Rattle.mig_base.specs.declared.schedule.Side.{Side}
 use Rattle.mig_base.specs.declared.schedule.Step.{Step}
-use Rattle.mig_model.specs.Wire.{Frame, Sent, Copy, sending_if}
+use Rattle.mig_model.specs.Wire.{Frame, Sent, Copy, Wire, empty_wire, wire_if}
 use Rattle.mig_model.specs.Wire.Frame.{Advise, Page, Zero, Discard, Package, End, Resume, Request, Recv, Done}
 use Rattle.mig_model.specs.Owed.{home, Owed}
 use Rattle.mig_model.specs.Source.{Source, is_released, source_act, source_took}
 use Rattle.mig_model.specs.Destination.{Destination, destination_took, destination_answers, install_by}
-use Rattle.mig_model.specs.Migration.{World, answer, outcome, next, install_effect, with_guest_by, after_deliver, after_deliver_back}
+use Rattle.mig_model.specs.Migration.{World, answer, outcome, next, install_effect, with_guest_by, after_deliver, after_deliver_back, after_move, after_move_back, is_short}
 use Rattle.mig_model.specs.Invariant.{IsSoundWorld}
 use Rattle.mig_model.specs.Parts.{Grows}
 use Rattle.mig_model.specs.Promises.{IsComplete, IsDelivered, IsDeliveredBack, Completes, takes_forward, takes_back, is_break, is_recv, is_last}
@@ -41,12 +41,31 @@ first_is world sent rest wire same up =
     (record {
       destination = refl;
       forward = refl;
-      back = ap (λ u. sending_if u world.back (destination_took world.destination sent.epoch sent.frame).epoch (destination_answers world.destination sent.frame)) up;
+      back = ap (λ u. wire_if u world.back (destination_took world.destination sent.epoch sent.frame).epoch (destination_answers world.destination sent.frame)) up;
     })
 
-pub delivered_first : (world : World) (sent : Sent) (rest : List Sent) → IsOk (outcome world Step.Deliver) → world.forward ≡ sent ∷ rest → IsDelivered world (next world Step.Deliver) sent rest
-delivered_first world sent rest ok first =
-    leaves-ok (λ new. IsDelivered world new sent rest) world Step.Deliver (made-deliver _ world (λ other more is started up free. first_is world other more (sent ∷ rest) (sym is ∙ first) up)) ok
+first_frame : (sent other : Sent) (rest more : List Sent) → sent ∷ rest ≡ other ∷ more → sent ≡ other
+first_frame sent other rest more same = ap (λ (l : List Sent). elim l [ [] ↦ sent | first ∷ _ ↦ first ]) same
+
+-- what is short for one frame is not full for it
+short_not : {A : Type 0} (wire : Wire) (n : ℕ) (sent other : Sent) → sent ≡ other → is_short wire sent.frame n ≡ true → is_short wire other.frame n ≡ false → A
+short_not wire n sent other same short full = absurd (false≢true (sym full ∙ sym (ap (λ (s : Sent). is_short wire s.frame n) same) ∙ short))
+
+pub delivered_first : (world : World) (n : ℕ) (sent : Sent) (rest : List Sent) → IsOk (outcome world (Step.Deliver n)) → world.forward.frames ≡ sent ∷ rest → is_short world.forward sent.frame n ≡ false →
+    IsDelivered world (next world (Step.Deliver n)) sent rest
+delivered_first world n sent rest ok first full =
+    leaves-ok (λ new. IsDelivered world new sent rest) world (Step.Deliver n)
+    (made-deliver _ world n (λ other more is short. short_not world.forward n other sent (first_frame other sent more rest (sym is ∙ first)) short full)
+    (λ other more is whole started up free. first_is world other more (sent ∷ rest) (sym is ∙ first) up)) ok
+
+pub moved_short : (world : World) (n : ℕ) (sent : Sent) (rest : List Sent) → IsOk (outcome world (Step.Deliver n)) → world.forward.frames ≡ sent ∷ rest → is_short world.forward sent.frame n ≡ true →
+    (outcome world (Step.Deliver n) ≡ Ok (Effect.Moved n)) × (next world (Step.Deliver n) ≡ after_move world n)
+moved_short world n sent rest ok first short = (
+  outcome-ok (Effect.Moved n) world (Step.Deliver n)
+      (made-deliver _ world n (λ other more is one. refl) (λ other more is whole started up free. short_not world.forward n sent other (sym (first_frame other sent more rest (sym is ∙ first))) short whole)) ok,
+  leaves-ok (λ new. new ≡ after_move world n) world (Step.Deliver n)
+      (made-deliver _ world n (λ other more is one. refl) (λ other more is whole started up free. short_not world.forward n sent other (sym (first_frame other sent more rest (sym is ∙ first))) short whole)) ok,
+)
 
 abbrev FirstDeliveredBack : World → World → List Sent → Type 0
 FirstDeliveredBack old new [] = ⊥
@@ -55,20 +74,32 @@ FirstDeliveredBack old new (sent ∷ rest) = IsDeliveredBack old new sent rest
 first_back_is : (world : World) (sent : Sent) (rest wire : List Sent) → sent ∷ rest ≡ wire → FirstDeliveredBack world (after_deliver_back world sent rest) wire
 first_back_is world sent rest wire same = subst (FirstDeliveredBack world (after_deliver_back world sent rest)) same (record { source = refl; back = refl; forward = refl })
 
-pub delivered_back_first : (world : World) (sent : Sent) (rest : List Sent) → IsOk (outcome world Step.DeliverBack) → world.back ≡ sent ∷ rest → IsDeliveredBack world (next world Step.DeliverBack) sent rest
-delivered_back_first world sent rest ok first =
-    leaves-ok (λ new. IsDeliveredBack world new sent rest) world Step.DeliverBack (made-deliver_back _ world (λ other more is started up. first_back_is world other more (sent ∷ rest) (sym is ∙ first))) ok
+pub delivered_back_first : (world : World) (n : ℕ) (sent : Sent) (rest : List Sent) → IsOk (outcome world (Step.DeliverBack n)) → world.back.frames ≡ sent ∷ rest → is_short world.back sent.frame n ≡ false →
+    IsDeliveredBack world (next world (Step.DeliverBack n)) sent rest
+delivered_back_first world n sent rest ok first full =
+    leaves-ok (λ new. IsDeliveredBack world new sent rest) world (Step.DeliverBack n)
+    (made-deliver_back _ world n (λ other more is short. short_not world.back n other sent (first_frame other sent more rest (sym is ∙ first)) short full)
+    (λ other more is whole started up. first_back_is world other more (sent ∷ rest) (sym is ∙ first))) ok
+
+pub moved_back_short : (world : World) (n : ℕ) (sent : Sent) (rest : List Sent) → IsOk (outcome world (Step.DeliverBack n)) → world.back.frames ≡ sent ∷ rest → is_short world.back sent.frame n ≡ true →
+    (outcome world (Step.DeliverBack n) ≡ Ok (Effect.Moved n)) × (next world (Step.DeliverBack n) ≡ after_move_back world n)
+moved_back_short world n sent rest ok first short = (
+  outcome-ok (Effect.Moved n) world (Step.DeliverBack n)
+      (made-deliver_back _ world n (λ other more is one. refl) (λ other more is whole started up. short_not world.back n sent other (sym (first_frame other sent more rest (sym is ∙ first))) short whole)) ok,
+  leaves-ok (λ new. new ≡ after_move_back world n) world (Step.DeliverBack n)
+      (made-deliver_back _ world n (λ other more is one. refl) (λ other more is whole started up. short_not world.back n sent other (sym (first_frame other sent more rest (sym is ∙ first))) short whole)) ok,
+)
 
 -- The wires
 
-pub wires_broken : (world : World) → IsOk (outcome world Step.Break) → ((next world Step.Break).forward ≡ []) × ((next world Step.Break).back ≡ []) × ((next world Step.Break).up ≡ false)
-wires_broken world ok = leaves-ok (λ new. (new.forward ≡ []) × (new.back ≡ []) × (new.up ≡ false)) world Step.Break (made-break _ world (λ started unreleased up. (refl, refl, refl))) ok
+pub wires_broken : (world : World) → IsOk (outcome world Step.Break) → ((next world Step.Break).forward ≡ empty_wire) × ((next world Step.Break).back ≡ empty_wire) × ((next world Step.Break).up ≡ false)
+wires_broken world ok = leaves-ok (λ new. (new.forward ≡ empty_wire) × (new.back ≡ empty_wire) × (new.up ≡ false)) world Step.Break (made-break _ world (λ started unreleased up. (refl, refl, refl))) ok
 
-same_wire : (old new : List Sent) → new ≡ old → Grows old old → Grows old new
+same_wire : (old new : Wire) → new ≡ old → Grows old old → Grows old new
 same_wire old new same grows = record { more = grows.more; is = same ∙ grows.is }
 
-nothing_more : (wire : List Sent) → Grows wire wire
-nothing_more wire = record { more = []; is = sym (append-nil wire) }
+nothing_more : (wire : Wire) → Grows wire wire
+nothing_more wire = record { more = []; is = ap (λ f. record wire { frames = f }) (sym (append-nil wire.frames)) }
 
 pub forward_grows : (world : World) (step : Step) → takes_forward step ≡ false → Grows world.forward (next world step).forward
 forward_grows world (Step.Issue cpu command) h = same_wire _ _ (changes_parts world (Step.Issue cpu command)).forward (nothing_more world.forward)
@@ -79,8 +110,8 @@ forward_grows world Step.Send h = (changes_parts world Step.Send).forward
 forward_grows world Step.SourceRead h = (changes_parts world Step.SourceRead).forward
 forward_grows world Step.SourceAct h = (changes_parts world Step.SourceAct).forward
 forward_grows world Step.Switch h = (changes_parts world Step.Switch).forward
-forward_grows world Step.Deliver h = absurd (false≢true (sym h))
-forward_grows world Step.DeliverBack h = (changes_parts world Step.DeliverBack).forward
+forward_grows world (Step.Deliver n) h = absurd (false≢true (sym h))
+forward_grows world (Step.DeliverBack n) h = (changes_parts world (Step.DeliverBack n)).forward
 forward_grows world Step.DestRead h = same_wire _ _ (changes_parts world Step.DestRead).forward (nothing_more world.forward)
 forward_grows world Step.DestAct h = same_wire _ _ (changes_parts world Step.DestAct).forward (nothing_more world.forward)
 forward_grows world Step.Install h = same_wire _ _ (changes_parts world Step.Install).forward (nothing_more world.forward)
@@ -101,8 +132,8 @@ back_grows world Step.Send h = same_wire _ _ (changes_parts world Step.Send).bac
 back_grows world Step.SourceRead h = same_wire _ _ (changes_parts world Step.SourceRead).back (nothing_more world.back)
 back_grows world Step.SourceAct h = same_wire _ _ (changes_parts world Step.SourceAct).back (nothing_more world.back)
 back_grows world Step.Switch h = same_wire _ _ (changes_parts world Step.Switch).back (nothing_more world.back)
-back_grows world Step.Deliver h = (changes_parts world Step.Deliver).back
-back_grows world Step.DeliverBack h = absurd (false≢true (sym h))
+back_grows world (Step.Deliver n) h = (changes_parts world (Step.Deliver n)).back
+back_grows world (Step.DeliverBack n) h = absurd (false≢true (sym h))
 back_grows world Step.DestRead h = (changes_parts world Step.DestRead).back
 back_grows world Step.DestAct h = (changes_parts world Step.DestAct).back
 back_grows world Step.Install h = (changes_parts world Step.Install).back
@@ -131,8 +162,8 @@ up_answer world Step.Send h up = made-send _ world (λ page is precopy linked qu
 up_answer world Step.SourceRead h up = made-source_read _ world (λ noted is started unswitched. up)
 up_answer world Step.SourceAct h up = made-source_act _ world (λ fault rest is started unswitched quiet. up)
 up_answer world Step.Switch h up = made-switch _ world (λ precopy linked quiet. up)
-up_answer world Step.Deliver h up = made-deliver _ world (λ sent rest is started linked free. up)
-up_answer world Step.DeliverBack h up = made-deliver_back _ world (λ sent rest is started linked. up)
+up_answer world (Step.Deliver n) h up = made-deliver _ world n (λ sent rest is short. up) (λ sent rest is full started linked free. up)
+up_answer world (Step.DeliverBack n) h up = made-deliver_back _ world n (λ sent rest is short. up) (λ sent rest is full started linked. up)
 up_answer world Step.DestRead h up = made-dest_read _ world (λ noted is ran. up)
 up_answer world Step.DestAct h up = made-dest_act _ world (λ fault rest is ran quiet. up)
 up_answer world Step.Install h up = made-install _ world (λ copy rest is ran quiet. up)
@@ -203,13 +234,10 @@ taken_remains (Package areas owed commands) node q h is = is
 taken_remains End node q h is = is
 taken_remains Resume node q h is = is
 
-first_frame : (sent other : Sent) (rest more : List Sent) → sent ∷ rest ≡ other ∷ more → sent ≡ other
-first_frame sent other rest more same = ap (λ (l : List Sent). elim l [ [] ↦ sent | first ∷ _ ↦ first ]) same
-
-pub remaining_back : (world : World) (sent : Sent) (rest : List Sent) (q : ℕ) → world.back ≡ sent ∷ rest → is_recv sent.frame ≡ false → contains (next world Step.DeliverBack).source.remaining q ≡ true → contains world.source.remaining q ≡ true
-remaining_back world sent rest q first plain =
-    leaves-next (λ new. contains new.source.remaining q ≡ true → contains world.source.remaining q ≡ true) world Step.DeliverBack (λ h. h)
-    (made-deliver_back _ world (λ other more is started up h.
+pub remaining_back : (world : World) (n : ℕ) (sent : Sent) (rest : List Sent) (q : ℕ) → world.back.frames ≡ sent ∷ rest → is_recv sent.frame ≡ false → contains (next world (Step.DeliverBack n)).source.remaining q ≡ true → contains world.source.remaining q ≡ true
+remaining_back world n sent rest q first plain =
+    leaves-next (λ new. contains new.source.remaining q ≡ true → contains world.source.remaining q ≡ true) world (Step.DeliverBack n) (λ h. h)
+    (made-deliver_back _ world n (λ other more is short h. h) (λ other more is full started up h.
     taken_remains other.frame world.source q (ap (λ (s : Sent). is_recv s.frame) (first_frame other sent more rest (sym is ∙ first)) ∙ plain) h))
 
 -- Completion
@@ -221,10 +249,12 @@ last_releases (Recv Received.NotRun owed) node h = absurd (false≢true h)
 last_releases (Recv Received.Running owed) node h = absurd (false≢true h)
 last_releases _ node h = absurd (false≢true h)
 
-pub completes_by : (world : World) (sent : Sent) (rest : List Sent) → IsOk (outcome world Step.DeliverBack) → world.back ≡ sent ∷ rest → is_last sent.frame ≡ true → IsComplete (next world Step.DeliverBack)
-completes_by world sent rest ok first last =
-    leaves-ok IsComplete world Step.DeliverBack
-    (made-deliver_back _ world (λ other more is started up. last_releases other.frame world.source (ap (λ (s : Sent). is_last s.frame) (first_frame other sent more rest (sym is ∙ first)) ∙ last))) ok
+pub completes_by : (world : World) (n : ℕ) (sent : Sent) (rest : List Sent) → IsOk (outcome world (Step.DeliverBack n)) → world.back.frames ≡ sent ∷ rest → is_short world.back sent.frame n ≡ false → is_last sent.frame ≡ true →
+    IsComplete (next world (Step.DeliverBack n))
+completes_by world n sent rest ok first full last =
+    leaves-ok IsComplete world (Step.DeliverBack n)
+    (made-deliver_back _ world n (λ other more is short. short_not world.back n other sent (first_frame other sent more rest (sym is ∙ first)) short full)
+    (λ other more is whole started up. last_releases other.frame world.source (ap (λ (s : Sent). is_last s.frame) (first_frame other sent more rest (sym is ∙ first)) ∙ last))) ok
 
 rebuilt_phase : (switched : Bool) (a b : Source) → is_released a.phase ≡ false → is_released b.phase ≡ false → is_released (if switched then a else b).phase ≡ true → false ≡ true
 rebuilt_phase true a b one two h = sym one ∙ h
@@ -261,9 +291,10 @@ completes_answer world Step.SourceRead not = made-source_read _ world (λ noted 
 completes_answer world Step.SourceAct not =
     made-source_act _ world (λ fault rest is started unswitched quiet h. still_not world.source.phase _ (worked_phase (source_act world.source fault) world fault.page) not h)
 completes_answer world Step.Switch not = made-switch _ world (λ precopy up quiet h. absurd (false≢true h))
-completes_answer world Step.Deliver not = made-deliver _ world (λ sent rest is started up free h. absurd (false≢true (sym not ∙ h)))
-completes_answer world Step.DeliverBack not =
-    made-deliver_back _ world (λ one more is started up h. record { step_is = refl; sent = one; rest = more; first = is; last = released_by one.frame world.source not h })
+completes_answer world (Step.Deliver n) not = made-deliver _ world n (λ sent rest is short h. absurd (false≢true (sym not ∙ h))) (λ sent rest is full started up free h. absurd (false≢true (sym not ∙ h)))
+completes_answer world (Step.DeliverBack n) not =
+    made-deliver_back _ world n (λ sent rest is short h. absurd (false≢true (sym not ∙ h)))
+    (λ one more is full started up h. record { n = n; step_is = refl; sent = one; rest = more; first = is; last = released_by one.frame world.source not h })
 completes_answer world Step.DestRead not = made-dest_read _ world (λ noted is ran h. absurd (false≢true (sym not ∙ h)))
 completes_answer world Step.DestAct not = made-dest_act _ world (λ fault rest is ran quiet h. absurd (false≢true (sym not ∙ h)))
 completes_answer world Step.Install not = made-install _ world (λ copy rest is ran quiet h. absurd (false≢true (sym not ∙ h)))

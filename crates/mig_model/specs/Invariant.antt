@@ -19,7 +19,8 @@ use Rattle.mig_base.specs.Flat.{IsFlatRun, memory_of}
 use Rattle.mig_model.specs.Host.{Host, memory}
 use Rattle.mig_model.specs.Userfault.{Noted}
 use Rattle.mig_model.specs.Space.{Space, fresh_space, IsSoundSpace}
-use Rattle.mig_model.specs.Wire.{Frame, Sent, Copy, copy_in, kept_after}
+use Rattle.mig_model.specs.Texts.{text_len}
+use Rattle.mig_model.specs.Wire.{Wire, Frame, Sent, Copy, copy_in, kept_after}
 use Rattle.mig_model.specs.Wire.Frame.{Advise, Page, Zero, Discard, Package, End, Resume, Request, Recv, Done}
 use Rattle.mig_model.specs.Migration.{World}
 use Rattle.mig_model.specs.Guest.{is_changed_by, is_present}
@@ -378,6 +379,15 @@ pub record AreSoundEpochs (epoch : ℕ) (to : DestPhase) (dest_epoch : ℕ) (for
   pub not_ahead : dest_epoch ≤ epoch
   pub epoch_at : up ≡ true → EpochAt to dest_epoch epoch
 
+-- fewer bytes of the first frame are with the decoder than its text has, and none where nothing is in flight
+abbrev pub HeldFits : List Sent → ℕ → Type 0
+HeldFits [] held = held ≡ 0
+HeldFits (sent ∷ rest) held = held < text_len sent.frame
+
+pub record AreSoundWires (forward back : Wire) : Type 0 where
+  pub forward_held : HeldFits forward.frames forward.held
+  pub back_held : HeldFits back.frames back.held
+
 -- what every world keeps
 pub record IsSoundWorld (world : World) : Type 0 where
   pub memory : HoldsMemory world.destination.guest.space.host (space_of world.source).host (settled world.destination) world.destination.has_run world.transcript
@@ -385,7 +395,8 @@ pub record IsSoundWorld (world : World) : Type 0 where
   pub phases : AreSoundPhases world.source.phase world.source.switched world.destination.phase world.destination.has_run world.destination.ended (space_of world.source).object.events
   pub precopy : IsSoundLog world.source.phase world.source.switched (space_of world.source) world.source.log.clean world.source.log.todo world.source.log.sent
   pub pushing : IsSoundPushing world.source.phase world.source.switched world.up world.source.epoch world.source.end_epoch (space_of world.source) world.source.remaining
-  pub copies : AreSoundCopies world.destination.phase world.destination.has_run world.destination.kept world.forward
+  pub copies : AreSoundCopies world.destination.phase world.destination.has_run world.destination.kept world.forward.frames
   pub owing : IsSoundOwing (space_of world.source).host.bytes world.destination.guest.space world.destination.has_run world.destination.ended world.destination.owed world.destination.arrivals
-  pub flight : IsSoundFlight world.source world.destination world.forward world.back world.up
-  pub epochs : AreSoundEpochs world.source.epoch world.destination.phase world.destination.epoch world.forward world.back world.up
+  pub flight : IsSoundFlight world.source world.destination world.forward.frames world.back.frames world.up
+  pub epochs : AreSoundEpochs world.source.epoch world.destination.phase world.destination.epoch world.forward.frames world.back.frames world.up
+  pub held : AreSoundWires world.forward world.back

@@ -20,7 +20,8 @@ use Rattle.mig_base.specs.Commands.{is_access}
 use Rattle.mig_base.specs.Tests.{first_by, is_empty}
 use Rattle.mig_model.specs.Userfault.{Noted, next_message, changing}
 use Rattle.mig_model.specs.Cpus.Took.{Sleep, Call}
-use Rattle.mig_model.specs.Wire.{Frame, Sent, Copy, is_zeros, page_frame, sending, sending_if}
+use Rattle.mig_model.specs.Wire.{Frame, Sent, Copy, Wire, empty_wire, is_zeros, page_frame, wire_behind, wire_if, wire_moved, wire_with}
+use Rattle.mig_model.specs.Texts.{text_len}
 use Rattle.mig_model.specs.Wire.Frame.{Advise, Page, Zero, Discard, Package, End, Resume, Request, Recv, Done}
 use Rattle.mig_model.specs.Guest.Act.{Unprotected, Zeroed, Woke, Forgot, Requested}
 use Rattle.mig_model.specs.Cpus.{Took, entries_of, handed_over, is_idle, is_woken, outstanding, processor_at}
@@ -37,15 +38,15 @@ use Rattle.mig_model.specs.Destination.{Destination, act_frames, destination_act
 pub record World : Type 0 where
   pub source : Source
   pub destination : Destination
-  pub forward : List Sent
-  pub back : List Sent
+  pub forward : Wire
+  pub back : Wire
   pub up : Bool
   pub transcript : List Entry
 
 -- a world in which nothing has happened, whose counts stand at the numbers given
 abbrev pub first_world_with : ℕ → ℕ → ℕ → World
 first_world_with cpus epoch rounds =
-    record { source = first_source cpus epoch rounds; destination = first_destination cpus; forward = []; back = []; up = true; transcript = [] }
+    record { source = first_source cpus epoch rounds; destination = first_destination cpus; forward = empty_wire; back = empty_wire; up = true; transcript = [] }
 
 -- a world in which nothing has happened
 abbrev pub first_world : ℕ → World
@@ -124,11 +125,11 @@ unless reasons answer = first_by (λ refusal. Err refusal) reasons answer
 
 -- the source changes so, and sends these frames in its epoch
 abbrev pub source_sends : World → Source → List Frame → World
-source_sends world node frames = record world { source = node; forward = sending world.forward node.epoch frames }
+source_sends world node frames = record world { source = node; forward = wire_with world.forward node.epoch frames }
 
 -- the destination changes so, and sends these frames if the link is up
 abbrev pub destination_sends : World → Destination → List Frame → World
-destination_sends world node frames = record world { destination = node; back = sending_if world.up world.back node.epoch frames }
+destination_sends world node frames = record world { destination = node; back = wire_if world.up world.back node.epoch frames }
 
 -- Issue and Retry: a command is tried where the guest runs, and what took effect is entered
 
@@ -246,7 +247,7 @@ switch world =
     unless ((not (is_precopy world.source.phase), Refusal.Phase) ∷ (not world.up, Refusal.Broken) ∷ (is_changing world.source.guest, Refusal.Changing) ∷ [])
     (made (Effect.Switched (finset.len (less world.source.log.sent world.source.log.clean)) (finset.len (not_clean world.source))) (after_switch world))
 
--- Deliver and DeliverBack: a node takes the first frame of its wire, and answers
+-- Deliver and DeliverBack: bytes reach a node, which takes the frame that they complete, and answers
 
 abbrev pub frame_effect : Frame → Effect
 frame_effect Advise = Effect.TookAdvise
@@ -262,25 +263,38 @@ frame_effect Done = Effect.TookDone
 
 abbrev pub after_deliver : World → Sent → List Sent → World
 after_deliver world sent rest =
-    destination_sends (record world { forward = rest }) (destination_took world.destination sent.epoch sent.frame) (destination_answers world.destination sent.frame)
+    destination_sends (record world { forward = wire_behind rest }) (destination_took world.destination sent.epoch sent.frame) (destination_answers world.destination sent.frame)
 
-abbrev pub deliver_first : World → List Sent → Answer
-deliver_first world [] = Err Refusal.NothingThere
-deliver_first world (sent ∷ rest) =
-    unless ((is_end sent.frame && not (is_empty world.destination.arrivals), Refusal.InstallFirst) ∷ []) (made (frame_effect sent.frame) (after_deliver world sent rest))
+-- whether so many bytes complete no frame
+abbrev pub is_short : Wire → Frame → ℕ → Bool
+is_short wire frame n = nat_lt n (text_len frame - wire.held)
 
-abbrev pub deliver : World → Answer
-deliver world = unless ((not (has_started world), Refusal.Phase) ∷ (not world.up, Refusal.Broken) ∷ []) (deliver_first world world.forward)
+abbrev pub after_move : World → ℕ → World
+after_move world n = record world { forward = wire_moved world.forward n }
+
+abbrev pub deliver_first : World → ℕ → List Sent → Answer
+deliver_first world n [] = Err Refusal.NothingThere
+deliver_first world n (sent ∷ rest) =
+    if is_short world.forward sent.frame n then made (Effect.Moved n) (after_move world n)
+    else unless ((is_end sent.frame && not (is_empty world.destination.arrivals), Refusal.InstallFirst) ∷ []) (made (frame_effect sent.frame) (after_deliver world sent rest))
+
+abbrev pub deliver : World → ℕ → Answer
+deliver world n = unless ((not (has_started world), Refusal.Phase) ∷ (not world.up, Refusal.Broken) ∷ []) (deliver_first world n world.forward.frames)
 
 abbrev pub after_deliver_back : World → Sent → List Sent → World
-after_deliver_back world sent rest = source_sends (record world { back = rest }) (source_took world.source sent.frame) (source_answers world.source sent.frame)
+after_deliver_back world sent rest = source_sends (record world { back = wire_behind rest }) (source_took world.source sent.frame) (source_answers world.source sent.frame)
 
-abbrev pub deliver_back_first : World → List Sent → Answer
-deliver_back_first world [] = Err Refusal.NothingThere
-deliver_back_first world (sent ∷ rest) = made (frame_effect sent.frame) (after_deliver_back world sent rest)
+abbrev pub after_move_back : World → ℕ → World
+after_move_back world n = record world { back = wire_moved world.back n }
 
-abbrev pub deliver_back : World → Answer
-deliver_back world = unless ((not (has_started world), Refusal.Phase) ∷ (not world.up, Refusal.Broken) ∷ []) (deliver_back_first world world.back)
+abbrev pub deliver_back_first : World → ℕ → List Sent → Answer
+deliver_back_first world n [] = Err Refusal.NothingThere
+deliver_back_first world n (sent ∷ rest) =
+    if is_short world.back sent.frame n then made (Effect.Moved n) (after_move_back world n)
+    else made (frame_effect sent.frame) (after_deliver_back world sent rest)
+
+abbrev pub deliver_back : World → ℕ → Answer
+deliver_back world n = unless ((not (has_started world), Refusal.Phase) ∷ (not world.up, Refusal.Broken) ∷ []) (deliver_back_first world n world.back.frames)
 
 -- DestRead and DestAct: the destination's handler
 
@@ -361,7 +375,7 @@ send_end world =
 -- Break, Notice and Resume: the channel breaks, both sides notice it, and they go on over a new one in a new epoch
 
 abbrev pub after_break : World → World
-after_break world = record world { forward = []; back = []; up = false }
+after_break world = record world { forward = empty_wire; back = empty_wire; up = false }
 
 abbrev pub break : World → Answer
 break world =
@@ -397,8 +411,8 @@ answer world Step.Send = send world
 answer world Step.SourceRead = read_at_source world
 answer world Step.SourceAct = act_at_source world
 answer world Step.Switch = switch world
-answer world Step.Deliver = deliver world
-answer world Step.DeliverBack = deliver_back world
+answer world (Step.Deliver n) = deliver world n
+answer world (Step.DeliverBack n) = deliver_back world n
 answer world Step.DestRead = read_at_destination world
 answer world Step.DestAct = act_at_destination world
 answer world Step.Install = install world

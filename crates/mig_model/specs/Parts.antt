@@ -5,18 +5,18 @@ use Rattle.mig_base.specs.declared.phase.DestPhase.{DestPhase}
 use Rattle.mig_base.specs.declared.phase.SourcePhase.{SourcePhase}
 use Rattle.mig_base.specs.declared.schedule.Side.{Side}
 use Rattle.mig_base.specs.declared.schedule.Step.{Step}
-use Rattle.mig_model.specs.Wire.{Sent}
+use Rattle.mig_model.specs.Wire.{Sent, Wire}
 use Rattle.mig_model.specs.Migration.{World}
 
 -- something was put at the end of a wire, or nothing
-pub record Grows (old new : List Sent) : Type 0 where
+pub record Grows (old new : Wire) : Type 0 where
   pub more : List Sent
-  pub is : new ≡ old ++ more
+  pub is : new ≡ record old { frames = old.frames ++ more }
 
--- frames were taken from the front of a wire, or none
-pub record Shrinks (old new : List Sent) : Type 0 where
+-- frames were taken from the front of a wire, or none; bytes of the first may have gone to the decoder
+pub record Shrinks (old new : Wire) : Type 0 where
   pub taken : List Sent
-  pub is : old ≡ taken ++ new
+  pub is : old.frames ≡ taken ++ new.frames
 
 -- the node that runs the guest, and the transcript
 pub record GuestAlone (old new : World) : Type 0 where
@@ -91,8 +91,8 @@ ChangesParts old Step.Send new = SourceAlone old new
 ChangesParts old Step.SourceRead new = SourceAlone old new
 ChangesParts old Step.SourceAct new = SourceAlone old new
 ChangesParts old Step.Switch new = SourceAlone old new
-ChangesParts old Step.Deliver new = Delivers old new
-ChangesParts old Step.DeliverBack new = DeliversBack old new
+ChangesParts old (Step.Deliver n) new = Delivers old new
+ChangesParts old (Step.DeliverBack n) new = DeliversBack old new
 ChangesParts old Step.DestRead new = DestinationAlone old new
 ChangesParts old Step.DestAct new = DestinationAlone old new
 ChangesParts old Step.Install new = DestinationAlone old new

@@ -19,7 +19,7 @@ use Rattle.mig_base.specs.Flat.{memory_of}
 use Rattle.mig_model.specs.Host.{memory}
 use Rattle.mig_base.specs.Commands.{is_access}
 use Rattle.mig_model.specs.Space.{Space, fresh_space}
-use Rattle.mig_model.specs.Wire.{Frame, Sent, sending}
+use Rattle.mig_model.specs.Wire.{Frame, Sent, wire_behind, wire_with}
 use Rattle.mig_model.specs.Wire.Frame.{Advise, Page, Zero, Discard, Package, End, Resume, Request, Recv, Done}
 use Rattle.mig_model.specs.Migration.{World, first_world_with, after_steps}
 use Rattle.mig_model.specs.Invariant.{copies_of, has_copy, AreFaithful}
@@ -66,8 +66,8 @@ pub record ArePaired (world : World) : Type 0 where
 -- arrived; and each copy in flight or arrived has the bytes that the source holds for its page
 pub record AreUnderWay (world : World) : Type 0 where
   pub whereabouts : world.up ≡ true → is_stopped world.source.phase ≡ true → (page origin : ℕ) → get world.destination.owed page ≡ Some origin →
-      (contains world.source.remaining origin || has_copy (copies_of world.forward) origin || has_copy world.destination.arrivals origin) ≡ true
-  pub in_flight : AreFaithful (space_of world.source).host.bytes (copies_of world.forward)
+      (contains world.source.remaining origin || has_copy (copies_of world.forward.frames) origin || has_copy world.destination.arrivals origin) ≡ true
+  pub in_flight : AreFaithful (space_of world.source).host.bytes (copies_of world.forward.frames)
   pub arrived : AreFaithful (space_of world.source).host.bytes world.destination.arrivals
 
 -- a copy was installed: the page was missing, mapped and registered, it was owed from a page of the source, and it is present with
@@ -88,7 +88,7 @@ pub record IsZeroed (old new : Space) (page : ℕ) : Type 0 where
 -- the steps by which no page comes to remain: all but Switch and the taking of a frame that comes back
 abbrev pub keeps_remaining : Step → Bool
 keeps_remaining Step.Switch = false
-keeps_remaining Step.DeliverBack = false
+keeps_remaining (Step.DeliverBack n) = false
 keeps_remaining step = true
 
 -- Frames
@@ -189,23 +189,23 @@ pub record AreAccesses (world : World) : Type 0 where
 -- function of the destination as it was and of the frame with its epoch
 pub record IsDelivered (old new : World) (sent : Sent) (rest : List Sent) : Type 0 where
   pub destination : new.destination ≡ destination_took old.destination sent.epoch sent.frame
-  pub forward : new.forward ≡ rest
-  pub back : new.back ≡ sending old.back new.destination.epoch (destination_answers old.destination sent.frame)
+  pub forward : new.forward ≡ wire_behind rest
+  pub back : new.back ≡ wire_with old.back new.destination.epoch (destination_answers old.destination sent.frame)
 
 -- the same of the wire back and the source
 pub record IsDeliveredBack (old new : World) (sent : Sent) (rest : List Sent) : Type 0 where
   pub source : new.source ≡ source_took old.source sent.frame
-  pub back : new.back ≡ rest
-  pub forward : new.forward ≡ sending old.forward new.source.epoch (source_answers old.source sent.frame)
+  pub back : new.back ≡ wire_behind rest
+  pub forward : new.forward ≡ wire_with old.forward new.source.epoch (source_answers old.source sent.frame)
 
 -- the steps that take from the wire to the destination, and those that take from the wire back
 abbrev pub takes_forward : Step → Bool
-takes_forward Step.Deliver = true
+takes_forward (Step.Deliver n) = true
 takes_forward Step.Break = true
 takes_forward step = false
 
 abbrev pub takes_back : Step → Bool
-takes_back Step.DeliverBack = true
+takes_back (Step.DeliverBack n) = true
 takes_back Step.Break = true
 takes_back step = false
 
@@ -227,14 +227,14 @@ is_last frame = false
 
 -- a step that takes such a frame
 pub record Completes (world : World) (step : Step) : Type 0 where
-  pub step_is : step ≡ Step.DeliverBack
+  pub n : ℕ
+  pub step_is : step ≡ Step.DeliverBack n
   pub sent : Sent
   pub rest : List Sent
-  pub first : world.back ≡ sent ∷ rest
+  pub first : world.back.frames ≡ sent ∷ rest
   pub last : is_last sent.frame ≡ true
 
--- Completion can be reached
-
--- the steps of a migration in which nothing is owed
-abbrev pub story : List Step
-story = Step.Start ∷ Step.Switch ∷ Step.Deliver ∷ Step.Deliver ∷ Step.Deliver ∷ Step.End ∷ Step.Deliver ∷ Step.DeliverBack ∷ []
+-- some list of steps leads to the completion
+pub record CanComplete (world : World) : Type 0 where
+  pub steps : List Step
+  pub is : IsComplete (after_steps world steps)

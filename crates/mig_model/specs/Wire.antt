@@ -1,6 +1,6 @@
 -- What the two nodes of a whole migration tell each other, after the messages of QEMU's postcopy document
 -- (docs/devel/migration/postcopy.rst), and the copies of pages that are under way.
-use Rattle.std.specs.Prelude.{ℕ, ◌==◌, not, Bool, true, false, Option, Some, None, if◌then◌else◌, List, [], ◌∷◌, ◌++◌}
+use Rattle.std.specs.Prelude.{ℕ, ◌+◌, ◌==◌, not, Bool, true, false, Option, Some, None, if◌then◌else◌, List, [], ◌∷◌, ◌++◌}
 use Rattle.std.specs.List.{list_all}
 use Rattle.std.specs.Ordering.{nat_cmp}
 use Rattle.std.specs.FinMap.{FinMap, insert, retain_keys}
@@ -63,7 +63,16 @@ kept_after kept (Zero page) = insert kept page zero_page
 kept_after kept (Discard pages) = retain_keys kept (λ page. not (contains pages page))
 kept_after kept _ = kept
 
--- the wire once a node has sent frames in its epoch
+-- a wire: the frames in flight, in order, and how many bytes of the first are with the decoder at its end
+pub record Wire : Type 0 where
+  pub frames : List Sent
+  pub held : ℕ
+
+-- a wire on which nothing is in flight
+abbrev pub empty_wire : Wire
+empty_wire = record { frames = []; held = 0 }
+
+-- the frames of a wire once a node has sent more in its epoch
 abbrev pub sending : List Sent → ℕ → List Frame → List Sent
 sending wire epoch [] = wire
 sending wire epoch (frame ∷ frames) = sending (wire ++ record { epoch = epoch; frame = frame } ∷ []) epoch frames
@@ -72,3 +81,19 @@ sending wire epoch (frame ∷ frames) = sending (wire ++ record { epoch = epoch;
 abbrev pub sending_if : (up : Bool) → List Sent → ℕ → List Frame → List Sent
 sending_if true wire epoch frames = sending wire epoch frames
 sending_if false wire epoch frames = wire
+
+-- the wire then
+abbrev pub wire_with : Wire → ℕ → List Frame → Wire
+wire_with wire epoch frames = record wire { frames = sending wire.frames epoch frames }
+
+-- the same, unless the link is down
+abbrev pub wire_if : (up : Bool) → Wire → ℕ → List Frame → Wire
+wire_if up wire epoch frames = record wire { frames = sending_if up wire.frames epoch frames }
+
+-- the wire once its first frame is taken
+abbrev pub wire_behind : List Sent → Wire
+wire_behind rest = record { frames = rest; held = 0 }
+
+-- the wire once more bytes of its first frame are with the decoder
+abbrev pub wire_moved : Wire → ℕ → Wire
+wire_moved wire n = record wire { held = wire.held + n }

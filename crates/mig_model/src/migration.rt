@@ -18,11 +18,11 @@ ghost use Rattle.mig_model.specs.Cpus.{outstanding, processor_at, processor_afte
 ghost use Rattle.mig_model.specs.Guest.{took_by};
 ghost use Rattle.mig_model.specs.Source.{is_released, space_of, is_precopy, is_stopped, is_source_paused};
 ghost use Rattle.mig_model.specs.Destination.{settled, is_running};
-ghost use Rattle.mig_model.specs.Wire.{Sent, Copy};
-ghost use Rattle.mig_model.specs.Migration.{World, guest_of, outcome, next, first_world, after_steps};
+ghost use Rattle.mig_model.specs.Wire.{Sent, Copy, empty_wire};
+ghost use Rattle.mig_model.specs.Migration.{World, guest_of, is_short, after_move, after_move_back, outcome, next, first_world, after_steps};
 ghost use Rattle.mig_model.specs.Invariant.{IsSoundWorld, IsPrecopying, IsSwitching, IsReceiving, current_host};
 ghost use Rattle.mig_model.specs.Parts.{Grows, ChangesParts};
-ghost use Rattle.mig_model.specs.Promises.{AreAccesses, IsReached, IsComplete, IsAlone, ArePaired, AreUnderWay, IsPut, IsZeroed, IsTaken, keeps_remaining, IsInPlaceBack, owed_changed, leaves_settled, is_retry_of, IsDelivered, IsDeliveredBack, takes_forward, takes_back, is_break, is_recv, is_last, Completes, story};
+ghost use Rattle.mig_model.specs.Promises.{AreAccesses, IsReached, IsComplete, IsAlone, ArePaired, AreUnderWay, IsPut, IsZeroed, IsTaken, keeps_remaining, IsInPlaceBack, owed_changed, leaves_settled, is_retry_of, IsDelivered, IsDeliveredBack, takes_forward, takes_back, is_break, is_recv, is_last, Completes, CanComplete};
 
 /// The commands in the transcript, made in turn on one flat memory, give the replies in it, and what the guest sees is that memory at
 /// the end. Before the destination runs it is the source's; from then on each page is the destination's own, or that of the source
@@ -37,31 +37,31 @@ pub fn every_schedule()
 pub fn completion()
     ensures alone { (world : World) → IsReached world → IsComplete world → IsAlone world }
     ensures stays { (world : World) (steps : List Step) → IsReached world → IsComplete world → IsComplete (after_steps world steps) × IsAlone (after_steps world steps) }
-    ensures taken { (world : World) (sent : Sent) (rest : List Sent) → IsOk (outcome world Step.DeliverBack) → world.back ≡ sent ∷ rest → is_last sent.frame ≡ true → IsComplete (next world Step.DeliverBack) }
+    ensures taken { (world : World) (n : ℕ) (sent : Sent) (rest : List Sent) → IsOk (outcome world (Step.DeliverBack n)) → world.back.frames ≡ sent ∷ rest → is_short world.back sent.frame n ≡ false → is_last sent.frame ≡ true → IsComplete (next world (Step.DeliverBack n)) }
     ensures only { (world : World) (step : Step) → is_released world.source.phase ≡ false → IsComplete (next world step) → Completes world step }
 {}
 
-/// A migration can be completed: these steps lead there, with nothing to move. So the laws of completion are not about nothing.
+/// A migration can be completed: some steps lead there, where there is nothing to move. So the laws of completion are not about nothing.
 pub fn a_migration_can_complete()
-    ensures { (cpus : ℕ) → IsComplete (after_steps (first_world cpus) story) }
+    ensures { (cpus : ℕ) → CanComplete (first_world cpus) }
 {}
 
 /// While the source makes rounds of pre-copy and the link is up, the newest copy of a clean page is the source's page, unless an
 /// unread event has changed the page, and each page that has a copy was sent in this epoch.
 pub fn clean_copies()
-    ensures { (world : World) → IsReached world → world.up ≡ true → is_precopy world.source.phase ≡ true → IsPrecopying world.source world.destination.kept world.forward }
+    ensures { (world : World) → IsReached world → world.up ≡ true → is_precopy world.source.phase ≡ true → IsPrecopying world.source world.destination.kept world.forward.frames }
 {}
 
 /// Between Switch and the run of the destination, while the link is up: what will be kept when the Package is taken is what the
 /// source has and does not owe, and each page that it owes is still to be pushed, or is behind it with the source's bytes.
 pub fn a_package_tells_the_source()
-    ensures { (world : World) → IsReached world → world.up ≡ true → is_stopped world.source.phase ≡ true → world.destination.has_run ≡ false → IsSwitching world.source world.destination.kept world.forward }
+    ensures { (world : World) → IsReached world → world.up ≡ true → is_stopped world.source.phase ≡ true → world.destination.has_run ≡ false → IsSwitching world.source world.destination.kept world.forward.frames }
 {}
 
 /// After a resumption, until the source has taken Recv: its list has each page that the destination still needs, and the source has
 /// all of them.
 pub fn a_recv_lists_what_is_needed()
-    ensures { (world : World) → IsReached world → world.up ≡ true → is_source_paused world.source.phase ≡ true → is_running world.destination.phase ≡ true → IsReceiving world.source world.destination Received.Running world.back }
+    ensures { (world : World) → IsReached world → world.up ≡ true → is_source_paused world.source.phase ≡ true → is_running world.destination.phase ≡ true → IsReceiving world.source world.destination Received.Running world.back.frames }
 {}
 
 /// The pairs of pages that are owed are one to one, and what they need is there: the source page is present at the source, and the
@@ -103,9 +103,9 @@ pub fn no_page_is_installed_over_another()
 /// No frame is refused, after any number of resumptions: while the link is up the first frame of each wire is in place, of the right
 /// epoch, and right.
 pub fn no_frame_is_refused()
-    ensures forward { (world : World) (sent : Sent) (rest : List Sent) → IsReached world → world.up ≡ true → world.forward ≡ sent ∷ rest → IsTaken world.destination sent }
-    ensures back { (world : World) (sent : Sent) (rest : List Sent) → IsReached world → world.up ≡ true → world.back ≡ sent ∷ rest → IsInPlaceBack world.source sent.frame }
-    ensures back_epoch { (world : World) (sent : Sent) (rest : List Sent) → IsReached world → world.back ≡ sent ∷ rest → sent.epoch ≡ world.source.epoch }
+    ensures forward { (world : World) (sent : Sent) (rest : List Sent) → IsReached world → world.up ≡ true → world.forward.frames ≡ sent ∷ rest → IsTaken world.destination sent }
+    ensures back { (world : World) (sent : Sent) (rest : List Sent) → IsReached world → world.up ≡ true → world.back.frames ≡ sent ∷ rest → IsInPlaceBack world.source sent.frame }
+    ensures back_epoch { (world : World) (sent : Sent) (rest : List Sent) → IsReached world → world.back.frames ≡ sent ∷ rest → sent.epoch ≡ world.source.epoch }
 {}
 
 /// A command that waits is changed by no step but the Retry of its processor: the processor still has to make it, on whichever node it
@@ -137,15 +137,22 @@ pub fn pages_that_remain()
     ensures push { (world : World) (ticket : Ticket) (q : ℕ) → IsOk (outcome world (Step.Push ticket)) →
         contains (next world (Step.Push ticket)).source.remaining q ≡ (not (q == ticket.page) && contains world.source.remaining q) }
     ensures shrinks { (world : World) (step : Step) (q : ℕ) → keeps_remaining step ≡ true → contains (next world step).source.remaining q ≡ true → contains world.source.remaining q ≡ true }
-    ensures back { (world : World) (sent : Sent) (rest : List Sent) (q : ℕ) → world.back ≡ sent ∷ rest → is_recv sent.frame ≡ false →
-        contains (next world Step.DeliverBack).source.remaining q ≡ true → contains world.source.remaining q ≡ true }
+    ensures back { (world : World) (n : ℕ) (sent : Sent) (rest : List Sent) (q : ℕ) → world.back.frames ≡ sent ∷ rest → is_recv sent.frame ≡ false →
+        contains (next world (Step.DeliverBack n)).source.remaining q ≡ true → contains world.source.remaining q ≡ true }
 {}
 
-/// A delivery takes exactly the first frame of its wire. What it leaves of the node that takes it, and the frames that this node
-/// answers, are a function of the node as it was and of the frame with its epoch: nothing passes between the nodes but by the wires.
+/// A delivery that completes the first frame of its wire takes exactly that frame. What it leaves of the node that takes it, and the
+/// frames that this node answers, are a function of the node as it was and of the frame with its epoch: nothing passes between the
+/// nodes but by the wires. One that completes no frame takes none: it moves bytes to the decoder alone.
 pub fn a_delivery_is_a_function()
-    ensures forward { (world : World) (sent : Sent) (rest : List Sent) → IsOk (outcome world Step.Deliver) → world.forward ≡ sent ∷ rest → IsDelivered world (next world Step.Deliver) sent rest }
-    ensures back { (world : World) (sent : Sent) (rest : List Sent) → IsOk (outcome world Step.DeliverBack) → world.back ≡ sent ∷ rest → IsDeliveredBack world (next world Step.DeliverBack) sent rest }
+    ensures forward { (world : World) (n : ℕ) (sent : Sent) (rest : List Sent) → IsOk (outcome world (Step.Deliver n)) → world.forward.frames ≡ sent ∷ rest → is_short world.forward sent.frame n ≡ false →
+        IsDelivered world (next world (Step.Deliver n)) sent rest }
+    ensures forward_short { (world : World) (n : ℕ) (sent : Sent) (rest : List Sent) → IsOk (outcome world (Step.Deliver n)) → world.forward.frames ≡ sent ∷ rest → is_short world.forward sent.frame n ≡ true →
+        (outcome world (Step.Deliver n) ≡ Ok (Effect.Moved n)) × (next world (Step.Deliver n) ≡ after_move world n) }
+    ensures back { (world : World) (n : ℕ) (sent : Sent) (rest : List Sent) → IsOk (outcome world (Step.DeliverBack n)) → world.back.frames ≡ sent ∷ rest → is_short world.back sent.frame n ≡ false →
+        IsDeliveredBack world (next world (Step.DeliverBack n)) sent rest }
+    ensures back_short { (world : World) (n : ℕ) (sent : Sent) (rest : List Sent) → IsOk (outcome world (Step.DeliverBack n)) → world.back.frames ≡ sent ∷ rest → is_short world.back sent.frame n ≡ true →
+        (outcome world (Step.DeliverBack n) ≡ Ok (Effect.Moved n)) × (next world (Step.DeliverBack n) ≡ after_move_back world n) }
 {}
 
 /// The wires keep the order of their frames, and lose them only by Break: every step but a delivery and Break only puts frames at the
@@ -153,7 +160,7 @@ pub fn a_delivery_is_a_function()
 pub fn the_wires()
     ensures forward { (world : World) (step : Step) → takes_forward step ≡ false → Grows world.forward (next world step).forward }
     ensures back { (world : World) (step : Step) → takes_back step ≡ false → Grows world.back (next world step).back }
-    ensures broken { (world : World) → IsOk (outcome world Step.Break) → ((next world Step.Break).forward ≡ []) × ((next world Step.Break).back ≡ []) × ((next world Step.Break).up ≡ false) }
+    ensures broken { (world : World) → IsOk (outcome world Step.Break) → ((next world Step.Break).forward ≡ empty_wire) × ((next world Step.Break).back ≡ empty_wire) × ((next world Step.Break).up ≡ false) }
     ensures up { (world : World) (step : Step) → is_break step ≡ false → world.up ≡ true → (next world step).up ≡ true }
 {}
 

@@ -1,8 +1,14 @@
-use Rattle.mig_model.proofs.WirePromises.{delivered_first, delivered_back_first}
+use Rattle.mig_model.proofs.WirePromises.{delivered_first, delivered_back_first, moved_short, moved_back_short}
 use Rattle.mig_model.proofs.migration.a_delivery_is_a_function.Goals as goal
 
 pub returns-clause-forward : goal.returns-clause-forward
-returns-clause-forward c world sent rest ok first = delivered_first world sent rest ok first
+returns-clause-forward c world n sent rest ok first full = delivered_first world n sent rest ok first full
+
+pub returns-clause-forward_short : goal.returns-clause-forward_short
+returns-clause-forward_short c world n sent rest ok first short = moved_short world n sent rest ok first short
 
 pub returns-clause-back : goal.returns-clause-back
-returns-clause-back c world sent rest ok first = delivered_back_first world sent rest ok first
+returns-clause-back c world n sent rest ok first full = delivered_back_first world n sent rest ok first full
+
+pub returns-clause-back_short : goal.returns-clause-back_short
+returns-clause-back_short c world n sent rest ok first short = moved_back_short world n sent rest ok first short

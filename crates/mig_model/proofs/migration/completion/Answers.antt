@@ -14,7 +14,7 @@ returns-clause-stays c world steps reached done =
     (still, is_alone (after_steps world steps) (kept-after_steps world steps kept) still)
 
 pub returns-clause-taken : goal.returns-clause-taken
-returns-clause-taken c world sent rest ok first last = completes_by world sent rest ok first last
+returns-clause-taken c world n sent rest ok first full last = completes_by world n sent rest ok first full last
 
 pub returns-clause-only : goal.returns-clause-only
 returns-clause-only c world step not done = completes_only world step not done

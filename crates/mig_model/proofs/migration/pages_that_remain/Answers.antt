@@ -9,4 +9,4 @@ pub returns-clause-shrinks : goal.returns-clause-shrinks
 returns-clause-shrinks c world step q keeps is = remaining_shrinks world step q keeps is
 
 pub returns-clause-back : goal.returns-clause-back
-returns-clause-back c world sent rest q first plain is = remaining_back world sent rest q first plain is
+returns-clause-back c world n sent rest q first plain is = remaining_back world n sent rest q first plain is
