@@ -179,10 +179,10 @@ page_again : (page : ℕ) → 4096 * page / 4096 ≡ page
 page_again page = omega arith
 
 -- the modes once a range is moved
-abbrev modes_of : Object → Remap → Object
+abbrev pub modes_of : Object → Remap → Object
 modes_of object range = moved_modes object range.from range.count range.to range.new_count (mode_at object (range.from + (range.count - 1)))
 
-abbrev three_messages : Object → Remap → List Message
+abbrev pub three_messages : Object → Remap → List Message
 three_messages object range = replaced_message object range ++ cut_message object range ++ moved_message object range
 
 abbrev messages_at : Object → ℕ → ℕ → ℕ → ℕ → ℕ → ℕ → List Message
@@ -191,7 +191,7 @@ messages_at object addr count target new_count from to =
     ++ told (nat_lt new_count count && is_watched object (from + new_count) (count - new_count)) (Unmap (addr + 4096 * new_count) (addr + 4096 * count))
     ++ told (not (to == from) && is_watched object from (lesser count new_count)) (message.Remap addr target (4096 * lesser count new_count))
 
-messages_are : (object : Object) (range : Remap) → three_messages object range ≡ remap_messages object (4096 * range.from) range.count (4096 * range.to) range.new_count
+pub messages_are : (object : Object) (range : Remap) → three_messages object range ≡ remap_messages object (4096 * range.from) range.count (4096 * range.to) range.new_count
 messages_are object range =
     sym (ap (λ from. messages_at object (4096 * range.from) range.count (4096 * range.to) range.new_count from (4096 * range.to / 4096)) (page_again range.from)
     ∙ ap (λ to. messages_at object (4096 * range.from) range.count (4096 * range.to) range.new_count range.from to) (page_again range.to))

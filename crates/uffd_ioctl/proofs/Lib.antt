@@ -5,5 +5,6 @@ pub mod ChangeLemmas
 pub mod RemapLemmas
 pub mod AccessLemmas
 pub mod CallLemmas
+mod EventLemmas
 pub mod InstallLemmas
 pub mod RegisterLemmas

@@ -91,11 +91,11 @@ is_on false h = sym h
 abbrev pub AreLow : Object → Type 0
 AreLow object = (page : ℕ) → HIGH_PAGE ≤ page → is_registered object page ≡ false
 
-no_left : (a b : Bool) → (a || b) ≡ false → a ≡ false
+pub no_left : (a b : Bool) → (a || b) ≡ false → a ≡ false
 no_left true b h = h
 no_left false b h = refl
 
-no_right : (a b : Bool) → (a || b) ≡ false → b ≡ false
+pub no_right : (a b : Bool) → (a || b) ≡ false → b ≡ false
 no_right true b h = absurd (false≢true (sym h))
 no_right false b h = h
 

@@ -2,3 +2,4 @@ pub mod MapCalls
 pub mod Remaps
 pub mod Puts
 pub mod Spaces
+pub mod Changes

@@ -1,12 +1,15 @@
-//! What the map calls make of the userfault object: the messages that they queue, and the modes that go with the pages. Each
-//! answers a copy of the object, so that want of memory leaves it as it was, and how many messages it queued.
+//! What the map calls make of the userfault object: the messages that they queue, and the modes that go with the pages.
+//!
+//! Where no page of a call's ranges is registered the object stays as it is, and nothing is copied.
 
-ghost use Rattle.std.specs.Prelude.{◌≡◌, ◌+◌, ◌-◌, ◌*◌, ◌<◌, ◌≤◌, IfOk, OnOk, length};
+ghost use Rattle.std.specs.Prelude.{◌≡◌, ℕ, ◌+◌, ◌-◌, ◌*◌, ◌<◌, ◌≤◌, false, IfOk, OnOk, OnErr, length};
 ghost use Rattle.mig_base.specs.declared.TheConstants.{HIGH_PAGE};
-ghost use Rattle.mig_model.specs.Userfault.{mode_at, unregistered, moved_modes, is_watched};
+ghost use Rattle.mig_model.specs.Userfault.{mode_at, is_registered, is_watched, unregistered, moved_modes};
 ghost use Rattle.mig_model.specs.Space.{told, remap_messages, all_queued};
+ghost use Rattle.uffd_ioctl.specs.Changes.{object_after};
 ghost use Rattle.uffd_ioctl.specs.Remaps.{IsRemap, replaced_message, cut_message, moved_message};
 
+use crate::change::Change;
 use crate::remap::Remap;
 use mig_base::{Addr, Message, NoMemory, PAGE_SIZE, PageNo};
 use userfault::Userfault;
@@ -18,10 +21,16 @@ pub(crate) fn address(page: PageNo) -> Addr
     u64::from(page) * PAGE_SIZE
 }
 
-/// Queues a message, if it is due.
-fn tell(object: &mut Userfault, is_due: bool, message: Message, cpu: u8) -> Result<u8, NoMemory>
+/// Queues a message, if it is due, and answers how many were queued. `NoMemory` changes nothing.
+pub(crate) fn tell(
+    object: &mut Userfault,
+    is_due: bool,
+    message: Message,
+    cpu: u8,
+) -> Result<u8, NoMemory>
     ensures object { OnOk result (object.new ≡ all_queued object.old (told is_due message) cpu) }
     ensures count { IfOk result (λ count. count ≡ length (told is_due message)) }
+    ensures err { OnErr result (object.new ≡ object.old) }
 {
     if !is_due {
         return Ok(0);
@@ -37,52 +46,37 @@ pub(crate) fn unmapped(
     count: u32,
     message: Message,
     cpu: u8,
-) -> Result<(Userfault, u8), NoMemory>
+) -> Result<Change, NoMemory>
     requires { first + count ≤ HIGH_PAGE }
-    ensures object { IfOk result (λ after. after.0 ≡ all_queued (unregistered object.now first count) (told (is_watched object.now first count) message) cpu) }
-    ensures count { IfOk result (λ after. after.1 ≡ length (told (is_watched object.now first count) message)) }
+    ensures object { IfOk result (λ change. object_after change object.now ≡ all_queued (unregistered object.now first count) (told (is_watched object.now first count) message) cpu) }
+    ensures count { IfOk result (λ change. change.queued ≡ length (told (is_watched object.now first count) message)) }
 {
+    if !object.is_any_registered(first, count) {
+        return Ok(Change::none());
+    }
     let mut after = object.copy()?;
     after.forget_range(first, count);
-    let is_due = object.is_any_registered(first, count);
-    let queued = tell(&mut after, is_due, message, cpu)?;
-    Ok((after, queued))
-}
-
-/// The pages of a range are made missing: they stay registered, and the message is queued if one is.
-pub(crate) fn removed(
-    object: &Userfault,
-    first: PageNo,
-    count: u32,
-    message: Message,
-    cpu: u8,
-) -> Result<(Userfault, u8), NoMemory>
-    requires { first + count ≤ HIGH_PAGE }
-    ensures object { IfOk result (λ after. after.0 ≡ all_queued object.now (told (is_watched object.now first count) message) cpu) }
-    ensures count { IfOk result (λ after. after.1 ≡ length (told (is_watched object.now first count) message)) }
-{
-    let mut after = object.copy()?;
-    let is_due = object.is_any_registered(first, count);
-    let queued = tell(&mut after, is_due, message, cpu)?;
-    Ok((after, queued))
+    let queued = tell(&mut after, true, message, cpu)?;
+    Ok(Change::new(after, queued))
 }
 
 /// A range goes elsewhere, or becomes longer or shorter.
-pub(crate) fn remapped(
-    object: &Userfault,
-    range: Remap,
-    cpu: u8,
-) -> Result<(Userfault, u8), NoMemory>
-    requires { IsRemap range }
-    ensures object { IfOk result (λ after. after.0 ≡ all_queued (moved_modes object.now range.from range.count range.to range.new_count (mode_at object.now (range.from + (range.count - 1)))) (remap_messages object.now (4096 * range.from) range.count (4096 * range.to) range.new_count) cpu) }
-    ensures count { IfOk result (λ after. after.1 ≡ length (remap_messages object.now (4096 * range.from) range.count (4096 * range.to) range.new_count)) }
+pub(crate) fn remapped(object: &Userfault, range: Remap, cpu: u8) -> Result<Change, NoMemory>
+    requires range { IsRemap range }
+    requires low { (page : ℕ) → HIGH_PAGE ≤ page → is_registered object.now page ≡ false }
+    ensures object { IfOk result (λ change. object_after change object.now ≡ all_queued (moved_modes object.now range.from range.count range.to range.new_count (mode_at object.now (range.from + (range.count - 1)))) (remap_messages object.now (4096 * range.from) range.count (4096 * range.to) range.new_count) cpu) }
+    ensures count { IfOk result (λ change. change.queued ≡ length (remap_messages object.now (4096 * range.from) range.count (4096 * range.to) range.new_count)) }
 {
+    let is_watched = object.is_any_registered(range.from, range.count);
+    if !is_watched && !object.is_any_registered(range.to, range.new_count) {
+        return Ok(Change::none());
+    }
     let mut after = object.copy()?;
     move_modes(&mut after, range)?;
     let replaced = tell_replaced(&mut after, object, range, cpu)?;
     let cut = tell_cut(&mut after, object, range, cpu)?;
     let moved = tell_moved(&mut after, object, range, cpu)?;
-    Ok((after, replaced + cut + moved))
+    Ok(Change::new(after, replaced + cut + moved))
 }
 
 /// The modes of the pages go along, and the pages by which a range grows have that of its last page.

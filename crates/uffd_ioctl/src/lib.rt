@@ -15,6 +15,7 @@
 
 mod access;
 mod arguments;
+mod change;
 mod events;
 mod fault;
 mod install;

@@ -4,6 +4,7 @@ use Rattle.mig_model.specs.Space.{called}
 use Rattle.uffd_ioctl.specs.Spaces.{space_of}
 use Rattle.uffd_ioctl.proofs.ChangeLemmas.{moved_well, remap_of, remap_prot}
 use Rattle.uffd_ioctl.proofs.CallLemmas.{space_moved, queued_moved, protected_below, sound_called}
+use Rattle.uffd_ioctl.proofs.RegisterLemmas.{sound_low}
 use Rattle.uffd_ioctl.proofs.space.Space.mremap.Goals as goal
 
 pub overflow_cast-range : goal.overflow_cast-range
@@ -30,9 +31,12 @@ overflow_cast-range-in-Ok-3 c =
     let to = moved.to in
     omega (arith, c.page_count-in-Ok.ensures)
 
-pub remapped-requires : goal.remapped-requires
-remapped-requires c =
+pub remapped-requires-clause-range : goal.remapped-requires-clause-range
+remapped-requires-clause-range c =
     remap_of c.args.addr c.args.old_len c.args.new_len c.in-Ok.target c.page_count.result c.page_count-in-Ok.result (moved_well (record { areas = c.self.inside.areas; bytes = c.self.inside.pages.bytes }) c.args.addr c.args.old_len c.args.new_len c.args.may_move c.args.fixed c.in-Ok.target c.self.invariant.host (c.in-Ok.ensures c.self.inside.pages.bytes c.self.invariant.host)) c.page_count.ensures c.page_count-in-Ok.ensures
+
+pub remapped-requires-clause-low : goal.remapped-requires-clause-low
+remapped-requires-clause-low c = sound_low (space_of c.self.inside.areas c.self.inside.pages c.self.inside.object) c.self.invariant
 
 pub apply-requires-clause-range : goal.apply-requires-clause-range
 apply-requires-clause-range c =
@@ -49,15 +53,15 @@ apply-requires-clause-protected c =
 pub invariant_of-self-in-Ok : goal.invariant_of-self-in-Ok
 invariant_of-self-in-Ok c =
     sound_called _ (space_of c.self.inside.areas c.self.inside.pages c.self.inside.object) c.args.cpu (Mremap c.args.addr c.args.old_len c.args.new_len c.args.may_move c.args.fixed) refl c.self.invariant
-    (space_moved (space_of c.self.inside.areas c.self.inside.pages c.self.inside.object) c.apply.new.areas c.apply.new.pages c.in_ok-object-in-Ok.object c.args.cpu c.args.addr c.args.old_len c.args.new_len c.args.may_move c.args.fixed c.in-Ok.target c.page_count.result c.page_count-in-Ok.result
-    c.self.invariant (c.in-Ok.ensures c.self.inside.pages.bytes c.self.invariant.host) c.page_count.ensures c.page_count-in-Ok.ensures c.in_ok-apply-in-Ok.ensures.areas c.in_ok-apply-in-Ok.ensures.pages c.in_ok-apply-in-Ok.ensures.protected c.in_ok-object-in-Ok.ensures.object)
+    (space_moved (space_of c.self.inside.areas c.self.inside.pages c.self.inside.object) c.apply.new.areas c.apply.new.pages c.make-queued.new.object c.args.cpu c.args.addr c.args.old_len c.args.new_len c.args.may_move c.args.fixed c.in-Ok.target c.page_count.result c.page_count-in-Ok.result
+    c.self.invariant (c.in-Ok.ensures c.self.inside.pages.bytes c.self.invariant.host) c.page_count.ensures c.page_count-in-Ok.ensures c.in_ok-apply-in-Ok.ensures.areas c.in_ok-apply-in-Ok.ensures.pages c.in_ok-apply-in-Ok.ensures.protected (c.make-queued.ensures.object ∙ c.in_ok-change-in-Ok.ensures.object))
 
 pub returns-in_ok-apply-in-Ok-clause-queued : goal.returns-in_ok-apply-in-Ok-clause-queued
 returns-in_ok-apply-in-Ok-clause-queued c =
-    queued_moved (space_of c.self.inside.areas c.self.inside.pages c.self.inside.object) c.args.self.now c.args.addr c.args.old_len c.args.new_len c.args.may_move c.args.fixed c.in-Ok.target c.page_count.result c.page_count-in-Ok.result _ c.self.view_is c.self.invariant (c.in-Ok.ensures c.self.inside.pages.bytes c.self.invariant.host) c.page_count.ensures c.page_count-in-Ok.ensures c.in_ok-object-in-Ok.ensures.count
+    queued_moved (space_of c.self.inside.areas c.self.inside.pages c.self.inside.object) c.args.self.now c.args.addr c.args.old_len c.args.new_len c.args.may_move c.args.fixed c.in-Ok.target c.page_count.result c.page_count-in-Ok.result _ c.self.view_is c.self.invariant (c.in-Ok.ensures c.self.inside.pages.bytes c.self.invariant.host) c.page_count.ensures c.page_count-in-Ok.ensures (c.make-queued.ensures.queued ∙ c.in_ok-change-in-Ok.ensures.count)
 
 pub returns-in_ok-apply-in-Ok-clause-space : goal.returns-in_ok-apply-in-Ok-clause-space
 returns-in_ok-apply-in-Ok-clause-space c =
-    space_moved (space_of c.self.inside.areas c.self.inside.pages c.self.inside.object) c.apply.new.areas c.apply.new.pages c.in_ok-object-in-Ok.object c.args.cpu c.args.addr c.args.old_len c.args.new_len c.args.may_move c.args.fixed c.in-Ok.target c.page_count.result c.page_count-in-Ok.result
-    c.self.invariant (c.in-Ok.ensures c.self.inside.pages.bytes c.self.invariant.host) c.page_count.ensures c.page_count-in-Ok.ensures c.in_ok-apply-in-Ok.ensures.areas c.in_ok-apply-in-Ok.ensures.pages c.in_ok-apply-in-Ok.ensures.protected c.in_ok-object-in-Ok.ensures.object
+    space_moved (space_of c.self.inside.areas c.self.inside.pages c.self.inside.object) c.apply.new.areas c.apply.new.pages c.make-queued.new.object c.args.cpu c.args.addr c.args.old_len c.args.new_len c.args.may_move c.args.fixed c.in-Ok.target c.page_count.result c.page_count-in-Ok.result
+    c.self.invariant (c.in-Ok.ensures c.self.inside.pages.bytes c.self.invariant.host) c.page_count.ensures c.page_count-in-Ok.ensures c.in_ok-apply-in-Ok.ensures.areas c.in_ok-apply-in-Ok.ensures.pages c.in_ok-apply-in-Ok.ensures.protected (c.make-queued.ensures.object ∙ c.in_ok-change-in-Ok.ensures.object)
     ∙ ap (λ s. called s c.args.cpu (Mremap c.args.addr c.args.old_len c.args.new_len c.args.may_move c.args.fixed)) c.self.view_is

@@ -1,0 +1,151 @@
+//! Loads and stores of processors.
+
+ghost use Rattle.std.specs.Prelude.{◌≡◌, ◌/◌, ◌<◌, IfOk, IfSome, OnOk, OnErr, IsTrue, true};
+ghost use Rattle.std.specs.FinMap as map;
+ghost use Rattle.mig_base.specs.Bytes.{contents};
+ghost use Rattle.mig_base.specs.Flat.{reply_of, number_at, is_aligned as is_form};
+ghost use Rattle.mig_base.specs.declared.TheConstants.{HIGH, HIGH_PAGE};
+ghost use Rattle.mig_model.specs.Host.{memory, host_changed};
+ghost use Rattle.mig_model.specs.World.{is_access};
+ghost use Rattle.mig_model.specs.Space as machine;
+ghost use Rattle.uffd_ioctl.specs.Spaces.{memory_after};
+
+use super::Space;
+use crate::access::{
+    allows_load, allows_store, fits, is_aligned, is_made, is_store, number, page_of,
+};
+use crate::events::address;
+use mig_base::{Access, Addr, Command, HIGH, NoMemory, PAGE_SIZE, PageNo, Prot, Reply};
+use page_table::PutFault;
+
+impl Space {
+    /// Makes a load or store of a processor. One that is wrong or not permitted is answered as one flat memory answers it; one of
+    /// a missing page that is registered for that, or a store to a protected page that is registered for that, is a page fault:
+    /// the processor sleeps, and a message waits, unless one of the same kind for the page is unread. Any other is answered as one
+    /// flat memory answers it. A load leaves a missing page missing.
+    pub fn access(&mut self, cpu: u8, command: Command) -> Result<Access, NoMemory>
+        requires { is_access command ≡ true }
+        ensures access { IfOk result (λ access. access ≡ machine.access_of self.old command) }
+        ensures space { OnOk result (self.new ≡ machine.accessed self.old cpu command) }
+        ensures memory { IfOk result (λ access. memory self.new.host ≡ memory_after access (memory self.old.host) command) }
+        ensures err { OnErr result (self.new ≡ self.old) }
+    {
+        // The clauses on memory rest on the invariant, which is known where a field is read.
+        let _ = &self.areas;
+        let reply = self.reply_to(command);
+        if !is_made(reply) {
+            return Ok(Access::Answered(reply));
+        }
+        let page = page_of(command);
+        let mode = self.object.mode_at(page);
+        if mode.missing && self.pages.get(page).is_none() {
+            self.object
+                .queue_fault(address(page), is_store(command), false, cpu)?;
+            return Ok(Access::Missing);
+        }
+        if is_store(command) && mode.protect && self.pages.is_protected(page) {
+            self.object.queue_fault(address(page), true, true, cpu)?;
+            return Ok(Access::Protected);
+        }
+        if let Command::Store { addr, width, value } = command {
+            self.write(addr, width, value)?;
+        }
+        Ok(Access::Answered(reply))
+    }
+
+    /// What one flat memory answers to a load or store.
+    fn reply_to(&self, command: Command) -> Reply
+        requires { is_access command ≡ true }
+        ensures { result ≡ reply_of (memory self.now.host) command }
+    {
+        match command {
+            Command::Load { addr, width } => self.load(addr, width),
+            Command::Store { addr, width, value } => self.store_reply(addr, width, value),
+            _ => unreachable!(),
+        }
+    }
+
+    fn load(&self, addr: Addr, width: u8) -> Reply
+        ensures { result ≡ reply_of (memory self.now.host) (Command.Load addr width) }
+    {
+        if !is_aligned(addr, width) {
+            return Reply::BadAccess;
+        }
+        match self.prot_at(addr) {
+            None => Reply::Segv { mapped: false },
+            Some(prot) if allows_load(prot) => Reply::Value(self.number_at(addr, width)),
+            Some(_) => Reply::Segv { mapped: true },
+        }
+    }
+
+    /// What a store is answered, which is not made yet.
+    fn store_reply(&self, addr: Addr, width: u8, value: u64) -> Reply
+        ensures { result ≡ reply_of (memory self.now.host) (Command.Store addr width value) }
+    {
+        if !is_aligned(addr, width) || !fits(value, width) {
+            return Reply::BadAccess;
+        }
+        match self.prot_at(addr) {
+            None => Reply::Segv { mapped: false },
+            Some(prot) if allows_store(prot) => Reply::Done,
+            Some(_) => Reply::Segv { mapped: true },
+        }
+    }
+
+    /// The protection at an address, if it is mapped.
+    fn prot_at(&self, addr: Addr) -> Option<Prot>
+        ensures prot { result ≡ map.get self.now.host.areas (addr / 4096) }
+        ensures high { IfSome result (λ _. addr < HIGH) }
+    {
+        if addr < HIGH {
+            self.areas.prot_at((addr / PAGE_SIZE) as PageNo)
+        } else {
+            None
+        }
+    }
+
+    /// The number of `width` bytes at an address.
+    fn number_at(&self, addr: Addr, width: u8) -> u64
+        requires high { addr < HIGH }
+        requires aligned { is_form addr width ≡ true }
+        requires mapped { IsTrue (map.contains_key self.now.host.areas (addr / 4096)) }
+        ensures { result ≡ number_at (memory self.now.host) addr width }
+    {
+        let offset = (addr % PAGE_SIZE) as usize;
+        match self.pages.get((addr / PAGE_SIZE) as PageNo) {
+            Some(bytes) => number(&bytes[offset..offset + usize::from(width)]),
+            None => 0,
+        }
+    }
+
+    /// Makes a mapped page present: zeros, unless it is so already.
+    fn make_present(&mut self, page: PageNo) -> Result<(), NoMemory>
+        requires below { page < HIGH_PAGE }
+        requires mapped { IsTrue (map.contains_key self.old.host.areas page) }
+        ensures present { OnOk result (IsTrue (map.contains_key self.new.host.bytes page)) }
+        ensures ok { OnOk result (self.new ≡ record self.old { host = record self.old.host { bytes = map.insert self.old.host.bytes page (contents self.old.host.bytes page) } }) }
+        ensures err { OnErr result (self.new ≡ self.old) }
+    {
+        match self.pages.put_zero(page) {
+            Ok(()) => Ok(()),
+            Err(PutFault::Present) => Ok(()),
+            Err(PutFault::NoMemory) => Err(NoMemory),
+        }
+    }
+
+    /// Replaces the `width` bytes at an address by those of a number, and makes their page present.
+    fn write(&mut self, addr: Addr, width: u8, value: u64) -> Result<(), NoMemory>
+        requires high { addr < HIGH }
+        requires aligned { is_form addr width ≡ true }
+        requires mapped { IsTrue (map.contains_key self.old.host.areas (addr / 4096)) }
+        ensures ok { OnOk result (self.new ≡ record self.old { host = host_changed self.old.host (Command.Store addr width value) Reply.Done }) }
+        ensures err { OnErr result (self.new ≡ self.old) }
+    {
+        let page = (addr / PAGE_SIZE) as PageNo;
+        self.make_present(page)?;
+        let offset = (addr % PAGE_SIZE) as usize;
+        let bytes = value.to_le_bytes();
+        self.pages.write(page, offset, &bytes[..usize::from(width)]);
+        Ok(())
+    }
+}
