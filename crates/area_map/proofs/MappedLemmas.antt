@@ -89,7 +89,7 @@ from_index-drop areas low = take_all (length areas - low) (drop low areas) (omeg
 pub AreRuns-from : (areas : List Area) (low : ℕ) → AreRuns areas → AreRuns (from_index areas low)
 AreRuns-from areas low runs = AreRuns-take (length areas - low) (drop low areas) (AreRuns-drop low areas runs)
 
-between : (areas reaching : List Area) (low high first end q : ℕ) → reaching ≡ drop low areas → All (EndsBefore first) (take low areas) → All (BeginsAfter end) (drop high reaching) → first ≤ q → q < end → prot_in (take high reaching) q ≡ prot_in areas q
+pub between : (areas reaching : List Area) (low high first end q : ℕ) → reaching ≡ drop low areas → All (EndsBefore first) (take low areas) → All (BeginsAfter end) (drop high reaching) → first ≤ q → q < end → prot_in (take high reaching) q ≡ prot_in areas q
 between areas reaching low high first end q is before after from until =
     let front = prot_in-past (take low areas) q q (All-weaker (EndsBefore first) (EndsBy q) (λ x h. omega arith) (take low areas) before) (omega arith) in
     let back = prot_in-before (drop high reaching) q (All-weaker (BeginsAfter end) (BeginsAfter q) (λ x h. omega arith) (drop high reaching) after) in

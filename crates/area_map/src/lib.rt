@@ -14,6 +14,7 @@ mod moves;
 mod search;
 #[cfg(test)]
 mod tests;
+mod within;
 
 ghost use Rattle.std.specs.Prelude.{◌≡◌, ℕ, ◌+◌, ◌/◌, ◌≤◌, ◌<◌, ◌⊎◌, OnOk, OnErr, IfOk, IfSome, IfNone, if◌then◌else◌};
 ghost use Rattle.std.specs.FinMap as map;

@@ -122,25 +122,25 @@ gone_already places page q h =
 abbrev pub IsCleared : Places → Places → ℕ → ℕ → ℕ → Type 0
 IsCleared old new first count bound = (q : ℕ) → cell_at new q ≡ cond (ltb q bound && in_range first count q) no_cell (cell_at old q)
 
-nothing_yet : (q first count : ℕ) → (ltb q (1024 * (first / 1024)) && in_range first count q) ≡ false
+pub nothing_yet : (q first count : ℕ) → (ltb q (1024 * (first / 1024)) && in_range first count q) ≡ false
 nothing_yet q first count = grind (arith, nat_tests)
 
 pub cleared_none : (places : Places) (first count : ℕ) → IsCleared places places first count (1024 * (first / 1024))
 cleared_none places first count = λ q. ap (λ b. cond b no_cell (cell_at places q)) (sym (nothing_yet q first count))
 
-all_now : (q first count at : ℕ) → first + count ≤ 1024 * at → (ltb q (1024 * at) && in_range first count q) ≡ in_range first count q
+pub all_now : (q first count at : ℕ) → first + count ≤ 1024 * at → (ltb q (1024 * at) && in_range first count q) ≡ in_range first count q
 all_now q first count at h = grind (arith, nat_tests)
 
 pub cleared_all : (old new : Places) (first count at : ℕ) → first + count ≤ 1024 * at → IsCleared old new first count (1024 * at) → (q : ℕ) → cell_at new q ≡ cond (in_range first count q) no_cell (cell_at old q)
 cleared_all old new first count at h is q = is q ∙ ap (λ b. cond b no_cell (cell_at old q)) (all_now q first count at h)
 
-in_this : (q first count at low high : ℕ) → q / 1024 ≡ at → low ≡ first - 1024 * at → high ≡ min (first + count - 1024 * at) 1024 → low ≤ high → in_range low (high - low) (q % 1024) ≡ (ltb q (1024 * (at + 1)) && in_range first count q)
+pub in_this : (q first count at low high : ℕ) → q / 1024 ≡ at → low ≡ first - 1024 * at → high ≡ min (first + count - 1024 * at) 1024 → low ≤ high → in_range low (high - low) (q % 1024) ≡ (ltb q (1024 * (at + 1)) && in_range first count q)
 in_this q first count at low high e a b h = grind (arith, nat_tests)
 
-before_this : (q at : ℕ) → q / 1024 ≡ at → ltb q (1024 * at) ≡ false
+pub before_this : (q at : ℕ) → q / 1024 ≡ at → ltb q (1024 * at) ≡ false
 before_this q at e = grind (arith, nat_tests)
 
-not_this : (q at : ℕ) → q / 1024 ≢ at → ltb q (1024 * (at + 1)) ≡ ltb q (1024 * at)
+pub not_this : (q at : ℕ) → q / 1024 ≢ at → ltb q (1024 * (at + 1)) ≡ ltb q (1024 * at)
 not_this q at e = grind (arith, nat_tests)
 
 pub cleared_more : (old places : Places) (first count at low high : ℕ) (place : Place) → at < length places → IsCleared old places first count (1024 * at) → ((i : ℕ) → cell_in place i ≡ cond (in_range low (high - low) i) no_cell (cell_in (get_or places at None) i)) → low ≡ first - 1024 * at → high ≡ min (first + count - 1024 * at) 1024 → low ≤ high → IsCleared old (set places at place) first count (1024 * (at + 1))

@@ -1,5 +1,5 @@
 -- Leaves of 1024 pages each, and what they say of a page.
-use Rattle.std.specs.Prelude.{ℕ, ◌+◌, ◌-◌, ◌/◌, ◌%◌, if◌then◌else◌, Bool, true, false, List, Option, Some, None, slice_index_or}
+use Rattle.std.specs.Prelude.{ℕ, ◌+◌, ◌-◌, ◌/◌, ◌%◌, ◌&&◌, not, if◌then◌else◌, Bool, true, false, List, Option, Some, None, slice_index_or}
 use Rattle.std.specs.Option.{option_map}
 use Rattle.std.specs.FinSet.{contains}
 use Rattle.std.specs.declared.boxed.Box.{Box}
@@ -43,6 +43,10 @@ no_cell = (None, false)
 -- the same page, protected or not
 abbrev pub with_protection : Cell → Bool → Cell
 with_protection cell protected = (cell.0, protected)
+
+-- the same page, not protected where the test holds
+abbrev pub opened_cell : Cell → Bool → Cell
+opened_cell cell here = (cell.0, cell.1 && not here)
 
 -- a cell after bytes were written from a place on, where the page is present
 abbrev pub written_cell : Cell → ℕ → List ℕ → Cell

@@ -22,5 +22,6 @@ mod leaf;
 pub mod page_table;
 mod place;
 mod table;
+mod unprotect;
 
 pub use crate::page_table::{PageTable, PutFault};

@@ -11,6 +11,8 @@ ghost use Rattle.mig_base.specs.Sets.{without};
 ghost use Rattle.mig_base.specs.declared.TheConstants.{HIGH_PAGE, PAGE_SIZE};
 ghost use Rattle.mig_base.specs.Bytes.{zero_page, page_at, overwrite};
 
+mod ranges;
+
 use crate::leaf::Place;
 use crate::place::has_page_size;
 use crate::table::{

@@ -39,16 +39,31 @@ is_known false known h = refl
 
 -- Protected pages, one after the other
 
--- a page that is set, or cleared
-pub one_set : (first page q : ℕ) (value old now : Bool) → first ≤ page → now ≡ cond (in_range first (page - first) q) value old → (q ≡ page → value ≡ true) → (eqb q page || now) ≡ cond (in_range first (page + 1 - first) q) value old
-one_set first page q value old now low h at = grind (arith, nat_tests)
+-- a page that is present, and one that is missing
+pub one_there : (first page q : ℕ) (there old now : Bool) → first ≤ page → now ≡ (in_range first (page - first) q && there || old) → (q ≡ page → there ≡ true) → (eqb q page || now) ≡ (in_range first (page + 1 - first) q && there || old)
+one_there first page q there old now low h at = grind (arith, nat_tests)
 
-pub one_cleared : (first page q : ℕ) (value old now : Bool) → first ≤ page → now ≡ cond (in_range first (page - first) q) value old → (q ≡ page → value ≡ false) → (not (eqb q page) && now) ≡ cond (in_range first (page + 1 - first) q) value old
-one_cleared first page q value old now low h at = grind (arith, nat_tests)
+pub one_gone : (first page q : ℕ) (there old now : Bool) → first ≤ page → now ≡ (in_range first (page - first) q && there || old) → (q ≡ page → there ≡ false) → now ≡ (in_range first (page + 1 - first) q && there || old)
+one_gone first page q there old now low h at = grind (arith, nat_tests)
 
--- a page that has what it is to have
-pub one_left : (first page q : ℕ) (value old now : Bool) → first ≤ page → now ≡ cond (in_range first (page - first) q) value old → (q ≡ page → value ≡ now) → now ≡ cond (in_range first (page + 1 - first) q) value old
-one_left first page q value old now low h at = grind (arith, nat_tests)
+-- a page that is no longer protected unless it is watched
+pub unless_watched : (here watched : Bool) → not (here && not watched) ≡ (not here || watched)
+unless_watched true true = refl
+unless_watched true false = refl
+unless_watched false watched = refl
+
+-- a range of which the present pages are protected, or none is
+pub present_set : (here protect there old : Bool) → protect ≡ true → (old ≡ true → there ≡ true) → (here && there || old) ≡ cond here (protect && there) old
+present_set true protect true old h k = sym (ap (λ b. b && true) h)
+present_set true protect false true h k = absurd (false≢true (k refl))
+present_set true protect false false h k = sym (ap (λ b. b && false) h)
+present_set false protect there old h k = refl
+
+pub all_cleared : (here protect there old : Bool) → protect ≡ false → (old && not here) ≡ cond here (protect && there) old
+all_cleared true protect there true h = sym (ap (λ b. b && there) h)
+all_cleared true protect there false h = sym (ap (λ b. b && there) h)
+all_cleared false protect there true h = refl
+all_cleared false protect there false h = refl
 
 copied_some : {T : Type 0} (o : Option (Bor T)) → is_some (option_copied o) ≡ is_some o
 copied_some (Some x) = refl
@@ -210,6 +225,14 @@ mapped_more first count areas i q runs below =
     ∙ ap (λ o. in_range first count q && is_some o) (one_more areas i q runs below)
     ∙ ap (λ o. in_range first count q && is_some o) (sym (get-pages_in (take (i + 1) areas) q))
 
+when_here : (here one other : Bool) → (here ≡ true → one ≡ other) → (here && one) ≡ (here && other)
+when_here true one other h = h refl
+when_here false one other h = refl
+
+-- the areas that the range meets have its mapped pages
+pub mapped_same : (first count : ℕ) (found : List Area) (areas : FinMap nat_cmp Prot) → ((page : ℕ) → in_range first count page ≡ true → get (pages_in found) page ≡ get areas page) → (q : ℕ) → is_mapped_by first count found q ≡ (in_range first count q && contains_key areas q)
+mapped_same first count found areas h q = when_here (in_range first count q) (contains_key (pages_in found) q) (contains_key areas q) (λ e. ap is_some (h q e))
+
 pub mapped_none : (first count : ℕ) (q : ℕ) → is_mapped_by first count [] q ≡ false
 unfolding prot_in
 mapped_none first count q = ap (λ o. in_range first count q && is_some o) (get-pages_in [] q) ∙ second_fails (in_range first count q) false refl
@@ -234,18 +257,11 @@ none_by (Some x) h = absurd (h x refl)
 pub made_by : (error : Option Errno) (old new made : Space) → error ≡ None → made ≡ new → made ≡ left_by error old new
 made_by error old new made none is = is ∙ ap (λ e. left_by e old new) (sym none)
 
-not_in : (here old : Bool) → cond here false old ≡ (old && not here)
-not_in true true = refl
-not_in true false = refl
-not_in false true = refl
-not_in false false = refl
-
 -- a range that is registered no longer
-pub opened : (areas : FinMap nat_cmp Prot) (pages new : Pages) (object after : Object) (first count : ℕ) → new.bytes ≡ pages.bytes → ((q : ℕ) → contains new.protected q ≡ cond (in_range first count q) false (contains pages.protected q)) → after ≡ unregistered object first count
+pub opened : (areas : FinMap nat_cmp Prot) (pages new : Pages) (object after : Object) (first count : ℕ) → new.bytes ≡ pages.bytes → new.protected ≡ without pages.protected first count → after ≡ unregistered object first count
     → space_of areas new after ≡ unregistered_in (space_of areas pages object) first count
 opened areas pages new object after first count bytes is same =
-    let protected : new.protected ≡ without pages.protected first count = same_members new.protected (without pages.protected first count) (λ q. is q ∙ not_in (in_range first count q) (contains pages.protected q) ∙ sym (member_without pages.protected first count q)) in
-    λ i. record { host = record { areas = areas; bytes = bytes i }; protected = protected i; object = same i }
+    λ i. record { host = record { areas = areas; bytes = bytes i }; protected = is i; object = same i }
 
 not_on : (b : Bool) → (b ≡ true → ⊥) → b ≡ false
 not_on true h = absurd (h refl)
@@ -291,13 +307,13 @@ still_protected : (old here low mapped has asked own : Bool) → (old ≡ true �
 still_protected false here low mapped has asked own h k m = refl
 still_protected true here low mapped has asked own h k m = rw (h refl, k refl, m refl) (watched_at here has asked)
 
-pub watched_in : (areas found : FinMap nat_cmp Prot) (pages new : Pages) (object after : Object) (first count : ℕ) (mode : Mode) → IsSoundSpace (space_of areas pages object) → found ≡ areas → new.bytes ≡ pages.bytes
-    → after ≡ registered_where object (λ page. in_range first count page && contains_key found page) mode
+pub watched_in : (areas : FinMap nat_cmp Prot) (pages new : Pages) (object after : Object) (first count : ℕ) (mode : Mode) → IsSoundSpace (space_of areas pages object) → new.bytes ≡ pages.bytes
+    → after ≡ registered_where object (is_mapped_in (space_of areas pages object) first count) mode
     → ((q : ℕ) → contains new.protected q ≡ (contains pages.protected q && (not (in_range first count q) || contains after.protect q))) → space_of areas new after ≡ registered_in (space_of areas pages object) first count mode
-watched_in areas found pages new object after first count mode sound seen bytes is kept =
+watched_in areas pages new object after first count mode sound bytes is kept =
     let space = space_of areas pages object in
     let watching = registered_where object (is_mapped_in space first count) mode in
-    let same : after ≡ watching = is ∙ ap (λ m. registered_where object (λ page. in_range first count page && contains_key m page) mode) seen in
+    let same : after ≡ watching = is in
     let mapped : (q : ℕ) → contains pages.protected q ≡ true → contains_key areas q ≡ true = λ q h. sound.mapped q (or_on (contains object.missing q) (contains object.protect q) (sound.watched q h)) in
     let protected : new.protected ≡ (registered_in space first count mode).protected = is_pages_where new.protected _
     (λ q.
@@ -334,12 +350,12 @@ not_zero : (n : ℕ) → n ≢ 0 → eqb n 0 ≡ false
 not_zero n h = grind (arith, nat_tests)
 
 -- with a mode all mapped pages are registered
-pub assembled_watching : (areas found : FinMap nat_cmp Prot) (bytes : FinMap nat_cmp (List ℕ)) (fresh start after : Object) (mode : Mode) (bits : ℕ) → IsSound (record { areas = areas; bytes = bytes }) → bits ≢ 0 → fresh ≡ fresh_object → start ≡ enabled_with fresh event_features → found ≡ areas → mode ≡ mode_of bits
-    → after ≡ registered_where start (λ page. in_range 0 HIGH_PAGE page && contains_key found page) mode → after ≡ assembled_object areas bits
-assembled_watching areas found bytes fresh start after mode bits sound some new on seen asked is =
+pub assembled_watching : (areas : FinMap nat_cmp Prot) (bytes : FinMap nat_cmp (List ℕ)) (fresh start after : Object) (mode : Mode) (bits : ℕ) → IsSound (record { areas = areas; bytes = bytes }) → bits ≢ 0 → fresh ≡ fresh_object → start ≡ enabled_with fresh event_features → mode ≡ mode_of bits
+    → after ≡ registered_where start (λ page. in_range 0 HIGH_PAGE page && contains_key areas page) mode → after ≡ assembled_object areas bits
+assembled_watching areas bytes fresh start after mode bits sound some new on asked is =
     let watching = enabled_with fresh_object event_features in
     is
-    ∙ (λ i. registered_where (on i) (λ page. in_range 0 HIGH_PAGE page && contains_key (seen i) page) (asked i))
+    ∙ (λ i. registered_where (on i) (λ page. in_range 0 HIGH_PAGE page && contains_key areas page) (asked i))
     ∙ (λ i. registered_where (enabled_with (new i) event_features) (λ page. in_range 0 HIGH_PAGE page && contains_key areas page) (mode_of bits))
     ∙ same_where watching (λ page. in_range 0 HIGH_PAGE page && contains_key areas page) (λ page. contains_key areas page) (mode_of bits)
     (λ q. second_alone (in_range 0 HIGH_PAGE q) (contains_key areas q) (λ h. in_all q HIGH_PAGE (λ past. false≢true (sym (ap is_some (sound.bound q past)) ∙ h))))

@@ -87,7 +87,7 @@ impl Space {
                 first: 0,
                 count: HIGH_PAGE,
             };
-            let Ok(watching) = registered(&object, areas.areas(), all, mode_of(mode)) else {
+            let Ok(watching) = registered(&object, &areas, all, mode_of(mode)) else {
                 return Err((NoMemory, pages));
             };
             object = watching;

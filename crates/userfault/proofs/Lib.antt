@@ -1,3 +1,4 @@
 pub mod QueueLemmas
 pub mod ModeLemmas
+mod RunLemmas
 pub mod EveryLemmas

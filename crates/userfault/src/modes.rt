@@ -42,7 +42,7 @@ pub fn registered(
 }
 
 /// Takes those pages of a range out that another set has not.
-fn remove_unless_in(set: &mut PageSet, other: &PageSet, first: PageNo, count: u32)
+pub fn remove_unless_in(set: &mut PageSet, other: &PageSet, first: PageNo, count: u32)
     requires { first + count ≤ HIGH_PAGE }
     ensures { (q : ℕ) → contains set.new q ≡ (contains set.old q && not (in_range first count q && not (contains other.now q))) }
 {
@@ -76,7 +76,7 @@ pub fn moved(set: &PageSet, from: PageNo, to: PageNo, count: u32) -> Result<Page
 
 /// The first run from `from` on, before `end`, of pages that the set has, or with `want` false has not: where it starts and
 /// where it stops. Both are `end` where there is none.
-fn run_of(set: &PageSet, from: PageNo, end: PageNo, want: bool) -> (PageNo, PageNo)
+pub fn run_of(set: &PageSet, from: PageNo, end: PageNo, want: bool) -> (PageNo, PageNo)
     requires { (from < end) × (end ≤ HIGH_PAGE) }
     ensures range { (from ≤ result.0) × (result.0 ≤ result.1) × (result.1 ≤ end) }
     ensures further { from < result.1 }

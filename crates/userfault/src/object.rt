@@ -9,6 +9,8 @@ ghost use Rattle.mig_base.specs.Tests.{is_every};
 ghost use Rattle.userfault.specs.Modes.{mode_of, has_mode_of};
 ghost use Rattle.mig_model.specs.Userfault.{is_watched};
 
+mod runs;
+
 use crate::modes::{Mode, has_all, is_one_run, moved, registered};
 use crate::noted::{Noted, copy_queue, waits};
 use mig_base::{Addr, Message, NoMemory, PageNo, PageSet};

@@ -57,7 +57,7 @@ impl Space {
         }
         let range = whole_pages(start, len);
         let mode = mode_of(mode);
-        let Ok(object) = registered(&self.object, self.areas.areas(), range, mode) else {
+        let Ok(object) = registered(&self.object, &self.areas, range, mode) else {
             return Err(IoctlFault::NoMemory);
         };
         open_unwatched(&mut self.pages, &object, range);
@@ -99,7 +99,7 @@ impl Space {
         }
         let range = whole_pages(start, len);
         self.object.unregister(range.first, range.count);
-        set_protection(&mut self.pages, range, false);
+        self.pages.unprotect_range(range.first, range.count);
         Ok(Wake::Range { start, len })
     }
 

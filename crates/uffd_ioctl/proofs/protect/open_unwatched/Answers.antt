@@ -1,38 +1,36 @@
-use Rattle.std.proofs.Common.{◌∙◌, ◌&&◌, sym, ap}
-use Rattle.std.specs.FinSet as set
-use Rattle.mig_base.proofs.SetLemmas.{member_removed}
-use Rattle.uffd_ioctl.proofs.RegisterLemmas.{is_on, is_off, one_cleared, one_left, not_yet, first_fails, second_fails, second_holds}
+use Rattle.std.proofs.Common.{◌∙◌, ◌-◌, ◌+◌, ◌&&◌, not, ap, refl, arith}
+use Rattle.std.specs.FinSet.{contains}
+use Rattle.mig_base.specs.Ranges.{in_range}
+use Rattle.mig_base.proofs.SetLemmas.{member_without}
+use Rattle.userfault.proofs.ModeLemmas.{removed_none, removed_more, removed_all}
+use Rattle.uffd_ioctl.proofs.RegisterLemmas.{unless_watched}
 use Rattle.uffd_ioctl.proofs.protect.open_unwatched.Goals as goal
-use Rattle.uffd_ioctl.proofs.protect.open_unwatched.Goals.{then-is_protected+then-not-mode_at, else-is_protected, else-is_protected-via-then-is_protected+else-not-mode_at, else-is_protected-via-else-is_protected}
 
-pub loop-page-preserved : goal.loop-page-preserved
-loop-page-preserved c =
-    let first = c.args.range.first in
-    let page = c.loop-page.page in
-    let old = c.args.pages.now.protected in
-    let now = c.loop-page.pages.protected in
-    let watched = c.args.object.now.protect in
-    let was = c.loop-page.invariant in
-    elim c.if-is_protected.branch [
-      | then-is_protected+then-not-mode_at w ↦ record {
-        bytes = ap (λ p. p.bytes) w.pages-is ∙ w.unprotect.ensures.bytes ∙ was.bytes;
-        protected = λ q. ap (λ p. set.contains p.protected q) w.pages-is
-            ∙ ap (λ s. set.contains s q) w.unprotect.ensures.protected
-            ∙ member_removed now page q
-            ∙ one_cleared first page q (set.contains old q && set.contains watched q) (set.contains old q) (set.contains now q) c.loop-page.auto.page (was.protected q)
-            (λ e. second_fails _ _ (ap (set.contains watched) e ∙ sym (ap (λ m. m.protect) w.mode_at.ensures) ∙ is_off _ w.if-not-mode_at.true));
-      }
-      | else-is_protected w ↦ record {
-        bytes = ap (λ p. p.bytes) w.pages-is ∙ was.bytes;
-        protected = λ q. ap (λ p. set.contains p.protected q) w.pages-is
-            ∙ one_left first page q (set.contains old q && set.contains watched q) (set.contains old q) (set.contains now q) c.loop-page.auto.page (was.protected q)
-            (λ e.
-            let same = not_yet first page q (set.contains old q && set.contains watched q) (set.contains old q) (set.contains now q) e (was.protected q) in
-            elim w.else-is_protected.branch [
-              | else-is_protected-via-then-is_protected+else-not-mode_at v ↦ second_holds _ _ (ap (set.contains watched) e ∙ sym (ap (λ m. m.protect) v.mode_at.ensures) ∙ is_on _ v.if-not-mode_at.false) ∙ same
-              | else-is_protected-via-else-is_protected v ↦
-                  let gone = ap (set.contains now) e ∙ sym c.is_protected.ensures.answer ∙ v.if-is_protected.false in
-                  first_fails _ _ (same ∙ gone) ∙ sym gone
-            ]);
-      }
-    ]
+pub loop-at-init : goal.loop-at-init
+loop-at-init c = record {
+  range = (omega arith, omega arith);
+  bytes = refl;
+  opened = λ q. removed_none q c.args.range.first (contains c.args.pages.now.protected q) (not (contains c.args.object.now.protect q));
+}
+
+pub loop-at-preserved : goal.loop-at-preserved
+loop-at-preserved c =
+    let start = c.unwatched_run-start.result.0 in
+    let stop = c.unwatched_run-start.result.1 in
+    record {
+      range = (omega arith, omega arith);
+      bytes = c.unprotect_range.ensures.bytes ∙ c.loop-at.invariant.bytes;
+      opened = λ q. ap (λ s. contains s q) c.unprotect_range.ensures.protected
+          ∙ member_without c.loop-at.pages.protected start (stop - start) q
+          ∙ ap (λ b. b && not (in_range start (stop - start) q)) (c.loop-at.invariant.opened q)
+          ∙ removed_more q c.args.range.first c.loop-at.at start stop (contains c.args.pages.now.protected q) (contains c.args.object.now.protect q) c.loop-at.invariant.range.0 (omega arith) (omega arith) (c.unwatched_run-start.ensures.before q) (c.unwatched_run-start.ensures.inside q);
+    }
+
+pub returns-clause-protected : goal.returns-clause-protected
+returns-clause-protected c = λ q.
+    c.loop-at.invariant.opened q
+    ∙ removed_all q c.args.range.first c.args.range.count c.loop-at.at (contains c.args.pages.now.protected q) (not (contains c.args.object.now.protect q)) c.loop-at.invariant.range.0 c.loop-at.invariant.range.1 c.loop-at-test.false
+    ∙ ap (λ b. contains c.args.pages.now.protected q && b) (unless_watched (in_range c.args.range.first c.args.range.count q) (contains c.args.object.now.protect q))
+
+pub returns-clause-bytes : goal.returns-clause-bytes
+returns-clause-bytes c = c.loop-at.invariant.bytes

@@ -4,5 +4,5 @@ use Rattle.userfault.specs.Modes.{mode_of}
 use Rattle.uffd_ioctl.proofs.RegisterLemmas.{is_mapped_by}
 use Rattle.uffd_ioctl.proofs.register.registered.Given as goal
 
-abbrev pub invariant-loop-i : goal.invariant-loop-i
-invariant-loop-i l = l.after ≡ registered_where l.object (is_mapped_by l.range.first l.range.count (take l.i l.areas)) (mode_of l.mode)
+abbrev pub invariant-loop-area : goal.invariant-loop-area
+invariant-loop-area l = l.after ≡ registered_where l.fn.object (is_mapped_by l.fn.range.first l.fn.range.count (take l.area-index l.area-items)) (mode_of l.fn.mode)

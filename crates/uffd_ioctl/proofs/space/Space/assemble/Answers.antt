@@ -1,7 +1,6 @@
 use Rattle.std.proofs.Common.{◌∙◌, ◌≡◌, sym, subst}
 use Rattle.mig_model.specs.Space as machine
 use Rattle.userfault.specs.Modes as modes
-use Rattle.area_map.specs.Areas.{pages_in}
 use Rattle.uffd_ioctl.specs.Spaces.{assembled_object}
 use Rattle.uffd_ioctl.proofs.RegisterLemmas.{enabled_low, assembled_watching, assembled_fresh, assembled_sound}
 use Rattle.uffd_ioctl.proofs.space.Space.assemble.Goals as goal
@@ -16,7 +15,7 @@ returns-clause-ok c =
     elim c.if-mode-ne0.branch [
       | then-mode-ne0+in-Ok w ↦
           w.object-is
-          ∙ assembled_watching c.args.areas (pages_in w.areas-then-mode-ne0.result.now) c.args.pages.bytes c.new-object.result w.enable.new.self w.in-Ok.watching (modes.mode_of w.mode_of.result) c.args.mode c.requires.sound w.if-mode-ne0.true c.new-object.ensures w.enable.ensures w.areas-then-mode-ne0.ensures.pages w.mode_of.ensures w.in-Ok.ensures
+          ∙ assembled_watching c.args.areas c.args.pages.bytes c.new-object.result w.enable.new.self w.in-Ok.watching (modes.mode_of w.mode_of.result) c.args.mode c.requires.sound w.if-mode-ne0.true c.new-object.ensures w.enable.ensures w.mode_of.ensures w.in-Ok.ensures
       | else-mode-ne0 w ↦ w.object-is ∙ assembled_fresh c.args.areas c.new-object.result c.args.mode c.new-object.ensures w.if-mode-ne0.false
     ] in
     λ i. record { host = record { areas = c.args.areas; bytes = c.args.pages.bytes }; protected = c.requires.open i; object = object i }

@@ -3,7 +3,6 @@ use Rattle.mig_model.specs.Space as machine
 use Rattle.mig_model.specs.Ioctls as table
 use Rattle.mig_model.proofs.IoctlLemmas.{IsSoundSpace-range_registered}
 use Rattle.userfault.specs.Modes as modes
-use Rattle.area_map.specs.Areas.{pages_in}
 use Rattle.uffd_ioctl.specs.Spaces.{space_of}
 use Rattle.uffd_ioctl.proofs.RegisterLemmas.{none_by, made_by, sound_low, watched_in}
 use Rattle.uffd_ioctl.proofs.space.Space.register.Goals as goal
@@ -19,7 +18,7 @@ returns-clause-space c =
     let range = c.whole_pages-range in
     made_by (table.register_error now start len c.args.mode) now (table.registered_in now (start / 4096) (len / 4096) (table.mode_of c.args.mode)) _
     (sym c.register_error.ensures ∙ none_by c.register_error.result c.in_default.not-Some)
-    (watched_in c.self.inside.areas (pages_in c.areas.result.now) c.self.inside.pages c.open_unwatched.new.pages c.self.inside.object c.in-Ok.object range.result.first range.result.count (modes.mode_of c.mode_of-mode.result) c.self.invariant c.areas.ensures.pages c.open_unwatched.ensures.bytes c.in-Ok.ensures c.open_unwatched.ensures.protected
+    (watched_in c.self.inside.areas c.self.inside.pages c.open_unwatched.new.pages c.self.inside.object c.in-Ok.object range.result.first range.result.count (modes.mode_of c.mode_of-mode.result) c.self.invariant c.open_unwatched.ensures.bytes c.in-Ok.ensures c.open_unwatched.ensures.protected
     ∙ (λ i. table.registered_in (c.self.view_is i) (range.ensures.first i) (range.ensures.count i) (c.mode_of-mode.ensures i)))
 
 pub invariant_of-self : goal.invariant_of-self

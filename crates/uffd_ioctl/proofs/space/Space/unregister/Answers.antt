@@ -13,7 +13,7 @@ returns-clause-space c =
     let range = c.whole_pages-range in
     made_by (table.unregister_error now start len) now (table.unregistered_in now (start / 4096) (len / 4096)) _
     (sym c.unregister_error.ensures ∙ none_by c.unregister_error.result c.in_default.not-Some)
-    (opened c.self.inside.areas c.self.inside.pages c.set_protection.new.pages c.self.inside.object c.unregister.new.self range.result.first range.result.count c.set_protection.ensures.bytes c.set_protection.ensures.protected c.unregister.ensures
+    (opened c.self.inside.areas c.self.inside.pages c.unprotect_range.new.self c.self.inside.object c.unregister.new.self range.result.first range.result.count c.unprotect_range.ensures.bytes c.unprotect_range.ensures.protected c.unregister.ensures
     ∙ (λ i. table.unregistered_in (c.self.view_is i) (range.ensures.first i) (range.ensures.count i)))
 
 pub invariant_of-self : goal.invariant_of-self

@@ -6,6 +6,9 @@ use Rattle.mig_model.proofs.IoctlLemmas.{IsSoundSpace-write_protected}
 use Rattle.uffd_ioctl.proofs.RegisterLemmas.{none_by, made_by, set_in}
 use Rattle.uffd_ioctl.proofs.space.Space.writeprotect.Goals as goal
 
+pub set_protection-requires-clause-present : goal.set_protection-requires-clause-present
+set_protection-requires-clause-present c = c.self.invariant.present
+
 pub returns-clause-space : goal.returns-clause-space
 returns-clause-space c =
     let start = c.args.start in
