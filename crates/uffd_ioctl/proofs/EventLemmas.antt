@@ -10,8 +10,8 @@ use Rattle.mig_base.specs.Ranges.{in_range, lesser, none_below}
 use Rattle.mig_base.specs.Sets.{without, moved_set}
 use Rattle.mig_base.proofs.RangeLemmas.{none_below_tells, none_below-from}
 use Rattle.mig_base.proofs.SetLemmas.{same_members, member_without}
-use Rattle.mig_model.specs.Userfault.{Object, mode_at, is_registered, unregistered, moved_modes}
-use Rattle.mig_model.specs.Space.{is_watched, told, remap_messages, all_queued}
+use Rattle.mig_model.specs.Userfault.{Object, mode_at, is_registered, is_watched, unregistered, moved_modes}
+use Rattle.mig_model.specs.Space.{told, remap_messages, all_queued}
 use Rattle.userfault.proofs.ModeLemmas.{is_pages_where}
 use Rattle.uffd_ioctl.specs.declared.remap.Remap.{Remap}
 use Rattle.uffd_ioctl.specs.Remaps.{IsRemap, replaced_message, cut_message, moved_message}

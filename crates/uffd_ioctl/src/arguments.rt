@@ -6,14 +6,9 @@ ghost use Rattle.mig_base.specs.declared.TheConstants.{HIGH_PAGE};
 ghost use Rattle.mig_model.specs.Ioctls as table;
 ghost use Rattle.userfault.specs.Modes as modes;
 
+use mig_base::flags::{EVENT_REMAP_BIT, EVENT_REMOVE_BIT, EVENT_UNMAP_BIT, PAGEFAULT_FLAG_WP_BIT, REGISTER_MISSING_BIT, REGISTER_WP_BIT};
 use mig_base::{Addr, HIGH_PAGE, LOW, PAGE_SIZE, PageNo};
 use userfault::Mode;
-
-/// UFFD_FEATURE_PAGEFAULT_FLAG_WP, UFFD_FEATURE_EVENT_REMAP, UFFD_FEATURE_EVENT_REMOVE and UFFD_FEATURE_EVENT_UNMAP.
-pub(crate) const ALL_FEATURES: u64 = 77;
-
-/// The three events.
-pub(crate) const EVENT_FEATURES: u64 = 76;
 
 /// A range of pages: at least one, all of the address space.
 #[derive(Clone, Copy, Drop)]
@@ -60,12 +55,12 @@ pub(crate) fn mode_of(flags: u64) -> Mode
     ensures { modes.mode_of result ≡ table.mode_of flags }
 {
     Mode {
-        missing: has_bit(flags, 0),
-        protect: has_bit(flags, 1),
+        missing: has_bit(flags, REGISTER_MISSING_BIT),
+        protect: has_bit(flags, REGISTER_WP_BIT),
     }
 }
 
-/// Whether a feature is asked for that this object has not.
+/// Whether a feature is asked for that the object does not know.
 pub(crate) fn has_unknown_feature(features: u64) -> bool
     ensures { result ≡ table.has_unknown table.is_feature features }
 {
@@ -81,12 +76,17 @@ pub(crate) fn has_unknown_feature(features: u64) -> bool
 fn is_feature(i: u32) -> bool
     ensures { result ≡ table.is_feature i }
 {
-    matches!(i, 0 | 2 | 3 | 6)
+    matches!(
+        i,
+        PAGEFAULT_FLAG_WP_BIT | EVENT_REMAP_BIT | EVENT_REMOVE_BIT | EVENT_UNMAP_BIT
+    )
 }
 
 /// Whether the three events are among the features.
 pub(crate) fn has_events(features: u64) -> bool
     ensures { result ≡ (is_one features 2 && is_one features 3 && is_one features 6) }
 {
-    has_bit(features, 2) && has_bit(features, 3) && has_bit(features, 6)
+    has_bit(features, EVENT_REMAP_BIT)
+        && has_bit(features, EVENT_REMOVE_BIT)
+        && has_bit(features, EVENT_UNMAP_BIT)
 }

@@ -11,15 +11,8 @@ ghost use Rattle.uffd_ioctl.specs.Remaps.{IsRemap, replaced_message, cut_message
 
 use crate::change::Change;
 use crate::remap::Remap;
-use mig_base::{Addr, Message, NoMemory, PAGE_SIZE, PageNo};
+use mig_base::{Message, NoMemory, PAGE_SIZE, PageNo, page_address};
 use userfault::Userfault;
-
-/// The first address of a page.
-pub(crate) fn address(page: PageNo) -> Addr
-    ensures { result ≡ 4096 * page }
-{
-    u64::from(page) * PAGE_SIZE
-}
 
 /// Queues a message, if it is due, and answers how many were queued. `NoMemory` changes nothing.
 pub(crate) fn tell(
@@ -107,8 +100,8 @@ fn tell_replaced(
 {
     let is_due = range.to != range.from && object.is_any_registered(range.to, range.new_count);
     let message = Message::Unmap {
-        start: address(range.to),
-        end: address(range.to + range.new_count),
+        start: page_address(range.to),
+        end: page_address(range.to + range.new_count),
     };
     tell(after, is_due, message, cpu)
 }
@@ -130,8 +123,8 @@ fn tell_cut(
     let first = range.from + range.new_count;
     let is_due = object.is_any_registered(first, range.count - range.new_count);
     let message = Message::Unmap {
-        start: address(first),
-        end: address(range.from + range.count),
+        start: page_address(first),
+        end: page_address(range.from + range.count),
     };
     tell(after, is_due, message, cpu)
 }
@@ -150,8 +143,8 @@ fn tell_moved(
     let kept = range.count.min(range.new_count);
     let is_due = range.to != range.from && object.is_any_registered(range.from, kept);
     let message = Message::Remap {
-        from: address(range.from),
-        to: address(range.to),
+        from: page_address(range.from),
+        to: page_address(range.to),
         len: u64::from(kept) * PAGE_SIZE,
     };
     tell(after, is_due, message, cpu)

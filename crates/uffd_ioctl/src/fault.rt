@@ -3,7 +3,7 @@
 ghost use Rattle.std.specs.Prelude.{◌≡◌, ◌*◌, ◌<◌, Some, None};
 ghost use Rattle.uffd_ioctl.specs.Puts.{put_result, own_fault};
 
-use mig_base::{Addr, Errno, PAGE_SIZE, Wake};
+use mig_base::{Addr, Errno, NoMemory, PAGE_SIZE, Wake};
 use page_table::PutFault;
 use thiserror::Error;
 
@@ -11,11 +11,34 @@ use thiserror::Error;
 #[derive(Clone, Copy, Debug, PartialEq, Eq, Error)]
 pub enum IoctlFault {
     /// The error of ioctl_userfaultfd(2). The same call is refused again as long as nothing else has changed the space.
-    #[error("error {0:?}")]
+    #[error("{}", phrase(*.0))]
     Errno(Errno),
     /// A growth was refused. The same call may succeed later.
-    #[error("no memory")]
+    #[error("out of memory")]
     NoMemory,
+}
+
+impl From<NoMemory> for IoctlFault {
+    ghost use Rattle.uffd_ioctl.specs.declared.fault.IoctlFault.{IoctlFault};
+
+    ghost from_gives = { λ _ fault. fault ≡ IoctlFault.NoMemory };
+
+    fn from(_refused: NoMemory) -> Self {
+        IoctlFault::NoMemory
+    }
+}
+
+/// What an error number of these calls tells their caller.
+fn phrase(errno: Errno) -> &'static str {
+    match errno {
+        Errno::Einval => "the object is not enabled for this call, or its range or mode is not valid",
+        Errno::Eagain => "the range is not done: read the waiting events, then go on from the first page left",
+        Errno::Enoent => "the range is not registered for this call as one area",
+        Errno::Eexist => "the first page of the range is already present",
+        Errno::Enomem => "out of memory",
+        Errno::Efault => "bad address",
+        Errno::Eperm => "operation not permitted",
+    }
 }
 
 /// What UFFDIO_COPY or UFFDIO_ZEROPAGE has done.

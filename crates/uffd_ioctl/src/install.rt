@@ -9,7 +9,7 @@ ghost use Rattle.mig_base.specs.declared.TheConstants.{HIGH_PAGE};
 ghost use Rattle.mig_model.specs.Ioctls.{put_pages, handed};
 ghost use Rattle.uffd_ioctl.specs.Puts.{IsPut};
 
-use mig_base::{NoMemory, PAGE_SIZE, PageNo};
+use mig_base::{NoMemory, PAGE_BYTES, PageNo};
 use page_table::{PageTable, PutFault};
 use std::alloc::Global;
 
@@ -26,13 +26,12 @@ pub(crate) fn put_copies(
     ensures bytes { pages.new.bytes ≡ put_pages pages.old.bytes first result.0 (handed bytes.now) }
     ensures protected { (q : ℕ) → set.contains pages.new.protected q ≡ (set.contains pages.old.protected q || (protect && in_range first result.0 q)) }
 {
-    let size = PAGE_SIZE as usize;
-    let count = (bytes.len() / size) as u32;
+    let count = (bytes.len() / PAGE_BYTES) as u32;
     let mut done = 0;
     while done < count {
-        let start = done as usize * size;
+        let start = done as usize * PAGE_BYTES;
         let page = first + done;
-        if let Err(fault) = put_copy(alloc, pages, page, &bytes[start..start + size], protect) {
+        if let Err(fault) = put_copy(alloc, pages, page, &bytes[start..start + PAGE_BYTES], protect) {
             return (done, Some(fault));
         }
         done += 1;
@@ -70,17 +69,14 @@ fn put_copy(
     Ok(())
 }
 
-/// The bytes of one page again, in a box of their own.
-fn copy_of(alloc: Global, bytes: &[u8]) -> Result<Box<[u8; 4096]>, NoMemory>
+/// A copy of the bytes of one page, in a box.
+fn copy_of(alloc: Global, bytes: &[u8]) -> Result<Box<[u8; PAGE_BYTES]>, NoMemory>
     requires { length bytes.now ≡ 4096 }
     ensures { IfOk result (λ copy. copy.value ≡ bytes.now) }
 {
-    let mut page = [0; 4096];
+    let mut page = [0; PAGE_BYTES];
     page.copy_from_slice(bytes);
-    let Ok(copy) = Box::new(alloc, page) else {
-        return Err(NoMemory);
-    };
-    Ok(copy)
+    Ok(Box::new(alloc, page)?)
 }
 
 /// Puts zeros at the `count` pages from `first` on, not write-protected: how many, and why no more.

@@ -14,10 +14,11 @@ mod access;
 mod ioctls;
 mod map_calls;
 
-use crate::arguments::{EVENT_FEATURES, PageRange, mode_of};
+use crate::arguments::{PageRange, mode_of};
 use crate::register::registered;
 use area_map::AreaMap;
-use mig_base::{HIGH_PAGE, Message, NoMemory, PageNo, PageSet};
+use mig_base::flags::EVENT_FEATURES;
+use mig_base::{HIGH_PAGE, Message, NoMemory, PAGE_BYTES, PageNo, PageSet};
 use page_table::PageTable;
 use std::alloc::Global;
 use std::marker::Model;
@@ -101,7 +102,7 @@ impl Space {
     }
 
     /// The bytes of a page, if it is present.
-    pub fn page(&self, page: PageNo) -> Option<&[u8; 4096]>
+    pub fn page(&self, page: PageNo) -> Option<&[u8; PAGE_BYTES]>
         ensures { option_copied result ≡ map.get self.now.host.bytes page }
     {
         self.pages.get(page)
@@ -135,7 +136,7 @@ impl Space {
         self.object.next_message()
     }
 
-    /// The mapped pages again, with their protections.
+    /// A copy of the mapped pages, with their protections.
     pub fn areas(&self) -> Result<AreaMap, NoMemory>
         ensures { IfOk result (λ areas. areas ≡ self.now.host.areas) }
     {

@@ -6,16 +6,15 @@ ghost use Rattle.mig_base.specs.Bytes.{contents};
 ghost use Rattle.mig_base.specs.Flat.{reply_of, number_at, is_aligned as is_form};
 ghost use Rattle.mig_base.specs.declared.TheConstants.{HIGH, HIGH_PAGE};
 ghost use Rattle.mig_model.specs.Host.{memory, host_changed};
-ghost use Rattle.mig_model.specs.World.{is_access};
+ghost use Rattle.mig_base.specs.Commands.{is_access};
 ghost use Rattle.mig_model.specs.Space as machine;
 ghost use Rattle.uffd_ioctl.specs.Spaces.{memory_after};
 
 use super::Space;
-use crate::access::{
-    allows_load, allows_store, fits, is_aligned, is_made, is_store, number, page_of,
+use crate::access::{fits, is_aligned, is_made, number};
+use mig_base::{
+    Access, Addr, Command, HIGH, NoMemory, PAGE_SIZE, PageNo, Prot, Reply, page_address,
 };
-use crate::events::address;
-use mig_base::{Access, Addr, Command, HIGH, NoMemory, PAGE_SIZE, PageNo, Prot, Reply};
 use page_table::PutFault;
 
 impl Space {
@@ -36,15 +35,15 @@ impl Space {
         if !is_made(reply) {
             return Ok(Access::Answered(reply));
         }
-        let page = page_of(command);
+        let page = command.page();
         let mode = self.object.mode_at(page);
         if mode.missing && self.pages.get(page).is_none() {
             self.object
-                .queue_fault(address(page), is_store(command), false, cpu)?;
+                .queue_fault(page_address(page), command.is_store(), false, cpu)?;
             return Ok(Access::Missing);
         }
-        if is_store(command) && mode.protect && self.pages.is_protected(page) {
-            self.object.queue_fault(address(page), true, true, cpu)?;
+        if command.is_store() && mode.protect && self.pages.is_protected(page) {
+            self.object.queue_fault(page_address(page), true, true, cpu)?;
             return Ok(Access::Protected);
         }
         if let Command::Store { addr, width, value } = command {
@@ -73,7 +72,7 @@ impl Space {
         }
         match self.prot_at(addr) {
             None => Reply::Segv { mapped: false },
-            Some(prot) if allows_load(prot) => Reply::Value(self.number_at(addr, width)),
+            Some(prot) if prot.allows_load() => Reply::Value(self.number_at(addr, width)),
             Some(_) => Reply::Segv { mapped: true },
         }
     }
@@ -87,7 +86,7 @@ impl Space {
         }
         match self.prot_at(addr) {
             None => Reply::Segv { mapped: false },
-            Some(prot) if allows_store(prot) => Reply::Done,
+            Some(prot) if prot.allows_store() => Reply::Done,
             Some(_) => Reply::Segv { mapped: true },
         }
     }

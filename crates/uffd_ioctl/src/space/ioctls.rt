@@ -12,12 +12,13 @@ ghost use Rattle.uffd_ioctl.specs.Spaces.{ioctl_result};
 
 use super::Space;
 use crate::arguments::{
-    ALL_FEATURES, PageRange, has_bit, has_events, has_unknown_feature, is_bad_range, mode_of, whole_pages,
+    PageRange, has_bit, has_events, has_unknown_feature, is_bad_range, mode_of, whole_pages,
 };
 use crate::fault::{Copied, CopyFault, IoctlFault, outcome, refused};
 use crate::install::{put_copies, put_zeros};
 use crate::protect::{open_unwatched, set_protection};
 use crate::register::registered;
+use mig_base::flags::{ALL_FEATURES, API, COPY_WP_BIT, INSTALL_DONTWAKE_BIT, WRITEPROTECT_WP_BIT};
 use mig_base::{Addr, Errno, HIGH_PAGE, Message, Wake};
 use userfault::Mode;
 
@@ -28,7 +29,7 @@ impl Space {
         ensures answer { result ≡ table.handshake_answer self.old api features }
         ensures space { self.new ≡ table.handshaken self.old api features }
     {
-        if api != 0xaa || has_unknown_feature(features) || self.is_enabled() {
+        if api != API || has_unknown_feature(features) || self.is_enabled() {
             return Err(Errno::Einval);
         }
         self.object.enable(features);
@@ -57,9 +58,7 @@ impl Space {
         }
         let range = whole_pages(start, len);
         let mode = mode_of(mode);
-        let Ok(object) = registered(&self.object, &self.areas, range, mode) else {
-            return Err(IoctlFault::NoMemory);
-        };
+        let object = registered(&self.object, &self.areas, range, mode)?;
         open_unwatched(&mut self.pages, &object, range);
         self.object = object;
         Ok(())
@@ -138,9 +137,9 @@ impl Space {
             return Err(refused(errno));
         }
         let range = whole_pages(start, bytes.len() as u64);
-        let protect = has_bit(mode, 1);
+        let protect = has_bit(mode, COPY_WP_BIT);
         let (done, stop) = put_copies(self.alloc, &mut self.pages, range.first, bytes, protect);
-        outcome(start, done, has_bit(mode, 0), stop)
+        outcome(start, done, has_bit(mode, INSTALL_DONTWAKE_BIT), stop)
     }
 
     fn copy_error(&self, start: Addr, len: u64, mode: u64) -> Option<Errno>
@@ -156,7 +155,7 @@ impl Space {
         if !self.is_one_area(range) {
             return Some(Errno::Enoent);
         }
-        if has_bit(mode, 1) && !self.object.mode_at(range.first).protect {
+        if has_bit(mode, COPY_WP_BIT) && !self.object.mode_at(range.first).protect {
             return Some(Errno::Einval);
         }
         None
@@ -187,7 +186,7 @@ impl Space {
         }
         let range = whole_pages(start, len);
         let (done, stop) = put_zeros(&mut self.pages, range.first, range.count);
-        outcome(start, done, has_bit(mode, 0), stop)
+        outcome(start, done, has_bit(mode, INSTALL_DONTWAKE_BIT), stop)
     }
 
     fn zeropage_error(&self, start: Addr, len: u64, mode: u64) -> Option<Errno>
@@ -218,7 +217,7 @@ impl Space {
         if let Some(errno) = self.writeprotect_error(start, len, mode) {
             return Err(errno);
         }
-        set_protection(&mut self.pages, whole_pages(start, len), has_bit(mode, 0));
+        set_protection(&mut self.pages, whole_pages(start, len), has_bit(mode, WRITEPROTECT_WP_BIT));
         if mode == 0 {
             Ok(Wake::Range { start, len })
         } else {

@@ -3,14 +3,14 @@
 ghost use Rattle.std.specs.Prelude.{◌≡◌, IfOk, OnOk, OnErr, false};
 ghost use Rattle.mig_base.specs.Flat.{reply_of, after};
 ghost use Rattle.mig_model.specs.Host.{memory};
-ghost use Rattle.mig_model.specs.World.{is_access};
+ghost use Rattle.mig_base.specs.Commands.{is_access};
 ghost use Rattle.mig_model.specs.Space as machine;
 
 use super::Space;
-use crate::events::{address, remapped, tell, unmapped};
+use crate::events::{remapped, tell, unmapped};
 use crate::map_calls::{dontneed_reply, is_invalid, mmap_place, mremap_place, page_count};
 use crate::remap::{Remap, apply};
-use mig_base::{Addr, Command, Errno, HIGH, HIGH_PAGE, Message, NoMemory, PAGE_SIZE, PageNo, Place, Prot, Reply};
+use mig_base::{Addr, Command, Errno, HIGH, HIGH_PAGE, Message, NoMemory, PAGE_SIZE, PageNo, Place, Prot, Reply, page_address};
 
 impl Space {
     /// Makes a map call of a processor, and answers as one flat memory does; with the reply comes how many events the call has
@@ -55,7 +55,7 @@ impl Space {
             Ok(start) => {
                 let first = (start / PAGE_SIZE) as PageNo;
                 let count = page_count(len) as u32;
-                let end = address(first + count);
+                let end = page_address(first + count);
                 let message = Message::Unmap { start, end };
                 let change = unmapped(&self.object, first, count, message, cpu)?;
                 self.areas.map(first, count, prot)?;
@@ -82,7 +82,7 @@ impl Space {
         }
         let first = (addr / PAGE_SIZE) as PageNo;
         let count = count as u32;
-        let end = address(first + count);
+        let end = page_address(first + count);
         let message = Message::Unmap { start: addr, end };
         let change = unmapped(&self.object, first, count, message, cpu)?;
         self.areas.unmap(first, count)?;
@@ -137,7 +137,7 @@ impl Space {
         let end = (addr / PAGE_SIZE + page_count(len)).min(high) as PageNo;
         let message = Message::Remove {
             start: addr,
-            end: address(end),
+            end: page_address(end),
         };
         let is_due = self.object.is_any_registered(first, end - first);
         let queued = tell(&mut self.object, is_due, message, cpu)?;

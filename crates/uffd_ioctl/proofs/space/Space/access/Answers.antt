@@ -7,8 +7,8 @@ use Rattle.uffd_ioctl.specs.Spaces.{space_of}
 use Rattle.uffd_ioctl.proofs.AccessLemmas.{made_mapped, made_below, memory_stored}
 use Rattle.uffd_ioctl.proofs.space.Space.access.Goals as goal
 
-pub page_of-page-requires : goal.page_of-page-requires
-page_of-page-requires c =
+pub page-page-requires : goal.page-page-requires
+page-page-requires c =
     made_below c.args.self.now c.args.command c.reply_to-reply.result (subst IsSoundSpace c.self.view_is c.self.invariant) c.requires c.reply_to-reply.ensures c.if-not-is_made.ensures
 
 pub write-requires-clause-high : goal.write-requires-clause-high

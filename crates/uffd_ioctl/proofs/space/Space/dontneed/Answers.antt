@@ -10,31 +10,31 @@ use Rattle.uffd_ioctl.proofs.space.Space.dontneed.Goals as goal
 pub invariant_of-self-2 : goal.invariant_of-self-2
 invariant_of-self-2 c =
     sound_called _ (space_of c.self.inside.areas c.self.inside.pages c.self.inside.object) c.args.cpu (DontNeed c.args.addr c.args.len) refl c.self.invariant
-    (space_dropped (space_of c.self.inside.areas c.self.inside.pages c.self.inside.object) c.drop_range.new.self c.tell.new.object c.args.cpu c.args.addr c.args.len c.min-first.result c.min-end.result c.address.result c.dontneed_reply-reply.result c.self.invariant
+    (space_dropped (space_of c.self.inside.areas c.self.inside.pages c.self.inside.object) c.drop_range.new.self c.tell.new.object c.args.cpu c.args.addr c.args.len c.min-first.result c.min-end.result c.page_address.result c.dontneed_reply-reply.result c.self.invariant
     (c.dontneed_reply-reply.ensures c.self.inside.pages.bytes c.self.invariant.host)
     (λ same. false≢true (sym c.if-is_invalid.false ∙ c.is_invalid.ensures.1 same))
     (c.min-first.ensures ∙ ap (min (c.args.addr / 4096)) c.from-high.ensures)
     (c.min-end.ensures ∙ ap (λ n. min (c.args.addr / 4096 + n) c.from-high.result) c.page_count.ensures ∙ ap (min (c.args.addr / 4096 + _)) c.from-high.ensures)
-    c.address.ensures
-    c.drop_range.ensures.bytes c.drop_range.ensures.protected (c.in_ok-queued.ensures.object ∙ ap (λ b. all_queued c.self.inside.object (told b (Remove c.args.addr c.address.result)) c.args.cpu) c.is_any_registered-is_due.ensures))
+    c.page_address.ensures
+    c.drop_range.ensures.bytes c.drop_range.ensures.protected (c.in_ok-queued.ensures.object ∙ ap (λ b. all_queued c.self.inside.object (told b (Remove c.args.addr c.page_address.result)) c.args.cpu) c.is_any_registered-is_due.ensures))
 
 pub returns-clause-queued : goal.returns-clause-queued
 returns-clause-queued c =
-    queued_dropped (space_of c.self.inside.areas c.self.inside.pages c.self.inside.object) c.args.self.now c.args.addr c.args.len c.min-first.result c.min-end.result c.address.result _ c.dontneed_reply-reply.result c.self.view_is c.self.invariant
+    queued_dropped (space_of c.self.inside.areas c.self.inside.pages c.self.inside.object) c.args.self.now c.args.addr c.args.len c.min-first.result c.min-end.result c.page_address.result _ c.dontneed_reply-reply.result c.self.view_is c.self.invariant
     (c.dontneed_reply-reply.ensures c.self.inside.pages.bytes c.self.invariant.host)
     (λ same. false≢true (sym c.if-is_invalid.false ∙ c.is_invalid.ensures.1 same))
     (c.min-first.ensures ∙ ap (min (c.args.addr / 4096)) c.from-high.ensures)
     (c.min-end.ensures ∙ ap (λ n. min (c.args.addr / 4096 + n) c.from-high.result) c.page_count.ensures ∙ ap (min (c.args.addr / 4096 + _)) c.from-high.ensures)
-    c.address.ensures
-    (c.in_ok-queued.ensures.count ∙ ap (λ b. length (told b (Remove c.args.addr c.address.result))) c.is_any_registered-is_due.ensures)
+    c.page_address.ensures
+    (c.in_ok-queued.ensures.count ∙ ap (λ b. length (told b (Remove c.args.addr c.page_address.result))) c.is_any_registered-is_due.ensures)
 
 pub returns-clause-space : goal.returns-clause-space
 returns-clause-space c =
-    space_dropped (space_of c.self.inside.areas c.self.inside.pages c.self.inside.object) c.drop_range.new.self c.tell.new.object c.args.cpu c.args.addr c.args.len c.min-first.result c.min-end.result c.address.result c.dontneed_reply-reply.result c.self.invariant
+    space_dropped (space_of c.self.inside.areas c.self.inside.pages c.self.inside.object) c.drop_range.new.self c.tell.new.object c.args.cpu c.args.addr c.args.len c.min-first.result c.min-end.result c.page_address.result c.dontneed_reply-reply.result c.self.invariant
     (c.dontneed_reply-reply.ensures c.self.inside.pages.bytes c.self.invariant.host)
     (λ same. false≢true (sym c.if-is_invalid.false ∙ c.is_invalid.ensures.1 same))
     (c.min-first.ensures ∙ ap (min (c.args.addr / 4096)) c.from-high.ensures)
     (c.min-end.ensures ∙ ap (λ n. min (c.args.addr / 4096 + n) c.from-high.result) c.page_count.ensures ∙ ap (min (c.args.addr / 4096 + _)) c.from-high.ensures)
-    c.address.ensures
-    c.drop_range.ensures.bytes c.drop_range.ensures.protected (c.in_ok-queued.ensures.object ∙ ap (λ b. all_queued c.self.inside.object (told b (Remove c.args.addr c.address.result)) c.args.cpu) c.is_any_registered-is_due.ensures)
+    c.page_address.ensures
+    c.drop_range.ensures.bytes c.drop_range.ensures.protected (c.in_ok-queued.ensures.object ∙ ap (λ b. all_queued c.self.inside.object (told b (Remove c.args.addr c.page_address.result)) c.args.cpu) c.is_any_registered-is_due.ensures)
     ∙ ap (λ s. called s c.args.cpu (DontNeed c.args.addr c.args.len)) c.self.view_is

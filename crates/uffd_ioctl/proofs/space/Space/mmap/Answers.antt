@@ -45,11 +45,11 @@ drop_range-requires c =
 pub invariant_of-self-in-Ok : goal.invariant_of-self-in-Ok
 invariant_of-self-in-Ok c =
     sound_called _ (space_of c.self.inside.areas c.self.inside.pages c.self.inside.object) c.args.cpu (Mmap c.args.len c.args.prot c.args.place) refl c.self.invariant
-    (space_made (space_of c.self.inside.areas c.self.inside.pages c.self.inside.object) c.map.new.self c.drop_range.new.self c.make-queued.new.object c.args.cpu c.args.len c.in-Ok.start c.page_count-count.result c.address-end.result c.args.prot c.args.place
-    (c.in-Ok.ensures c.args.prot c.self.inside.pages.bytes c.self.invariant.host) c.page_count-count.ensures c.address-end.ensures c.in_ok-map-in-Ok.ensures.ok c.drop_range.ensures.bytes c.drop_range.ensures.protected (c.make-queued.ensures.object ∙ c.in_ok-change-in-Ok.ensures.object))
+    (space_made (space_of c.self.inside.areas c.self.inside.pages c.self.inside.object) c.map.new.self c.drop_range.new.self c.make-queued.new.object c.args.cpu c.args.len c.in-Ok.start c.page_count-count.result c.page_address-end.result c.args.prot c.args.place
+    (c.in-Ok.ensures c.args.prot c.self.inside.pages.bytes c.self.invariant.host) c.page_count-count.ensures c.page_address-end.ensures c.in_ok-map-in-Ok.ensures.ok c.drop_range.ensures.bytes c.drop_range.ensures.protected (c.make-queued.ensures.object ∙ c.in_ok-change-in-Ok.ensures.object))
 
 pub returns-in_ok-map-in-Ok-clause-space : goal.returns-in_ok-map-in-Ok-clause-space
 returns-in_ok-map-in-Ok-clause-space c =
-    space_made (space_of c.self.inside.areas c.self.inside.pages c.self.inside.object) c.map.new.self c.drop_range.new.self c.make-queued.new.object c.args.cpu c.args.len c.in-Ok.start c.page_count-count.result c.address-end.result c.args.prot c.args.place
-    (c.in-Ok.ensures c.args.prot c.self.inside.pages.bytes c.self.invariant.host) c.page_count-count.ensures c.address-end.ensures c.in_ok-map-in-Ok.ensures.ok c.drop_range.ensures.bytes c.drop_range.ensures.protected (c.make-queued.ensures.object ∙ c.in_ok-change-in-Ok.ensures.object)
+    space_made (space_of c.self.inside.areas c.self.inside.pages c.self.inside.object) c.map.new.self c.drop_range.new.self c.make-queued.new.object c.args.cpu c.args.len c.in-Ok.start c.page_count-count.result c.page_address-end.result c.args.prot c.args.place
+    (c.in-Ok.ensures c.args.prot c.self.inside.pages.bytes c.self.invariant.host) c.page_count-count.ensures c.page_address-end.ensures c.in_ok-map-in-Ok.ensures.ok c.drop_range.ensures.bytes c.drop_range.ensures.protected (c.make-queued.ensures.object ∙ c.in_ok-change-in-Ok.ensures.object)
     ∙ ap (λ s. called s c.args.cpu (Mmap c.args.len c.args.prot c.args.place)) c.self.view_is

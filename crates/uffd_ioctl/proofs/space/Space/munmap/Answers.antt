@@ -7,5 +7,5 @@ use Rattle.uffd_ioctl.proofs.space.Space.munmap.Goals as goal
 pub invariant_of-self-2 : goal.invariant_of-self-2
 invariant_of-self-2 c =
     sound_called _ (space_of c.self.inside.areas c.self.inside.pages c.self.inside.object) c.args.cpu (Munmap c.args.addr c.args.len) refl c.self.invariant
-    (space_unmapped (space_of c.self.inside.areas c.self.inside.pages c.self.inside.object) c.unmap.new.self c.drop_range.new.self c.make-queued.new.object c.args.cpu c.args.addr c.args.len c.page_count-count.result c.address-end.result
-    c.if-addr-ne0.false (omega arith) c.page_count-count.ensures (omega (arith, c.from.ensures)) c.address-end.ensures c.in_ok-unmap.ensures.ok c.drop_range.ensures.bytes c.drop_range.ensures.protected (c.make-queued.ensures.object ∙ c.in_ok-change.ensures.object))
+    (space_unmapped (space_of c.self.inside.areas c.self.inside.pages c.self.inside.object) c.unmap.new.self c.drop_range.new.self c.make-queued.new.object c.args.cpu c.args.addr c.args.len c.page_count-count.result c.page_address-end.result
+    c.if-addr-ne0.false (omega arith) c.page_count-count.ensures (omega (arith, c.from.ensures)) c.page_address-end.ensures c.in_ok-unmap.ensures.ok c.drop_range.ensures.bytes c.drop_range.ensures.protected (c.make-queued.ensures.object ∙ c.in_ok-change.ensures.object))

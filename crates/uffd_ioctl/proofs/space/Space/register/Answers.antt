@@ -18,7 +18,7 @@ returns-clause-space c =
     let range = c.whole_pages-range in
     made_by (table.register_error now start len c.args.mode) now (table.registered_in now (start / 4096) (len / 4096) (table.mode_of c.args.mode)) _
     (sym c.register_error.ensures ∙ none_by c.register_error.result c.in_default.not-Some)
-    (watched_in c.self.inside.areas c.self.inside.pages c.open_unwatched.new.pages c.self.inside.object c.in-Ok.object range.result.first range.result.count (modes.mode_of c.mode_of-mode.result) c.self.invariant c.open_unwatched.ensures.bytes c.in-Ok.ensures c.open_unwatched.ensures.protected
+    (watched_in c.self.inside.areas c.self.inside.pages c.open_unwatched.new.pages c.self.inside.object c.in_ok-object.object range.result.first range.result.count (modes.mode_of c.mode_of-mode.result) c.self.invariant c.open_unwatched.ensures.bytes c.in_ok-object.ensures c.open_unwatched.ensures.protected
     ∙ (λ i. table.registered_in (c.self.view_is i) (range.ensures.first i) (range.ensures.count i) (c.mode_of-mode.ensures i)))
 
 pub invariant_of-self : goal.invariant_of-self
