@@ -1,5 +1,5 @@
 -- Areas as the finite map that callers see. `items` is what a call saw, `inside` what the map keeps, `value` what callers see.
-use Rattle.std.proofs.Common.{◌≡◌, ℕ, ◌+◌, ◌≤◌, cond, refl, arith, Option, Some, None, List, [], ◌∷◌, sym, ap, subst, ◌∙◌, Result, Ok, Err, OnOk}
+use Rattle.std.proofs.Common.{◌≡◌, ℕ, ◌≤◌, cond, refl, arith, Option, Some, None, List, [], ◌∷◌, sym, ap, subst, ◌∙◌, Result, Ok, Err, OnOk}
 use Rattle.std.specs.FinMap.{FinMap, get, get-empty}
 use Rattle.std.specs.Ordering.{nat_cmp}
 use Rattle.mig_base.specs.declared.Prot.{Prot}

@@ -1,10 +1,9 @@
 //! The type that callers see: an address space, and the userfault object that watches it.
 
-ghost use Rattle.std.specs.Prelude.{◌≡◌, ℕ, ◌<◌, ◌≤◌, IfOk, IfErr, OnErr};
+ghost use Rattle.std.specs.Prelude.{◌≡◌, ℕ, ◌<◌, ◌≤◌, IfOk, IfErr, OnErr, None};
 ghost use Rattle.std.specs.Option.{option_copied, option_map};
 ghost use Rattle.std.specs.FinMap as map;
 ghost use Rattle.std.specs.FinSet as set;
-ghost use Rattle.mig_model.specs.Host.{IsSound};
 ghost use Rattle.mig_model.specs.Userfault as object;
 ghost use Rattle.mig_model.specs.Space as machine;
 ghost use Rattle.userfault.specs.Modes as modes;
@@ -64,7 +63,7 @@ impl Space {
         }
     }
 
-    /// A space of these areas and present pages, none of them protected. With a mode, as the flags of UFFDIO_REGISTER, the object
+    /// A space of these areas and present pages: each present page is mapped, and none is protected. With a mode, as the flags of UFFDIO_REGISTER, the object
     /// is enabled for the three events and all mapped pages are registered in it; with mode 0 it is not enabled.
     ///
     /// On `NoMemory` the table comes back. With mode 0 the call takes no memory.
@@ -74,13 +73,15 @@ impl Space {
         pages: PageTable,
         mode: u64,
     ) -> Result<Self, (NoMemory, PageTable)>
-        requires sound { IsSound (record { areas = areas; bytes = pages.bytes }) }
+        requires mapped { (page : ℕ) → map.get areas page ≡ None → map.get pages.bytes page ≡ None }
         requires open { pages.protected ≡ set.empty }
         requires mode { mode ≤ 3 }
         ensures ok { IfOk result (λ space. space ≡ record { host = record { areas = areas; bytes = pages.bytes }; protected = set.empty; object = assembled_object areas mode }) }
         ensures err { IfErr result (λ back. back.1 ≡ pages) }
         ensures takes { OnErr result (0 < mode) }
     {
+        areas.ends_by_high_page();
+        pages.has_whole_pages();
         let mut object = Userfault::new(alloc);
         if mode != 0 {
             object.enable(EVENT_FEATURES);

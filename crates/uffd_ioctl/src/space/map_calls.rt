@@ -24,6 +24,7 @@ impl Space {
         ensures memory { OnOk result (memory self.new.host ≡ after (memory self.old.host) command) }
         ensures err { OnErr result (self.new ≡ self.old) }
     {
+        // The clause on memory rests on the invariant, which is known where a field is read.
         let _ = &self.areas;
         match command {
             Command::Mmap {

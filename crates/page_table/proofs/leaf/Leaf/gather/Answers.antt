@@ -1,4 +1,4 @@
-use Rattle.std.proofs.Common.{◌≡◌, ◌∙◌, ◌||◌, ◌*◌, ◌+◌, ◌%◌, sym, ap, arith, eqb, is_some, true, false, None, get_or}
+use Rattle.std.proofs.Common.{◌≡◌, ◌∙◌, ◌||◌, ◌*◌, ◌+◌, ◌%◌, sym, ap, arith, eqb, is_some}
 use Rattle.std.specs.FinSet.{contains}
 use Rattle.mig_base.proofs.SetLemmas.{member_inserted}
 use Rattle.page_table.specs.Leaves.{leaf_cell}
