@@ -1,11 +1,10 @@
 //! Map calls of a space in which no page is registered.
 
 use crate::spaces::{Answer, Call, play};
-use mig_base::{Errno, Place, Prot, Reply};
-use std::test::Fail;
-
 use Answer::{Answered, Called};
 use Call::{DontNeed, Load, Mmap, Mremap, MremapAway, Munmap, Present, Store};
+use mig_base::{Errno, Place, Prot, Reply};
+use std::test::Fail;
 
 /// A store is made.
 const STORED: Answer = Answered(Reply::Done);
@@ -23,14 +22,29 @@ const EINVAL: Answer = Called(Reply::Refused(Errno::Einval), 0);
 const ENOMEM: Answer = Called(Reply::Refused(Errno::Enomem), 0);
 
 const MOST: [(Call, Answer); 9] = [
-    (Mmap(67_108_864, Prot::Read, Place::Anywhere), Called(Reply::At(0x10000), 0)),
+    (
+        Mmap(67_108_864, Prot::Read, Place::Anywhere),
+        Called(Reply::At(0x10000), 0),
+    ),
     (Mmap(1, Prot::Read, Place::Anywhere), ENOMEM),
     (Store(0, 0x11000, 1, 0), DENIED),
     (Munmap(0x10000, 4096), DONE),
-    (Mmap(1, Prot::Read, Place::NoReplace(0x11000)), Called(Reply::Refused(Errno::Eexist), 0)),
-    (Mmap(1, Prot::ReadWrite, Place::Fixed(0xffff_f000)), Called(Reply::At(0xffff_f000), 0)),
-    (Mmap(4097, Prot::ReadWrite, Place::Fixed(0xffff_f000)), ENOMEM),
-    (Mmap(4096, Prot::Read, Place::Fixed(0xf000)), Called(Reply::Refused(Errno::Eperm), 0)),
+    (
+        Mmap(1, Prot::Read, Place::NoReplace(0x11000)),
+        Called(Reply::Refused(Errno::Eexist), 0),
+    ),
+    (
+        Mmap(1, Prot::ReadWrite, Place::Fixed(0xffff_f000)),
+        Called(Reply::At(0xffff_f000), 0),
+    ),
+    (
+        Mmap(4097, Prot::ReadWrite, Place::Fixed(0xffff_f000)),
+        ENOMEM,
+    ),
+    (
+        Mmap(4096, Prot::Read, Place::Fixed(0xf000)),
+        Called(Reply::Refused(Errno::Eperm), 0),
+    ),
     (Mmap(4096, Prot::Read, Place::Fixed(0x10001)), EINVAL),
 ];
 
@@ -41,16 +55,28 @@ fn as_many_pages_as_may_be(rt: HostRuntime) -> Result<(), Fail> {
 
 /// A range grows where it is, goes elsewhere and gets shorter.
 const GROWS: [(Call, Answer); 12] = [
-    (Mmap(4096, Prot::ReadWrite, Place::Anywhere), Called(Reply::At(0x10000), 0)),
-    (Mmap(4096, Prot::Read, Place::Fixed(0x12000)), Called(Reply::At(0x12000), 0)),
+    (
+        Mmap(4096, Prot::ReadWrite, Place::Anywhere),
+        Called(Reply::At(0x10000), 0),
+    ),
+    (
+        Mmap(4096, Prot::Read, Place::Fixed(0x12000)),
+        Called(Reply::At(0x12000), 0),
+    ),
     (Store(0, 0x10000, 1, 7), STORED),
     (Mremap(0x10000, 4096, 8192), Called(Reply::At(0x10000), 0)),
     (Mremap(0x10000, 8192, 12288), ENOMEM),
-    (MremapAway(0x10000, 8192, 12288, None), Called(Reply::At(0x13000), 0)),
+    (
+        MremapAway(0x10000, 8192, 12288, None),
+        Called(Reply::At(0x13000), 0),
+    ),
     (Load(0, 0x13000, 1), Answered(Reply::Value(7))),
     (Load(0, 0x10000, 1), UNMAPPED),
     (MremapAway(0x13000, 4096, 4096, Some(0x13000)), EINVAL),
-    (Mremap(0x12000, 8192, 4096), Called(Reply::Refused(Errno::Efault), 0)),
+    (
+        Mremap(0x12000, 8192, 4096),
+        Called(Reply::Refused(Errno::Efault), 0),
+    ),
     (Mremap(0x13000, 12288, 4096), Called(Reply::At(0x13000), 0)),
     (Load(0, 0x14000, 1), UNMAPPED),
 ];
@@ -61,13 +87,19 @@ fn ranges_grow_move_and_shrink(rt: HostRuntime) -> Result<(), Fail> {
 }
 
 const REPLACED: [(Call, Answer); 12] = [
-    (Mmap(16384, Prot::ReadWrite, Place::Anywhere), Called(Reply::At(0x10000), 0)),
+    (
+        Mmap(16384, Prot::ReadWrite, Place::Anywhere),
+        Called(Reply::At(0x10000), 0),
+    ),
     (Store(0, 0x10000, 1, 1), STORED),
     (Store(0, 0x11000, 1, 2), STORED),
     (Store(0, 0x12000, 1, 3), STORED),
     (Store(0, 0x13000, 1, 4), STORED),
     (Present(0x13), Answer::Among(true, 4)),
-    (MremapAway(0x10000, 4096, 8192, Some(0x12000)), Called(Reply::At(0x12000), 0)),
+    (
+        MremapAway(0x10000, 4096, 8192, Some(0x12000)),
+        Called(Reply::At(0x12000), 0),
+    ),
     (Load(0, 0x10000, 1), UNMAPPED),
     (Load(0, 0x11000, 1), Answered(Reply::Value(2))),
     (Load(0, 0x12000, 1), Answered(Reply::Value(1))),
@@ -82,8 +114,14 @@ fn a_fixed_target_is_replaced(rt: HostRuntime) -> Result<(), Fail> {
 
 /// Two pages with a hole between them become zeros.
 const NOT_NEEDED: [(Call, Answer); 11] = [
-    (Mmap(4096, Prot::ReadWrite, Place::Anywhere), Called(Reply::At(0x10000), 0)),
-    (Mmap(4096, Prot::ReadWrite, Place::Fixed(0x12000)), Called(Reply::At(0x12000), 0)),
+    (
+        Mmap(4096, Prot::ReadWrite, Place::Anywhere),
+        Called(Reply::At(0x10000), 0),
+    ),
+    (
+        Mmap(4096, Prot::ReadWrite, Place::Fixed(0x12000)),
+        Called(Reply::At(0x12000), 0),
+    ),
     (Store(0, 0x10000, 1, 5), STORED),
     (Store(0, 0x12000, 1, 6), STORED),
     (DontNeed(0x10000, 12288), ENOMEM),

@@ -1,16 +1,15 @@
 //! The calls of the userfault object of a space, after userfaultfd(2) and ioctl_userfaultfd(2).
 
 use crate::spaces::{Answer, Call, play, play_on, put};
-use mig_base::{Errno, Message, NoMemory, Place, Prot, Reply, Wake};
-use std::test::Fail;
-use uffd_ioctl::{Mode, Space};
-
 use Answer::{Answered, Called, Features, Missing, Protected, Put, Registered, Stopped, Woken};
 use Call::{
     Changing, Copy, DontNeed, FirstByte, Handshake, IsProtected, Load, Mmap, ModeAt, Mremap,
     MremapAway, Munmap, NextBytes, Present, Read, Register, Store, Unregister, WriteProtect,
     Zeropage,
 };
+use mig_base::{Errno, Message, NoMemory, Place, Prot, Reply, Wake};
+use std::test::Fail;
+use uffd_ioctl::{Mode, Space};
 
 /// Two pages from 0x10000 on.
 const MAP_TWO: Call = Mmap(8192, Prot::ReadWrite, Place::Anywhere);
@@ -131,7 +130,10 @@ const FAULTS: [(Call, Answer); 25] = [
     (Read, Answer::Message(STORED_MISSING, 1)),
     (Copy(0x10000, 1, 2), Put(4096, FIRST)),
     (Store(0, 0x10000, 8, 1), Protected),
-    (MremapAway(0x10000, 8192, 4096, Some(0x12000)), Called(Reply::At(0x12000), 3)),
+    (
+        MremapAway(0x10000, 8192, 4096, Some(0x12000)),
+        Called(Reply::At(0x12000), 3),
+    ),
     (Zeropage(0x12000, 4096, 0), PUT_EAGAIN),
     (WriteProtect(0x12000, 4096, 0), EAGAIN),
     (Read, Answer::Message(STORED_PROTECTED, 0)),
@@ -224,7 +226,10 @@ const EVENTS: [(Call, Answer); 14] = [
     (ModeAt(0x12), Answer::Mode(MISSING_MODE)),
     (ModeAt(0x10), Answer::Mode(NO_MODE)),
     (Munmap(0x10000, 4096), Called(Reply::Done, 0)),
-    (DontNeed(0x12000, 8192), Called(Reply::Refused(Errno::Enomem), 1)),
+    (
+        DontNeed(0x12000, 8192),
+        Called(Reply::Refused(Errno::Enomem), 1),
+    ),
     (Munmap(0x11000, 4096), Called(Reply::Done, 1)),
     (Changing, Answer::Count(2)),
     (Read, Answer::Message(REMOVE, 3)),

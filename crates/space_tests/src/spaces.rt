@@ -164,16 +164,20 @@ fn command(space: &mut Space, call: Call) -> Result<Answer, NoMemory> {
 pub fn put(outcome: Result<Copied, CopyFault>) -> Result<Answer, NoMemory> {
     match outcome {
         Ok(Copied { bytes, wake }) => Ok(Answer::Put(bytes, wake)),
-        Err(CopyFault {
-            copied: 0,
-            fault: IoctlFault::NoMemory,
-            wake: Wake::Nobody,
-        }) => Err(NoMemory),
-        Err(CopyFault {
-            copied,
-            fault: IoctlFault::Errno(errno),
-            wake,
-        }) => Ok(Answer::Stopped(copied, errno, wake)),
+        Err(
+            CopyFault {
+                copied: 0,
+                fault: IoctlFault::NoMemory,
+                wake: Wake::Nobody,
+            },
+        ) => Err(NoMemory),
+        Err(
+            CopyFault {
+                copied,
+                fault: IoctlFault::Errno(errno),
+                wake,
+            },
+        ) => Ok(Answer::Stopped(copied, errno, wake)),
         Err(CopyFault { copied, wake, .. }) => Ok(Answer::Stopped(copied, Errno::Enomem, wake)),
     }
 }
@@ -243,11 +247,7 @@ fn asked(space: &mut Space, call: Call) -> Result<Answer, NoMemory> {
 }
 
 /// Plays a table on a space.
-pub fn play_on(
-    rt: &impl Abort,
-    space: &mut Space,
-    steps: &[(Call, Answer)],
-) -> Result<(), Fail> {
+pub fn play_on(rt: &impl Abort, space: &mut Space, steps: &[(Call, Answer)]) -> Result<(), Fail> {
     for (i, (call, wanted)) in steps.iter().enumerate() {
         let before = seen(space)?;
         let mut answer = make(rt, space, *call);

@@ -1,7 +1,9 @@
 //! `World`, step by step: a stop and copy.
 
 use hosts::World;
-use mig_base::{Addr, Command, Effect, Errno, NoMemory, Place, Prot, Refusal, Reply, Step, WorldPhase};
+use mig_base::{
+    Addr, Command, Effect, Errno, NoMemory, Place, Prot, Refusal, Reply, Step, WorldPhase,
+};
 use std::alloc::Global;
 use std::process::Abort;
 
@@ -88,7 +90,11 @@ fn play(rt: &impl Abort, world: &mut World, steps: &[(Call, Answer, WorldPhase)]
         let before = (world.phase(), world.transcript().len());
         let mut outcome = world.step(step);
         if outcome.is_err() {
-            assert_eq!(rt; (world.phase(), world.transcript().len()), before, "step {i}");
+            assert_eq!(rt;
+                (world.phase(), world.transcript().len()),
+                before,
+                "step {i}"
+            );
         }
         if outcome == Err(Refusal::NoMemory) {
             outcome = world.step(step);
@@ -129,7 +135,11 @@ const WHOLE: [(Call, Answer, WorldPhase); 43] = [
     (Deliver, NOT_NOW, Idle),
     (Back, NOT_NOW, Idle),
     (End, NOT_NOW, Idle),
-    (Mmap(0, 8192, Prot::ReadWrite), Made(0, Reply::At(0x10000)), Idle),
+    (
+        Mmap(0, 8192, Prot::ReadWrite),
+        Made(0, Reply::At(0x10000)),
+        Idle,
+    ),
     (Store(0, 0x10000, 8, 1), DONE, Idle),
     (Store(0, 0x11000, 8, 0), DONE, Idle),
     (Start, STARTED, Precopy),
@@ -179,7 +189,11 @@ fn memory_moves_to_the_destination(rt: HostRuntime) {
 
 /// A page that was stored to and is zeros again is sent as zeros, and a page that was never stored to is not sent.
 const ZEROS: [(Call, Answer, WorldPhase); 11] = [
-    (Mmap(0, 8192, Prot::ReadWrite), Made(0, Reply::At(0x10000)), Idle),
+    (
+        Mmap(0, 8192, Prot::ReadWrite),
+        Made(0, Reply::At(0x10000)),
+        Idle,
+    ),
     (Store(0, 0x10000, 8, 7), DONE, Idle),
     (Store(0, 0x10000, 8, 0), DONE, Idle),
     (Start, STARTED, Precopy),
@@ -201,7 +215,10 @@ fn pages_of_zeros_are_sent_as_such(rt: HostRuntime) {
 const STORES: [(Call, Answer); 16] = [
     (Mmap(0, 8192, Prot::ReadWrite), Made(0, Reply::At(0x10000))),
     (Store(0, 0x10ff8, 8, 0x1122_3344_5566_7788), DONE),
-    (Load(1, 0x10ff8, 8), Made(1, Reply::Value(0x1122_3344_5566_7788))),
+    (
+        Load(1, 0x10ff8, 8),
+        Made(1, Reply::Value(0x1122_3344_5566_7788)),
+    ),
     (Load(1, 0x10ffc, 4), Made(1, Reply::Value(0x1122_3344))),
     (Load(1, 0x10ffc, 8), Made(1, Reply::BadAccess)),
     (Store(0, 0x10000, 1, 256), Made(0, Reply::BadAccess)),
@@ -211,9 +228,18 @@ const STORES: [(Call, Answer); 16] = [
     (Load(0, 0x10ff8, 8), Made(0, Reply::Segv { mapped: false })),
     (Mmap(1, 1, Prot::Read), Made(1, Reply::At(0x10000))),
     (Load(1, 0x10ff8, 8), Made(1, Reply::Value(0))),
-    (Store(1, 0x10ff8, 8, 1), Made(1, Reply::Segv { mapped: true })),
-    (Mmap(1, 0, Prot::Read), Made(1, Reply::Refused(Errno::Einval))),
-    (Mmap(1, 67_108_864, Prot::Read), Made(1, Reply::Refused(Errno::Enomem))),
+    (
+        Store(1, 0x10ff8, 8, 1),
+        Made(1, Reply::Segv { mapped: true }),
+    ),
+    (
+        Mmap(1, 0, Prot::Read),
+        Made(1, Reply::Refused(Errno::Einval)),
+    ),
+    (
+        Mmap(1, 67_108_864, Prot::Read),
+        Made(1, Reply::Refused(Errno::Enomem)),
+    ),
     (Load(2, 0x10000, 1), Refused(Refusal::NoCpu)),
 ];
 

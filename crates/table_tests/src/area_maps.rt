@@ -25,7 +25,7 @@ enum Call {
     Pages,
 }
 
-use Call::{Gap, MappedIn, MappedPages, Map, Move, OneProt, Pages, ProtAt, Unmap};
+use Call::{Gap, Map, MappedIn, MappedPages, Move, OneProt, Pages, ProtAt, Unmap};
 
 #[derive(Clone, Copy, Debug, PartialEq, Eq)]
 enum Answer {

@@ -14,7 +14,12 @@ const LAYOUT: [(Message, Bytes); 6] = [
             write: true,
             wp: false,
         },
-        (0x12, [1, 0, 0, 0, 0, 0, 0, 0], [0, 0x10, 1, 0, 0, 0, 0, 0], NOTHING),
+        (
+            0x12,
+            [1, 0, 0, 0, 0, 0, 0, 0],
+            [0, 0x10, 1, 0, 0, 0, 0, 0],
+            NOTHING,
+        ),
     ),
     (
         Message::PageFault {
@@ -22,7 +27,12 @@ const LAYOUT: [(Message, Bytes); 6] = [
             write: false,
             wp: true,
         },
-        (0x12, [2, 0, 0, 0, 0, 0, 0, 0], [0, 0xb0, 0xdc, 0xfe, 0, 0, 0, 0], NOTHING),
+        (
+            0x12,
+            [2, 0, 0, 0, 0, 0, 0, 0],
+            [0, 0xb0, 0xdc, 0xfe, 0, 0, 0, 0],
+            NOTHING,
+        ),
     ),
     (
         Message::PageFault {
@@ -30,7 +40,12 @@ const LAYOUT: [(Message, Bytes); 6] = [
             write: true,
             wp: true,
         },
-        (0x12, [3, 0, 0, 0, 0, 0, 0, 0], [0, 0, 1, 0, 0, 0, 0, 0], NOTHING),
+        (
+            0x12,
+            [3, 0, 0, 0, 0, 0, 0, 0],
+            [0, 0, 1, 0, 0, 0, 0, 0],
+            NOTHING,
+        ),
     ),
     (
         Message::Remap {
@@ -50,14 +65,24 @@ const LAYOUT: [(Message, Bytes); 6] = [
             start: 0x12000,
             end: 0x1_0000_0000,
         },
-        (0x15, [0, 0x20, 1, 0, 0, 0, 0, 0], [0, 0, 0, 0, 1, 0, 0, 0], NOTHING),
+        (
+            0x15,
+            [0, 0x20, 1, 0, 0, 0, 0, 0],
+            [0, 0, 0, 0, 1, 0, 0, 0],
+            NOTHING,
+        ),
     ),
     (
         Message::Unmap {
             start: 0x12000,
             end: 0x13000,
         },
-        (0x16, [0, 0x20, 1, 0, 0, 0, 0, 0], [0, 0x30, 1, 0, 0, 0, 0, 0], NOTHING),
+        (
+            0x16,
+            [0, 0x20, 1, 0, 0, 0, 0, 0],
+            [0, 0x30, 1, 0, 0, 0, 0, 0],
+            NOTHING,
+        ),
     ),
 ];
 

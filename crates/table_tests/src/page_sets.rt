@@ -55,12 +55,7 @@ fn first_runs(runs: &[Run]) -> [Option<(PageNo, u32)>; 4] {
     found
 }
 
-fn make(
-    rt: &impl Abort,
-    alloc: Global,
-    set: &mut PageSet,
-    call: Call,
-) -> Result<Answer, NoMemory> {
+fn make(rt: &impl Abort, alloc: Global, set: &mut PageSet, call: Call) -> Result<Answer, NoMemory> {
     match call {
         Insert(page) => {
             inside(rt, page, 1);
@@ -152,9 +147,15 @@ const BORDERS: [(Call, Answer); 9] = [
     (Insert(0x40), Done),
     (Insert(0x3ff), Done),
     (Insert(0x400), Done),
-    (Ranges, Runs([Some((0x3f, 2)), Some((0x3ff, 2)), None, None])),
+    (
+        Ranges,
+        Runs([Some((0x3f, 2)), Some((0x3ff, 2)), None, None]),
+    ),
     (RemoveRange(0x40, 0x3c0), Done),
-    (Ranges, Runs([Some((0x3f, 1)), Some((0x400, 1)), None, None])),
+    (
+        Ranges,
+        Runs([Some((0x3f, 1)), Some((0x400, 1)), None, None]),
+    ),
     (Contains(0x400), Is(true)),
     (Contains(0x3ff), Is(false)),
 ];
@@ -173,7 +174,12 @@ const FAR: [(Call, Answer); 13] = [
     (Len, Number(3)),
     (
         Ranges,
-        Runs([Some((0x10, 1)), Some((0x1400, 1)), Some((0xf_ffff, 1)), None]),
+        Runs([
+            Some((0x10, 1)),
+            Some((0x1400, 1)),
+            Some((0xf_ffff, 1)),
+            None,
+        ]),
     ),
     (Next(0x1401, true), Number(0xf_ffff)),
     (Next(0x10_0000, true), Number(0x10_0000)),
