@@ -1,5 +1,5 @@
 -- Areas as the finite map that callers see. `items` is what a call saw, `inside` what the map keeps, `value` what callers see.
-use Rattle.std.proofs.Common.{◌≡◌, ℕ, cond, Option, Some, None, List, [], ◌∷◌, sym, ap, subst, ◌∙◌, Result, Ok, Err, OnOk}
+use Rattle.std.proofs.Common.{◌≡◌, ℕ, ◌+◌, ◌≤◌, cond, refl, arith, Option, Some, None, List, [], ◌∷◌, sym, ap, subst, ◌∙◌, Result, Ok, Err, OnOk}
 use Rattle.std.specs.FinMap.{FinMap, get, get-empty}
 use Rattle.std.specs.Ordering.{nat_cmp}
 use Rattle.mig_base.specs.declared.Prot.{Prot}
@@ -7,7 +7,9 @@ use Rattle.mig_base.specs.declared.Area.{Area}
 use Rattle.mig_base.specs.Ranges.{in_range}
 use Rattle.mig_base.specs.Pages.{set_range, remove_range}
 use Rattle.mig_base.proofs.PageLemmas.{get-set_range, get-remove_range, same_pages}
-use Rattle.area_map.specs.Areas.{pages_in, prot_in}
+use Rattle.mig_base.specs.declared.TheConstants.{HIGH_PAGE}
+use Rattle.area_map.specs.Areas.{pages_in, prot_in, AreRuns}
+use Rattle.area_map.proofs.AreaLemmas.{prot_in-rest_above}
 use Rattle.area_map.specs.declared.edit.Edit.{Edit}
 use Rattle.area_map.specs.Edits.{IsEdit, edited}
 
@@ -44,3 +46,12 @@ set_answer (Err e) old new first count prot h = h
 pub remove_answer : {E : Type 0} (r : Result (Unit {0}) E) (old new : FinMap nat_cmp Prot) (first count : ℕ) → OnOk r ((page : ℕ) → get new page ≡ cond (in_range first count page) None (get old page)) → OnOk r (new ≡ remove_range old first count)
 remove_answer (Ok u) old new first count h = same_pages new (remove_range old first count) (λ q. h q ∙ sym (get-remove_range old first count q))
 remove_answer (Err e) old new first count h = h
+
+none_past : (areas : List Area) (q : ℕ) → AreRuns areas → HIGH_PAGE ≤ q → prot_in areas q ≡ None
+unfolding prot_in
+none_past [] q runs past = refl
+none_past (a ∷ rest) q runs past = let bound = runs.0.bound in prot_in-rest_above a rest q (omega arith) ∙ none_past rest q runs.2 past
+
+-- no page at or past the end is mapped
+pub get-past : (inside : List Area) (value : FinMap nat_cmp Prot) (q : ℕ) → AreRuns inside → pages_in inside ≡ value → HIGH_PAGE ≤ q → get value q ≡ None
+get-past inside value q runs view past = sym (prot_at_answer inside inside value q refl view) ∙ none_past inside q runs past

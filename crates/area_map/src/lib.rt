@@ -21,6 +21,7 @@ ghost use Rattle.mig_base.specs.Ranges.{in_range, count_below, free_place};
 ghost use Rattle.mig_base.specs.Pages.{set_range, remove_range};
 ghost use Rattle.area_map.specs.Areas.{AreRuns, pages_in};
 ghost use Rattle.area_map.specs.Ranges.{HasOneProt, moved};
+ghost use Rattle.mig_base.specs.declared.TheConstants.{HIGH_PAGE, PAGE_SIZE};
 
 use crate::count::mapped_between;
 use crate::edit::{apply, mapped_after, plan};
@@ -114,7 +115,7 @@ impl AreaMap {
     /// The least page-aligned address from [`LOW`] on where a range of `len` bytes is free, below the end of the address
     /// space. A range of no bytes is free at [`LOW`].
     pub fn gap(&self, len: u64) -> Option<Addr>
-        ensures { result ≡ free_place (λ addr. map.contains_key self.now (addr / 4096)) len }
+        ensures { result ≡ free_place (λ addr. map.contains_key self.now (addr / PAGE_SIZE)) len }
     {
         if len == 0 {
             return Some(LOW);
@@ -145,13 +146,17 @@ impl AreaMap {
         })
     }
 
-    /// The protection of all `count` pages from `first` on, if they are mapped and have one protection.
+    /// The protection of all `count` pages from `first` on, if they are mapped and have one protection. A range of no pages
+    /// has none.
     pub fn one_prot(&self, first: PageNo, count: u32) -> Option<Prot>
-        requires bound { first + count ≤ HIGH_PAGE }
-        requires some { 0 < count }
+        requires { first + count ≤ HIGH_PAGE }
         ensures some { IfSome result (HasOneProt (λ page. map.get self.now page) first count) }
-        ensures none { IfNone result ((prot : Prot) → HasOneProt (λ page. map.get self.now page) first count prot → ⊥) }
+        ensures none { 0 < count → IfNone result ((prot : Prot) → HasOneProt (λ page. map.get self.now page) first count prot → ⊥) }
+        ensures empty { count ≡ 0 → result ≡ None }
     {
+        if count == 0 {
+            return None;
+        }
         one_prot_of(&self.areas, first, count)
     }
 
@@ -170,6 +175,13 @@ impl AreaMap {
         map_moved(&mut moved, &self.areas, from, to, count)?;
         *self = moved;
         Ok(())
+    }
+
+    /// A law of every map: no page at or past `HIGH_PAGE` is mapped. The call does nothing.
+    pub fn ends_by_high_page(&self)
+        ensures { (page : ℕ) → HIGH_PAGE ≤ page → map.get self.now page ≡ None }
+    {
+        let _ = &self.areas;
     }
 
     /// Gives each page of the range the protection, or takes it out where there is none.

@@ -15,7 +15,8 @@ use Rattle.mig_model.specs.Host.{Host, IsSound}
 use Rattle.mig_model.specs.Frame.{Frame, Sent, sent_in}
 use Rattle.mig_model.specs.Frame.Frame.{Page, Zero, Discard}
 use Rattle.mig_model.specs.Node.{Destination}
-use Rattle.mig_model.specs.World.{World, is_empty}
+use Rattle.mig_model.specs.World.{World}
+use Rattle.mig_base.specs.Tests.{is_empty}
 use Rattle.mig_model.specs.Kept.{IsKept, IsOnTheWay, AreCopies, kept_by}
 use Rattle.mig_model.proofs.WorldLemmas.{at_stage}
 use Rattle.mig_model.proofs.Taking.{kept_takes}

@@ -6,7 +6,7 @@ ghost use Rattle.std.specs.FinSet as set;
 ghost use Rattle.std.specs.Option.{option_copied};
 ghost use Rattle.mig_base.specs.Flat.{reply_of, after};
 ghost use Rattle.mig_model.specs.Host.{bare_host, memory, host_after, IsSound};
-ghost use Rattle.mig_model.specs.World.{is_access as is_load_or_store};
+ghost use Rattle.mig_base.specs.Commands.{is_access as is_load_or_store};
 
 use area_map::AreaMap;
 use mig_base::{Access, Command, NoMemory, PageNo, PageSet, Reply};

@@ -4,7 +4,8 @@ ghost use Rattle.std.specs.Prelude.{◌≡◌, ◌≤◌, ◌<◌, ◌⊎◌, �
 ghost use Rattle.mig_base.specs.Flat.{IsFlatRun, memory_of, reply_of};
 ghost use Rattle.mig_model.specs.Host.{memory};
 ghost use Rattle.mig_model.specs.Node.{is_idle as phase_is_idle, is_precopy as phase_is_precopy, is_stopped as phase_is_stopped, has_switched as phase_has_switched, has_run, answers};
-ghost use Rattle.mig_model.specs.World.{first_world, first_world_with, active_host, running_host, phase_of, refusal_of, accepted, effect_of, is_access as is_load_or_store, Happens, IsRun};
+ghost use Rattle.mig_model.specs.World.{first_world, first_world_with, active_host, running_host, phase_of, refusal_of, accepted, effect_of, Happens, IsRun};
+ghost use Rattle.mig_base.specs.Commands.{is_access as is_load_or_store};
 ghost use Rattle.std.specs.VecDeque.{deque_len, deque_capacity};
 ghost use Rattle.hosts.specs.Frames.{frame_value, wire_value, IsReady, TakesFirst, Performs, IsMoved};
 

@@ -15,6 +15,7 @@ use Rattle.mig_base.specs.declared.command.Reply.{Reply}
 use Rattle.mig_base.specs.declared.command.Reply.TheVariants.{Value, Done, At, Segv, BadAccess, Refused}
 use Rattle.mig_base.specs.declared.command.Entry.{Entry}
 use Rattle.mig_base.specs.Codes.{prot_number}
+use Rattle.mig_base.specs.Tests.{first_by}
 use Rattle.mig_base.specs.Ranges.{in_range, count_below, none_below, rounded, free_place}
 
 -- a byte with its protection: `prot` of mmap(2), DESCRIPTION
@@ -98,8 +99,7 @@ access_reply (Some cell) allows answer = if allows cell.prot then answer else Se
 
 -- the first of the refusals that applies, else the answer
 abbrev pub first_refusal : List (Bool × Errno) → Reply → Reply
-first_refusal [] answer = answer
-first_refusal (refusal ∷ refusals) answer = if refusal.0 then Refused refusal.1 else first_refusal refusals answer
+first_refusal refusals answer = first_by (λ errno. Refused errno) refusals answer
 
 -- at the place, if there is one
 abbrev pub at_place : Option ℕ → Reply

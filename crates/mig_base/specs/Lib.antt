@@ -1,5 +1,7 @@
 pub mod Ranges
+pub mod Tests
 pub mod Flat
+pub mod Commands
 pub mod FlatMap
 pub mod Pages
 pub mod Bytes

@@ -1,6 +1,10 @@
 //! The commands of processors, and the replies to them.
 
-use crate::{Addr, Prot};
+ghost use Rattle.std.specs.Prelude.{◌≡◌, ◌<◌};
+ghost use Rattle.mig_base.specs.Commands as commands;
+ghost use Rattle.mig_base.specs.declared.TheConstants.{HIGH_PAGE};
+
+use crate::{Addr, PAGE_SIZE, PageNo, Prot};
 
 /// An error number of Linux.
 #[derive(Clone, Copy, Debug, PartialEq, Eq)]
@@ -64,6 +68,34 @@ pub enum Command {
         addr: Addr,
         len: u64,
     },
+}
+
+impl Command {
+    /// Whether it is a load or a store.
+    pub fn is_access(self) -> bool
+        ensures { result ≡ commands.is_access self }
+    {
+        matches!(self, Command::Load { .. } | Command::Store { .. })
+    }
+
+    /// Whether it is a store.
+    pub fn is_store(self) -> bool
+        ensures { result ≡ commands.is_store self }
+    {
+        matches!(self, Command::Store { .. })
+    }
+
+    /// The page that a load or store inside the address space touches. 0 for a map call.
+    pub fn page(self) -> PageNo
+        requires { commands.page_of self < HIGH_PAGE }
+        ensures { result ≡ commands.page_of self }
+    {
+        match self {
+            Command::Load { addr, .. } | Command::Store { addr, .. } => (addr
+                / PAGE_SIZE) as PageNo,
+            _ => 0,
+        }
+    }
 }
 
 /// What a command answers.

@@ -7,11 +7,16 @@
 //! command.
 #![tactic(auto)]
 
+ghost use Rattle.std.specs.Prelude.{◌≡◌, ◌*◌};
+ghost use Rattle.mig_base.specs.Flat as flat;
+ghost use Rattle.mig_base.specs.declared.TheConstants.{PAGE_SIZE};
+
 pub mod chunk;
 mod chunks;
 pub mod command;
 pub mod cpu_state;
 pub mod effect;
+pub mod flags;
 pub mod laws;
 pub mod message;
 pub mod page_set;
@@ -28,7 +33,7 @@ pub use crate::message::Message;
 pub use crate::page_set::PageSet;
 pub use crate::step::{DestinationPhase, Effect, Refusal, SourcePhase, Step, WorldPhase};
 pub use crate::wake::Wake;
-use std::alloc::AllocError;
+use std::alloc::{AllocError, AllocFailed};
 use thiserror::Error;
 
 /// An address of the guest, in bytes.
@@ -39,6 +44,9 @@ pub type PageNo = u32;
 
 /// The bytes of a page.
 pub const PAGE_SIZE: u64 = 4096;
+
+/// The same as the length of an array.
+pub const PAGE_BYTES: usize = 4096;
 
 /// The lowest address that may be mapped.
 pub const LOW: u64 = 0x10000;
@@ -69,6 +77,35 @@ pub enum Prot {
     ReadWrite,
 }
 
+impl Prot {
+    /// Whether it permits loads.
+    pub fn allows_load(self) -> bool
+        ensures { result ≡ flat.allows_load self }
+    {
+        match self {
+            Prot::NoAccess => false,
+            Prot::Read | Prot::ReadWrite => true,
+        }
+    }
+
+    /// Whether it permits stores.
+    pub fn allows_store(self) -> bool
+        ensures { result ≡ flat.allows_store self }
+    {
+        match self {
+            Prot::NoAccess | Prot::Read => false,
+            Prot::ReadWrite => true,
+        }
+    }
+}
+
+/// The first address of a page.
+pub fn page_address(page: PageNo) -> Addr
+    ensures { result ≡ PAGE_SIZE * page }
+{
+    u64::from(page) * PAGE_SIZE
+}
+
 /// A run of pages with one protection.
 #[derive(Clone, Copy, Debug, PartialEq, Eq)]
 pub struct Area {
@@ -93,6 +130,12 @@ pub struct NoMemory;
 
 impl From<AllocError> for NoMemory {
     fn from(_error: AllocError) -> Self {
+        NoMemory
+    }
+}
+
+impl<T: Drop> From<AllocFailed<T>> for NoMemory {
+    fn from(_failed: AllocFailed<T>) -> Self {
         NoMemory
     }
 }

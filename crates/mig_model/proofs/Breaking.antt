@@ -1,4 +1,4 @@
--- Break, Notice and Reconnect keep what every world of the whole migration keeps.
+-- Break, Notice and Resume keep what every world of the whole migration keeps.
 use Rattle.std.proofs.Common.{◌≡◌, ◌≢◌, ℕ, ◌+◌, ◌&&◌, ◌||◌, Bool, true, false, cond, not, Option, Some, None, List, [], ◌∷◌, ◌++◌, refl, sym, ap, ◌∙◌, subst, ◌⊎◌, inl, ⊎_elim, arith}
 use Rattle.std.proofs.lemmas.Bool.{false≢true}
 use Rattle.mig_base.specs.declared.phase.DestPhase.{DestPhase}
@@ -8,38 +8,13 @@ use Rattle.mig_base.specs.declared.schedule.Side.{Side}
 use Rattle.mig_base.specs.declared.schedule.Step.{Step}
 use Rattle.mig_model.specs.Wire.{Sent}
 use Rattle.mig_model.specs.Wire.Frame.{Resume}
-use Rattle.mig_model.specs.Nodes.{is_source_idle, is_source_paused, is_released, is_interrupted}
-use Rattle.mig_model.specs.Migration.{World, first_of, reasons, refusal_of, accepted, has_started}
-use Rattle.mig_model.specs.Invariant.{IsKept, AreWhole, copies_of, AreFaithful, AreOf}
+use Rattle.mig_model.specs.Migration.{World, has_started, after_break, after_notice, after_resume}
+use Rattle.mig_model.specs.Invariant.{IsSoundWorld, AreWhole, copies_of, AreFaithful, AreOf}
+use Rattle.mig_model.specs.Source.{is_released, is_source_idle, is_source_paused}
+use Rattle.mig_model.specs.Destination.{is_dest_paused}
 
--- no reason of the list holds
-abbrev pub NoneApplies : List (Bool × Refusal) → Type 0
-NoneApplies [] = Unit {0}
-NoneApplies (reason ∷ reasons) = (reason.0 ≡ false) × NoneApplies reasons
-
-refused_none : (test : Bool) (refusal : Refusal) (rest : Option Refusal) → cond test (Some refusal) rest ≡ None → (test ≡ false) × (rest ≡ None)
-refused_none true refusal rest h = absurd (cc)
-refused_none false refusal rest h = (refl, h)
-
--- a step that is not refused has no reason to be
-pub none_applies : (list : List (Bool × Refusal)) → first_of list ≡ None → NoneApplies list
-none_applies [] h = tt
-none_applies (reason ∷ list) h = let one = refused_none reason.0 reason.1 (first_of list) h in (one.0, none_applies list one.1)
-
-or_none : (a b : Bool) → (a || b) ≡ false → (a ≡ false) × (b ≡ false)
-or_none true b h = absurd (false≢true (sym h))
-or_none false b h = (refl, h)
-
-not_none : (b : Bool) → not b ≡ false → b ≡ true
-not_none true h = refl
-not_none false h = absurd (false≢true (sym h))
-
-and_both : (a b : Bool) → (a && b) ≡ true → (a ≡ true) × (b ≡ true)
-and_both true b h = (refl, h)
-and_both false b h = absurd (false≢true h)
-
-started_not_idle : (phase : SourcePhase) → not (not (is_source_idle phase)) ≡ false → phase ≢ SourcePhase.Idle
-started_not_idle SourcePhase.Idle h e = false≢true (sym h)
+started_not_idle : (phase : SourcePhase) → not (is_source_idle phase) ≡ true → phase ≢ SourcePhase.Idle
+started_not_idle SourcePhase.Idle h e = false≢true h
 started_not_idle SourcePhase.Precopy h e = cc
 started_not_idle SourcePhase.Stopped h e = cc
 started_not_idle SourcePhase.Paused h e = cc
@@ -52,53 +27,39 @@ not_released SourcePhase.Precopy h e = cc
 not_released SourcePhase.Stopped h e = cc
 not_released SourcePhase.Paused h e = cc
 
-pub kept-break : (world : World) → IsKept world → refusal_of world Step.Break ≡ None → IsKept (accepted world Step.Break)
-kept-break world kept free =
-    let told = none_applies (reasons world Step.Break) free in
-    let phases = or_none (not (has_started world)) (is_released world.source.phase) told.0 in
+pub kept-break : (world : World) → IsSoundWorld world → has_started world ≡ true → is_released world.source.phase ≡ false → IsSoundWorld (after_break world)
+kept-break world kept started unreleased =
     record {
-      flat = kept.flat;
-      holds = kept.holds;
-      source_space = kept.source_space;
-      destination_space = kept.destination_space;
-      both_modes = kept.both_modes;
-      unprotected = kept.unprotected;
-      only_missing = kept.only_missing;
-      source_events = kept.source_events;
-      destination_events = kept.destination_events;
-      destination_faults = kept.destination_faults;
-      source_phase = kept.source_phase;
-      destination_phase = kept.destination_phase;
-      ran_after_switch = kept.ran_after_switch;
-      ended_after_run = kept.ended_after_run;
-      source_quiet = kept.source_quiet;
-      before_switch = kept.before_switch;
-      end_sent = kept.end_sent;
-      remaining_present = kept.remaining_present;
-      ended_before = kept.ended_before;
-      paused_fresh = λ up. absurd (false≢true up);
-      idle_source = kept.idle_source;
-      not_run = kept.not_run;
-      kept_none = kept.kept_none;
-      kept_advised = kept.kept_advised;
-      kept_whole = kept.kept_whole;
-      copies_whole = tt;
-      clean_protected = kept.clean_protected;
-      todo_sendable = kept.todo_sendable;
-      one_to_one = kept.one_to_one;
-      owed_below = kept.owed_below;
-      origins_present = kept.origins_present;
-      pairs_missing = kept.pairs_missing;
-      arrivals_faithful = kept.arrivals_faithful;
-      flight_faithful = λ ran. tt;
-      ended_empty = kept.ended_empty;
-      released_empty = kept.released_empty;
-      down = λ up. (refl, refl, started_not_idle world.source.phase phases.0, not_released world.source.phase phases.1);
-      wires = λ up. absurd (false≢true up);
-      forward_epoch = tt;
-      back_epoch = tt;
-      epochs = kept.epochs;
-      epoch_at = λ up. absurd (false≢true up);
+      memory = kept.memory;
+      spaces = kept.spaces;
+      phases = kept.phases;
+      precopy = kept.precopy;
+      pushing = record {
+        before_switch = kept.pushing.before_switch;
+        end_sent = kept.pushing.end_sent;
+        remaining_present = kept.pushing.remaining_present;
+        ended_before = kept.pushing.ended_before;
+        paused_fresh = λ up. absurd (false≢true up);
+        released_empty = kept.pushing.released_empty;
+      };
+      copies = record {
+        kept_none = kept.copies.kept_none;
+        kept_advised = kept.copies.kept_advised;
+        kept_whole = kept.copies.kept_whole;
+        copies_whole = tt;
+      };
+      owing = kept.owing;
+      flight = record {
+        flight_faithful = λ ran. tt;
+        down = λ up. (refl, refl, started_not_idle world.source.phase started, not_released world.source.phase unreleased);
+        wires = λ up. absurd (false≢true up);
+      };
+      epochs = record {
+        forward_epoch = tt;
+        back_epoch = tt;
+        not_ahead = kept.epochs.not_ahead;
+        epoch_at = λ up. absurd (false≢true up);
+      };
     }
 
 -- before Switch End was not sent, whatever the phase is once a migration has started
@@ -117,108 +78,77 @@ interrupted_advised h = cc
 link_down : {A : Type 0} (up : Bool) → up ≡ false → up ≡ true → A
 link_down up down h = absurd (false≢true (sym down ∙ h))
 
-pub kept-notice_source : (world : World) → IsKept world → refusal_of world (Step.Notice Side.Source) ≡ None → IsKept (accepted world (Step.Notice Side.Source))
-kept-notice_source world kept free =
-    let told = none_applies (reasons world (Step.Notice Side.Source)) free in
-    let phases = or_none (not (has_started world) || is_released world.source.phase) (is_source_paused world.source.phase) told.0 in
-    let two = or_none (not (has_started world)) (is_released world.source.phase) phases.0 in
-    let not_idle = started_not_idle world.source.phase two.0 in
-    let down : world.up ≡ false = told.1.0 in
+pub kept-notice_source : (world : World) → IsSoundWorld world → has_started world ≡ true → world.up ≡ false → IsSoundWorld (after_notice world Side.Source)
+kept-notice_source world kept started down =
+    let not_idle = started_not_idle world.source.phase started in
     record {
-      flat = kept.flat;
-      holds = kept.holds;
-      source_space = kept.source_space;
-      destination_space = kept.destination_space;
-      both_modes = kept.both_modes;
-      unprotected = kept.unprotected;
-      only_missing = kept.only_missing;
-      source_events = kept.source_events;
-      destination_events = kept.destination_events;
-      destination_faults = kept.destination_faults;
-      source_phase = tt;
-      destination_phase = kept.destination_phase;
-      ran_after_switch = kept.ran_after_switch;
-      ended_after_run = kept.ended_after_run;
-      source_quiet = kept.source_quiet;
-      before_switch = λ h. let old = kept.before_switch h in (old.0, ended_before_switch world.source.phase _ not_idle old.1);
-      end_sent = kept.end_sent;
-      remaining_present = kept.remaining_present;
-      ended_before = kept.ended_before;
-      paused_fresh = λ up. link_down world.up down up;
-      idle_source = λ h. absurd (paused_not_idle h);
-      not_run = kept.not_run;
-      kept_none = kept.kept_none;
-      kept_advised = kept.kept_advised;
-      kept_whole = kept.kept_whole;
-      copies_whole = kept.copies_whole;
-      clean_protected = kept.clean_protected;
-      todo_sendable = kept.todo_sendable;
-      one_to_one = kept.one_to_one;
-      owed_below = kept.owed_below;
-      origins_present = kept.origins_present;
-      pairs_missing = kept.pairs_missing;
-      arrivals_faithful = kept.arrivals_faithful;
-      flight_faithful = kept.flight_faithful;
-      ended_empty = kept.ended_empty;
-      released_empty = λ h. absurd (paused_not_released h);
-      down = λ h. let old = kept.down h in (old.0, old.1, paused_not_idle, paused_not_released);
-      wires = λ up. link_down world.up down up;
-      forward_epoch = kept.forward_epoch;
-      back_epoch = kept.back_epoch;
+      memory = kept.memory;
+      spaces = kept.spaces;
+      phases = record {
+        source_phase = tt;
+        destination_phase = kept.phases.destination_phase;
+        ran_after_switch = kept.phases.ran_after_switch;
+        ended_after_run = kept.phases.ended_after_run;
+        source_quiet = kept.phases.source_quiet;
+      };
+      precopy = record {
+        idle_source = λ h. absurd (paused_not_idle h);
+        clean_protected = kept.precopy.clean_protected;
+        todo_sendable = kept.precopy.todo_sendable;
+      };
+      pushing = record {
+        before_switch = λ h. let old = kept.pushing.before_switch h in (old.0, ended_before_switch world.source.phase _ not_idle old.1);
+        end_sent = kept.pushing.end_sent;
+        remaining_present = kept.pushing.remaining_present;
+        ended_before = kept.pushing.ended_before;
+        paused_fresh = λ up. link_down world.up down up;
+        released_empty = λ h. absurd (paused_not_released h);
+      };
+      copies = kept.copies;
+      owing = kept.owing;
+      flight = record {
+        flight_faithful = kept.flight.flight_faithful;
+        down = λ h. let old = kept.flight.down h in (old.0, old.1, paused_not_idle, paused_not_released);
+        wires = λ up. link_down world.up down up;
+      };
       epochs = kept.epochs;
-      epoch_at = kept.epoch_at;
     }
 
-pub kept-notice_destination : (world : World) → IsKept world → refusal_of world (Step.Notice Side.Destination) ≡ None → IsKept (accepted world (Step.Notice Side.Destination))
-kept-notice_destination world kept free =
-    let told = none_applies (reasons world (Step.Notice Side.Destination)) free in
-    let down : world.up ≡ false = told.1.0 in
+pub kept-notice_destination : (world : World) → IsSoundWorld world → world.up ≡ false → IsSoundWorld (after_notice world Side.Destination)
+kept-notice_destination world kept down =
     record {
-      flat = kept.flat;
-      holds = kept.holds;
-      source_space = kept.source_space;
-      destination_space = kept.destination_space;
-      both_modes = kept.both_modes;
-      unprotected = kept.unprotected;
-      only_missing = kept.only_missing;
-      source_events = kept.source_events;
-      destination_events = kept.destination_events;
-      destination_faults = kept.destination_faults;
-      source_phase = kept.source_phase;
-      destination_phase = tt;
-      ran_after_switch = kept.ran_after_switch;
-      ended_after_run = kept.ended_after_run;
-      source_quiet = kept.source_quiet;
-      before_switch = kept.before_switch;
-      end_sent = kept.end_sent;
-      remaining_present = kept.remaining_present;
-      ended_before = kept.ended_before;
-      paused_fresh = kept.paused_fresh;
-      idle_source = kept.idle_source;
-      not_run = kept.not_run;
-      kept_none = kept.kept_none;
-      kept_advised = λ h. absurd (interrupted_advised h);
-      kept_whole = kept.kept_whole;
-      copies_whole = kept.copies_whole;
-      clean_protected = kept.clean_protected;
-      todo_sendable = kept.todo_sendable;
-      one_to_one = kept.one_to_one;
-      owed_below = kept.owed_below;
-      origins_present = kept.origins_present;
-      pairs_missing = kept.pairs_missing;
-      arrivals_faithful = kept.arrivals_faithful;
-      flight_faithful = kept.flight_faithful;
-      ended_empty = kept.ended_empty;
-      released_empty = kept.released_empty;
-      down = kept.down;
-      wires = λ up. link_down world.up down up;
-      forward_epoch = kept.forward_epoch;
-      back_epoch = kept.back_epoch;
-      epochs = kept.epochs;
-      epoch_at = λ up. link_down world.up down up;
+      memory = kept.memory;
+      spaces = kept.spaces;
+      phases = record {
+        source_phase = kept.phases.source_phase;
+        destination_phase = tt;
+        ran_after_switch = kept.phases.ran_after_switch;
+        ended_after_run = kept.phases.ended_after_run;
+        source_quiet = kept.phases.source_quiet;
+      };
+      precopy = kept.precopy;
+      pushing = kept.pushing;
+      copies = record {
+        kept_none = kept.copies.kept_none;
+        kept_advised = λ h. absurd (interrupted_advised h);
+        kept_whole = kept.copies.kept_whole;
+        copies_whole = kept.copies.copies_whole;
+      };
+      owing = kept.owing;
+      flight = record {
+        flight_faithful = kept.flight.flight_faithful;
+        down = kept.flight.down;
+        wires = λ up. link_down world.up down up;
+      };
+      epochs = record {
+        forward_epoch = kept.epochs.forward_epoch;
+        back_epoch = kept.epochs.back_epoch;
+        not_ahead = kept.epochs.not_ahead;
+        epoch_at = λ up. link_down world.up down up;
+      };
     }
 
--- Reconnect: both sides have noticed that the link is down, and nothing is in flight
+-- Resume: both sides have noticed that the link is down, and nothing is in flight
 
 -- a world in these phases
 abbrev in_phases : SourcePhase → DestPhase → World → World
@@ -227,70 +157,55 @@ in_phases from to world = record world { source = record world.source { phase = 
 resume_sent : List Sent → ℕ → List Sent
 resume_sent forward epoch = forward ++ record { epoch = epoch; frame = Resume } ∷ []
 
-reconnected_in : (from : SourcePhase) (to : DestPhase) (world : World) → is_source_paused from ≡ true → is_interrupted to ≡ true → world.up ≡ false → IsKept (in_phases from to world) → IsKept (accepted (in_phases from to world) Step.Resume)
-reconnected_in SourcePhase.Paused DestPhase.Paused world is_from is_to down kept =
-    let nothing = kept.down down in
+resumed_in : (from : SourcePhase) (to : DestPhase) (world : World) → is_source_paused from ≡ true → is_dest_paused to ≡ true → world.up ≡ false → IsSoundWorld (in_phases from to world) → IsSoundWorld (after_resume (in_phases from to world))
+resumed_in SourcePhase.Paused DestPhase.Paused world is_from is_to down kept =
+    let nothing = kept.flight.down down in
     let epoch = world.source.epoch + 1 in
-    let before = kept.ended_before in
-    let late = kept.epochs in
+    let before = kept.pushing.ended_before in
+    let late = kept.epochs.not_ahead in
     let one : world.forward ++ record { epoch = epoch; frame = Resume } ∷ [] ≡ record { epoch = epoch; frame = Resume } ∷ [] = ap (λ f. f ++ record { epoch = epoch; frame = Resume } ∷ []) nothing.0 in
-    let ended : world.source.ended ≢ epoch = λ h. absurd (omega (arith, before, h)) in
+    let ended : world.source.end_epoch ≢ epoch = λ h. absurd (omega (arith, before, h)) in
     record {
-      flat = kept.flat;
-      holds = kept.holds;
-      source_space = kept.source_space;
-      destination_space = kept.destination_space;
-      both_modes = kept.both_modes;
-      unprotected = kept.unprotected;
-      only_missing = kept.only_missing;
-      source_events = kept.source_events;
-      destination_events = kept.destination_events;
-      destination_faults = kept.destination_faults;
-      source_phase = kept.source_phase;
-      destination_phase = kept.destination_phase;
-      ran_after_switch = kept.ran_after_switch;
-      ended_after_run = kept.ended_after_run;
-      source_quiet = kept.source_quiet;
-      before_switch = λ h. ((kept.before_switch h).0, inl ended);
-      end_sent = λ h. absurd (ended h);
-      remaining_present = kept.remaining_present;
-      ended_before = omega (arith, before);
-      paused_fresh = λ up phase. ended;
-      idle_source = kept.idle_source;
-      not_run = kept.not_run;
-      kept_none = kept.kept_none;
-      kept_advised = kept.kept_advised;
-      kept_whole = kept.kept_whole;
-      copies_whole = subst (λ f. AreWhole (copies_of f)) (sym one) tt;
-      clean_protected = kept.clean_protected;
-      todo_sendable = kept.todo_sendable;
-      one_to_one = kept.one_to_one;
-      owed_below = kept.owed_below;
-      origins_present = kept.origins_present;
-      pairs_missing = kept.pairs_missing;
-      arrivals_faithful = kept.arrivals_faithful;
-      flight_faithful = λ ran. subst (λ f. AreFaithful world.source.guest.space.host.bytes (copies_of f)) (sym one) tt;
-      ended_empty = kept.ended_empty;
-      released_empty = kept.released_empty;
-      down = λ up. absurd (false≢true (sym up));
-      wires = λ up. (one, nothing.1);
-      forward_epoch = subst (λ f. AreOf epoch f) (sym one) (refl, tt);
-      back_epoch = subst (λ f. AreOf epoch f) (sym nothing.1) tt;
-      epochs = omega (arith, late);
-      epoch_at = λ up. omega (arith, late);
+      memory = kept.memory;
+      spaces = kept.spaces;
+      phases = kept.phases;
+      precopy = kept.precopy;
+      pushing = record {
+        before_switch = λ h. ((kept.pushing.before_switch h).0, inl ended);
+        end_sent = λ h. absurd (ended h);
+        remaining_present = kept.pushing.remaining_present;
+        ended_before = omega (arith, before);
+        paused_fresh = λ up phase. ended;
+        released_empty = kept.pushing.released_empty;
+      };
+      copies = record {
+        kept_none = kept.copies.kept_none;
+        kept_advised = kept.copies.kept_advised;
+        kept_whole = kept.copies.kept_whole;
+        copies_whole = subst (λ f. AreWhole (copies_of f)) (sym one) tt;
+      };
+      owing = kept.owing;
+      flight = record {
+        flight_faithful = λ ran. subst (λ f. AreFaithful world.source.guest.space.host.bytes (copies_of f)) (sym one) tt;
+        down = λ up. absurd (false≢true (sym up));
+        wires = λ up. (one, nothing.1);
+      };
+      epochs = record {
+        forward_epoch = subst (λ f. AreOf epoch f) (sym one) (refl, tt);
+        back_epoch = subst (λ f. AreOf epoch f) (sym nothing.1) tt;
+        not_ahead = omega (arith, late);
+        epoch_at = λ up. omega (arith, late);
+      };
     }
-reconnected_in SourcePhase.Idle to world is_from is_to down kept = absurd (false≢true is_from)
-reconnected_in SourcePhase.Precopy to world is_from is_to down kept = absurd (false≢true is_from)
-reconnected_in SourcePhase.Stopped to world is_from is_to down kept = absurd (false≢true is_from)
-reconnected_in SourcePhase.Released to world is_from is_to down kept = absurd (false≢true is_from)
-reconnected_in SourcePhase.Paused DestPhase.Idle world is_from is_to down kept = absurd (false≢true is_to)
-reconnected_in SourcePhase.Paused DestPhase.Advised world is_from is_to down kept = absurd (false≢true is_to)
-reconnected_in SourcePhase.Paused DestPhase.Discarding world is_from is_to down kept = absurd (false≢true is_to)
-reconnected_in SourcePhase.Paused DestPhase.Running world is_from is_to down kept = absurd (false≢true is_to)
-reconnected_in SourcePhase.Paused DestPhase.Ended world is_from is_to down kept = absurd (false≢true is_to)
+resumed_in SourcePhase.Idle to world is_from is_to down kept = absurd (false≢true is_from)
+resumed_in SourcePhase.Precopy to world is_from is_to down kept = absurd (false≢true is_from)
+resumed_in SourcePhase.Stopped to world is_from is_to down kept = absurd (false≢true is_from)
+resumed_in SourcePhase.Released to world is_from is_to down kept = absurd (false≢true is_from)
+resumed_in SourcePhase.Paused DestPhase.Idle world is_from is_to down kept = absurd (false≢true is_to)
+resumed_in SourcePhase.Paused DestPhase.Advised world is_from is_to down kept = absurd (false≢true is_to)
+resumed_in SourcePhase.Paused DestPhase.Discarding world is_from is_to down kept = absurd (false≢true is_to)
+resumed_in SourcePhase.Paused DestPhase.Running world is_from is_to down kept = absurd (false≢true is_to)
+resumed_in SourcePhase.Paused DestPhase.Ended world is_from is_to down kept = absurd (false≢true is_to)
 
-pub kept-reconnect : (world : World) → IsKept world → refusal_of world Step.Resume ≡ None → IsKept (accepted world Step.Resume)
-kept-reconnect world kept free =
-    let told = none_applies (reasons world Step.Resume) free in
-    let phases = and_both (is_source_paused world.source.phase) (is_interrupted world.destination.phase) (not_none _ told.0) in
-    reconnected_in world.source.phase world.destination.phase world phases.0 phases.1 told.1.0 kept
+pub kept-resume : (world : World) → IsSoundWorld world → is_source_paused world.source.phase ≡ true → is_dest_paused world.destination.phase ≡ true → world.up ≡ false → IsSoundWorld (after_resume world)
+kept-resume world kept from to down = resumed_in world.source.phase world.destination.phase world from to down kept

@@ -12,12 +12,13 @@ use Rattle.mig_base.proofs.RangeLemmas.{none_below_tells, place_found, four_hold
 use Rattle.mig_base.proofs.ReplyLemmas.{IsRemapped}
 use Rattle.mig_base.proofs.ReplyLemmas.IsWhere.{Shrunk, Grew, Moved, Told}
 use Rattle.mig_model.specs.Host.{Host, memory, IsSound}
-use Rattle.mig_model.specs.Userfault.{Object, is_registered}
-use Rattle.mig_model.specs.Space.{is_watched, told, remap_messages}
+use Rattle.mig_model.specs.Userfault.{Object, is_registered, is_watched}
+use Rattle.mig_model.specs.Space.{told, remap_messages}
 use Rattle.mig_model.proofs.HostLemmas.{is_mapped-memory}
 use Rattle.mig_model.proofs.CommandLemmas.{one_prot_some, remapped_place}
 use Rattle.mig_model.proofs.SeenLemmas.{AreMapped, owed_none}
 use Rattle.mig_model.proofs.SettledCalls.{AreInside, settled_messages, settled-append, gone_if, shifted_if, moved_owed, told_gone, told_shifted, unmap_right, cut_right, remap_right}
+use Rattle.mig_model.specs.Log.{less}
 
 none_absurd : {A : Type 0} → false ≡ true → A
 none_absurd h = absurd (false≢true h)

@@ -13,12 +13,12 @@ use Rattle.mig_base.specs.Ranges.{in_range, pages_of}
 use Rattle.mig_base.specs.Pages.{remove_range, moved_range}
 use Rattle.mig_base.proofs.PageLemmas.{same_pages, get-remove_range, get-moved_range}
 use Rattle.mig_model.specs.Host.{Host, host_changed, IsSound}
-use Rattle.mig_model.specs.World.{is_access}
-use Rattle.mig_model.specs.Space.{page_of, is_made}
+use Rattle.mig_base.specs.Commands.{is_access, page_of}
+use Rattle.mig_model.specs.Space.{is_made}
 use Rattle.mig_model.specs.Invariant.{seen_host}
 use Rattle.mig_model.proofs.HostLemmas.{get-put}
 use Rattle.mig_model.proofs.SeenLemmas.{PageMap, AreMapped, overlay, get-seen}
-use Rattle.mig_model.proofs.SettledCalls.{gone, moved_owed, owed_changed}
+use Rattle.mig_model.specs.Promises.{gone, moved_owed, owed_changed}
 
 none_absurd : {A : Type 0} → false ≡ true → A
 none_absurd h = absurd (false≢true h)

@@ -10,19 +10,21 @@ use Rattle.mig_base.specs.declared.phase.SourcePhase.{SourcePhase}
 use Rattle.mig_base.specs.declared.refusal.Refusal.{Refusal}
 use Rattle.mig_base.specs.declared.schedule.Step.{Step}
 use Rattle.mig_base.specs.Bytes.{zero_page}
+use Rattle.mig_base.specs.Tests.{is_empty}
 use Rattle.mig_model.specs.Space.{fresh_space}
 use Rattle.mig_model.specs.Wire.{Frame, Sent, Copy, kept_after}
 use Rattle.mig_model.specs.Wire.Frame.{Advise, Page, Zero, Discard, Package, End, Resume}
-use Rattle.mig_model.specs.Nodes.{Source, Destination}
-use Rattle.mig_model.specs.Migration.{World, delivered, accepted, refusal_of, has_started, is_empty, is_end, is_end_next}
-use Rattle.mig_model.specs.Invariant.{Wires, IsKept, AreOf, AreWhole, AreFaithful, copies_of, has_copy, flow_of, EpochAt}
+use Rattle.mig_model.specs.Migration.{World, is_end, after_deliver}
+use Rattle.mig_model.specs.Invariant.{Wires, IsSoundWorld, AreOf, AreWhole, AreFaithful, copies_of, has_copy, flow_of, EpochAt}
 use Rattle.mig_model.specs.Invariant.Flow.{Copies}
 use Rattle.mig_model.proofs.HostLemmas.{get-put}
 use Rattle.mig_model.proofs.WireLemmas.{has_copy-append, AreFaithful-append}
-use Rattle.mig_model.proofs.FirstFrame.{at_state, first_in_place, not_refused, ends_late, none_some}
+use Rattle.mig_model.proofs.FirstFrame.{at_state, first_in_place, ends_late, none_some, delivered}
 use Rattle.mig_model.proofs.PackageTaken.{package_taken}
 use Rattle.mig_model.proofs.EndTaken.{end_taken}
 use Rattle.mig_model.proofs.ResumeTaken.{resume_taken}
+use Rattle.mig_model.specs.Source.{Source}
+use Rattle.mig_model.specs.Destination.{Destination}
 
 not_up : true ≡ false → ⊥
 not_up h = false≢true (sym h)
@@ -31,16 +33,16 @@ not_up h = false≢true (sym h)
 advise_taken : (from : SourcePhase) (ran : Bool) (epoch : ℕ) (rest : List Sent) (world : World) →
     let old : World = at_state from DestPhase.Idle ran true (record { epoch = epoch; frame = Advise } ∷ rest) world in
     let new : World = delivered old old.forward in
-    IsKept old → Wires new.source new.destination new.forward new.back → IsKept new
+    IsSoundWorld old → Wires new.source new.destination new.forward new.back → IsSoundWorld new
 advise_taken from ran epoch rest world kept on_wires =
     let old : World = at_state from DestPhase.Idle ran true (record { epoch = epoch; frame = Advise } ∷ rest) world in
     let new : World = delivered old old.forward in
     let kept_advised : new.destination.phase ≡ DestPhase.Idle → new.destination.kept ≡ finmap.empty = λ h. cc in
     let wires : new.up ≡ true → Wires new.source new.destination new.forward new.back = λ u. on_wires in
     let down : new.up ≡ false → (new.forward ≡ []) × (new.back ≡ []) × (new.source.phase ≢ SourcePhase.Idle) × (new.source.phase ≢ SourcePhase.Released) = λ h. absurd (not_up h) in
-    let forward_epoch : AreOf new.source.epoch new.forward = kept.forward_epoch.1 in
-    let epochs : new.destination.epoch ≤ new.source.epoch = let e = kept.forward_epoch.0 in omega (arith, e) in
-    let epoch_at : new.up ≡ true → EpochAt new.destination.phase new.destination.epoch new.source.epoch = λ u. kept.forward_epoch.0 in
+    let forward_epoch : AreOf new.source.epoch new.forward = kept.epochs.forward_epoch.1 in
+    let epochs : new.destination.epoch ≤ new.source.epoch = let e = kept.epochs.forward_epoch.0 in omega (arith, e) in
+    let epoch_at : new.up ≡ true → EpochAt new.destination.phase new.destination.epoch new.source.epoch = λ u. kept.epochs.forward_epoch.0 in
     assumption
 
 -- A copy while the destination does not run
@@ -61,18 +63,18 @@ whole_put kept page bytes n whole q held h = put_whole (eqb q page) bytes held (
 copy_kept : (from : SourcePhase) (epoch page : ℕ) (bytes : List ℕ) (rest : List Sent) (world : World) →
     let old : World = at_state from DestPhase.Advised false true (record { epoch = epoch; frame = Page page bytes } ∷ rest) world in
     let new : World = delivered old old.forward in
-    IsKept old → Wires new.source new.destination new.forward new.back → IsKept new
+    IsSoundWorld old → Wires new.source new.destination new.forward new.back → IsSoundWorld new
 copy_kept from epoch page bytes rest world kept on_wires =
     let old : World = at_state from DestPhase.Advised false true (record { epoch = epoch; frame = Page page bytes } ∷ rest) world in
     let new : World = delivered old old.forward in
     let kept_none : new.destination.has_run ≡ true → new.destination.kept ≡ finmap.empty = λ h. absurd (false≢true h) in
     let kept_advised : new.destination.phase ≡ DestPhase.Idle → new.destination.kept ≡ finmap.empty = λ h. cc in
-    let kept_whole : (q : ℕ) (held : List ℕ) → get new.destination.kept q ≡ Some held → length held ≡ 4096 = whole_put world.destination.kept page bytes kept.copies_whole.0 kept.kept_whole in
-    let copies_whole : AreWhole (copies_of new.forward) = kept.copies_whole.1 in
+    let kept_whole : (q : ℕ) (held : List ℕ) → get new.destination.kept q ≡ Some held → length held ≡ 4096 = whole_put world.destination.kept page bytes kept.copies.copies_whole.0 kept.copies.kept_whole in
+    let copies_whole : AreWhole (copies_of new.forward) = kept.copies.copies_whole.1 in
     let flight_faithful : new.destination.has_run ≡ true → AreFaithful new.source.guest.space.host.bytes (copies_of new.forward) = λ h. absurd (false≢true h) in
     let wires : new.up ≡ true → Wires new.source new.destination new.forward new.back = λ u. on_wires in
     let down : new.up ≡ false → (new.forward ≡ []) × (new.back ≡ []) × (new.source.phase ≢ SourcePhase.Idle) × (new.source.phase ≢ SourcePhase.Released) = λ h. absurd (not_up h) in
-    let forward_epoch : AreOf new.source.epoch new.forward = kept.forward_epoch.1 in
+    let forward_epoch : AreOf new.source.epoch new.forward = kept.epochs.forward_epoch.1 in
     assumption
 
 -- A Discard
@@ -89,18 +91,18 @@ whole_discarded kept pages whole q held h =
 
 discard_taken : (epoch : ℕ) (pages : FinSet nat_cmp) (rest : List Sent) (world : World) →
     let old : World = at_state SourcePhase.Stopped DestPhase.Advised false true (record { epoch = epoch; frame = Discard pages } ∷ rest) world in
-    IsKept old → IsKept (delivered old old.forward)
+    IsSoundWorld old → IsSoundWorld (delivered old old.forward)
 discard_taken epoch pages rest world kept =
     let old : World = at_state SourcePhase.Stopped DestPhase.Advised false true (record { epoch = epoch; frame = Discard pages } ∷ rest) world in
     let new : World = delivered old old.forward in
-    let w = kept.wires refl in
+    let w = kept.flight.wires refl in
     let kept_none : new.destination.has_run ≡ true → new.destination.kept ≡ finmap.empty = λ h. absurd (false≢true h) in
     let kept_advised : new.destination.phase ≡ DestPhase.Idle → new.destination.kept ≡ finmap.empty = λ h. cc in
-    let kept_whole : (q : ℕ) (held : List ℕ) → get new.destination.kept q ≡ Some held → length held ≡ 4096 = whole_discarded world.destination.kept pages kept.kept_whole in
+    let kept_whole : (q : ℕ) (held : List ℕ) → get new.destination.kept q ≡ Some held → length held ≡ 4096 = whole_discarded world.destination.kept pages kept.copies.kept_whole in
     let wires : new.up ≡ true → Wires new.source new.destination new.forward new.back =
     λ u. (w.0, w.1, record { owed = w.2.owed; plan = w.2.plan; owed_present = w.2.owed_present; kept_rest = w.2.kept_rest; whereabouts = w.2.whereabouts; faithful = w.2.faithful }) in
     let down : new.up ≡ false → (new.forward ≡ []) × (new.back ≡ []) × (new.source.phase ≢ SourcePhase.Idle) × (new.source.phase ≢ SourcePhase.Released) = λ h. absurd (not_up h) in
-    let forward_epoch : AreOf new.source.epoch new.forward = kept.forward_epoch.1 in
+    let forward_epoch : AreOf new.source.epoch new.forward = kept.epochs.forward_epoch.1 in
     assumption
 
 -- A copy while the destination runs
@@ -117,19 +119,19 @@ came false false false false h = absurd (false≢true h)
 
 copy_arrives : (epoch page : ℕ) (bytes : List ℕ) (rest : List Sent) (world : World) →
     let old : World = at_state SourcePhase.Stopped DestPhase.Running true true (record { epoch = epoch; frame = Page page bytes } ∷ rest) world in
-    IsKept old → IsKept (delivered old old.forward)
+    IsSoundWorld old → IsSoundWorld (delivered old old.forward)
 copy_arrives epoch page bytes rest world kept =
     let old : World = at_state SourcePhase.Stopped DestPhase.Running true true (record { epoch = epoch; frame = Page page bytes } ∷ rest) world in
     let new : World = delivered old old.forward in
     let copy : Copy = record { page = page; bytes = bytes } in
-    let w = kept.wires refl in
-    let faithful : AreFaithful old.source.guest.space.host.bytes (copies_of old.forward) = kept.flight_faithful refl in
+    let w = kept.flight.wires refl in
+    let faithful : AreFaithful old.source.guest.space.host.bytes (copies_of old.forward) = kept.flight.flight_faithful refl in
     let not_run : new.destination.has_run ≡ false → (new.destination.owed ≡ finmap.empty) × (new.destination.guest.space ≡ fresh_space) × (new.destination.arrivals ≡ []) = λ h. absurd (not_up h) in
-    let copies_whole : AreWhole (copies_of new.forward) = kept.copies_whole.1 in
+    let copies_whole : AreWhole (copies_of new.forward) = kept.copies.copies_whole.1 in
     let arrivals_faithful : new.destination.has_run ≡ true → AreFaithful new.source.guest.space.host.bytes new.destination.arrivals =
-    λ r. AreFaithful-append new.source.guest.space.host.bytes world.destination.arrivals (copy ∷ []) (kept.arrivals_faithful refl) (faithful.0, tt) in
+    λ r. AreFaithful-append new.source.guest.space.host.bytes world.destination.arrivals (copy ∷ []) (kept.owing.arrivals_faithful refl) (faithful.0, tt) in
     let flight_faithful : new.destination.has_run ≡ true → AreFaithful new.source.guest.space.host.bytes (copies_of new.forward) = λ r. faithful.1 in
-    let ended_empty : new.destination.ended ≡ true → (new.destination.owed ≡ finmap.empty) × (new.destination.arrivals ≡ []) = λ h. absurd (false≢true (sym kept.destination_phase.1 ∙ h)) in
+    let ended_empty : new.destination.ended ≡ true → (new.destination.owed ≡ finmap.empty) × (new.destination.arrivals ≡ []) = λ h. absurd (false≢true (sym kept.phases.destination_phase.1 ∙ h)) in
     let wires : new.up ≡ true → Wires new.source new.destination new.forward new.back =
     λ u. (
       w.0,
@@ -141,7 +143,7 @@ copy_arrives epoch page bytes rest world kept =
       },
     ) in
     let down : new.up ≡ false → (new.forward ≡ []) × (new.back ≡ []) × (new.source.phase ≢ SourcePhase.Idle) × (new.source.phase ≢ SourcePhase.Released) = λ h. absurd (not_up h) in
-    let forward_epoch : AreOf new.source.epoch new.forward = kept.forward_epoch.1 in
+    let forward_epoch : AreOf new.source.epoch new.forward = kept.epochs.forward_epoch.1 in
     assumption
 
 -- A page of zeros is a copy of zeros
@@ -159,11 +161,11 @@ zero_wires from to source destination epoch page rest back w =
     absurd (false≢true (first_in_place (record source { phase = from }) (record destination { phase = to }) (record { epoch = epoch; frame = Zero page }) rest back w))
 
 as_page : (from : SourcePhase) (to : DestPhase) (ran : Bool) (epoch page : ℕ) (rest : List Sent) (world : World) →
-    IsKept (at_state from to ran true (record { epoch = epoch; frame = Zero page } ∷ rest) world) →
-    IsKept (at_state from to ran true (record { epoch = epoch; frame = Page page zero_page } ∷ rest) world)
+    IsSoundWorld (at_state from to ran true (record { epoch = epoch; frame = Zero page } ∷ rest) world) →
+    IsSoundWorld (at_state from to ran true (record { epoch = epoch; frame = Page page zero_page } ∷ rest) world)
 as_page from to ran epoch page rest world kept =
     let new : World = at_state from to ran true (record { epoch = epoch; frame = Page page zero_page } ∷ rest) world in
-    let wires : new.up ≡ true → Wires new.source new.destination new.forward new.back = λ u. zero_wires from to world.source new.destination epoch page rest world.back (kept.wires refl) in
+    let wires : new.up ≡ true → Wires new.source new.destination new.forward new.back = λ u. zero_wires from to world.source new.destination epoch page rest world.back (kept.flight.wires refl) in
     let down : new.up ≡ false → (new.forward ≡ []) × (new.back ≡ []) × (new.source.phase ≢ SourcePhase.Idle) × (new.source.phase ≢ SourcePhase.Released) = λ h. absurd (not_up h) in
     assumption
 
@@ -171,57 +173,57 @@ as_page from to ran epoch page rest world kept =
 
 precopy_unadvised : (ran : Bool) (epoch : ℕ) (frame : Frame) (rest : List Sent) (world : World) →
     let old : World = at_state SourcePhase.Precopy DestPhase.Idle ran true (record { epoch = epoch; frame = frame } ∷ rest) world in
-    IsKept old → IsKept (delivered old old.forward)
+    IsSoundWorld old → IsSoundWorld (delivered old old.forward)
 precopy_unadvised ran epoch Advise rest world kept =
-    let w = kept.wires refl in
+    let w = kept.flight.wires refl in
     advise_taken SourcePhase.Precopy ran epoch rest world kept (w.0, w.1, record { clean_copy = w.2.clean_copy; copies_sent = w.2.copies_sent })
-precopy_unadvised ran epoch _ rest world kept = absurd (none_some Copies (kept.wires refl).0)
+precopy_unadvised ran epoch _ rest world kept = absurd (none_some Copies (kept.flight.wires refl).0)
 
 stopped_unadvised : (ran : Bool) (epoch : ℕ) (frame : Frame) (rest : List Sent) (world : World) →
     let old : World = at_state SourcePhase.Stopped DestPhase.Idle ran true (record { epoch = epoch; frame = frame } ∷ rest) world in
-    IsKept old → IsKept (delivered old old.forward)
+    IsSoundWorld old → IsSoundWorld (delivered old old.forward)
 stopped_unadvised ran epoch Advise rest world kept =
-    let w = kept.wires refl in
+    let w = kept.flight.wires refl in
     advise_taken SourcePhase.Stopped ran epoch rest world kept
     (w.0, w.1, record { owed = w.2.owed; plan = w.2.plan; owed_present = w.2.owed_present; kept_rest = w.2.kept_rest; whereabouts = w.2.whereabouts; faithful = w.2.faithful })
-stopped_unadvised ran epoch _ rest world kept = absurd (none_some (flow_of (record world.source { phase = SourcePhase.Stopped })) (kept.wires refl).0)
+stopped_unadvised ran epoch _ rest world kept = absurd (none_some (flow_of (record world.source { phase = SourcePhase.Stopped })) (kept.flight.wires refl).0)
 
 precopy_copy : (epoch page : ℕ) (bytes : List ℕ) (rest : List Sent) (world : World) →
     let old : World = at_state SourcePhase.Precopy DestPhase.Advised false true (record { epoch = epoch; frame = Page page bytes } ∷ rest) world in
-    IsKept old → IsKept (delivered old old.forward)
+    IsSoundWorld old → IsSoundWorld (delivered old old.forward)
 precopy_copy epoch page bytes rest world kept =
-    let w = kept.wires refl in
+    let w = kept.flight.wires refl in
     copy_kept SourcePhase.Precopy epoch page bytes rest world kept (w.0, w.1, record { clean_copy = w.2.clean_copy; copies_sent = w.2.copies_sent })
 
 stopped_copy : (epoch page : ℕ) (bytes : List ℕ) (rest : List Sent) (world : World) →
     let old : World = at_state SourcePhase.Stopped DestPhase.Advised false true (record { epoch = epoch; frame = Page page bytes } ∷ rest) world in
-    IsKept old → IsKept (delivered old old.forward)
+    IsSoundWorld old → IsSoundWorld (delivered old old.forward)
 stopped_copy epoch page bytes rest world kept =
-    let w = kept.wires refl in
+    let w = kept.flight.wires refl in
     copy_kept SourcePhase.Stopped epoch page bytes rest world kept
     (w.0, w.1, record { owed = w.2.owed; plan = w.2.plan; owed_present = w.2.owed_present; kept_rest = w.2.kept_rest; whereabouts = w.2.whereabouts; faithful = w.2.faithful })
 
 precopy_advised : (epoch : ℕ) (frame : Frame) (rest : List Sent) (world : World) →
     let old : World = at_state SourcePhase.Precopy DestPhase.Advised false true (record { epoch = epoch; frame = frame } ∷ rest) world in
-    IsKept old → IsKept (delivered old old.forward)
+    IsSoundWorld old → IsSoundWorld (delivered old old.forward)
 precopy_advised epoch (Page page bytes) rest world kept = precopy_copy epoch page bytes rest world kept
 precopy_advised epoch (Zero page) rest world kept = precopy_copy epoch page zero_page rest world (as_page SourcePhase.Precopy DestPhase.Advised false epoch page rest world kept)
-precopy_advised epoch (Discard pages) rest world kept = absurd (ends_late rest (kept.wires refl).0)
-precopy_advised epoch _ rest world kept = absurd (none_some Copies (kept.wires refl).0)
+precopy_advised epoch (Discard pages) rest world kept = absurd (ends_late rest (kept.flight.wires refl).0)
+precopy_advised epoch _ rest world kept = absurd (none_some Copies (kept.flight.wires refl).0)
 
 stopped_advised : (epoch : ℕ) (frame : Frame) (rest : List Sent) (world : World) →
     let old : World = at_state SourcePhase.Stopped DestPhase.Advised false true (record { epoch = epoch; frame = frame } ∷ rest) world in
-    IsKept old → IsKept (delivered old old.forward)
+    IsSoundWorld old → IsSoundWorld (delivered old old.forward)
 stopped_advised epoch (Page page bytes) rest world kept = stopped_copy epoch page bytes rest world kept
 stopped_advised epoch (Zero page) rest world kept = stopped_copy epoch page zero_page rest world (as_page SourcePhase.Stopped DestPhase.Advised false epoch page rest world kept)
 stopped_advised epoch (Discard pages) rest world kept = discard_taken epoch pages rest world kept
-stopped_advised epoch _ rest world kept = absurd (none_some (flow_of (record world.source { phase = SourcePhase.Stopped })) (kept.wires refl).0)
+stopped_advised epoch _ rest world kept = absurd (none_some (flow_of (record world.source { phase = SourcePhase.Stopped })) (kept.flight.wires refl).0)
 
 stopped_discarding : (epoch : ℕ) (frame : Frame) (rest : List Sent) (world : World) →
     let old : World = at_state SourcePhase.Stopped DestPhase.Discarding false true (record { epoch = epoch; frame = frame } ∷ rest) world in
-    IsKept old → IsKept (delivered old old.forward)
+    IsSoundWorld old → IsSoundWorld (delivered old old.forward)
 stopped_discarding epoch (Package areas owed commands) rest world kept = package_taken epoch areas owed commands rest world kept
-stopped_discarding epoch _ rest world kept = absurd (none_some (flow_of (record world.source { phase = SourcePhase.Stopped })) (kept.wires refl).0)
+stopped_discarding epoch _ rest world kept = absurd (none_some (flow_of (record world.source { phase = SourcePhase.Stopped })) (kept.flight.wires refl).0)
 
 -- whether the frame is one before which all that came has to be installed
 abbrev IsFree : Frame → World → Type 0
@@ -233,54 +235,43 @@ none_waits (copy ∷ arrivals) h = absurd (not_up h)
 
 stopped_running : (epoch : ℕ) (frame : Frame) (rest : List Sent) (world : World) → IsFree frame world →
     let old : World = at_state SourcePhase.Stopped DestPhase.Running true true (record { epoch = epoch; frame = frame } ∷ rest) world in
-    IsKept old → IsKept (delivered old old.forward)
+    IsSoundWorld old → IsSoundWorld (delivered old old.forward)
 stopped_running epoch (Page page bytes) rest world free kept = copy_arrives epoch page bytes rest world kept
 stopped_running epoch (Zero page) rest world free kept = copy_arrives epoch page zero_page rest world (as_page SourcePhase.Stopped DestPhase.Running true epoch page rest world kept)
 stopped_running epoch End rest world free kept = end_taken epoch rest world (none_waits world.destination.arrivals free) kept
-stopped_running epoch _ rest world free kept = absurd (none_some (flow_of (record world.source { phase = SourcePhase.Stopped })) (kept.wires refl).0)
+stopped_running epoch _ rest world free kept = absurd (none_some (flow_of (record world.source { phase = SourcePhase.Stopped })) (kept.flight.wires refl).0)
 
 is_resume_first : (frame : Frame) (epoch source_epoch : ℕ) (rest : List Sent) → record { epoch = epoch; frame = frame } ∷ rest ≡ record { epoch = source_epoch; frame = Resume } ∷ [] → frame ≡ Resume
 is_resume_first frame epoch source_epoch rest h = ap (λ (wire : List Sent). elim wire [ [] ↦ frame | sent ∷ _ ↦ sent.frame ]) h
 
 paused_interrupted : (ran : Bool) (epoch : ℕ) (frame : Frame) (rest : List Sent) (world : World) → frame ≡ Resume →
     let old : World = at_state SourcePhase.Paused DestPhase.Paused ran true (record { epoch = epoch; frame = frame } ∷ rest) world in
-    IsKept old → IsKept (delivered old old.forward)
+    IsSoundWorld old → IsSoundWorld (delivered old old.forward)
 paused_interrupted ran epoch frame rest world is =
-    subst (λ f. IsKept (at_state SourcePhase.Paused DestPhase.Paused ran true (record { epoch = epoch; frame = f } ∷ rest) world) →
-    IsKept (delivered (at_state SourcePhase.Paused DestPhase.Paused ran true (record { epoch = epoch; frame = f } ∷ rest) world) (record { epoch = epoch; frame = f } ∷ rest)))
+    subst (λ f. IsSoundWorld (at_state SourcePhase.Paused DestPhase.Paused ran true (record { epoch = epoch; frame = f } ∷ rest) world) →
+    IsSoundWorld (delivered (at_state SourcePhase.Paused DestPhase.Paused ran true (record { epoch = epoch; frame = f } ∷ rest) world) (record { epoch = epoch; frame = f } ∷ rest)))
     (sym is) (resume_taken ran epoch rest world)
 
 delivered_in : (from : SourcePhase) (to : DestPhase) (ran : Bool) (sent : Sent) (rest : List Sent) (world : World) → IsFree sent.frame world →
     let old : World = at_state from to ran true (sent ∷ rest) world in
-    IsKept old → IsKept (delivered old old.forward)
+    IsSoundWorld old → IsSoundWorld (delivered old old.forward)
 delivered_in SourcePhase.Precopy DestPhase.Idle ran sent rest world free kept = precopy_unadvised ran sent.epoch sent.frame rest world kept
 delivered_in SourcePhase.Precopy DestPhase.Advised false sent rest world free kept = precopy_advised sent.epoch sent.frame rest world kept
-delivered_in SourcePhase.Precopy DestPhase.Advised true sent rest world free kept = absurd (not_up kept.destination_phase)
+delivered_in SourcePhase.Precopy DestPhase.Advised true sent rest world free kept = absurd (not_up kept.phases.destination_phase)
 delivered_in SourcePhase.Stopped DestPhase.Idle ran sent rest world free kept = stopped_unadvised ran sent.epoch sent.frame rest world kept
 delivered_in SourcePhase.Stopped DestPhase.Advised false sent rest world free kept = stopped_advised sent.epoch sent.frame rest world kept
-delivered_in SourcePhase.Stopped DestPhase.Advised true sent rest world free kept = absurd (not_up kept.destination_phase)
+delivered_in SourcePhase.Stopped DestPhase.Advised true sent rest world free kept = absurd (not_up kept.phases.destination_phase)
 delivered_in SourcePhase.Stopped DestPhase.Discarding false sent rest world free kept = stopped_discarding sent.epoch sent.frame rest world kept
-delivered_in SourcePhase.Stopped DestPhase.Discarding true sent rest world free kept = absurd (not_up kept.destination_phase)
+delivered_in SourcePhase.Stopped DestPhase.Discarding true sent rest world free kept = absurd (not_up kept.phases.destination_phase)
 delivered_in SourcePhase.Stopped DestPhase.Running true sent rest world free kept = stopped_running sent.epoch sent.frame rest world free kept
-delivered_in SourcePhase.Stopped DestPhase.Running false sent rest world free kept = absurd (false≢true kept.destination_phase.0)
-delivered_in SourcePhase.Paused DestPhase.Paused ran sent rest world free kept = paused_interrupted ran sent.epoch sent.frame rest world (is_resume_first sent.frame sent.epoch world.source.epoch rest (kept.wires refl).0) kept
-delivered_in from to ran sent rest world free kept = absurd (false≢true (first_in_place (record world.source { phase = from }) (record world.destination { phase = to; has_run = ran }) sent rest world.back (kept.wires refl)))
+delivered_in SourcePhase.Stopped DestPhase.Running false sent rest world free kept = absurd (false≢true kept.phases.destination_phase.0)
+delivered_in SourcePhase.Paused DestPhase.Paused ran sent rest world free kept = paused_interrupted ran sent.epoch sent.frame rest world (is_resume_first sent.frame sent.epoch world.source.epoch rest (kept.flight.wires refl).0) kept
+delivered_in from to ran sent rest world free kept = absurd (false≢true (first_in_place (record world.source { phase = from }) (record world.destination { phase = to; has_run = ran }) sent rest world.back (kept.flight.wires refl)))
 
-delivered_by : (up : Bool) (wire : List Sent) (world : World) → up ≡ true → (is_end_next wire && not (is_empty world.destination.arrivals)) ≡ false →
-    IsKept (record world { up = up; forward = wire }) → IsKept (delivered (record world { up = up; forward = wire }) wire)
-delivered_by true [] world h free kept = kept
-delivered_by true (sent ∷ rest) world h free kept = delivered_in world.source.phase world.destination.phase world.destination.has_run sent rest world free kept
-delivered_by false wire world h free kept = absurd (false≢true h)
+delivered_by : (up : Bool) (sent : Sent) (rest : List Sent) (world : World) → up ≡ true → IsFree sent.frame world →
+    IsSoundWorld (record world { up = up; forward = sent ∷ rest }) → IsSoundWorld (after_deliver (record world { up = up; forward = sent ∷ rest }) sent rest)
+delivered_by true sent rest world h free kept = delivered_in world.source.phase world.destination.phase world.destination.has_run sent rest world free kept
+delivered_by false sent rest world h free kept = absurd (false≢true h)
 
-not_not : (b : Bool) → not b ≡ false → b ≡ true
-not_not true h = refl
-not_not false h = absurd (not_up h)
-
-pub kept-deliver : (world : World) → IsKept world → refusal_of world Step.Deliver ≡ None → IsKept (accepted world Step.Deliver)
-kept-deliver world kept allowed =
-    let waits = is_end_next world.forward && not (is_empty world.destination.arrivals) in
-    let started = not_refused (not (has_started world)) Refusal.Phase ((not world.up, Refusal.Broken) ∷ (is_empty world.forward, Refusal.NothingThere) ∷ (waits, Refusal.InstallFirst) ∷ []) allowed in
-    let linked = not_refused (not world.up) Refusal.Broken ((is_empty world.forward, Refusal.NothingThere) ∷ (waits, Refusal.InstallFirst) ∷ []) started.1 in
-    let some = not_refused (is_empty world.forward) Refusal.NothingThere ((waits, Refusal.InstallFirst) ∷ []) linked.1 in
-    let free = not_refused waits Refusal.InstallFirst [] some.1 in
-    delivered_by world.up world.forward world (not_not world.up linked.0) free.0 kept
+pub kept-deliver : (world : World) (sent : Sent) (rest : List Sent) → IsSoundWorld world → world.forward ≡ sent ∷ rest → world.up ≡ true → IsFree sent.frame world → IsSoundWorld (after_deliver world sent rest)
+kept-deliver world sent rest kept first up free = delivered_by world.up sent rest world up free (subst (λ wire. IsSoundWorld (record world { forward = wire })) first kept)

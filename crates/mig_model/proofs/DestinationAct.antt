@@ -1,5 +1,5 @@
 -- A fault that the destination's handler works keeps what every world keeps.
-use Rattle.std.proofs.Common.{◌≡◌, ℕ, ◌/◌, ◌%◌, ◌&&◌, ◌||◌, Bool, true, false, cond, not, eqb, ltb, Option, Some, None, List, [], ◌∷◌, ◌++◌, refl, sym, ap, ◌∙◌, length, get_or, unwrap_or, if◌then◌else◌}
+use Rattle.std.proofs.Common.{◌≡◌, ℕ, ◌/◌, ◌%◌, ◌&&◌, ◌||◌, Bool, true, false, cond, not, eqb, ltb, Option, Some, None, List, [], ◌∷◌, ◌++◌, refl, sym, ap, ◌∙◌, length, get_or, unwrap_or, if◌then◌else◌, subst}
 use Rattle.std.specs.Option.{option_map, option_and_then}
 use Rattle.std.specs.Ordering.{nat_cmp}
 use Rattle.std.specs.FinMap.{FinMap, get, contains_key}
@@ -18,17 +18,21 @@ use Rattle.mig_model.specs.Host.{Host, memory}
 use Rattle.mig_model.specs.Userfault.{Noted, is_registered}
 use Rattle.mig_model.specs.Space.{Space}
 use Rattle.mig_model.specs.Ioctls.{put_pages}
-use Rattle.mig_model.specs.Guest.{Fault, all_woken, is_forgotten, is_present, worked, zero_installed}
+use Rattle.mig_model.specs.Guest.{Fault, is_forgotten, is_present, zero_installed, resolved}
 use Rattle.mig_model.specs.Wire.{Sent, sending_if}
 use Rattle.mig_model.specs.Wire.Frame.{Request}
-use Rattle.mig_model.specs.Nodes.{Source, Destination, space_of, is_running, is_requested, requesting, destination_act_by, destination_acted_by, act_frames}
-use Rattle.mig_model.specs.Nodes.Act.{Zeroed, Woke, Forgot, Requested}
-use Rattle.mig_model.specs.Migration.{World, accepted, refusal_of, destination_sends}
-use Rattle.mig_model.specs.Invariant.{IsKept, Wires, AreOf, EpochAt, are_requests, is_request, seen_host, seen_bytes}
+use Rattle.mig_model.specs.Guest.Act.{Zeroed, Woke, Forgot, Requested}
+use Rattle.mig_model.specs.Migration.{World, destination_sends, after_dest_act, is_changing, runs}
+use Rattle.mig_model.specs.Invariant.{IsSoundWorld, Wires, AreOf, EpochAt, are_requests, is_request, seen_host, seen_bytes}
 use Rattle.mig_model.proofs.HostLemmas.{memory-at, same_memory}
 use Rattle.mig_model.proofs.SettledLemmas.{none_some, none_absurd, eqb_true}
-use Rattle.mig_model.proofs.DestinationRead.{kept-handled, first_holds_not, not_false}
+use Rattle.mig_model.proofs.DestinationRead.{kept-handled}
 use Rattle.mig_model.proofs.Installing.{missing_none, seen_by, get-put_one, put-unprotected, put-sound, put-missing, none_changing}
+use Rattle.mig_model.specs.Cpus.{all_woken}
+use Rattle.mig_model.specs.Log.{forgotten, present}
+use Rattle.mig_model.specs.Owed.{is_requested, requesting}
+use Rattle.mig_model.specs.Source.{Source, space_of}
+use Rattle.mig_model.specs.Destination.{Destination, act_frames, destination_act_by, destination_acted_by, is_running}
 
 -- A page of zeros
 
@@ -125,67 +129,43 @@ up_not_down : {A : Type 0} (up : Bool) → up ≡ true → up ≡ false → A
 up_not_down up h k = none_absurd (sym k ∙ h)
 
 -- only the wire back has changed
-pub kept-back : (world : World) (back : List Sent) → world.up ≡ true → AreOf world.source.epoch back → Wires world.source world.destination world.forward back → IsKept world → IsKept (record world { back = back })
+pub kept-back : (world : World) (back : List Sent) → world.up ≡ true → AreOf world.source.epoch back → Wires world.source world.destination world.forward back → IsSoundWorld world → IsSoundWorld (record world { back = back })
 kept-back world back up epoch wires kept =
     record {
-      flat = kept.flat;
-      holds = kept.holds;
-      source_space = kept.source_space;
-      destination_space = kept.destination_space;
-      both_modes = kept.both_modes;
-      unprotected = kept.unprotected;
-      only_missing = kept.only_missing;
-      source_events = kept.source_events;
-      destination_events = kept.destination_events;
-      destination_faults = kept.destination_faults;
-      source_phase = kept.source_phase;
-      destination_phase = kept.destination_phase;
-      ran_after_switch = kept.ran_after_switch;
-      ended_after_run = kept.ended_after_run;
-      source_quiet = kept.source_quiet;
-      before_switch = kept.before_switch;
-      end_sent = kept.end_sent;
-      remaining_present = kept.remaining_present;
-      ended_before = kept.ended_before;
-      paused_fresh = kept.paused_fresh;
-      idle_source = kept.idle_source;
-      not_run = kept.not_run;
-      kept_none = kept.kept_none;
-      kept_advised = kept.kept_advised;
-      kept_whole = kept.kept_whole;
-      copies_whole = kept.copies_whole;
-      clean_protected = kept.clean_protected;
-      todo_sendable = kept.todo_sendable;
-      one_to_one = kept.one_to_one;
-      owed_below = kept.owed_below;
-      origins_present = kept.origins_present;
-      pairs_missing = kept.pairs_missing;
-      arrivals_faithful = kept.arrivals_faithful;
-      flight_faithful = kept.flight_faithful;
-      ended_empty = kept.ended_empty;
-      released_empty = kept.released_empty;
-      down = λ h. up_not_down world.up up h;
-      wires = λ h. wires;
-      forward_epoch = kept.forward_epoch;
-      back_epoch = epoch;
-      epochs = kept.epochs;
-      epoch_at = kept.epoch_at;
+      memory = kept.memory;
+      spaces = kept.spaces;
+      phases = kept.phases;
+      precopy = kept.precopy;
+      pushing = kept.pushing;
+      copies = kept.copies;
+      owing = kept.owing;
+      flight = record {
+        flight_faithful = kept.flight.flight_faithful;
+        down = λ h. up_not_down world.up up h;
+        wires = λ h. wires;
+      };
+      epochs = record {
+        forward_epoch = kept.epochs.forward_epoch;
+        back_epoch = epoch;
+        not_ahead = kept.epochs.not_ahead;
+        epoch_at = kept.epochs.epoch_at;
+      };
     }
 
 -- a request is sent where the destination runs and the page was not asked for yet, and is lost where the link is down
-sent_back : (up asked runs : Bool) (world : World) (source : ℕ) → world.up ≡ up → is_running world.destination.phase ≡ runs → IsKept world →
-    IsKept (record world { back = sending_if up world.back world.destination.epoch (if asked || not runs then [] else Request source ∷ []) })
+sent_back : (up asked runs : Bool) (world : World) (source : ℕ) → world.up ≡ up → is_running world.destination.phase ≡ runs → IsSoundWorld world →
+    IsSoundWorld (record world { back = sending_if up world.back world.destination.epoch (if asked || not runs then [] else Request source ∷ []) })
 sent_back false asked runs world source up running kept = kept
 sent_back true true runs world source up running kept = kept
 sent_back true false false world source up running kept = kept
 sent_back true false true world source up running kept =
     let sent : Sent = record { epoch = world.destination.epoch; frame = Request source } in
     kept-back world (world.back ++ sent ∷ []) up
-    (AreOf-push world.source.epoch world.back sent (running_epoch world.destination.phase world.destination.epoch world.source.epoch running (kept.epoch_at up)) kept.back_epoch)
-    (request_wires world.source.phase world.destination.phase world.source world.destination world.forward world.back sent refl running (kept.wires up)) kept
+    (AreOf-push world.source.epoch world.back sent (running_epoch world.destination.phase world.destination.epoch world.source.epoch running (kept.epochs.epoch_at up)) kept.epochs.back_epoch)
+    (request_wires world.source.phase world.destination.phase world.source world.destination world.forward world.back sent refl running (kept.flight.wires up)) kept
 
 -- nothing is sent
-nothing_sent : (up : Bool) (world : World) → world.up ≡ up → IsKept world → IsKept (record world { back = sending_if up world.back world.destination.epoch [] })
+nothing_sent : (up : Bool) (world : World) → world.up ≡ up → IsSoundWorld world → IsSoundWorld (record world { back = sending_if up world.back world.destination.epoch [] })
 nothing_sent false world up kept = kept
 nothing_sent true world up kept = kept
 
@@ -196,29 +176,30 @@ abbrev pub at_held : List Noted → List Fault → World → World
 at_held events held world =
     record world {
       destination = record world.destination {
-        guest = record world.destination.guest { space = record world.destination.guest.space { object = record world.destination.guest.space.object { events = events } }; held = held };
+        guest = record world.destination.guest { space = record world.destination.guest.space { object = record world.destination.guest.space.object { events = events } } };
+        held = held;
       };
     }
 
 -- only the processors, the held faults and the requests have changed
-only_woken : (world : World) (processors : List CpuState) (held : List Fault) (requests : List ℕ) → IsKept world → world.destination.has_run ≡ true →
-    IsKept (record world { destination = record world.destination { guest = record world.destination.guest { processors = processors; held = held }; requests = requests } })
+only_woken : (world : World) (processors : List CpuState) (held : List Fault) (requests : List ℕ) → IsSoundWorld world → world.destination.has_run ≡ true →
+    IsSoundWorld (record world { destination = record world.destination { guest = record world.destination.guest { cpus = processors }; held = held; requests = requests } })
 only_woken world processors held requests kept runs =
-    kept-handled world (record world.destination.guest { processors = processors; held = held }) world.destination.owed requests world.destination.arrivals world.destination.installed world.destination.dropped world.destination.faults kept runs
+    kept-handled world (record world.destination.guest { cpus = processors }) held world.destination.owed requests world.destination.arrivals world.destination.installed world.destination.dropped world.destination.faults kept runs
     (record {
-      space = kept.destination_space;
-      unprotected = kept.unprotected;
-      only_missing = kept.only_missing;
-      events = kept.destination_events;
-      faults = kept.destination_faults;
+      space = kept.spaces.destination_space;
+      unprotected = kept.spaces.unprotected;
+      only_missing = kept.spaces.only_missing;
+      events = kept.spaces.destination_events;
+      faults = kept.spaces.destination_faults;
       same_memory = refl;
       values = λ q origin h. (q, h);
-      one_to_one = kept.one_to_one;
-      below = kept.owed_below;
+      one_to_one = kept.owing.one_to_one;
+      below = kept.owing.owed_below;
       copies = λ q origin h k. k;
-      missing = kept.pairs_missing;
-      faithful = kept.arrivals_faithful runs;
-      ended = kept.ended_empty;
+      missing = kept.owing.pairs_missing;
+      faithful = kept.owing.arrivals_faithful runs;
+      ended = kept.owing.ended_empty;
     })
 
 other_page : (here : Bool) (o : Option ℕ) (origin : ℕ) → (here ≡ true → o ≡ None) → o ≡ Some origin → here ≡ false
@@ -226,67 +207,65 @@ other_page true o origin none h = absurd (none_some origin (sym (none refl) ∙ 
 other_page false o origin none h = refl
 
 -- a page of zeros is put at a missing page that is owed from nowhere
-zeros_put : (fault : Fault) (rest : List Fault) (world : World) → IsKept (at_held [] (fault ∷ rest) world) → world.destination.has_run ≡ true → contains_key world.destination.guest.space.host.areas fault.page ≡ true →
+zeros_put : (fault : Fault) (rest : List Fault) (world : World) → IsSoundWorld (at_held [] (fault ∷ rest) world) → world.destination.has_run ≡ true → contains_key world.destination.guest.space.host.areas fault.page ≡ true →
     is_present world.destination.guest.space fault.page ≡ false → get world.destination.owed fault.page ≡ None →
-    IsKept (record (at_held [] (fault ∷ rest) world) { destination = destination_acted_by Zeroed (at_held [] (fault ∷ rest) world).destination fault.page })
+    IsSoundWorld (record (at_held [] (fault ∷ rest) world) { destination = destination_acted_by Zeroed (at_held [] (fault ∷ rest) world).destination fault.page })
 zeros_put fault rest world kept runs mapped missing nothing =
     let old : World = at_held [] (fault ∷ rest) world in
     let page : ℕ = fault.page in
     let space : Space = old.destination.guest.space in
     let owed : FinMap nat_cmp ℕ = world.destination.owed in
-    kept-handled old (worked old.destination.guest page (zero_installed space page)) owed world.destination.requests world.destination.arrivals world.destination.installed world.destination.dropped world.destination.faults kept runs
+    kept-handled old (resolved old.destination.guest page (zero_installed space page)) rest owed world.destination.requests world.destination.arrivals world.destination.installed world.destination.dropped world.destination.faults kept runs
     (record {
-      space = put-sound space page zero_page mapped length-zero_page kept.destination_space;
-      unprotected = put-unprotected space page zero_page kept.unprotected;
-      only_missing = kept.only_missing;
+      space = put-sound space page zero_page mapped length-zero_page kept.spaces.destination_space;
+      unprotected = put-unprotected space page zero_page kept.spaces.unprotected;
+      only_missing = kept.spaces.only_missing;
       events = tt;
-      faults = kept.destination_faults;
+      faults = kept.spaces.destination_faults;
       same_memory = memory-zero space.host (space_of world.source).host (get owed) page (missing_none (get space.host.bytes page) missing) nothing;
       values = λ q origin h. (q, h);
-      one_to_one = kept.one_to_one;
-      below = kept.owed_below;
+      one_to_one = kept.owing.one_to_one;
+      below = kept.owing.owed_below;
       copies = λ q origin h k. k;
       missing = λ q origin h.
-          let alone = kept.pairs_missing q origin h in
+          let alone = kept.owing.pairs_missing q origin h in
           (alone.0, put-missing space page q zero_page (other_page (eqb q page) (get owed q) origin (λ e. ap (get owed) (eqb_true q page e) ∙ nothing) h) alone.1);
-      faithful = kept.arrivals_faithful runs;
-      ended = kept.ended_empty;
+      faithful = kept.owing.arrivals_faithful runs;
+      ended = kept.owing.ended_empty;
     })
 
 not_or : (a b : Bool) → (not a || not b) ≡ false → a ≡ true
 not_or true b h = refl
 not_or false b h = none_absurd (sym h)
 
-act_in : (forgotten present : Bool) (o : Option ℕ) (fault : Fault) (rest : List Fault) (world : World) → IsKept (at_held [] (fault ∷ rest) world) → world.destination.has_run ≡ true →
+act_in : (forgotten present : Bool) (o : Option ℕ) (fault : Fault) (rest : List Fault) (world : World) → IsSoundWorld (at_held [] (fault ∷ rest) world) → world.destination.has_run ≡ true →
     is_forgotten (at_held [] (fault ∷ rest) world).destination.guest.space fault.page ≡ forgotten → is_present world.destination.guest.space fault.page ≡ present → get world.destination.owed fault.page ≡ o →
-    IsKept (destination_sends (at_held [] (fault ∷ rest) world) (destination_acted_by (destination_act_by forgotten present o) (at_held [] (fault ∷ rest) world).destination fault.page) (act_frames (destination_act_by forgotten present o) (at_held [] (fault ∷ rest) world).destination))
+    IsSoundWorld (destination_sends (at_held [] (fault ∷ rest) world) (destination_acted_by (destination_act_by forgotten present o) (at_held [] (fault ∷ rest) world).destination fault.page) (act_frames (destination_act_by forgotten present o) (at_held [] (fault ∷ rest) world).destination))
 act_in true present o fault rest world kept runs f p h =
     let old : World = at_held [] (fault ∷ rest) world in
     let new : World = record old { destination = destination_acted_by Forgot old.destination fault.page } in
-    nothing_sent world.up new refl (only_woken old (all_woken (λ q. eqb q fault.page) world.destination.guest.processors) rest world.destination.requests kept runs)
+    nothing_sent world.up new refl (only_woken old (all_woken (λ q. eqb q fault.page) world.destination.guest.cpus) rest world.destination.requests kept runs)
 act_in false true o fault rest world kept runs f p h =
     let old : World = at_held [] (fault ∷ rest) world in
     let new : World = record old { destination = destination_acted_by Woke old.destination fault.page } in
-    nothing_sent world.up new refl (only_woken old (all_woken (λ q. eqb q fault.page) world.destination.guest.processors) rest world.destination.requests kept runs)
+    nothing_sent world.up new refl (only_woken old (all_woken (λ q. eqb q fault.page) world.destination.guest.cpus) rest world.destination.requests kept runs)
 act_in false false (Some source) fault rest world kept runs f p h =
     let old : World = at_held [] (fault ∷ rest) world in
     let new : World = record old { destination = destination_acted_by (Requested source) old.destination fault.page } in
     sent_back world.up (is_requested world.destination.requests source) (is_running world.destination.phase) new source refl refl
-    (only_woken old world.destination.guest.processors rest (requesting world.destination.requests source) kept runs)
+    (only_woken old world.destination.guest.cpus rest (requesting world.destination.requests source) kept runs)
 act_in false false None fault rest world kept runs f p h =
     let old : World = at_held [] (fault ∷ rest) world in
     let new : World = record old { destination = destination_acted_by Zeroed old.destination fault.page } in
     nothing_sent world.up new refl (zeros_put fault rest world kept runs (not_or (contains_key world.destination.guest.space.host.areas fault.page) (is_registered world.destination.guest.space.object fault.page) f) p h)
 
-acted_in : (events : List Noted) (held : List Fault) (world : World) → IsKept (at_held events held world) → world.destination.has_run ≡ true → ltb 0 (length events) ≡ false → IsKept (accepted (at_held events held world) Step.DestAct)
-acted_in (noted ∷ events) held world kept runs quiet = absurd (none_changing (length events) quiet)
-acted_in [] [] world kept runs quiet = kept
-acted_in [] (fault ∷ rest) world kept runs quiet =
+acted_in : (events : List Noted) (fault : Fault) (rest : List Fault) (world : World) → IsSoundWorld (at_held events (fault ∷ rest) world) → world.destination.has_run ≡ true → ltb 0 (length events) ≡ false →
+    IsSoundWorld (after_dest_act (at_held events (fault ∷ rest) world) fault)
+acted_in (noted ∷ events) fault rest world kept runs quiet = absurd (none_changing (length events) quiet)
+acted_in [] fault rest world kept runs quiet =
     act_in (is_forgotten world.destination.guest.space fault.page) (is_present world.destination.guest.space fault.page) (get world.destination.owed fault.page) fault rest world kept runs refl refl refl
 
-pub kept-dest_act : (world : World) → IsKept world → refusal_of world Step.DestAct ≡ None → IsKept (accepted world Step.DestAct)
-kept-dest_act world kept none =
-    let ran = first_holds_not (not world.destination.has_run) Refusal.Phase _ none in
-    let some = first_holds_not _ Refusal.NothingThere _ ran.1 in
-    let quiet = first_holds_not (ltb 0 (length world.destination.guest.space.object.events)) Refusal.Changing _ some.1 in
-    acted_in world.destination.guest.space.object.events world.destination.guest.held world kept (not_false world.destination.has_run ran.0) quiet.0
+pub kept-dest_act : (world : World) (fault : Fault) (rest : List Fault) → IsSoundWorld world → world.destination.held ≡ fault ∷ rest → world.destination.has_run ≡ true → is_changing world.destination.guest ≡ false → IsSoundWorld (after_dest_act world fault)
+kept-dest_act world fault rest kept first runs quiet =
+    let events = world.destination.guest.space.object.events in
+    subst (λ held. IsSoundWorld (at_held events held world) → IsSoundWorld (after_dest_act (at_held events held world) fault)) (sym first) (λ now. acted_in events fault rest world now runs quiet) kept

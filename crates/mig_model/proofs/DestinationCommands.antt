@@ -12,19 +12,21 @@ use Rattle.mig_base.specs.declared.command.Command.{Command}
 use Rattle.mig_base.specs.declared.command.Entry.{Entry}
 use Rattle.mig_base.specs.Flat.{IsFlatRun, memory_of}
 use Rattle.mig_model.specs.Host.{Host, memory, IsSound}
-use Rattle.mig_model.specs.World.{is_access}
+use Rattle.mig_base.specs.Commands.{is_access}
 use Rattle.mig_model.specs.Space.{IsSoundSpace, fresh_space}
-use Rattle.mig_model.specs.Guest.{Guest, is_present, Took, took_by, tried, entries_of, outstanding, processor_at}
+use Rattle.mig_model.specs.Guest.{Guest, is_present, took_by, tried}
 use Rattle.mig_model.specs.Wire.{Sent}
-use Rattle.mig_model.specs.Nodes.{Source, Destination, space_of, settled}
-use Rattle.mig_model.specs.Migration.{World, guest_by, guest_of, with_guest_by, command_tried, retried, refusal_of, accepted}
-use Rattle.mig_model.specs.Invariant.{IsKept, AreFaults, AreRight, Wires, IsReceiving, current_by, current_host, seen_host}
+use Rattle.mig_model.specs.Migration.{World, guest_by, with_guest_by, after_command, runs}
+use Rattle.mig_model.specs.Invariant.{IsSoundWorld, AreFaults, AreRight, Wires, IsReceiving, current_by, current_host, seen_host}
 use Rattle.mig_model.proofs.FaultLemmas.{AreFaults-tried}
 use Rattle.mig_model.proofs.WorldLemmas.{holds_after, flat_after}
 use Rattle.mig_model.proofs.SeenLemmas.{IsSound-seen, watched_mapped}
 use Rattle.mig_model.proofs.PairLemmas.{pairs_watched}
 use Rattle.mig_model.proofs.TriedLemmas.{IsReady, IsEntered, command_tries}
 use Rattle.mig_model.proofs.TriedLemmas.IsEntered.{Silent, Entered}
+use Rattle.mig_model.specs.Cpus.{Took, entries_of}
+use Rattle.mig_model.specs.Source.{Source, space_of}
+use Rattle.mig_model.specs.Destination.{Destination, settled}
 
 -- The transcript
 
@@ -71,20 +73,20 @@ wires-with_guest from to guest forward back w = wires_in from.phase to.phase fro
 
 -- The world
 
-pub ready_of : (world : World) → IsKept world → IsReady world.destination.guest.space (get world.destination.owed)
+pub ready_of : (world : World) → IsSoundWorld world → IsReady world.destination.guest.space (get world.destination.owed)
 ready_of world kept =
-    record { sound = kept.destination_space; unprotected = kept.unprotected; only_missing = kept.only_missing; events = kept.destination_events; pairs = kept.pairs_missing }
+    record { sound = kept.spaces.destination_space; unprotected = kept.spaces.unprotected; only_missing = kept.spaces.only_missing; events = kept.spaces.destination_events; pairs = kept.owing.pairs_missing }
 
 -- the current host where the destination has run
 pub current_seen : (world : World) → world.destination.has_run ≡ true → current_host world ≡ seen_host world.destination.guest.space.host (space_of world.source).host (settled world.destination)
 current_seen world ran = ap (λ b. current_by b world.destination.guest.space.host (space_of world.source).host (settled world.destination)) ran
 
-pub sound_seen : (world : World) → IsKept world → IsSound (seen_host world.destination.guest.space.host (space_of world.source).host (settled world.destination))
+pub sound_seen : (world : World) → IsSoundWorld world → IsSound (seen_host world.destination.guest.space.host (space_of world.source).host (settled world.destination))
 sound_seen world kept =
     let space = world.destination.guest.space in
-    let far = kept.source_space in
-    let here = kept.destination_space in
-    IsSound-seen space.host (space_of world.source).host (settled world.destination) here.host far.host (watched_mapped space (settled world.destination) here (pairs_watched space (settled world.destination) kept.pairs_missing))
+    let far = kept.spaces.source_space in
+    let here = kept.spaces.destination_space in
+    IsSound-seen space.host (space_of world.source).host (settled world.destination) here.host far.host (watched_mapped space (settled world.destination) here (pairs_watched space (settled world.destination) kept.owing.pairs_missing))
 
 -- the world once a command is tried where `runs` tells
 abbrev tried_at : Bool → World → ℕ → Command → World
@@ -93,42 +95,30 @@ tried_at runs world cpu command =
       transcript = world.transcript ++ entries_of cpu command (took_by (is_access command) (guest_by runs world.source.guest world.destination.guest).space command);
     }
 
-kept-tried_at : (runs : Bool) (world : World) (cpu : ℕ) (command : Command) → runs ≡ true → world.destination.has_run ≡ true → IsKept world → IsKept (tried_at runs world cpu command)
+kept-tried_at : (runs : Bool) (world : World) (cpu : ℕ) (command : Command) → runs ≡ true → world.destination.has_run ≡ true → IsSoundWorld world → IsSoundWorld (tried_at runs world cpu command)
 kept-tried_at false world cpu command is ran kept = absurd (false≢true is)
 kept-tried_at true world cpu command is ran kept =
     let new = tried_at true world cpu command in
     let there = (space_of world.source).host in
     let space = world.destination.guest.space in
-    let far = kept.source_space in
+    let far = kept.spaces.source_space in
     let tries = command_tries (is_access command) there (get world.destination.owed) space cpu command refl far.host (ready_of world kept) in
     let ready = tries.ready in
     let has = entered_one (seen_host space.host there (settled world.destination)) (seen_host new.destination.guest.space.host there (settled new.destination)) world.transcript cpu command
-    (took_by (is_access command) space command) tries.entered (sound_seen world kept) (sym (ap memory (current_seen world ran)) ∙ kept.holds) kept.flat in
+    (took_by (is_access command) space command) tries.entered (sound_seen world kept) (sym (ap memory (current_seen world ran)) ∙ kept.memory.holds) kept.memory.flat in
     let flat : IsFlatRun new.transcript = has.flat in
     let holds : memory (current_host new) ≡ memory_of new.transcript = ap memory (current_seen new ran) ∙ has.holds in
     let destination_space : IsSoundSpace new.destination.guest.space = ready.sound in
     let unprotected : (page : ℕ) → contains new.destination.guest.space.protected page ≡ false = ready.unprotected in
     let only_missing : (page : ℕ) → contains new.destination.guest.space.object.protect page ≡ false = ready.only_missing in
     let destination_events : AreRight new.destination.guest.space.object.events = ready.events in
-    let destination_faults : AreFaults new.destination.guest.space.object.faults = AreFaults-tried (is_access command) space cpu command kept.destination_faults in
+    let destination_faults : AreFaults new.destination.guest.space.object.faults = AreFaults-tried (is_access command) space cpu command kept.spaces.destination_faults in
     let not_run : new.destination.has_run ≡ false → (new.destination.owed ≡ finmap.empty) × (new.destination.guest.space ≡ fresh_space) × (new.destination.arrivals ≡ []) =
     λ never. absurd (false≢true (sym never ∙ ran)) in
     let pairs_missing : (page origin : ℕ) → settled new.destination page ≡ Some origin → (contains new.destination.guest.space.object.missing page ≡ true) × (is_present new.destination.guest.space page ≡ false) = ready.pairs in
     let wires : new.up ≡ true → Wires new.source new.destination new.forward new.back =
-    λ up. wires-with_guest world.source world.destination new.destination.guest world.forward world.back (kept.wires up) in
+    λ up. wires-with_guest world.source world.destination new.destination.guest world.forward world.back (kept.flight.wires up) in
     assumption
 
-pub kept-command_at_destination : (world : World) (cpu : ℕ) (command : Command) → world.destination.has_run ≡ true → IsKept world → IsKept (command_tried world cpu command)
+pub kept-command_at_destination : (world : World) (cpu : ℕ) (command : Command) → world.destination.has_run ≡ true → IsSoundWorld world → IsSoundWorld (after_command world cpu command)
 kept-command_at_destination world cpu command ran kept = kept-tried_at world.destination.has_run world cpu command ran ran kept
-
--- The steps, where the destination has run
-
-pub kept-issue_at_destination : (world : World) (cpu : ℕ) (command : Command) → world.destination.has_run ≡ true → IsKept world → refusal_of world (Step.Issue cpu command) ≡ None → IsKept (accepted world (Step.Issue cpu command))
-kept-issue_at_destination world cpu command ran kept taken = kept-command_at_destination world cpu command ran kept
-
-retried_kept : (o : Option Command) (world : World) (cpu : ℕ) → world.destination.has_run ≡ true → IsKept world → IsKept (retried world cpu o)
-retried_kept None world cpu ran kept = kept
-retried_kept (Some command) world cpu ran kept = kept-command_at_destination world cpu command ran kept
-
-pub kept-retry_at_destination : (world : World) (cpu : ℕ) → world.destination.has_run ≡ true → IsKept world → refusal_of world (Step.Retry cpu) ≡ None → IsKept (accepted world (Step.Retry cpu))
-kept-retry_at_destination world cpu ran kept taken = retried_kept (outstanding (processor_at (guest_of world).processors cpu)) world cpu ran kept

@@ -1,5 +1,5 @@
 -- What a step of the destination's handler has to show, and that a message that is read keeps what every world keeps.
-use Rattle.std.proofs.Common.{◌≡◌, set, ℕ, ◌+◌, ◌/◌, ◌<◌, ◌||◌, Bool, true, false, not, Option, Some, None, List, [], ◌∷◌, ◌++◌, refl, sym, ap, ◌∙◌, if◌then◌else◌}
+use Rattle.std.proofs.Common.{◌≡◌, set, ℕ, ◌+◌, ◌/◌, ◌<◌, ◌||◌, Bool, true, false, not, Option, Some, None, List, [], ◌∷◌, ◌++◌, refl, sym, ap, ◌∙◌, if◌then◌else◌, subst}
 use Rattle.std.specs.Ordering.{nat_cmp}
 use Rattle.std.specs.FinMap as finmap
 use Rattle.std.specs.FinMap.{FinMap, get, get-empty}
@@ -16,20 +16,23 @@ use Rattle.mig_base.specs.declared.message.Message.{Message}
 use Rattle.mig_base.specs.declared.message.Message.TheVariants.{PageFault, Remap, Remove, Unmap}
 use Rattle.mig_base.proofs.PageLemmas.{same_pages}
 use Rattle.mig_model.specs.Host.{memory}
-use Rattle.mig_model.specs.Userfault.{Noted}
+use Rattle.mig_model.specs.Userfault.{Noted, next_message, next_of}
 use Rattle.mig_model.specs.Space.{IsSoundSpace}
-use Rattle.mig_model.specs.Guest.{Guest, Fault, all_woken, is_left_by, is_present, message_less, processor_at}
+use Rattle.mig_model.specs.Guest.{Guest, Fault, is_left_by, is_present}
 use Rattle.mig_model.specs.Wire.{Sent, Copy}
-use Rattle.mig_model.specs.Nodes.{Source, Destination, space_of, settled_by, owed_table_after}
-use Rattle.mig_model.specs.Migration.{World, accepted, refusal_of}
-use Rattle.mig_model.specs.Invariant.{IsKept, Wires, IsReceiving, IsFlowing, AreRight, AreFaults, AreFaithful, has_copy, copies_of, seen_host, current_host}
+use Rattle.mig_model.specs.Migration.{World, after_dest_read, next, runs, start}
+use Rattle.mig_model.specs.Invariant.{IsSoundWorld, Wires, IsReceiving, IsFlowing, AreRight, AreFaults, AreFaithful, has_copy, copies_of, seen_host, current_host}
 use Rattle.mig_model.proofs.IoctlLemmas.{IsSoundSpace-read}
 use Rattle.mig_model.proofs.SettledLemmas.{get-owed_table_after, settled_by-applied, values-after, none-after, IsOneToOne-after, owed_below-after}
+use Rattle.mig_model.specs.Cpus.{all_woken, message_less, processor_at}
+use Rattle.mig_model.specs.Owed.{owed_table_after, settled_by}
+use Rattle.mig_model.specs.Source.{Source, space_of}
+use Rattle.mig_model.specs.Destination.{Destination}
 
 -- a destination whose guest, owed table, requests, arrivals and counts are others
-abbrev pub handled : Destination → Guest → FinMap nat_cmp ℕ → List ℕ → List Copy → ℕ → ℕ → ℕ → Destination
-handled node guest owed requests arrivals installed dropped faults =
-    record node { guest = guest; owed = owed; requests = requests; arrivals = arrivals; installed = installed; dropped = dropped; faults = faults }
+abbrev pub handled : Destination → Guest → List Fault → FinMap nat_cmp ℕ → List ℕ → List Copy → ℕ → ℕ → ℕ → Destination
+handled node guest held owed requests arrivals installed dropped faults =
+    record node { guest = guest; held = held; owed = owed; requests = requests; arrivals = arrivals; installed = installed; dropped = dropped; faults = faults }
 
 -- what such a destination has to keep
 pub record IsHandled (world : World) (guest : Guest) (owed : FinMap nat_cmp ℕ) (arrivals : List Copy) : Type 0 where
@@ -81,37 +84,37 @@ still_flowing source node new forward values copies old =
           last_of_three (contains source.remaining origin) (has_copy (copies_of forward) origin) (has_copy node.arrivals origin) (has_copy new.arrivals origin) (copies page origin h) (old.whereabouts was.0 origin was.1);
     }
 
-wires_handled : (from : SourcePhase) (to : DestPhase) (source : Source) (node : Destination) (forward back : List Sent) (guest : Guest) (owed : FinMap nat_cmp ℕ) (requests : List ℕ) (arrivals : List Copy) (installed dropped faults : ℕ) →
+wires_handled : (from : SourcePhase) (to : DestPhase) (source : Source) (node : Destination) (forward back : List Sent) (guest : Guest) (held : List Fault) (owed : FinMap nat_cmp ℕ) (requests : List ℕ) (arrivals : List Copy) (installed dropped faults : ℕ) →
     ((page origin : ℕ) → get owed page ≡ Some origin → (other : ℕ) × (get node.owed other ≡ Some origin)) →
     ((page origin : ℕ) → get owed page ≡ Some origin → has_copy node.arrivals origin ≡ true → has_copy arrivals origin ≡ true) →
     Wires (record source { phase = from }) (record node { phase = to }) forward back →
-    Wires (record source { phase = from }) (handled (record node { phase = to }) guest owed requests arrivals installed dropped faults) forward back
-wires_handled SourcePhase.Idle to source node forward back guest owed requests arrivals installed dropped faults values copies w = w
-wires_handled SourcePhase.Released to source node forward back guest owed requests arrivals installed dropped faults values copies w = w
-wires_handled SourcePhase.Precopy DestPhase.Idle source node forward back guest owed requests arrivals installed dropped faults values copies w = w
-wires_handled SourcePhase.Precopy DestPhase.Advised source node forward back guest owed requests arrivals installed dropped faults values copies w = w
-wires_handled SourcePhase.Precopy DestPhase.Discarding source node forward back guest owed requests arrivals installed dropped faults values copies w = w
-wires_handled SourcePhase.Precopy DestPhase.Running source node forward back guest owed requests arrivals installed dropped faults values copies w = w
-wires_handled SourcePhase.Precopy DestPhase.Paused source node forward back guest owed requests arrivals installed dropped faults values copies w = w
-wires_handled SourcePhase.Precopy DestPhase.Ended source node forward back guest owed requests arrivals installed dropped faults values copies w = w
-wires_handled SourcePhase.Stopped DestPhase.Idle source node forward back guest owed requests arrivals installed dropped faults values copies w = w
-wires_handled SourcePhase.Stopped DestPhase.Advised source node forward back guest owed requests arrivals installed dropped faults values copies w = w
-wires_handled SourcePhase.Stopped DestPhase.Discarding source node forward back guest owed requests arrivals installed dropped faults values copies w = w
-wires_handled SourcePhase.Stopped DestPhase.Running source node forward back guest owed requests arrivals installed dropped faults values copies w =
+    Wires (record source { phase = from }) (handled (record node { phase = to }) guest held owed requests arrivals installed dropped faults) forward back
+wires_handled SourcePhase.Idle to source node forward back guest held owed requests arrivals installed dropped faults values copies w = w
+wires_handled SourcePhase.Released to source node forward back guest held owed requests arrivals installed dropped faults values copies w = w
+wires_handled SourcePhase.Precopy DestPhase.Idle source node forward back guest held owed requests arrivals installed dropped faults values copies w = w
+wires_handled SourcePhase.Precopy DestPhase.Advised source node forward back guest held owed requests arrivals installed dropped faults values copies w = w
+wires_handled SourcePhase.Precopy DestPhase.Discarding source node forward back guest held owed requests arrivals installed dropped faults values copies w = w
+wires_handled SourcePhase.Precopy DestPhase.Running source node forward back guest held owed requests arrivals installed dropped faults values copies w = w
+wires_handled SourcePhase.Precopy DestPhase.Paused source node forward back guest held owed requests arrivals installed dropped faults values copies w = w
+wires_handled SourcePhase.Precopy DestPhase.Ended source node forward back guest held owed requests arrivals installed dropped faults values copies w = w
+wires_handled SourcePhase.Stopped DestPhase.Idle source node forward back guest held owed requests arrivals installed dropped faults values copies w = w
+wires_handled SourcePhase.Stopped DestPhase.Advised source node forward back guest held owed requests arrivals installed dropped faults values copies w = w
+wires_handled SourcePhase.Stopped DestPhase.Discarding source node forward back guest held owed requests arrivals installed dropped faults values copies w = w
+wires_handled SourcePhase.Stopped DestPhase.Running source node forward back guest held owed requests arrivals installed dropped faults values copies w =
     let old : Destination = record node { phase = DestPhase.Running } in
-    (w.0, w.1, still_flowing (record source { phase = SourcePhase.Stopped }) old (handled old guest owed requests arrivals installed dropped faults) forward values copies w.2)
-wires_handled SourcePhase.Stopped DestPhase.Paused source node forward back guest owed requests arrivals installed dropped faults values copies w = w
-wires_handled SourcePhase.Stopped DestPhase.Ended source node forward back guest owed requests arrivals installed dropped faults values copies w = w
-wires_handled SourcePhase.Paused DestPhase.Idle source node forward back guest owed requests arrivals installed dropped faults values copies w = w
-wires_handled SourcePhase.Paused DestPhase.Advised source node forward back guest owed requests arrivals installed dropped faults values copies w = w
-wires_handled SourcePhase.Paused DestPhase.Discarding source node forward back guest owed requests arrivals installed dropped faults values copies w = w
-wires_handled SourcePhase.Paused DestPhase.Running source node forward back guest owed requests arrivals installed dropped faults values copies w =
+    (w.0, w.1, still_flowing (record source { phase = SourcePhase.Stopped }) old (handled old guest held owed requests arrivals installed dropped faults) forward values copies w.2)
+wires_handled SourcePhase.Stopped DestPhase.Paused source node forward back guest held owed requests arrivals installed dropped faults values copies w = w
+wires_handled SourcePhase.Stopped DestPhase.Ended source node forward back guest held owed requests arrivals installed dropped faults values copies w = w
+wires_handled SourcePhase.Paused DestPhase.Idle source node forward back guest held owed requests arrivals installed dropped faults values copies w = w
+wires_handled SourcePhase.Paused DestPhase.Advised source node forward back guest held owed requests arrivals installed dropped faults values copies w = w
+wires_handled SourcePhase.Paused DestPhase.Discarding source node forward back guest held owed requests arrivals installed dropped faults values copies w = w
+wires_handled SourcePhase.Paused DestPhase.Running source node forward back guest held owed requests arrivals installed dropped faults values copies w =
     let old : Destination = record node { phase = DestPhase.Running } in
-    (w.0, still_receiving (record source { phase = SourcePhase.Paused }) old (handled old guest owed requests arrivals installed dropped faults) Received.Running back values w.1)
-wires_handled SourcePhase.Paused DestPhase.Paused source node forward back guest owed requests arrivals installed dropped faults values copies w = w
-wires_handled SourcePhase.Paused DestPhase.Ended source node forward back guest owed requests arrivals installed dropped faults values copies w =
+    (w.0, still_receiving (record source { phase = SourcePhase.Paused }) old (handled old guest held owed requests arrivals installed dropped faults) Received.Running back values w.1)
+wires_handled SourcePhase.Paused DestPhase.Paused source node forward back guest held owed requests arrivals installed dropped faults values copies w = w
+wires_handled SourcePhase.Paused DestPhase.Ended source node forward back guest held owed requests arrivals installed dropped faults values copies w =
     let old : Destination = record node { phase = DestPhase.Ended } in
-    (w.0, still_receiving (record source { phase = SourcePhase.Paused }) old (handled old guest owed requests arrivals installed dropped faults) Received.Ended back values w.1)
+    (w.0, still_receiving (record source { phase = SourcePhase.Paused }) old (handled old guest held owed requests arrivals installed dropped faults) Received.Ended back values w.1)
 
 -- The invariant
 
@@ -122,54 +125,45 @@ runs_memory : (runs : Bool) (world : World) → runs ≡ true → memory (curren
 runs_memory true world h = refl
 runs_memory false world h = absurd (false≢true h)
 
-pub kept-handled : (world : World) (guest : Guest) (owed : FinMap nat_cmp ℕ) (requests : List ℕ) (arrivals : List Copy) (installed dropped faults : ℕ) → IsKept world → world.destination.has_run ≡ true → IsHandled world guest owed arrivals →
-    IsKept (record world { destination = handled world.destination guest owed requests arrivals installed dropped faults })
-kept-handled world guest owed requests arrivals installed dropped faults kept runs new =
-    let node : Destination = handled world.destination guest owed requests arrivals installed dropped faults in
+pub kept-handled : (world : World) (guest : Guest) (held : List Fault) (owed : FinMap nat_cmp ℕ) (requests : List ℕ) (arrivals : List Copy) (installed dropped faults : ℕ) → IsSoundWorld world → world.destination.has_run ≡ true → IsHandled world guest owed arrivals →
+    IsSoundWorld (record world { destination = handled world.destination guest held owed requests arrivals installed dropped faults })
+kept-handled world guest held owed requests arrivals installed dropped faults kept runs new =
+    let node : Destination = handled world.destination guest held owed requests arrivals installed dropped faults in
     let next : World = record world { destination = node } in
     record {
-      flat = kept.flat;
-      holds = runs_memory world.destination.has_run next runs ∙ new.same_memory ∙ sym (runs_memory world.destination.has_run world runs) ∙ kept.holds;
-      source_space = kept.source_space;
-      destination_space = new.space;
-      both_modes = kept.both_modes;
-      unprotected = new.unprotected;
-      only_missing = new.only_missing;
-      source_events = kept.source_events;
-      destination_events = new.events;
-      destination_faults = new.faults;
-      source_phase = kept.source_phase;
-      destination_phase = kept.destination_phase;
-      ran_after_switch = kept.ran_after_switch;
-      ended_after_run = kept.ended_after_run;
-      source_quiet = kept.source_quiet;
-      before_switch = kept.before_switch;
-      end_sent = kept.end_sent;
-      remaining_present = kept.remaining_present;
-      ended_before = kept.ended_before;
-      paused_fresh = kept.paused_fresh;
-      idle_source = kept.idle_source;
-      not_run = λ h. ran_already world.destination.has_run runs h;
-      kept_none = kept.kept_none;
-      kept_advised = kept.kept_advised;
-      kept_whole = kept.kept_whole;
-      copies_whole = kept.copies_whole;
-      clean_protected = kept.clean_protected;
-      todo_sendable = kept.todo_sendable;
-      one_to_one = new.one_to_one;
-      owed_below = new.below;
-      origins_present = λ page origin h. let was = new.values page origin h in kept.origins_present was.0 origin was.1;
-      pairs_missing = new.missing;
-      arrivals_faithful = λ h. new.faithful;
-      flight_faithful = kept.flight_faithful;
-      ended_empty = new.ended;
-      released_empty = kept.released_empty;
-      down = kept.down;
-      wires = λ up. wires_handled world.source.phase world.destination.phase world.source world.destination world.forward world.back guest owed requests arrivals installed dropped faults new.values new.copies (kept.wires up);
-      forward_epoch = kept.forward_epoch;
-      back_epoch = kept.back_epoch;
+      memory = record {
+        flat = kept.memory.flat;
+        holds = runs_memory world.destination.has_run next runs ∙ new.same_memory ∙ sym (runs_memory world.destination.has_run world runs) ∙ kept.memory.holds;
+      };
+      spaces = record {
+        source_space = kept.spaces.source_space;
+        destination_space = new.space;
+        both_modes = kept.spaces.both_modes;
+        unprotected = new.unprotected;
+        only_missing = new.only_missing;
+        source_events = kept.spaces.source_events;
+        destination_events = new.events;
+        destination_faults = new.faults;
+      };
+      phases = kept.phases;
+      precopy = kept.precopy;
+      pushing = kept.pushing;
+      copies = kept.copies;
+      owing = record {
+        not_run = λ h. ran_already world.destination.has_run runs h;
+        one_to_one = new.one_to_one;
+        owed_below = new.below;
+        origins_present = λ page origin h. let was = new.values page origin h in kept.owing.origins_present was.0 origin was.1;
+        pairs_missing = new.missing;
+        arrivals_faithful = λ h. new.faithful;
+        ended_empty = new.ended;
+      };
+      flight = record {
+        flight_faithful = kept.flight.flight_faithful;
+        down = kept.flight.down;
+        wires = λ up. wires_handled world.source.phase world.destination.phase world.source world.destination world.forward world.back guest held owed requests arrivals installed dropped faults new.values new.copies (kept.flight.wires up);
+      };
       epochs = kept.epochs;
-      epoch_at = kept.epoch_at;
     }
 
 -- A message is read
@@ -193,87 +187,83 @@ empty-after message owed h =
 
 -- an event is read: the settled relation is as it was, and the owed table is what the event makes of it
 event_read : (message : Message) (cpu : ℕ) (events : List Noted) (world : World) (processors : List CpuState) (faults : ℕ) →
-    IsKept (at_queues [] (record { message = message; cpu = cpu } ∷ events) world) → world.destination.has_run ≡ true →
-    IsKept (record world { destination = handled world.destination (record (at_queues [] events world).destination.guest { processors = processors }) (owed_table_after message world.destination.owed) world.destination.requests world.destination.arrivals world.destination.installed world.destination.dropped faults })
+    IsSoundWorld (at_queues [] (record { message = message; cpu = cpu } ∷ events) world) → world.destination.has_run ≡ true →
+    IsSoundWorld (record world { destination = handled world.destination (record (at_queues [] events world).destination.guest { cpus = processors }) world.destination.held (owed_table_after message world.destination.owed) world.destination.requests world.destination.arrivals world.destination.installed world.destination.dropped faults })
 event_read message cpu events world processors faults kept runs =
     let noted : Noted = record { message = message; cpu = cpu } in
     let old : World = at_queues [] (noted ∷ events) world in
     let owed : FinMap nat_cmp ℕ = world.destination.owed in
-    let guest : Guest = record (at_queues [] events world).destination.guest { processors = processors } in
-    let right : AreRight (noted ∷ events) = kept.destination_events in
+    let guest : Guest = record (at_queues [] events world).destination.guest { cpus = processors } in
+    let right : AreRight (noted ∷ events) = kept.spaces.destination_events in
     let still : settled_by events (get (owed_table_after message owed)) ≡ settled_by (noted ∷ events) (get owed) = settled_by-applied noted events owed in
-    kept-handled old guest (owed_table_after message owed) world.destination.requests world.destination.arrivals world.destination.installed world.destination.dropped faults kept runs
+    kept-handled old guest world.destination.held (owed_table_after message owed) world.destination.requests world.destination.arrivals world.destination.installed world.destination.dropped faults kept runs
     (record {
-      space = IsSoundSpace-read old.destination.guest.space kept.destination_space;
-      unprotected = kept.unprotected;
-      only_missing = kept.only_missing;
+      space = IsSoundSpace-read old.destination.guest.space kept.spaces.destination_space;
+      unprotected = kept.spaces.unprotected;
+      only_missing = kept.spaces.only_missing;
       events = right.1;
-      faults = kept.destination_faults;
+      faults = kept.spaces.destination_faults;
       same_memory = ap (λ f. memory (seen_host world.destination.guest.space.host (space_of world.source).host f)) still;
       values = λ page origin h. values-after message (get owed) page origin (sym (get-owed_table_after message owed page) ∙ h);
-      one_to_one = λ page other origin h k. IsOneToOne-after message (get owed) kept.one_to_one page other origin (sym (get-owed_table_after message owed page) ∙ h) (sym (get-owed_table_after message owed other) ∙ k);
-      below = λ page origin h. owed_below-after message (get owed) right.0 kept.owed_below page origin (sym (get-owed_table_after message owed page) ∙ h);
+      one_to_one = λ page other origin h k. IsOneToOne-after message (get owed) kept.owing.one_to_one page other origin (sym (get-owed_table_after message owed page) ∙ h) (sym (get-owed_table_after message owed other) ∙ k);
+      below = λ page origin h. owed_below-after message (get owed) right.0 kept.owing.owed_below page origin (sym (get-owed_table_after message owed page) ∙ h);
       copies = λ page origin h k. k;
-      missing = λ page origin h. kept.pairs_missing page origin (sym (ap (λ f. f page) still) ∙ h);
-      faithful = kept.arrivals_faithful runs;
-      ended = λ h. let none = kept.ended_empty h in (empty-after message owed none.0, none.1);
+      missing = λ page origin h. kept.owing.pairs_missing page origin (sym (ap (λ f. f page) still) ∙ h);
+      faithful = kept.owing.arrivals_faithful runs;
+      ended = λ h. let none = kept.owing.ended_empty h in (empty-after message owed none.0, none.1);
     })
 
 -- a fault is only held
-fault_read : (noted : Noted) (faults events : List Noted) (world : World) (held : List Fault) (count : ℕ) → IsKept (at_queues (noted ∷ faults) events world) → world.destination.has_run ≡ true →
-    IsKept (record world { destination = handled world.destination (record (at_queues faults events world).destination.guest { held = held }) world.destination.owed world.destination.requests world.destination.arrivals world.destination.installed world.destination.dropped count })
+fault_read : (noted : Noted) (faults events : List Noted) (world : World) (held : List Fault) (count : ℕ) → IsSoundWorld (at_queues (noted ∷ faults) events world) → world.destination.has_run ≡ true →
+    IsSoundWorld (record world { destination = handled world.destination (at_queues faults events world).destination.guest held world.destination.owed world.destination.requests world.destination.arrivals world.destination.installed world.destination.dropped count })
 fault_read noted faults events world held count kept runs =
     let old : World = at_queues (noted ∷ faults) events world in
-    kept-handled old (record (at_queues faults events world).destination.guest { held = held }) world.destination.owed world.destination.requests world.destination.arrivals world.destination.installed world.destination.dropped count kept runs
+    kept-handled old (at_queues faults events world).destination.guest held world.destination.owed world.destination.requests world.destination.arrivals world.destination.installed world.destination.dropped count kept runs
     (record {
-      space = IsSoundSpace-read old.destination.guest.space kept.destination_space;
-      unprotected = kept.unprotected;
-      only_missing = kept.only_missing;
-      events = kept.destination_events;
-      faults = kept.destination_faults.1;
+      space = IsSoundSpace-read old.destination.guest.space kept.spaces.destination_space;
+      unprotected = kept.spaces.unprotected;
+      only_missing = kept.spaces.only_missing;
+      events = kept.spaces.destination_events;
+      faults = kept.spaces.destination_faults.1;
       same_memory = refl;
       values = λ page origin h. (page, h);
-      one_to_one = kept.one_to_one;
-      below = kept.owed_below;
+      one_to_one = kept.owing.one_to_one;
+      below = kept.owing.owed_below;
       copies = λ page origin h k. k;
-      missing = kept.pairs_missing;
-      faithful = kept.arrivals_faithful runs;
-      ended = kept.ended_empty;
+      missing = kept.owing.pairs_missing;
+      faithful = kept.owing.arrivals_faithful runs;
+      ended = kept.owing.ended_empty;
     })
 
-event_in : (message : Message) (cpu : ℕ) (events : List Noted) (world : World) → IsKept (at_queues [] (record { message = message; cpu = cpu } ∷ events) world) → world.destination.has_run ≡ true →
-    IsKept (accepted (at_queues [] (record { message = message; cpu = cpu } ∷ events) world) Step.DestRead)
-event_in (PageFault addr write wp) cpu events world kept runs = absurd (kept.destination_events.0)
+event_in : (message : Message) (cpu : ℕ) (events : List Noted) (world : World) → IsSoundWorld (at_queues [] (record { message = message; cpu = cpu } ∷ events) world) → world.destination.has_run ≡ true →
+    IsSoundWorld (after_dest_read (at_queues [] (record { message = message; cpu = cpu } ∷ events) world) (record { message = message; cpu = cpu }))
+event_in (PageFault addr write wp) cpu events world kept runs = absurd (kept.spaces.destination_events.0)
 event_in (Remap from to len) cpu events world kept runs =
-    event_read (Remap from to len) cpu events world (all_woken (is_left_by (Remap from to len)) (set world.destination.guest.processors cpu (message_less (processor_at world.destination.guest.processors cpu)))) (world.destination.faults + 0) kept runs
+    event_read (Remap from to len) cpu events world (all_woken (is_left_by (Remap from to len)) (set world.destination.guest.cpus cpu (message_less (processor_at world.destination.guest.cpus cpu)))) (world.destination.faults + 0) kept runs
 event_in (Remove start end) cpu events world kept runs =
-    event_read (Remove start end) cpu events world (all_woken (is_left_by (Remove start end)) (set world.destination.guest.processors cpu (message_less (processor_at world.destination.guest.processors cpu)))) (world.destination.faults + 0) kept runs
+    event_read (Remove start end) cpu events world (all_woken (is_left_by (Remove start end)) (set world.destination.guest.cpus cpu (message_less (processor_at world.destination.guest.cpus cpu)))) (world.destination.faults + 0) kept runs
 event_in (Unmap start end) cpu events world kept runs =
-    event_read (Unmap start end) cpu events world (all_woken (is_left_by (Unmap start end)) (set world.destination.guest.processors cpu (message_less (processor_at world.destination.guest.processors cpu)))) (world.destination.faults + 0) kept runs
+    event_read (Unmap start end) cpu events world (all_woken (is_left_by (Unmap start end)) (set world.destination.guest.cpus cpu (message_less (processor_at world.destination.guest.cpus cpu)))) (world.destination.faults + 0) kept runs
 
-fault_in : (message : Message) (cpu : ℕ) (faults events : List Noted) (world : World) → IsKept (at_queues (record { message = message; cpu = cpu } ∷ faults) events world) → world.destination.has_run ≡ true →
-    IsKept (accepted (at_queues (record { message = message; cpu = cpu } ∷ faults) events world) Step.DestRead)
+fault_in : (message : Message) (cpu : ℕ) (faults events : List Noted) (world : World) → IsSoundWorld (at_queues (record { message = message; cpu = cpu } ∷ faults) events world) → world.destination.has_run ≡ true →
+    IsSoundWorld (after_dest_read (at_queues (record { message = message; cpu = cpu } ∷ faults) events world) (record { message = message; cpu = cpu }))
 fault_in (PageFault addr write wp) cpu faults events world kept runs =
-    fault_read (record { message = PageFault addr write wp; cpu = cpu }) faults events world (world.destination.guest.held ++ record { page = addr / 4096; wp = wp } ∷ []) (world.destination.faults + 1) kept runs
-fault_in (Remap from to len) cpu faults events world kept runs = absurd kept.destination_faults.0
-fault_in (Remove start end) cpu faults events world kept runs = absurd kept.destination_faults.0
-fault_in (Unmap start end) cpu faults events world kept runs = absurd kept.destination_faults.0
+    fault_read (record { message = PageFault addr write wp; cpu = cpu }) faults events world (world.destination.held ++ record { page = addr / 4096; wp = wp } ∷ []) (world.destination.faults + 1) kept runs
+fault_in (Remap from to len) cpu faults events world kept runs = absurd kept.spaces.destination_faults.0
+fault_in (Remove start end) cpu faults events world kept runs = absurd kept.spaces.destination_faults.0
+fault_in (Unmap start end) cpu faults events world kept runs = absurd kept.spaces.destination_faults.0
 
-read_in : (faults events : List Noted) (world : World) → IsKept (at_queues faults events world) → world.destination.has_run ≡ true → IsKept (accepted (at_queues faults events world) Step.DestRead)
-read_in [] [] world kept runs = kept
-read_in [] (noted ∷ events) world kept runs = event_in noted.message noted.cpu events world kept runs
-read_in (noted ∷ faults) events world kept runs = fault_in noted.message noted.cpu faults events world kept runs
+pub some_is : (a b : Noted) → Some a ≡ Some b → a ≡ b
+some_is a b h = cc
 
--- the first test of the reasons does not hold
-pub first_holds_not : (test : Bool) (refusal : Refusal) (rest : Option Refusal) → (if test then Some refusal else rest) ≡ None → (test ≡ false) × (rest ≡ None)
-first_holds_not true refusal rest h = absurd (cc)
-first_holds_not false refusal rest h = (refl, h)
+pub none_is : (b : Noted) → None ≡ Some b → ⊥
+none_is b h = cc
 
-pub not_false : (b : Bool) → not b ≡ false → b ≡ true
-not_false true h = refl
-not_false false h = absurd (false≢true (sym h))
+read_in : (faults events : List Noted) (noted : Noted) (world : World) → next_of faults events ≡ Some noted → IsSoundWorld (at_queues faults events world) → world.destination.has_run ≡ true → IsSoundWorld (after_dest_read (at_queues faults events world) noted)
+read_in [] [] noted world is kept runs = absurd (none_is noted is)
+read_in [] (first ∷ events) noted world is kept runs = subst (λ m. IsSoundWorld (after_dest_read (at_queues [] (first ∷ events) world) m)) (some_is first noted is) (event_in first.message first.cpu events world kept runs)
+read_in (first ∷ faults) events noted world is kept runs =
+    subst (λ m. IsSoundWorld (after_dest_read (at_queues (first ∷ faults) events world) m)) (some_is first noted is) (fault_in first.message first.cpu faults events world kept runs)
 
-pub kept-dest_read : (world : World) → IsKept world → refusal_of world Step.DestRead ≡ None → IsKept (accepted world Step.DestRead)
-kept-dest_read world kept none =
-    let told = first_holds_not (not world.destination.has_run) Refusal.Phase _ none in
-    read_in world.destination.guest.space.object.faults world.destination.guest.space.object.events world kept (not_false world.destination.has_run told.0)
+pub kept-dest_read : (world : World) (noted : Noted) → IsSoundWorld world → next_message world.destination.guest.space.object ≡ Some noted → world.destination.has_run ≡ true → IsSoundWorld (after_dest_read world noted)
+kept-dest_read world noted kept is runs = read_in world.destination.guest.space.object.faults world.destination.guest.space.object.events noted world is kept runs

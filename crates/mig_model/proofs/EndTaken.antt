@@ -11,12 +11,13 @@ use Rattle.mig_base.specs.declared.phase.SourcePhase.{SourcePhase}
 use Rattle.mig_base.proofs.PageLemmas.{same_pages}
 use Rattle.mig_model.specs.Wire.{Sent, Copy}
 use Rattle.mig_model.specs.Wire.Frame.{End, Done}
-use Rattle.mig_model.specs.Nodes.{Source, no_pages}
-use Rattle.mig_model.specs.Migration.{World, delivered}
-use Rattle.mig_model.specs.Invariant.{Wires, IsKept, IsFlowing, AreOf, copies_of, has_copy, flow_of, RanAt}
+use Rattle.mig_model.specs.Migration.{World}
+use Rattle.mig_model.specs.Invariant.{Wires, IsSoundWorld, IsFlowing, AreOf, copies_of, has_copy, flow_of, RanAt}
 use Rattle.mig_model.specs.Invariant.Flow.{Pushed, AfterEnd}
 use Rattle.mig_model.proofs.WireLemmas.{AreOf-append, are_requests_and_done-push}
-use Rattle.mig_model.proofs.FirstFrame.{at_state, nothing_behind}
+use Rattle.mig_model.proofs.FirstFrame.{at_state, nothing_behind, delivered}
+use Rattle.mig_model.specs.Log.{no_pages}
+use Rattle.mig_model.specs.Source.{Source}
 
 eqb_true : (a b : ℕ) → eqb a b ≡ true → a ≡ b
 eqb_true a b h = grind (arith, nat_tests)
@@ -26,8 +27,8 @@ ends_by true h = refl
 ends_by false h = absurd (let e : Pushed ≡ AfterEnd = h in cc)
 
 -- a wire that gets past End is that of a source that has sent it in this epoch
-pub ended_now : (source : Source) → flow_of source ≡ AfterEnd → source.ended ≡ source.epoch
-ended_now source h = eqb_true source.ended source.epoch (ends_by (eqb source.ended source.epoch) h)
+pub ended_now : (source : Source) → flow_of source ≡ AfterEnd → source.end_epoch ≡ source.epoch
+ended_now source h = eqb_true source.end_epoch source.epoch (ends_by (eqb source.end_epoch source.epoch) h)
 
 -- no page remains, none is in flight and none waits
 pub nowhere : (remaining : FinSet nat_cmp) (rest : List Sent) (arrivals : List Copy) (origin : ℕ) → remaining ≡ no_pages → rest ≡ [] → arrivals ≡ [] →
@@ -43,17 +44,17 @@ none_owed (Some x) never = absurd (never x refl)
 
 pub end_taken : (epoch : ℕ) (rest : List Sent) (world : World) →
     let old : World = at_state SourcePhase.Stopped DestPhase.Running true true (record { epoch = epoch; frame = End } ∷ rest) world in
-    world.destination.arrivals ≡ [] → IsKept old → IsKept (delivered old old.forward)
+    world.destination.arrivals ≡ [] → IsSoundWorld old → IsSoundWorld (delivered old old.forward)
 end_taken epoch rest world free kept =
     let old : World = at_state SourcePhase.Stopped DestPhase.Running true true (record { epoch = epoch; frame = End } ∷ rest) world in
     let new : World = delivered old old.forward in
-    let w = kept.wires refl in
+    let w = kept.flight.wires refl in
     let last = nothing_behind rest (flow_of old.source) w.0 in
-    let ended : old.source.ended ≡ old.source.epoch = ended_now old.source last.1 in
+    let ended : old.source.end_epoch ≡ old.source.epoch = ended_now old.source last.1 in
     let flowing : IsFlowing old.source old.destination old.forward = w.2 in
     let no_pair : world.destination.owed ≡ finmap.empty =
     same_pages world.destination.owed finmap.empty (λ page.
-    none_owed (get world.destination.owed page) (λ origin h. nowhere world.source.remaining rest world.destination.arrivals origin (kept.end_sent ended) last.0 free (flowing.whereabouts page origin h))
+    none_owed (get world.destination.owed page) (λ origin h. nowhere world.source.remaining rest world.destination.arrivals origin (kept.pushing.end_sent ended) last.0 free (flowing.whereabouts page origin h))
     ∙ sym (get-empty nat_cmp page)) in
     let destination_phase : RanAt new.destination.phase new.destination.has_run new.destination.ended = refl in
     let ended_after_run : new.destination.ended ≡ true → new.destination.has_run ≡ true = λ h. refl in
@@ -62,6 +63,6 @@ end_taken epoch rest world free kept =
     let wires : new.up ≡ true → Wires new.source new.destination new.forward new.back =
     λ u. (last.0, are_requests_and_done-push world.back (record { epoch = world.destination.epoch; frame = Done }) refl w.1, ended) in
     let down : new.up ≡ false → (new.forward ≡ []) × (new.back ≡ []) × (new.source.phase ≢ SourcePhase.Idle) × (new.source.phase ≢ SourcePhase.Released) = λ h. absurd (false≢true (sym h)) in
-    let forward_epoch : AreOf new.source.epoch new.forward = kept.forward_epoch.1 in
-    let back_epoch : AreOf new.source.epoch new.back = AreOf-append world.source.epoch world.back (record { epoch = world.destination.epoch; frame = Done } ∷ []) kept.back_epoch (kept.epoch_at refl, tt) in
+    let forward_epoch : AreOf new.source.epoch new.forward = kept.epochs.forward_epoch.1 in
+    let back_epoch : AreOf new.source.epoch new.back = AreOf-append world.source.epoch world.back (record { epoch = world.destination.epoch; frame = Done } ∷ []) kept.epochs.back_epoch (kept.epochs.epoch_at refl, tt) in
     assumption

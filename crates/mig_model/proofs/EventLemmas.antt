@@ -15,13 +15,15 @@ use Rattle.mig_base.specs.Ranges.{in_range, lesser, pages_of, rounded}
 use Rattle.mig_base.specs.Flat.{reply_of}
 use Rattle.mig_base.proofs.ReplyLemmas.{mremap_told, mmap_inside, munmap_whole, dontneed_done, dontneed_hole}
 use Rattle.mig_model.specs.Host.{Host, memory, IsSound}
-use Rattle.mig_model.specs.Space.{Space, IsSoundSpace, is_watched, call_messages}
-use Rattle.mig_model.specs.Nodes.{owed_after}
+use Rattle.mig_model.specs.Space.{Space, IsSoundSpace, call_messages}
+use Rattle.mig_model.specs.Userfault.{is_watched}
 use Rattle.mig_model.proofs.CommandLemmas.{remapped_place}
 use Rattle.mig_model.proofs.SeenLemmas.{either_true, AreMapped, AreWatched, owed_none, watched_mapped}
 use Rattle.mig_model.proofs.SettledCalls.{AreInside, AllRight, settled_messages, right-append, right-told, gone, owed_changed, told_gone, unmap_right, remove_right}
 use Rattle.mig_model.proofs.CalledLemmas.{IsLaid, remapped_laid, settled_remapped, lesser_right}
 use Rattle.mig_model.proofs.CalledLemmas.IsLaid.{Stays, Goes}
+use Rattle.mig_model.specs.Log.{less}
+use Rattle.mig_model.specs.Owed.{owed_after}
 
 none_absurd : {A : Type 0} → false ≡ true → A
 none_absurd h = absurd (false≢true h)

@@ -6,7 +6,8 @@ use Rattle.mig_base.specs.declared.step.Step.TheVariants as step
 use Rattle.mig_base.specs.declared.step.Refusal.{Refusal}
 use Rattle.mig_base.specs.declared.step.Refusal.TheVariants.{NoCpu, Phase, CountUsed}
 use Rattle.mig_model.specs.Node.{is_idle, is_precopy, is_stopped}
-use Rattle.mig_model.specs.World.{World, first_world_with, may_issue, first_of, refusal_of, issued, started, switched, delivered, delivered_back, end_sent, next_by, next, after_steps}
+use Rattle.mig_model.specs.World.{World, first_world_with, may_issue, refusal_of, issued, started, switched, delivered, delivered_back, end_sent, next_by, next, after_steps}
+use Rattle.mig_base.specs.Tests.{first_holding}
 use Rattle.mig_model.specs.Kept.{IsKept}
 use Rattle.mig_model.proofs.WorldLemmas.{IsKept-first}
 use Rattle.mig_model.proofs.Issuing.{IsKept-issued}
@@ -23,11 +24,11 @@ not_false true h = refl
 not_false false h = sym h
 
 -- the first and the second test that no step passes which is accepted
-pub first_test : (a : Bool) (r : Refusal) (more : List (Bool × Refusal)) → first_of ((a, r) ∷ more) ≡ None → a ≡ false
+pub first_test : (a : Bool) (r : Refusal) (more : List (Bool × Refusal)) → first_holding ((a, r) ∷ more) ≡ None → a ≡ false
 first_test true r more h = absurd (cc)
 first_test false r more h = refl
 
-pub second_test : (a b : Bool) (r s : Refusal) → first_of ((a, r) ∷ (b, s) ∷ []) ≡ None → b ≡ false
+pub second_test : (a b : Bool) (r s : Refusal) → first_holding ((a, r) ∷ (b, s) ∷ []) ≡ None → b ≡ false
 second_test true b r s h = absurd (cc)
 second_test false true r s h = absurd (cc)
 second_test false false r s h = refl

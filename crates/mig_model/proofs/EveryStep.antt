@@ -4,12 +4,11 @@ use Rattle.mig_base.specs.declared.refusal.Refusal.{Refusal}
 use Rattle.mig_base.specs.declared.schedule.Side.{Side}
 use Rattle.mig_base.specs.declared.schedule.Step.{Step}
 use Rattle.mig_base.specs.declared.command.Command.{Command}
-use Rattle.mig_model.specs.Guest.{processor_at, outstanding}
-use Rattle.mig_model.specs.Migration.{World, first_world_with, reasons, refusal_of, accepted, next, next_by, after_steps, guest_of, command_tried, retried, runs}
-use Rattle.mig_model.specs.Invariant.{IsKept}
+use Rattle.mig_model.specs.Migration.{World, first_world_with, next, after_steps, after_command, runs, answer}
+use Rattle.mig_model.specs.Invariant.{IsSoundWorld}
 use Rattle.mig_model.specs.Promises.{IsReached, IsComplete}
-use Rattle.mig_model.proofs.Breaking.{none_applies, kept-break, kept-notice_source, kept-notice_destination, kept-reconnect}
-use Rattle.mig_model.proofs.Stopping.{none_absurd, not_none, kept-push, kept-serve, kept-send_end}
+use Rattle.mig_model.proofs.Breaking.{kept-break, kept-notice_source, kept-notice_destination, kept-resume}
+use Rattle.mig_model.proofs.Stopping.{none_absurd, kept-push, kept-serve, kept-end}
 use Rattle.mig_model.proofs.SwitchMade.{kept-switch}
 use Rattle.mig_model.proofs.FirstWorld.{kept-first}
 use Rattle.mig_model.proofs.DestinationCommands.{kept-command_at_destination}
@@ -23,6 +22,9 @@ use Rattle.mig_model.proofs.DestinationRead.{kept-dest_read}
 use Rattle.mig_model.proofs.DestinationAct.{kept-dest_act}
 use Rattle.mig_model.proofs.Installing.{kept-install}
 use Rattle.mig_model.proofs.StaysComplete.{complete-next}
+use Rattle.mig_model.proofs.StepLemmas.{Leaves, leaves-next}
+use Rattle.mig_model.proofs.StepCases.{made-break, made-deliver, made-deliver_back, made-dest_act, made-dest_read, made-end, made-install, made-issue, made-notice, made-push, made-resume, made-retry, made-round, made-send, made-serve, made-source_act, made-source_read, made-start, made-switch}
+use Rattle.mig_model.specs.Log.{present}
 
 -- Commands: the node that runs the guest makes them
 
@@ -31,63 +33,51 @@ runs_source false ran h none = refl
 runs_source true true h none = none_absurd (sym none)
 runs_source true false h none = none_absurd h
 
-command_by : (ran : Bool) (world : World) (cpu : ℕ) (command : Command) → world.destination.has_run ≡ ran → runs world ≡ true → IsKept world → IsKept (command_tried world cpu command)
+command_by : (ran : Bool) (world : World) (cpu : ℕ) (command : Command) → world.destination.has_run ≡ ran → runs world ≡ true → IsSoundWorld world → IsSoundWorld (after_command world cpu command)
 command_by true world cpu command is may kept = kept-command_at_destination world cpu command is kept
 command_by false world cpu command is may kept = kept-command_at_source world cpu command is (runs_source world.source.switched world.destination.has_run may is) kept
 
-kept-command : (world : World) (cpu : ℕ) (command : Command) → runs world ≡ true → IsKept world → IsKept (command_tried world cpu command)
+kept-command : (world : World) (cpu : ℕ) (command : Command) → runs world ≡ true → IsSoundWorld world → IsSoundWorld (after_command world cpu command)
 kept-command world cpu command may kept = command_by world.destination.has_run world cpu command refl may kept
 
-retry_by : (o : Option Command) (world : World) (cpu : ℕ) → is_some o ≡ true → runs world ≡ true → IsKept world → IsKept (retried world cpu o)
-retry_by None world cpu some may kept = none_absurd some
-retry_by (Some command) world cpu some may kept = kept-command world cpu command may kept
+pub kept-answer : (world : World) (step : Step) → IsSoundWorld world → Leaves IsSoundWorld (answer world step)
+kept-answer world (Step.Issue cpu command) kept = made-issue _ world cpu command (λ idle may. kept-command world cpu command may kept)
+kept-answer world (Step.Retry cpu) kept = made-retry _ world cpu (λ command waits woken may. kept-command world cpu command may kept)
+kept-answer world Step.Start kept = made-start _ world (λ idle. kept-start world kept idle)
+kept-answer world Step.Round kept = made-round _ world (λ precopy quiet. kept-round world kept precopy)
+kept-answer world Step.Send kept = made-send _ world (λ page is precopy up quiet. kept-send world page kept is precopy up quiet)
+kept-answer world Step.SourceRead kept = made-source_read _ world (λ noted is started unswitched. kept-source_read world noted kept is started unswitched)
+kept-answer world Step.SourceAct kept = made-source_act _ world (λ fault rest is started unswitched quiet. kept-source_act world fault kept started unswitched)
+kept-answer world Step.Switch kept = made-switch _ world (λ precopy up quiet. kept-switch world kept precopy up quiet)
+kept-answer world Step.Deliver kept = made-deliver _ world (λ sent rest is started up free. kept-deliver world sent rest kept is up free)
+kept-answer world Step.DeliverBack kept = made-deliver_back _ world (λ sent rest is started up. kept-deliver_back world sent rest kept is up)
+kept-answer world Step.DestRead kept = made-dest_read _ world (λ noted is ran. kept-dest_read world noted kept is ran)
+kept-answer world Step.DestAct kept = made-dest_act _ world (λ fault rest is ran quiet. kept-dest_act world fault rest kept is ran quiet)
+kept-answer world Step.Install kept = made-install _ world (λ copy rest is ran quiet. kept-install world copy rest kept is ran quiet)
+kept-answer world (Step.Push ticket) kept = made-push _ world ticket (λ stopped up own present remains. kept-push world ticket.page kept stopped up present remains)
+kept-answer world Step.Serve kept = made-serve _ world (λ page pages is stopped up. kept-serve world pages kept stopped)
+kept-answer world Step.End kept = made-end _ world (λ stopped other up none. kept-end world kept stopped up other none)
+kept-answer world Step.Break kept = made-break _ world (λ started unreleased up. kept-break world kept started unreleased)
+kept-answer world (Step.Notice Side.Source) kept = made-notice _ world Side.Source (λ started unreleased down. kept-notice_source world kept started down)
+kept-answer world (Step.Notice Side.Destination) kept = made-notice _ world Side.Destination (λ started unreleased down. kept-notice_destination world kept down)
+kept-answer world Step.Resume kept = made-resume _ world (λ from to down. kept-resume world kept from to down)
 
-pub kept-accepted : (world : World) (step : Step) → IsKept world → refusal_of world step ≡ None → IsKept (accepted world step)
-kept-accepted world (Step.Issue cpu command) kept free = let told = none_applies (reasons world (Step.Issue cpu command)) free in kept-command world cpu command (not_none _ told.1.1.0) kept
-kept-accepted world (Step.Retry cpu) kept free =
-    let told = none_applies (reasons world (Step.Retry cpu)) free in
-    retry_by (outstanding (processor_at (guest_of world).processors cpu)) world cpu (not_none _ told.1.0) (not_none _ told.1.1.1.0) kept
-kept-accepted world Step.Start kept free = kept-start world kept free
-kept-accepted world Step.Round kept free = kept-round world kept free
-kept-accepted world Step.Send kept free = kept-send world kept free
-kept-accepted world Step.SourceRead kept free = kept-source_read world kept free
-kept-accepted world Step.SourceAct kept free = kept-source_act world kept free
-kept-accepted world Step.Switch kept free = kept-switch world kept free
-kept-accepted world Step.Deliver kept free = kept-deliver world kept free
-kept-accepted world Step.DeliverBack kept free = kept-deliver_back world kept free
-kept-accepted world Step.DestRead kept free = kept-dest_read world kept free
-kept-accepted world Step.DestAct kept free = kept-dest_act world kept free
-kept-accepted world Step.Install kept free = kept-install world kept free
-kept-accepted world (Step.Push ticket) kept free = kept-push world ticket kept free
-kept-accepted world Step.Serve kept free = kept-serve world kept free
-kept-accepted world Step.End kept free = kept-send_end world kept free
-kept-accepted world Step.Break kept free = kept-break world kept free
-kept-accepted world (Step.Notice Side.Source) kept free = kept-notice_source world kept free
-kept-accepted world (Step.Notice Side.Destination) kept free = kept-notice_destination world kept free
-kept-accepted world Step.Resume kept free = kept-reconnect world kept free
+pub kept-next : (world : World) (step : Step) → IsSoundWorld world → IsSoundWorld (next world step)
+kept-next world step kept = leaves-next IsSoundWorld world step kept (kept-answer world step kept)
 
--- what holds of the old world, and of the new one where nothing refuses the step
-pub by_refusal : (P : World → Type 0) (refusal : Option Refusal) (old new : World) → P old → (refusal ≡ None → P new) → P (next_by refusal old new)
-by_refusal P None old new kept h = h refl
-by_refusal P (Some refusal) old new kept h = kept
-
-pub kept-next : (world : World) (step : Step) → IsKept world → IsKept (next world step)
-unfolding next
-kept-next world step kept = by_refusal IsKept (refusal_of world step) world (accepted world step) kept (kept-accepted world step kept)
-
-pub kept-after_steps : (world : World) (steps : List Step) → IsKept world → IsKept (after_steps world steps)
+pub kept-after_steps : (world : World) (steps : List Step) → IsSoundWorld world → IsSoundWorld (after_steps world steps)
 kept-after_steps world [] kept = kept
 kept-after_steps world (step ∷ steps) kept = kept-after_steps (next world step) steps (kept-next world step kept)
 
 -- every list of steps from a first world
-pub always : (cpus epoch rounds : ℕ) (steps : List Step) → IsKept (after_steps (first_world_with cpus epoch rounds) steps)
+pub always : (cpus epoch rounds : ℕ) (steps : List Step) → IsSoundWorld (after_steps (first_world_with cpus epoch rounds) steps)
 always cpus epoch rounds steps = kept-after_steps (first_world_with cpus epoch rounds) steps (kept-first cpus epoch rounds)
 
 -- every world that some list of steps leads to
-pub kept-reached : (world : World) → IsReached world → IsKept world
-kept-reached world reached = subst IsKept (sym reached.is) (always reached.cpus reached.epoch reached.rounds reached.steps)
+pub kept-reached : (world : World) → IsReached world → IsSoundWorld world
+kept-reached world reached = subst IsSoundWorld (sym reached.is) (always reached.cpus reached.epoch reached.rounds reached.steps)
 
 -- a migration that is complete stays so
-pub complete-after_steps : (world : World) (steps : List Step) → IsKept world → IsComplete world → IsComplete (after_steps world steps)
+pub complete-after_steps : (world : World) (steps : List Step) → IsSoundWorld world → IsComplete world → IsComplete (after_steps world steps)
 complete-after_steps world [] kept done = done
 complete-after_steps world (step ∷ steps) kept done = complete-after_steps (next world step) steps (kept-next world step kept) (complete-next world step kept done)

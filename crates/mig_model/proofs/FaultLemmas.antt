@@ -12,11 +12,11 @@ use Rattle.mig_base.specs.Flat.{reply_of}
 use Rattle.mig_model.specs.Host.{memory}
 use Rattle.mig_model.specs.Userfault.{Noted, Object, event_queued, fault_queued, waits_fault, message_read, read_by}
 use Rattle.mig_model.specs.Space.{Space, access_of, accessed, accessed_by, all_queued, call_messages, called, modes_after}
-use Rattle.mig_model.specs.Guest.{Guest, read_guest, space_by}
-use Rattle.mig_model.specs.Nodes.{Destination, Act, destination_acted_by, destination_read, home, install_by, install_made}
-use Rattle.mig_model.specs.Nodes.Act.{Unprotected, Zeroed, Woke, Forgot, Requested}
-use Rattle.mig_model.specs.Wire.{Copy}
+use Rattle.mig_model.specs.Guest.{Guest, read_guest, space_by, Act}
+use Rattle.mig_model.specs.Guest.Act.{Unprotected, Zeroed, Woke, Forgot, Requested}
 use Rattle.mig_model.specs.Invariant.{IsFault, AreFaults}
+use Rattle.mig_model.specs.Migration.{start}
+use Rattle.mig_model.specs.Destination.{Destination, destination_acted_by, destination_read}
 
 pub AreFaults-push : (faults : List Noted) (noted : Noted) → IsFault noted.message → AreFaults faults → AreFaults (faults ++ noted ∷ [])
 AreFaults-push [] noted is are = (is, tt)
@@ -88,11 +88,3 @@ AreFaults-acted Zeroed node page are = are
 AreFaults-acted Woke node page are = are
 AreFaults-acted Forgot node page are = are
 AreFaults-acted (Requested source) node page are = are
-
-install_faults : (o : Option ℕ) (node : Destination) (copy : Copy) (rest : List Copy) → AreFaults node.guest.space.object.faults → AreFaults (install_by o node copy rest).guest.space.object.faults
-install_faults None node copy rest are = are
-install_faults (Some page) node copy rest are = are
-
-pub AreFaults-install_made : (node : Destination) (copies : List Copy) → AreFaults node.guest.space.object.faults → AreFaults (install_made node copies).guest.space.object.faults
-AreFaults-install_made node [] are = are
-AreFaults-install_made node (copy ∷ rest) are = install_faults (home node.owed copy.page) node copy rest are

@@ -7,24 +7,25 @@ use Rattle.mig_base.specs.declared.phase.SourcePhase.{SourcePhase}
 use Rattle.mig_base.specs.declared.refusal.Refusal.{Refusal}
 use Rattle.mig_model.specs.Wire.{Frame, Sent, copy_in}
 use Rattle.mig_model.specs.Wire.Frame.{Page, Zero, Discard, Package, End, Resume}
-use Rattle.mig_model.specs.Nodes.{Source, Destination}
-use Rattle.mig_model.specs.Migration.{World, first_of}
+use Rattle.mig_model.specs.Migration.{World, after_deliver, after_deliver_back, next}
 use Rattle.mig_model.specs.Invariant.{Flow, flow_next, flow_after, Wires}
 use Rattle.mig_model.specs.Invariant.Flow.{BeforeAdvise, Copies, BeforePackage, Pushed, AfterEnd}
+use Rattle.mig_model.specs.Source.{Source}
+use Rattle.mig_model.specs.Destination.{Destination}
 
 -- a world with these phases and wires. Each world is one with its own
 abbrev pub at_state : SourcePhase → DestPhase → (ran up : Bool) → List Sent → World → World
 at_state from to ran up wire world =
     record world { source = record world.source { phase = from }; destination = record world.destination { phase = to; has_run = ran }; forward = wire; up = up }
 
--- Refusals: where there is none, the first test does not hold, nor do the others
+-- a world once the first frame of the wire is delivered, and once the first of the wire back is
+abbrev pub delivered : World → List Sent → World
+delivered world [] = world
+delivered world (sent ∷ rest) = after_deliver world sent rest
 
-tested : (test : Bool) (refusal : Refusal) (rest : Option Refusal) → cond test (Some refusal) rest ≡ None → (test ≡ false) × (rest ≡ None)
-tested true refusal rest h = absurd (let e : Some refusal ≡ None = h in cc)
-tested false refusal rest h = (refl, h)
-
-pub not_refused : (test : Bool) (refusal : Refusal) (rest : List (Bool × Refusal)) → first_of ((test, refusal) ∷ rest) ≡ None → (test ≡ false) × (first_of rest ≡ None)
-not_refused test refusal rest h = tested test refusal (first_of rest) h
+abbrev pub delivered_back : World → List Sent → World
+delivered_back world [] = world
+delivered_back world (sent ∷ rest) = after_deliver_back world sent rest
 
 -- Flows
 

@@ -21,13 +21,16 @@ use Rattle.mig_model.specs.Space.{fresh_space, IsSoundSpace}
 use Rattle.mig_model.specs.Guest.{is_present, is_changed_by}
 use Rattle.mig_model.specs.Wire.{Sent, kept_after}
 use Rattle.mig_model.specs.Wire.Frame.{Discard, Request, Recv}
-use Rattle.mig_model.specs.Nodes.{Source, no_pages, owed_after, settled_by, settled, released, space_of, present}
-use Rattle.mig_model.specs.Migration.{World, delivered_back}
-use Rattle.mig_model.specs.Invariant.{Wires, IsKept, IsPrecopying, IsSwitching, IsFlowing, AreOf, AreRight, AreFaithful, SwitchedAt, copies_of, has_copy, is_unread, are_requests, seen_host, current_host, flow_of}
+use Rattle.mig_model.specs.Migration.{World, start}
+use Rattle.mig_model.specs.Invariant.{Wires, IsSoundWorld, IsPrecopying, IsSwitching, IsFlowing, AreOf, AreRight, AreFaithful, SwitchedAt, copies_of, has_copy, is_unread, are_requests, seen_host, current_host, flow_of}
 use Rattle.mig_model.specs.Invariant.Flow.{AfterEnd, Pushed}
 use Rattle.mig_model.proofs.FrameLemmas.{discard_none}
 use Rattle.mig_model.proofs.SpaceLemmas.{IsSoundSpace-fresh}
-use Rattle.mig_model.proofs.FirstFrame.{none_some}
+use Rattle.mig_model.proofs.FirstFrame.{none_some, delivered_back}
+use Rattle.mig_model.specs.Log.{no_pages, present}
+use Rattle.mig_model.specs.Owed.{owed_after, settled_by}
+use Rattle.mig_model.specs.Source.{Source, released, space_of}
+use Rattle.mig_model.specs.Destination.{settled}
 
 -- a world with these phases and this wire back, whose link is up
 abbrev pub at_back : SourcePhase → DestPhase → (ran switched : Bool) → (forward back : List Sent) → World → World
@@ -45,13 +48,13 @@ none_in page h = absurd (false≢true (sym (contains-empty nat_cmp page) ∙ h))
 pub request_taken : (to : DestPhase) (ran switched : Bool) (epoch page : ℕ) (rest : List Sent) (world : World) →
     let old : World = at_back SourcePhase.Stopped to ran switched world.forward (record { epoch = epoch; frame = Request page } ∷ rest) world in
     let new : World = delivered_back old old.back in
-    IsKept old → Wires new.source new.destination new.forward new.back → IsKept new
+    IsSoundWorld old → Wires new.source new.destination new.forward new.back → IsSoundWorld new
 request_taken to ran switched epoch page rest world kept on_wires =
     let old : World = at_back SourcePhase.Stopped to ran switched world.forward (record { epoch = epoch; frame = Request page } ∷ rest) world in
     let new : World = delivered_back old old.back in
     let wires : new.up ≡ true → Wires new.source new.destination new.forward new.back = λ u. on_wires in
     let down : new.up ≡ false → (new.forward ≡ []) × (new.back ≡ []) × (new.source.phase ≢ SourcePhase.Idle) × (new.source.phase ≢ SourcePhase.Released) = λ h. absurd (not_up h) in
-    let back_epoch : AreOf new.source.epoch new.back = kept.back_epoch.1 in
+    let back_epoch : AreOf new.source.epoch new.back = kept.epochs.back_epoch.1 in
     assumption
 
 -- A source that is released
@@ -82,27 +85,27 @@ seen_alone here there other owed h = ap (seen_host here there) h ∙ sym (ap (se
 pub released_kept : (from : SourcePhase) (forward back rest : List Sent) (world : World) →
     let old : World = at_back from DestPhase.Ended true true forward back world in
     let new : World = record old { source = released old.source; back = rest } in
-    IsKept old → forward ≡ [] → rest ≡ [] → IsKept new
+    IsSoundWorld old → forward ≡ [] → rest ≡ [] → IsSoundWorld new
 released_kept from forward back rest world kept none last =
     let old : World = at_back from DestPhase.Ended true true forward back world in
     let new : World = record old { source = released old.source; back = rest } in
-    let ended : world.destination.ended ≡ true = kept.destination_phase in
-    let bare = kept.ended_empty ended in
+    let ended : world.destination.ended ≡ true = kept.phases.destination_phase in
+    let bare = kept.owing.ended_empty ended in
     let holds : memory (current_host new) ≡ memory_of new.transcript =
-    ap memory (seen_alone world.destination.guest.space.host fresh_space.host world.source.guest.space.host (settled world.destination) (settled_by-empty world.destination.guest.space.object.events world.destination.owed bare.0)) ∙ kept.holds in
+    ap memory (seen_alone world.destination.guest.space.host fresh_space.host world.source.guest.space.host (settled world.destination) (settled_by-empty world.destination.guest.space.object.events world.destination.owed bare.0)) ∙ kept.memory.holds in
     let source_space : IsSoundSpace (space_of new.source) = IsSoundSpace-fresh in
     let both_modes : (page : ℕ) → contains (space_of new.source).object.missing page ≡ contains (space_of new.source).object.protect page = λ page. refl in
     let source_events : AreRight (space_of new.source).object.events = tt in
     let source_phase : SwitchedAt new.source.phase new.source.switched = refl in
     let source_quiet : new.source.switched ≡ true → (space_of new.source).object.events ≡ [] = λ h. refl in
-    let before_switch : new.source.switched ≡ false → (new.source.remaining ≡ no_pages) × (new.source.ended ≢ new.source.epoch ⊎ (new.source.phase ≡ SourcePhase.Idle)) = λ h. absurd (not_up h) in
-    let end_sent : new.source.ended ≡ new.source.epoch → new.source.remaining ≡ no_pages = λ h. refl in
+    let before_switch : new.source.switched ≡ false → (new.source.remaining ≡ no_pages) × (new.source.end_epoch ≢ new.source.epoch ⊎ (new.source.phase ≡ SourcePhase.Idle)) = λ h. absurd (not_up h) in
+    let end_sent : new.source.end_epoch ≡ new.source.epoch → new.source.remaining ≡ no_pages = λ h. refl in
     let remaining_present : (page : ℕ) → contains new.source.remaining page ≡ true → is_present (space_of new.source) page ≡ true = λ page h. none_in page h in
-    let paused_fresh : new.up ≡ true → new.source.phase ≡ SourcePhase.Paused → new.source.ended ≢ new.source.epoch = λ u h. absurd (let e : SourcePhase.Released ≡ SourcePhase.Paused = h in cc) in
-    let idle_source : new.source.phase ≡ SourcePhase.Idle → (new.source.clean ≡ no_pages) × (new.source.todo ≡ no_pages) × (new.source.sent ≡ no_pages) × ((space_of new.source).object.events ≡ []) × ((page : ℕ) → contains (space_of new.source).object.missing page ≡ false) =
+    let paused_fresh : new.up ≡ true → new.source.phase ≡ SourcePhase.Paused → new.source.end_epoch ≢ new.source.epoch = λ u h. absurd (let e : SourcePhase.Released ≡ SourcePhase.Paused = h in cc) in
+    let idle_source : new.source.phase ≡ SourcePhase.Idle → (new.source.log.clean ≡ no_pages) × (new.source.log.todo ≡ no_pages) × (new.source.log.sent ≡ no_pages) × ((space_of new.source).object.events ≡ []) × ((page : ℕ) → contains (space_of new.source).object.missing page ≡ false) =
     λ h. absurd (let e : SourcePhase.Released ≡ SourcePhase.Idle = h in cc) in
-    let clean_protected : new.source.switched ≡ false → (page : ℕ) → contains new.source.clean page ≡ true → is_unread (space_of new.source).object.events page ≡ false → contains (space_of new.source).protected page ≡ true = λ h. absurd (not_up h) in
-    let todo_sendable : new.source.switched ≡ false → (page : ℕ) → contains new.source.todo page ≡ true → is_unread (space_of new.source).object.events page ≡ false → (is_present (space_of new.source) page ≡ true) × (contains (space_of new.source).object.protect page ≡ true) = λ h. absurd (not_up h) in
+    let clean_protected : new.source.switched ≡ false → (page : ℕ) → contains new.source.log.clean page ≡ true → is_unread (space_of new.source).object.events page ≡ false → contains (space_of new.source).protected page ≡ true = λ h. absurd (not_up h) in
+    let todo_sendable : new.source.switched ≡ false → (page : ℕ) → contains new.source.log.todo page ≡ true → is_unread (space_of new.source).object.events page ≡ false → (is_present (space_of new.source) page ≡ true) × (contains (space_of new.source).object.protect page ≡ true) = λ h. absurd (not_up h) in
     let origins_present : (page origin : ℕ) → get new.destination.owed page ≡ Some origin → is_present (space_of new.source) origin ≡ true =
     λ page origin h. absurd (none_some origin (sym (get-empty nat_cmp page) ∙ sym (ap (λ o. get o page) bare.0) ∙ h)) in
     let arrivals_faithful : new.destination.has_run ≡ true → AreFaithful (space_of new.source).host.bytes new.destination.arrivals = λ h. subst (AreFaithful fresh_space.host.bytes) (sym bare.1) tt in
@@ -121,19 +124,19 @@ no_copy page kept h = ap (λ k. contains_key k page) h ∙ ap is_some (get-empty
 -- it has not run, and the source still makes rounds: all is sent anew
 pub recv_precopy : (owed : FinSet nat_cmp) (epoch : ℕ) (rest : List Sent) (world : World) →
     let old : World = at_back SourcePhase.Paused DestPhase.Advised false false [] (record { epoch = epoch; frame = Recv Received.NotRun owed } ∷ rest) world in
-    IsKept old → rest ≡ [] → IsKept (delivered_back old old.back)
+    IsSoundWorld old → rest ≡ [] → IsSoundWorld (delivered_back old old.back)
 recv_precopy owed epoch rest world kept last =
     let old : World = at_back SourcePhase.Paused DestPhase.Advised false false [] (record { epoch = epoch; frame = Recv Received.NotRun owed } ∷ rest) world in
     let new : World = delivered_back old old.back in
-    let w = kept.wires refl in
+    let w = kept.flight.wires refl in
     let source_phase : SwitchedAt new.source.phase new.source.switched = refl in
-    let before_switch : new.source.switched ≡ false → (new.source.remaining ≡ no_pages) × (new.source.ended ≢ new.source.epoch ⊎ (new.source.phase ≡ SourcePhase.Idle)) =
-    λ h. ((kept.before_switch refl).0, inl (kept.paused_fresh refl refl)) in
-    let paused_fresh : new.up ≡ true → new.source.phase ≡ SourcePhase.Paused → new.source.ended ≢ new.source.epoch = λ u h. kept.paused_fresh refl refl in
-    let idle_source : new.source.phase ≡ SourcePhase.Idle → (new.source.clean ≡ no_pages) × (new.source.todo ≡ no_pages) × (new.source.sent ≡ no_pages) × ((space_of new.source).object.events ≡ []) × ((page : ℕ) → contains (space_of new.source).object.missing page ≡ false) =
+    let before_switch : new.source.switched ≡ false → (new.source.remaining ≡ no_pages) × (new.source.end_epoch ≢ new.source.epoch ⊎ (new.source.phase ≡ SourcePhase.Idle)) =
+    λ h. ((kept.pushing.before_switch refl).0, inl (kept.pushing.paused_fresh refl refl)) in
+    let paused_fresh : new.up ≡ true → new.source.phase ≡ SourcePhase.Paused → new.source.end_epoch ≢ new.source.epoch = λ u h. kept.pushing.paused_fresh refl refl in
+    let idle_source : new.source.phase ≡ SourcePhase.Idle → (new.source.log.clean ≡ no_pages) × (new.source.log.todo ≡ no_pages) × (new.source.log.sent ≡ no_pages) × ((space_of new.source).object.events ≡ []) × ((page : ℕ) → contains (space_of new.source).object.missing page ≡ false) =
     λ h. absurd (let e : SourcePhase.Precopy ≡ SourcePhase.Idle = h in cc) in
-    let clean_protected : new.source.switched ≡ false → (page : ℕ) → contains new.source.clean page ≡ true → is_unread (space_of new.source).object.events page ≡ false → contains (space_of new.source).protected page ≡ true = λ s page h. none_in page h in
-    let todo_sendable : new.source.switched ≡ false → (page : ℕ) → contains new.source.todo page ≡ true → is_unread (space_of new.source).object.events page ≡ false → (is_present (space_of new.source) page ≡ true) × (contains (space_of new.source).object.protect page ≡ true) = λ s page h. none_in page h in
+    let clean_protected : new.source.switched ≡ false → (page : ℕ) → contains new.source.log.clean page ≡ true → is_unread (space_of new.source).object.events page ≡ false → contains (space_of new.source).protected page ≡ true = λ s page h. none_in page h in
+    let todo_sendable : new.source.switched ≡ false → (page : ℕ) → contains new.source.log.todo page ≡ true → is_unread (space_of new.source).object.events page ≡ false → (is_present (space_of new.source) page ≡ true) × (contains (space_of new.source).object.protect page ≡ true) = λ s page h. none_in page h in
     let released_empty : new.source.phase ≡ SourcePhase.Released → (space_of new.source ≡ fresh_space) × (new.source.remaining ≡ no_pages) = λ h. absurd (let e : SourcePhase.Precopy ≡ SourcePhase.Released = h in cc) in
     let precopying : IsPrecopying new.source new.destination.kept new.forward =
     record {
@@ -142,15 +145,15 @@ recv_precopy owed epoch rest world kept last =
     } in
     let wires : new.up ≡ true → Wires new.source new.destination new.forward new.back = λ u. (refl, last, precopying) in
     let down : new.up ≡ false → (new.forward ≡ []) × (new.back ≡ []) × (new.source.phase ≢ SourcePhase.Idle) × (new.source.phase ≢ SourcePhase.Released) = λ h. absurd (not_up h) in
-    let back_epoch : AreOf new.source.epoch new.back = kept.back_epoch.1 in
+    let back_epoch : AreOf new.source.epoch new.back = kept.epochs.back_epoch.1 in
     assumption
 
 eqb_other : (a b : ℕ) → a ≢ b → eqb a b ≡ false
 eqb_other a b h = grind (arith, nat_tests)
 
 -- where End was not sent in this epoch
-flow_pushed : (source : Source) → source.ended ≢ source.epoch → Some Pushed ≡ Some (flow_of source)
-flow_pushed source h = sym (ap (λ t. Some (cond t AfterEnd Pushed)) (eqb_other source.ended source.epoch h))
+flow_pushed : (source : Source) → source.end_epoch ≢ source.epoch → Some Pushed ≡ Some (flow_of source)
+flow_pushed source h = sym (ap (λ t. Some (cond t AfterEnd Pushed)) (eqb_other source.end_epoch source.epoch h))
 
 -- what is present, and what is not
 present_tells : (low some : Bool) → (low && some) ≡ true → some ≡ true
@@ -176,19 +179,19 @@ nothing_kept kept page h =
 -- it has not run, and the source has stopped: a Package that owes all present pages
 pub recv_switched : (owed : FinSet nat_cmp) (epoch : ℕ) (rest : List Sent) (world : World) →
     let old : World = at_back SourcePhase.Paused DestPhase.Advised false true [] (record { epoch = epoch; frame = Recv Received.NotRun owed } ∷ rest) world in
-    IsKept old → rest ≡ [] → IsKept (delivered_back old old.back)
+    IsSoundWorld old → rest ≡ [] → IsSoundWorld (delivered_back old old.back)
 recv_switched owed epoch rest world kept last =
     let old : World = at_back SourcePhase.Paused DestPhase.Advised false true [] (record { epoch = epoch; frame = Recv Received.NotRun owed } ∷ rest) world in
     let new : World = delivered_back old old.back in
-    let w = kept.wires refl in
-    let fresh : world.source.ended ≢ world.source.epoch = kept.paused_fresh refl refl in
-    let sound : IsSound world.source.guest.space.host = kept.source_space.host in
+    let w = kept.flight.wires refl in
+    let fresh : world.source.end_epoch ≢ world.source.epoch = kept.pushing.paused_fresh refl refl in
+    let sound : IsSound world.source.guest.space.host = kept.spaces.source_space.host in
     let here : (page : ℕ) → contains (present world.source.guest.space) page ≡ (ltb page HIGH_PAGE && is_present world.source.guest.space page) = λ page. member_below _ HIGH_PAGE page in
     let source_phase : SwitchedAt new.source.phase new.source.switched = refl in
-    let before_switch : new.source.switched ≡ false → (new.source.remaining ≡ no_pages) × (new.source.ended ≢ new.source.epoch ⊎ (new.source.phase ≡ SourcePhase.Idle)) = λ h. absurd (not_up h) in
-    let end_sent : new.source.ended ≡ new.source.epoch → new.source.remaining ≡ no_pages = λ h. absurd (fresh h) in
-    let paused_fresh : new.up ≡ true → new.source.phase ≡ SourcePhase.Paused → new.source.ended ≢ new.source.epoch = λ u h. fresh in
-    let idle_source : new.source.phase ≡ SourcePhase.Idle → (new.source.clean ≡ no_pages) × (new.source.todo ≡ no_pages) × (new.source.sent ≡ no_pages) × ((space_of new.source).object.events ≡ []) × ((page : ℕ) → contains (space_of new.source).object.missing page ≡ false) =
+    let before_switch : new.source.switched ≡ false → (new.source.remaining ≡ no_pages) × (new.source.end_epoch ≢ new.source.epoch ⊎ (new.source.phase ≡ SourcePhase.Idle)) = λ h. absurd (not_up h) in
+    let end_sent : new.source.end_epoch ≡ new.source.epoch → new.source.remaining ≡ no_pages = λ h. absurd (fresh h) in
+    let paused_fresh : new.up ≡ true → new.source.phase ≡ SourcePhase.Paused → new.source.end_epoch ≢ new.source.epoch = λ u h. fresh in
+    let idle_source : new.source.phase ≡ SourcePhase.Idle → (new.source.log.clean ≡ no_pages) × (new.source.log.todo ≡ no_pages) × (new.source.log.sent ≡ no_pages) × ((space_of new.source).object.events ≡ []) × ((page : ℕ) → contains (space_of new.source).object.missing page ≡ false) =
     λ h. absurd (let e : SourcePhase.Stopped ≡ SourcePhase.Idle = h in cc) in
     let released_empty : new.source.phase ≡ SourcePhase.Released → (space_of new.source ≡ fresh_space) × (new.source.remaining ≡ no_pages) = λ h. absurd (let e : SourcePhase.Stopped ≡ SourcePhase.Released = h in cc) in
     let remaining_present : (page : ℕ) → contains new.source.remaining page ≡ true → is_present (space_of new.source) page ≡ true = λ page h. present_tells (ltb page HIGH_PAGE) (is_present world.source.guest.space page) (sym (here page) ∙ h) in
@@ -207,28 +210,28 @@ recv_switched owed epoch rest world kept last =
     let wires : new.up ≡ true → Wires new.source new.destination new.forward new.back = λ u. (flow_pushed world.source fresh, last, switching) in
     let down : new.up ≡ false → (new.forward ≡ []) × (new.back ≡ []) × (new.source.phase ≢ SourcePhase.Idle) × (new.source.phase ≢ SourcePhase.Released) = λ h. absurd (not_up h) in
     let forward_epoch : AreOf new.source.epoch new.forward = (refl, (refl, tt)) in
-    let back_epoch : AreOf new.source.epoch new.back = kept.back_epoch.1 in
+    let back_epoch : AreOf new.source.epoch new.back = kept.epochs.back_epoch.1 in
     assumption
 
 -- it runs: what it still needs is to be pushed
 pub recv_running : (owed : FinSet nat_cmp) (epoch : ℕ) (rest : List Sent) (world : World) →
     let old : World = at_back SourcePhase.Paused DestPhase.Running true true [] (record { epoch = epoch; frame = Recv Received.Running owed } ∷ rest) world in
-    IsKept old → are_requests rest ≡ true → ((page origin : ℕ) → get world.destination.owed page ≡ Some origin → contains owed origin ≡ true) →
-    ((page : ℕ) → contains owed page ≡ true → is_present world.source.guest.space page ≡ true) → IsKept (delivered_back old old.back)
+    IsSoundWorld old → are_requests rest ≡ true → ((page origin : ℕ) → get world.destination.owed page ≡ Some origin → contains owed origin ≡ true) →
+    ((page : ℕ) → contains owed page ≡ true → is_present world.source.guest.space page ≡ true) → IsSoundWorld (delivered_back old old.back)
 recv_running owed epoch rest world kept requests needed owed_present =
     let old : World = at_back SourcePhase.Paused DestPhase.Running true true [] (record { epoch = epoch; frame = Recv Received.Running owed } ∷ rest) world in
     let new : World = delivered_back old old.back in
-    let fresh : world.source.ended ≢ world.source.epoch = kept.paused_fresh refl refl in
+    let fresh : world.source.end_epoch ≢ world.source.epoch = kept.pushing.paused_fresh refl refl in
     let source_phase : SwitchedAt new.source.phase new.source.switched = refl in
-    let before_switch : new.source.switched ≡ false → (new.source.remaining ≡ no_pages) × (new.source.ended ≢ new.source.epoch ⊎ (new.source.phase ≡ SourcePhase.Idle)) = λ h. absurd (not_up h) in
-    let end_sent : new.source.ended ≡ new.source.epoch → new.source.remaining ≡ no_pages = λ h. absurd (fresh h) in
-    let paused_fresh : new.up ≡ true → new.source.phase ≡ SourcePhase.Paused → new.source.ended ≢ new.source.epoch = λ u h. fresh in
-    let idle_source : new.source.phase ≡ SourcePhase.Idle → (new.source.clean ≡ no_pages) × (new.source.todo ≡ no_pages) × (new.source.sent ≡ no_pages) × ((space_of new.source).object.events ≡ []) × ((page : ℕ) → contains (space_of new.source).object.missing page ≡ false) =
+    let before_switch : new.source.switched ≡ false → (new.source.remaining ≡ no_pages) × (new.source.end_epoch ≢ new.source.epoch ⊎ (new.source.phase ≡ SourcePhase.Idle)) = λ h. absurd (not_up h) in
+    let end_sent : new.source.end_epoch ≡ new.source.epoch → new.source.remaining ≡ no_pages = λ h. absurd (fresh h) in
+    let paused_fresh : new.up ≡ true → new.source.phase ≡ SourcePhase.Paused → new.source.end_epoch ≢ new.source.epoch = λ u h. fresh in
+    let idle_source : new.source.phase ≡ SourcePhase.Idle → (new.source.log.clean ≡ no_pages) × (new.source.log.todo ≡ no_pages) × (new.source.log.sent ≡ no_pages) × ((space_of new.source).object.events ≡ []) × ((page : ℕ) → contains (space_of new.source).object.missing page ≡ false) =
     λ h. absurd (let e : SourcePhase.Stopped ≡ SourcePhase.Idle = h in cc) in
     let released_empty : new.source.phase ≡ SourcePhase.Released → (space_of new.source ≡ fresh_space) × (new.source.remaining ≡ no_pages) = λ h. absurd (let e : SourcePhase.Stopped ≡ SourcePhase.Released = h in cc) in
     let remaining_present : (page : ℕ) → contains new.source.remaining page ≡ true → is_present (space_of new.source) page ≡ true = owed_present in
     let flowing : IsFlowing new.source new.destination new.forward = record { whereabouts = λ page origin h. ap (λ b. b || false || has_copy world.destination.arrivals origin) (needed page origin h) } in
     let wires : new.up ≡ true → Wires new.source new.destination new.forward new.back = λ u. (flow_pushed world.source fresh, requests, flowing) in
     let down : new.up ≡ false → (new.forward ≡ []) × (new.back ≡ []) × (new.source.phase ≢ SourcePhase.Idle) × (new.source.phase ≢ SourcePhase.Released) = λ h. absurd (not_up h) in
-    let back_epoch : AreOf new.source.epoch new.back = kept.back_epoch.1 in
+    let back_epoch : AreOf new.source.epoch new.back = kept.epochs.back_epoch.1 in
     assumption

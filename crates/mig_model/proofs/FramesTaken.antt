@@ -11,20 +11,24 @@ use Rattle.mig_base.specs.declared.phase.SourcePhase.{SourcePhase}
 use Rattle.mig_base.specs.declared.Prot.{Prot}
 use Rattle.mig_base.specs.declared.command.Command.{Command}
 use Rattle.mig_base.proofs.PageLemmas.{same_pages}
+use Rattle.mig_base.specs.Tests.{is_empty}
 use Rattle.mig_model.specs.Host.{IsSound}
 use Rattle.std.specs.Prelude.{length}
 use lib.ListN.{length-map}
-use Rattle.mig_model.specs.Guest.{is_present, outstanding}
+use Rattle.mig_model.specs.Guest.{is_present}
 use Rattle.mig_model.specs.Space.{Space}
 use Rattle.mig_model.specs.Wire.{Frame, Sent}
 use Rattle.mig_model.specs.Wire.Frame.{Advise, Page, Zero, Discard, Package, End, Resume, Request, Recv, Done}
-use Rattle.mig_model.specs.Nodes.{Source, Destination, space_of, commands_of, no_pages, is_stopped, is_source_paused}
 use Rattle.mig_model.specs.Migration.{World}
-use Rattle.mig_model.specs.Invariant.{IsKept, IsSwitching, IsFlowing, IsReceiving, EpochAt, AreOf, flow_of, is_request, is_done, is_none, are_requests, are_requests_and_done}
+use Rattle.mig_model.specs.Invariant.{IsSoundWorld, IsSwitching, IsFlowing, IsReceiving, EpochAt, AreOf, flow_of, is_request, is_done, are_requests, are_requests_and_done}
 use Rattle.mig_model.specs.Promises.{is_in_place, IsOwnEpoch, IsGood, IsTaken, IsInPlaceBack}
 use Rattle.mig_model.proofs.Stopping.{none_absurd, no_member}
 use Rattle.mig_model.proofs.FirstFrame.{comes, first_in_place, nothing_behind}
 use Rattle.mig_model.proofs.EndTaken.{ended_now, nowhere, none_owed}
+use Rattle.mig_model.specs.Cpus.{outstanding}
+use Rattle.mig_model.specs.Log.{no_pages, present}
+use Rattle.mig_model.specs.Source.{Source, commands_of, is_source_paused, is_stopped, space_of}
+use Rattle.mig_model.specs.Destination.{Destination}
 
 -- In place
 
@@ -86,17 +90,17 @@ kept_unless true bytes h = none_absurd h
 kept_unless false bytes h = h
 
 package_good : (source : Source) (node : Destination) (epoch : ℕ) (areas : FinMap nat_cmp Prot) (owed : FinSet nat_cmp) (commands : List (Option Command)) (rest : List Sent) → IsSound (space_of source).host →
-    IsSwitching source node.kept (record { epoch = epoch; frame = Package areas owed commands } ∷ rest) → length node.guest.processors ≡ length source.guest.processors → IsGood node (Package areas owed commands)
+    IsSwitching source node.kept (record { epoch = epoch; frame = Package areas owed commands } ∷ rest) → length node.guest.cpus ≡ length source.guest.cpus → IsGood node (Package areas owed commands)
 unfolding areas_in owed_in commands_in
 package_good source node epoch areas owed commands rest sound told many =
-    let plan = same_some (Package areas owed commands) (Package (space_of source).host.areas told.owed (commands_of source.guest.processors)) told.plan in
+    let plan = same_some (Package areas owed commands) (Package (space_of source).host.areas told.owed (commands_of source.guest.cpus)) told.plan in
     let same_areas : areas ≡ (space_of source).host.areas = ap (λ f. areas_in f areas) plan in
     let same_owed : owed ≡ told.owed = ap (λ f. owed_in f owed) plan in
     let among = λ (page : ℕ) (h : contains owed page ≡ true). ap (λ s. contains s page) (sym same_owed) ∙ h in (
       λ page h. ap is_some (told.kept_rest page) ∙ ap (λ b. is_some (cond b None (get (space_of source).host.bytes page))) (among page h),
       λ page h. ap (λ m. contains_key m page) same_areas ∙ mapped_of (space_of source) page sound (told.owed_present page (among page h)),
       λ page h. ap (λ m. contains_key m page) same_areas ∙ mapped_of (space_of source) page sound (kept_unless (contains told.owed page) (get (space_of source).host.bytes page) (sym (ap is_some (told.kept_rest page)) ∙ h)),
-      ap length (ap (λ f. commands_in f commands) plan) ∙ length-map source.guest.processors outstanding ∙ sym many,
+      ap length (ap (λ f. commands_in f commands) plan) ∙ length-map source.guest.cpus outstanding ∙ sym many,
     )
 
 -- a world in these phases, with this first frame
@@ -105,23 +109,23 @@ with_first from to epoch frame rest world = record world { source = record world
 
 -- both nodes have as many processors
 abbrev pub AreAsMany : World → Type 0
-AreAsMany world = length world.destination.guest.processors ≡ length world.source.guest.processors
+AreAsMany world = length world.destination.guest.cpus ≡ length world.source.guest.cpus
 
-end_good : (epoch : ℕ) (rest : List Sent) (world : World) → world.up ≡ true → IsKept (with_first SourcePhase.Stopped DestPhase.Running epoch End rest world) → world.destination.arrivals ≡ [] → world.destination.owed ≡ finmap.empty
+end_good : (epoch : ℕ) (rest : List Sent) (world : World) → world.up ≡ true → IsSoundWorld (with_first SourcePhase.Stopped DestPhase.Running epoch End rest world) → world.destination.arrivals ≡ [] → world.destination.owed ≡ finmap.empty
 end_good epoch rest world up kept free =
     let old = with_first SourcePhase.Stopped DestPhase.Running epoch End rest world in
-    let w = kept.wires up in
+    let w = kept.flight.wires up in
     let last = nothing_behind rest (flow_of old.source) w.0 in
-    let ended : old.source.ended ≡ old.source.epoch = ended_now old.source last.1 in
+    let ended : old.source.end_epoch ≡ old.source.epoch = ended_now old.source last.1 in
     let flowing : IsFlowing old.source old.destination old.forward = w.2 in
     same_pages world.destination.owed finmap.empty (λ page.
-    none_owed (get world.destination.owed page) (λ origin h. nowhere world.source.remaining rest world.destination.arrivals origin (kept.end_sent ended) last.0 free (flowing.whereabouts page origin h))
+    none_owed (get world.destination.owed page) (λ origin h. nowhere world.source.remaining rest world.destination.arrivals origin (kept.pushing.end_sent ended) last.0 free (flowing.whereabouts page origin h))
     ∙ sym (get-empty nat_cmp page))
 
-good_of : (from : SourcePhase) (to : DestPhase) (epoch : ℕ) (frame : Frame) (rest : List Sent) (world : World) → comes from to frame ≡ true → world.up ≡ true → IsKept (with_first from to epoch frame rest world) → AreAsMany world → IsGood (with_first from to epoch frame rest world).destination frame
+good_of : (from : SourcePhase) (to : DestPhase) (epoch : ℕ) (frame : Frame) (rest : List Sent) (world : World) → comes from to frame ≡ true → world.up ≡ true → IsSoundWorld (with_first from to epoch frame rest world) → AreAsMany world → IsGood (with_first from to epoch frame rest world).destination frame
 good_of SourcePhase.Stopped DestPhase.Discarding epoch (Package areas owed commands) rest world h up kept many =
     let old = with_first SourcePhase.Stopped DestPhase.Discarding epoch (Package areas owed commands) rest world in
-    package_good old.source old.destination epoch areas owed commands rest kept.source_space.host (kept.wires up).2 many
+    package_good old.source old.destination epoch areas owed commands rest kept.spaces.source_space.host (kept.flight.wires up).2 many
 good_of SourcePhase.Stopped DestPhase.Running epoch End rest world h up kept many = λ free. end_good epoch rest world up kept free
 good_of SourcePhase.Precopy DestPhase.Idle epoch End rest world h up kept many = none_absurd h
 good_of SourcePhase.Precopy DestPhase.Idle epoch (Package areas owed commands) rest world h up kept many = none_absurd h
@@ -137,17 +141,17 @@ good_of from to epoch (Recv state owed) rest world h up kept many = tt
 good_of from to epoch Done rest world h up kept many = tt
 good_of _ _ epoch _ rest world h up kept many = none_absurd h
 
-taken_in : (from : SourcePhase) (to : DestPhase) (epoch : ℕ) (frame : Frame) (rest : List Sent) (world : World) → world.up ≡ true → IsKept (with_first from to epoch frame rest world) → AreAsMany world → IsTaken (with_first from to epoch frame rest world).destination (record { epoch = epoch; frame = frame })
+taken_in : (from : SourcePhase) (to : DestPhase) (epoch : ℕ) (frame : Frame) (rest : List Sent) (world : World) → world.up ≡ true → IsSoundWorld (with_first from to epoch frame rest world) → AreAsMany world → IsTaken (with_first from to epoch frame rest world).destination (record { epoch = epoch; frame = frame })
 taken_in from to epoch frame rest world up kept many =
     let old = with_first from to epoch frame rest world in
-    let is = first_in_place old.source old.destination (record { epoch = epoch; frame = frame }) rest old.back (kept.wires up) in
+    let is = first_in_place old.source old.destination (record { epoch = epoch; frame = frame }) rest old.back (kept.flight.wires up) in
     let placed = place_of from to frame is in
-    record { in_place = placed; own_epoch = epoch_of to old.destination epoch world.source.epoch frame placed kept.forward_epoch.0 (kept.epoch_at up); good = good_of from to epoch frame rest world is up kept many }
+    record { in_place = placed; own_epoch = epoch_of to old.destination epoch world.source.epoch frame placed kept.epochs.forward_epoch.0 (kept.epochs.epoch_at up); good = good_of from to epoch frame rest world is up kept many }
 
 -- the first frame on the wire to the destination
-pub is_taken : (world : World) (sent : Sent) (rest : List Sent) → IsKept world → AreAsMany world → world.up ≡ true → world.forward ≡ sent ∷ rest → IsTaken world.destination sent
+pub is_taken : (world : World) (sent : Sent) (rest : List Sent) → IsSoundWorld world → AreAsMany world → world.up ≡ true → world.forward ≡ sent ∷ rest → IsTaken world.destination sent
 is_taken world sent rest kept many up first =
-    taken_in world.source.phase world.destination.phase sent.epoch sent.frame rest world up (subst (λ w. IsKept (record world { forward = w })) first kept) many
+    taken_in world.source.phase world.destination.phase sent.epoch sent.frame rest world up (subst (λ w. IsSoundWorld (record world { forward = w })) first kept) many
 
 -- The wire back
 
@@ -165,7 +169,7 @@ request_place : (frame : Frame) (node : Source) → is_stopped node.phase ≡ tr
 request_place (Request page) node stopped h = stopped
 request_place _ node stopped h = none_absurd h
 
-done_place : (frame : Frame) (node : Source) (more last : Bool) → is_stopped node.phase ≡ true → node.ended ≡ node.epoch → (is_request frame && more || is_done frame && last) ≡ true → IsInPlaceBack node frame
+done_place : (frame : Frame) (node : Source) (more last : Bool) → is_stopped node.phase ≡ true → node.end_epoch ≡ node.epoch → (is_request frame && more || is_done frame && last) ≡ true → IsInPlaceBack node frame
 done_place (Request page) node more last stopped ended h = stopped
 done_place Done node more last stopped ended h = (stopped, ended)
 done_place _ node more last stopped ended h = none_absurd h
@@ -178,34 +182,34 @@ recv_place frame state owed node paused present listed switched is = subst (IsIn
 abbrev with_back : SourcePhase → DestPhase → Sent → List Sent → World → World
 with_back from to sent rest world = record world { source = record world.source { phase = from }; destination = record world.destination { phase = to }; back = sent ∷ rest }
 
-back_in : (from : SourcePhase) (to : DestPhase) (sent : Sent) (rest : List Sent) (world : World) → world.up ≡ true → IsKept (with_back from to sent rest world) → IsInPlaceBack (with_back from to sent rest world).source sent.frame
-back_in SourcePhase.Stopped DestPhase.Running sent rest world up kept = request_place sent.frame (with_back SourcePhase.Stopped DestPhase.Running sent rest world).source refl (and_first (is_request sent.frame) (are_requests rest) (kept.wires up).1)
-back_in SourcePhase.Stopped DestPhase.Ended sent rest world up kept = done_place sent.frame (with_back SourcePhase.Stopped DestPhase.Ended sent rest world).source (are_requests_and_done rest) (is_none rest) refl (kept.wires up).2 (kept.wires up).1
-back_in SourcePhase.Stopped DestPhase.Idle sent rest world up kept = absurd (empty_first sent rest (kept.wires up).1)
-back_in SourcePhase.Stopped DestPhase.Advised sent rest world up kept = absurd (empty_first sent rest (kept.wires up).1)
-back_in SourcePhase.Stopped DestPhase.Discarding sent rest world up kept = absurd (empty_first sent rest (kept.wires up).1)
-back_in SourcePhase.Stopped DestPhase.Paused sent rest world up kept = absurd (kept.wires up)
+back_in : (from : SourcePhase) (to : DestPhase) (sent : Sent) (rest : List Sent) (world : World) → world.up ≡ true → IsSoundWorld (with_back from to sent rest world) → IsInPlaceBack (with_back from to sent rest world).source sent.frame
+back_in SourcePhase.Stopped DestPhase.Running sent rest world up kept = request_place sent.frame (with_back SourcePhase.Stopped DestPhase.Running sent rest world).source refl (and_first (is_request sent.frame) (are_requests rest) (kept.flight.wires up).1)
+back_in SourcePhase.Stopped DestPhase.Ended sent rest world up kept = done_place sent.frame (with_back SourcePhase.Stopped DestPhase.Ended sent rest world).source (are_requests_and_done rest) (is_empty rest) refl (kept.flight.wires up).2 (kept.flight.wires up).1
+back_in SourcePhase.Stopped DestPhase.Idle sent rest world up kept = absurd (empty_first sent rest (kept.flight.wires up).1)
+back_in SourcePhase.Stopped DestPhase.Advised sent rest world up kept = absurd (empty_first sent rest (kept.flight.wires up).1)
+back_in SourcePhase.Stopped DestPhase.Discarding sent rest world up kept = absurd (empty_first sent rest (kept.flight.wires up).1)
+back_in SourcePhase.Stopped DestPhase.Paused sent rest world up kept = absurd (kept.flight.wires up)
 back_in SourcePhase.Paused DestPhase.Advised sent rest world up kept =
-    recv_place sent.frame Received.NotRun no_pages (with_back SourcePhase.Paused DestPhase.Advised sent rest world).source refl (λ page h. none_absurd (sym (no_member page) ∙ h)) (λ other. refl) (λ other. absurd (other refl)) (first_is sent _ rest [] (kept.wires up).1)
+    recv_place sent.frame Received.NotRun no_pages (with_back SourcePhase.Paused DestPhase.Advised sent rest world).source refl (λ page h. none_absurd (sym (no_member page) ∙ h)) (λ other. refl) (λ other. absurd (other refl)) (first_is sent _ rest [] (kept.flight.wires up).1)
 back_in SourcePhase.Paused DestPhase.Running sent rest world up kept =
-    let told : IsReceiving (with_back SourcePhase.Paused DestPhase.Running sent rest world).source (with_back SourcePhase.Paused DestPhase.Running sent rest world).destination Received.Running (sent ∷ rest) = (kept.wires up).1 in
-    recv_place sent.frame Received.Running told.owed (with_back SourcePhase.Paused DestPhase.Running sent rest world).source refl told.owed_present told.none_listed (λ other. kept.ran_after_switch kept.destination_phase.0) (first_is sent _ rest told.rest told.first)
+    let told : IsReceiving (with_back SourcePhase.Paused DestPhase.Running sent rest world).source (with_back SourcePhase.Paused DestPhase.Running sent rest world).destination Received.Running (sent ∷ rest) = (kept.flight.wires up).1 in
+    recv_place sent.frame Received.Running told.owed (with_back SourcePhase.Paused DestPhase.Running sent rest world).source refl told.owed_present told.none_listed (λ other. kept.phases.ran_after_switch kept.phases.destination_phase.0) (first_is sent _ rest told.rest told.first)
 back_in SourcePhase.Paused DestPhase.Ended sent rest world up kept =
-    let told : IsReceiving (with_back SourcePhase.Paused DestPhase.Ended sent rest world).source (with_back SourcePhase.Paused DestPhase.Ended sent rest world).destination Received.Ended (sent ∷ rest) = (kept.wires up).1 in
-    recv_place sent.frame Received.Ended told.owed (with_back SourcePhase.Paused DestPhase.Ended sent rest world).source refl told.owed_present told.none_listed (λ other. kept.ran_after_switch (kept.ended_after_run kept.destination_phase)) (first_is sent _ rest told.rest told.first)
-back_in SourcePhase.Paused DestPhase.Idle sent rest world up kept = absurd (kept.wires up)
-back_in SourcePhase.Paused DestPhase.Discarding sent rest world up kept = absurd (kept.wires up)
-back_in SourcePhase.Paused DestPhase.Paused sent rest world up kept = absurd (empty_first sent rest (kept.wires up).1)
-back_in SourcePhase.Precopy DestPhase.Idle sent rest world up kept = absurd (empty_first sent rest (kept.wires up).1)
-back_in SourcePhase.Precopy DestPhase.Advised sent rest world up kept = absurd (empty_first sent rest (kept.wires up).1)
-back_in SourcePhase.Precopy _ sent rest world up kept = absurd (kept.wires up)
-back_in SourcePhase.Idle to sent rest world up kept = absurd (empty_first sent rest (kept.wires up).2)
-back_in SourcePhase.Released to sent rest world up kept = absurd (empty_first sent rest (kept.wires up).2)
+    let told : IsReceiving (with_back SourcePhase.Paused DestPhase.Ended sent rest world).source (with_back SourcePhase.Paused DestPhase.Ended sent rest world).destination Received.Ended (sent ∷ rest) = (kept.flight.wires up).1 in
+    recv_place sent.frame Received.Ended told.owed (with_back SourcePhase.Paused DestPhase.Ended sent rest world).source refl told.owed_present told.none_listed (λ other. kept.phases.ran_after_switch (kept.phases.ended_after_run kept.phases.destination_phase)) (first_is sent _ rest told.rest told.first)
+back_in SourcePhase.Paused DestPhase.Idle sent rest world up kept = absurd (kept.flight.wires up)
+back_in SourcePhase.Paused DestPhase.Discarding sent rest world up kept = absurd (kept.flight.wires up)
+back_in SourcePhase.Paused DestPhase.Paused sent rest world up kept = absurd (empty_first sent rest (kept.flight.wires up).1)
+back_in SourcePhase.Precopy DestPhase.Idle sent rest world up kept = absurd (empty_first sent rest (kept.flight.wires up).1)
+back_in SourcePhase.Precopy DestPhase.Advised sent rest world up kept = absurd (empty_first sent rest (kept.flight.wires up).1)
+back_in SourcePhase.Precopy _ sent rest world up kept = absurd (kept.flight.wires up)
+back_in SourcePhase.Idle to sent rest world up kept = absurd (empty_first sent rest (kept.flight.wires up).2)
+back_in SourcePhase.Released to sent rest world up kept = absurd (empty_first sent rest (kept.flight.wires up).2)
 
 -- the first frame on the wire back, and its epoch
-pub is_taken_back : (world : World) (sent : Sent) (rest : List Sent) → IsKept world → world.up ≡ true → world.back ≡ sent ∷ rest → IsInPlaceBack world.source sent.frame
+pub is_taken_back : (world : World) (sent : Sent) (rest : List Sent) → IsSoundWorld world → world.up ≡ true → world.back ≡ sent ∷ rest → IsInPlaceBack world.source sent.frame
 is_taken_back world sent rest kept up first =
-    back_in world.source.phase world.destination.phase sent rest world up (subst (λ w. IsKept (record world { back = w })) first kept)
+    back_in world.source.phase world.destination.phase sent rest world up (subst (λ w. IsSoundWorld (record world { back = w })) first kept)
 
-pub back_epoch : (world : World) (sent : Sent) (rest : List Sent) → IsKept world → world.back ≡ sent ∷ rest → sent.epoch ≡ world.source.epoch
-back_epoch world sent rest kept first = (subst (λ w. AreOf world.source.epoch w) first kept.back_epoch).0
+pub back_epoch : (world : World) (sent : Sent) (rest : List Sent) → IsSoundWorld world → world.back ≡ sent ∷ rest → sent.epoch ≡ world.source.epoch
+back_epoch world sent rest kept first = (subst (λ w. AreOf world.source.epoch w) first kept.epochs.back_epoch).0

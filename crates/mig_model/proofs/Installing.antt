@@ -18,16 +18,23 @@ use Rattle.mig_base.proofs.SetLemmas.{member_below}
 use Rattle.mig_model.specs.Host.{Host, memory}
 use Rattle.mig_model.specs.Userfault.{Noted}
 use Rattle.mig_model.specs.Space.{Space, IsSoundSpace}
+use Rattle.mig_model.specs.Ioctls.{put_pages}
 use Rattle.mig_model.specs.Ioctls.{put_pages, installed as pages_installed}
-use Rattle.mig_model.specs.Guest.{Guest, all_woken, is_present}
+use Rattle.mig_model.specs.Guest.{Guest, is_present}
 use Rattle.mig_model.specs.Wire.{Copy}
-use Rattle.mig_model.specs.Nodes.{space_of, home, install_by, without_request}
-use Rattle.mig_model.specs.Migration.{World, accepted, effect_of, refusal_of, install_effect_by, outcome, outcome_by, next, next_by}
-use Rattle.mig_model.specs.Invariant.{IsKept, AreFaithful, has_copy, seen_host, seen_bytes}
+use Rattle.mig_model.specs.Migration.{World, outcome, next, after_install, install_effect, is_changing, runs}
+use Rattle.mig_model.specs.Invariant.{IsSoundWorld, AreFaithful, has_copy, seen_host, seen_bytes}
 use Rattle.mig_model.specs.Promises.{IsPut}
 use Rattle.mig_model.proofs.IoctlLemmas.{IsSoundSpace-installed, get-put_pages}
 use Rattle.mig_model.proofs.SettledLemmas.{none_some, none_absurd, eqb_true, eqb-refl, home_tells, home-none}
-use Rattle.mig_model.proofs.DestinationRead.{kept-handled, first_holds_not, not_false}
+use Rattle.mig_model.proofs.DestinationRead.{kept-handled}
+use Rattle.mig_model.proofs.StepLemmas.{holds-effect}
+use Rattle.mig_model.proofs.StepCases.{made-install}
+use Rattle.mig_model.specs.Cpus.{all_woken}
+use Rattle.mig_model.specs.Log.{present}
+use Rattle.mig_model.specs.Owed.{home, without_request}
+use Rattle.mig_model.specs.Source.{space_of}
+use Rattle.mig_model.specs.Destination.{install_by}
 
 -- One page put
 
@@ -135,92 +142,90 @@ record HasHome (world : World) (copy : Copy) (page : ℕ) : Type 0 where
   missing : is_present world.destination.guest.space page ≡ false
   same : get (space_of world.source).host.bytes copy.page ≡ Some copy.bytes
 
-has_home : (copy : Copy) (rest : List Copy) (world : World) (page : ℕ) → IsKept (at_copies [] (copy ∷ rest) world) → world.destination.has_run ≡ true → home world.destination.owed copy.page ≡ Some page → HasHome (at_copies [] (copy ∷ rest) world) copy page
+has_home : (copy : Copy) (rest : List Copy) (world : World) (page : ℕ) → IsSoundWorld (at_copies [] (copy ∷ rest) world) → world.destination.has_run ≡ true → home world.destination.owed copy.page ≡ Some page → HasHome (at_copies [] (copy ∷ rest) world) copy page
 has_home copy rest world page kept runs found =
     let pair : get world.destination.owed page ≡ Some copy.page = home_tells world.destination.owed copy.page page found in
-    let alone = kept.pairs_missing page copy.page pair in
-    let faithful : AreFaithful (space_of world.source).host.bytes (copy ∷ rest) = kept.arrivals_faithful runs in
+    let alone = kept.owing.pairs_missing page copy.page pair in
+    let faithful : AreFaithful (space_of world.source).host.bytes (copy ∷ rest) = kept.owing.arrivals_faithful runs in
     record { pair = pair; registered = alone.0; missing = alone.1; same = faithful.0 }
 
-put_there : (copy : Copy) (rest : List Copy) (world : World) (page : ℕ) → IsKept (at_copies [] (copy ∷ rest) world) → world.destination.has_run ≡ true → home world.destination.owed copy.page ≡ Some page →
-    IsKept (record (at_copies [] (copy ∷ rest) world) { destination = install_by (Some page) (at_copies [] (copy ∷ rest) world).destination copy rest })
+put_there : (copy : Copy) (rest : List Copy) (world : World) (page : ℕ) → IsSoundWorld (at_copies [] (copy ∷ rest) world) → world.destination.has_run ≡ true → home world.destination.owed copy.page ≡ Some page →
+    IsSoundWorld (record (at_copies [] (copy ∷ rest) world) { destination = install_by (Some page) (at_copies [] (copy ∷ rest) world).destination copy rest })
 put_there copy rest world page kept runs found =
     let old : World = at_copies [] (copy ∷ rest) world in
     let space : Space = old.destination.guest.space in
     let owed : FinMap nat_cmp ℕ = world.destination.owed in
     let new : Space = pages_installed space page 1 (λ i. copy.bytes) false in
-    let guest : Guest = record old.destination.guest { space = new; processors = all_woken (λ q. eqb q page) world.destination.guest.processors } in
+    let guest : Guest = record old.destination.guest { space = new; cpus = all_woken (λ q. eqb q page) world.destination.guest.cpus } in
     let there = has_home copy rest world page kept runs found in
-    let faithful : AreFaithful (space_of world.source).host.bytes (copy ∷ rest) = kept.arrivals_faithful runs in
-    kept-handled old guest (finmap.remove owed page) (without_request world.destination.requests copy.page) rest (world.destination.installed + 1) world.destination.dropped world.destination.faults kept runs
+    let faithful : AreFaithful (space_of world.source).host.bytes (copy ∷ rest) = kept.owing.arrivals_faithful runs in
+    kept-handled old guest world.destination.held (finmap.remove owed page) (without_request world.destination.requests copy.page) rest (world.destination.installed + 1) world.destination.dropped world.destination.faults kept runs
     (record {
-      space = put-sound space page copy.bytes (kept.destination_space.mapped page (or_first (contains space.object.missing page) (contains space.object.protect page) there.registered)) (kept.source_space.host.whole copy.page copy.bytes there.same) kept.destination_space;
-      unprotected = put-unprotected space page copy.bytes kept.unprotected;
-      only_missing = kept.only_missing;
+      space = put-sound space page copy.bytes (kept.spaces.destination_space.mapped page (or_first (contains space.object.missing page) (contains space.object.protect page) there.registered)) (kept.spaces.source_space.host.whole copy.page copy.bytes there.same) kept.spaces.destination_space;
+      unprotected = put-unprotected space page copy.bytes kept.spaces.unprotected;
+      only_missing = kept.spaces.only_missing;
       events = tt;
-      faults = kept.destination_faults;
+      faults = kept.spaces.destination_faults;
       same_memory = memory-put space.host (space_of world.source).host owed page copy.page copy.bytes (missing_none (get space.host.bytes page) there.missing) there.pair there.same;
       values = λ q origin h. (q, (left owed page q origin h).1);
-      one_to_one = λ q other origin h k. kept.one_to_one q other origin (left owed page q origin h).1 (left owed page other origin k).1;
-      below = λ q origin h. kept.owed_below q origin (left owed page q origin h).1;
+      one_to_one = λ q other origin h k. kept.owing.one_to_one q other origin (left owed page q origin h).1 (left owed page other origin k).1;
+      below = λ q origin h. kept.owing.owed_below q origin (left owed page q origin h).1;
       copies = λ q origin h k.
           let was = left owed page q origin h in
           behind_first (eqb copy.page origin) (has_copy rest origin)
           (λ e.
           let here : get owed page ≡ Some origin = there.pair ∙ ap Some (eqb_true copy.page origin e) in
-          let one = kept.one_to_one q page origin was.1 here in
+          let one = kept.owing.one_to_one q page origin was.1 here in
           false≢true (sym was.0 ∙ ap (λ n. eqb n page) one ∙ eqb-refl page)) k;
       missing = λ q origin h.
           let was = left owed page q origin h in
-          let alone = kept.pairs_missing q origin was.1 in
+          let alone = kept.owing.pairs_missing q origin was.1 in
           (alone.0, put-missing space page q copy.bytes was.0 alone.1);
       faithful = faithful.1;
-      ended = λ h. absurd (some_first copy rest (kept.ended_empty h).1);
+      ended = λ h. absurd (some_first copy rest (kept.owing.ended_empty h).1);
     })
 
-given_up : (copy : Copy) (rest : List Copy) (world : World) → IsKept (at_copies [] (copy ∷ rest) world) → world.destination.has_run ≡ true → home world.destination.owed copy.page ≡ None →
-    IsKept (record (at_copies [] (copy ∷ rest) world) { destination = install_by None (at_copies [] (copy ∷ rest) world).destination copy rest })
+given_up : (copy : Copy) (rest : List Copy) (world : World) → IsSoundWorld (at_copies [] (copy ∷ rest) world) → world.destination.has_run ≡ true → home world.destination.owed copy.page ≡ None →
+    IsSoundWorld (record (at_copies [] (copy ∷ rest) world) { destination = install_by None (at_copies [] (copy ∷ rest) world).destination copy rest })
 given_up copy rest world kept runs lost =
     let old : World = at_copies [] (copy ∷ rest) world in
-    let faithful : AreFaithful (space_of world.source).host.bytes (copy ∷ rest) = kept.arrivals_faithful runs in
-    kept-handled old old.destination.guest world.destination.owed world.destination.requests rest world.destination.installed (world.destination.dropped + 1) world.destination.faults kept runs
+    let faithful : AreFaithful (space_of world.source).host.bytes (copy ∷ rest) = kept.owing.arrivals_faithful runs in
+    kept-handled old old.destination.guest world.destination.held world.destination.owed world.destination.requests rest world.destination.installed (world.destination.dropped + 1) world.destination.faults kept runs
     (record {
-      space = kept.destination_space;
-      unprotected = kept.unprotected;
-      only_missing = kept.only_missing;
+      space = kept.spaces.destination_space;
+      unprotected = kept.spaces.unprotected;
+      only_missing = kept.spaces.only_missing;
       events = tt;
-      faults = kept.destination_faults;
+      faults = kept.spaces.destination_faults;
       same_memory = refl;
       values = λ q origin h. (q, h);
-      one_to_one = kept.one_to_one;
-      below = kept.owed_below;
+      one_to_one = kept.owing.one_to_one;
+      below = kept.owing.owed_below;
       copies = λ q origin h k.
           behind_first (eqb copy.page origin) (has_copy rest origin)
-          (λ e. home-none world.destination.owed copy.page q lost (kept.owed_below q origin h) (h ∙ ap Some (sym (eqb_true copy.page origin e)))) k;
-      missing = kept.pairs_missing;
+          (λ e. home-none world.destination.owed copy.page q lost (kept.owing.owed_below q origin h) (h ∙ ap Some (sym (eqb_true copy.page origin e)))) k;
+      missing = kept.owing.pairs_missing;
       faithful = faithful.1;
-      ended = λ h. absurd (some_first copy rest (kept.ended_empty h).1);
+      ended = λ h. absurd (some_first copy rest (kept.owing.ended_empty h).1);
     })
 
-install_at : (o : Option ℕ) (copy : Copy) (rest : List Copy) (world : World) → IsKept (at_copies [] (copy ∷ rest) world) → world.destination.has_run ≡ true → home world.destination.owed copy.page ≡ o →
-    IsKept (record (at_copies [] (copy ∷ rest) world) { destination = install_by o (at_copies [] (copy ∷ rest) world).destination copy rest })
+install_at : (o : Option ℕ) (copy : Copy) (rest : List Copy) (world : World) → IsSoundWorld (at_copies [] (copy ∷ rest) world) → world.destination.has_run ≡ true → home world.destination.owed copy.page ≡ o →
+    IsSoundWorld (record (at_copies [] (copy ∷ rest) world) { destination = install_by o (at_copies [] (copy ∷ rest) world).destination copy rest })
 install_at None copy rest world kept runs found = given_up copy rest world kept runs found
 install_at (Some page) copy rest world kept runs found = put_there copy rest world page kept runs found
 
 pub none_changing : (n : ℕ) → ltb 0 (suc n) ≡ false → ⊥
 none_changing n h = grind (arith, nat_tests)
 
-install_in : (events : List Noted) (arrivals : List Copy) (world : World) → IsKept (at_copies events arrivals world) → world.destination.has_run ≡ true → ltb 0 (length events) ≡ false → IsKept (accepted (at_copies events arrivals world) Step.Install)
-install_in (noted ∷ events) arrivals world kept runs quiet = absurd (none_changing (length events) quiet)
-install_in [] [] world kept runs quiet = kept
-install_in [] (copy ∷ rest) world kept runs quiet = install_at (home world.destination.owed copy.page) copy rest world kept runs refl
+install_in : (events : List Noted) (copy : Copy) (rest : List Copy) (world : World) → IsSoundWorld (at_copies events (copy ∷ rest) world) → world.destination.has_run ≡ true → ltb 0 (length events) ≡ false →
+    IsSoundWorld (after_install (at_copies events (copy ∷ rest) world) copy rest)
+install_in (noted ∷ events) copy rest world kept runs quiet = absurd (none_changing (length events) quiet)
+install_in [] copy rest world kept runs quiet = install_at (home world.destination.owed copy.page) copy rest world kept runs refl
 
-pub kept-install : (world : World) → IsKept world → refusal_of world Step.Install ≡ None → IsKept (accepted world Step.Install)
-kept-install world kept none =
-    let ran = first_holds_not (not world.destination.has_run) Refusal.Phase _ none in
-    let some = first_holds_not _ Refusal.NothingThere _ ran.1 in
-    let quiet = first_holds_not (ltb 0 (length world.destination.guest.space.object.events)) Refusal.Changing _ some.1 in
-    install_in world.destination.guest.space.object.events world.destination.arrivals world kept (not_false world.destination.has_run ran.0) quiet.0
+pub kept-install : (world : World) (copy : Copy) (rest : List Copy) → IsSoundWorld world → world.destination.arrivals ≡ copy ∷ rest → world.destination.has_run ≡ true → is_changing world.destination.guest ≡ false → IsSoundWorld (after_install world copy rest)
+kept-install world copy rest kept first runs quiet =
+    let events = world.destination.guest.space.object.events in
+    subst (λ arrivals. IsSoundWorld (at_copies events arrivals world) → IsSoundWorld (after_install (at_copies events arrivals world) copy rest)) (sym first) (λ now. install_in events copy rest world now runs quiet) kept
 
 -- What was put
 
@@ -230,14 +235,11 @@ same_effect a b c d h = (cc, cc)
 dropped_not : (a c d : ℕ) → Effect.Dropped a ≡ Effect.Installed c d → ⊥
 dropped_not a c d h = cc
 
-end_not : (c d : ℕ) → Effect.EndSent ≡ Effect.Installed c d → ⊥
-end_not c d h = cc
-
 page_again : (addr page : ℕ) → 4096 * page ≡ addr → page ≡ addr / 4096
 page_again addr page h = omega arith
 
-put_at : (o : Option ℕ) (copy : Copy) (rest : List Copy) (world : World) (addr source : ℕ) → IsKept (at_copies [] (copy ∷ rest) world) → world.destination.has_run ≡ true → home world.destination.owed copy.page ≡ o →
-    install_effect_by o copy.page ≡ Effect.Installed addr source →
+put_at : (o : Option ℕ) (copy : Copy) (rest : List Copy) (world : World) (addr source : ℕ) → IsSoundWorld (at_copies [] (copy ∷ rest) world) → world.destination.has_run ≡ true → home world.destination.owed copy.page ≡ o →
+    install_effect o copy.page ≡ Effect.Installed addr source →
     IsPut (at_copies [] (copy ∷ rest) world) (record (at_copies [] (copy ∷ rest) world) { destination = install_by o (at_copies [] (copy ∷ rest) world).destination copy rest }) (addr / 4096) (source / 4096)
 put_at None copy rest world addr source kept runs found same = absurd (dropped_not (4096 * copy.page) addr source same)
 put_at (Some page) copy rest world addr source kept runs found same =
@@ -251,7 +253,7 @@ put_at (Some page) copy rest world addr source kept runs found same =
     let put : IsPut old new page copy.page =
     record {
       missing = there.missing;
-      mapped = kept.destination_space.mapped page (or_first (contains space.object.missing page) (contains space.object.protect page) there.registered);
+      mapped = kept.spaces.destination_space.mapped page (or_first (contains space.object.missing page) (contains space.object.protect page) there.registered);
       registered = there.registered;
       owed = there.pair;
       source = there.same ∙ sym now;
@@ -259,27 +261,21 @@ put_at (Some page) copy rest world addr source kept runs found same =
     } in
     subst (λ p. IsPut old new p (source / 4096)) (page_again addr page both.0) (subst (λ p. IsPut old new page p) (page_again source copy.page both.1) put)
 
-put_in : (events : List Noted) (arrivals : List Copy) (world : World) (addr source : ℕ) → IsKept (at_copies events arrivals world) → world.destination.has_run ≡ true → ltb 0 (length events) ≡ false →
-    effect_of (at_copies events arrivals world) Step.Install ≡ Effect.Installed addr source → IsPut (at_copies events arrivals world) (accepted (at_copies events arrivals world) Step.Install) (addr / 4096) (source / 4096)
-put_in (noted ∷ events) arrivals world addr source kept runs quiet same = absurd (none_changing (length events) quiet)
-put_in [] [] world addr source kept runs quiet same = absurd (end_not addr source same)
-put_in [] (copy ∷ rest) world addr source kept runs quiet same = put_at (home world.destination.owed copy.page) copy rest world addr source kept runs refl same
+put_in : (events : List Noted) (copy : Copy) (rest : List Copy) (world : World) (addr source : ℕ) → IsSoundWorld (at_copies events (copy ∷ rest) world) → world.destination.has_run ≡ true → ltb 0 (length events) ≡ false →
+    install_effect (home world.destination.owed copy.page) copy.page ≡ Effect.Installed addr source →
+    IsPut (at_copies events (copy ∷ rest) world) (after_install (at_copies events (copy ∷ rest) world) copy rest) (addr / 4096) (source / 4096)
+put_in (noted ∷ events) copy rest world addr source kept runs quiet same = absurd (none_changing (length events) quiet)
+put_in [] copy rest world addr source kept runs quiet same = put_at (home world.destination.owed copy.page) copy rest world addr source kept runs refl same
+
+install_put : (world : World) (copy : Copy) (rest : List Copy) (addr source : ℕ) → IsSoundWorld world → world.destination.arrivals ≡ copy ∷ rest → world.destination.has_run ≡ true → is_changing world.destination.guest ≡ false →
+    install_effect (home world.destination.owed copy.page) copy.page ≡ Effect.Installed addr source → IsPut world (after_install world copy rest) (addr / 4096) (source / 4096)
+install_put world copy rest addr source kept first runs quiet same =
+    let events = world.destination.guest.space.object.events in
+    subst (λ arrivals. IsSoundWorld (at_copies events arrivals world) → IsPut (at_copies events arrivals world) (after_install (at_copies events arrivals world) copy rest) (addr / 4096) (source / 4096)) (sym first)
+    (λ now. put_in events copy rest world addr source now runs quiet same) kept
 
 -- an Install that answers Installed has put a page that was missing just before
-pub install_put : (world : World) (addr source : ℕ) → IsKept world → refusal_of world Step.Install ≡ None → effect_of world Step.Install ≡ Effect.Installed addr source → IsPut world (accepted world Step.Install) (addr / 4096) (source / 4096)
-install_put world addr source kept none same =
-    let ran = first_holds_not (not world.destination.has_run) Refusal.Phase _ none in
-    let some = first_holds_not _ Refusal.NothingThere _ ran.1 in
-    let quiet = first_holds_not (ltb 0 (length world.destination.guest.space.object.events)) Refusal.Changing _ some.1 in
-    put_in world.destination.guest.space.object.events world.destination.arrivals world addr source kept (not_false world.destination.has_run ran.0) quiet.0 same
-
-outcome_told : (o : Option Refusal) (effect other : Effect) → outcome_by o effect ≡ Ok other → (o ≡ None) × (effect ≡ other)
-outcome_told None effect other h = (refl, cc)
-outcome_told (Some refusal) effect other h = absurd (cc)
-
--- the same for what a step answers, and the world after it
-pub install_put_next : (world : World) (addr source : ℕ) → IsKept world → outcome world Step.Install ≡ Ok (Effect.Installed addr source) → IsPut world (next world Step.Install) (addr / 4096) (source / 4096)
-unfolding outcome next
+pub install_put_next : (world : World) (addr source : ℕ) → IsSoundWorld world → outcome world Step.Install ≡ Ok (Effect.Installed addr source) → IsPut world (next world Step.Install) (addr / 4096) (source / 4096)
 install_put_next world addr source kept answered =
-    let told = outcome_told (refusal_of world Step.Install) (effect_of world Step.Install) (Effect.Installed addr source) answered in
-    subst (λ o. IsPut world (next_by o world (accepted world Step.Install)) (addr / 4096) (source / 4096)) (sym told.0) (install_put world addr source kept told.0 told.1)
+    holds-effect (λ effect new. effect ≡ Effect.Installed addr source → IsPut world new (addr / 4096) (source / 4096)) world Step.Install (Effect.Installed addr source)
+    (made-install _ world (λ copy rest first runs quiet same. install_put world copy rest addr source kept first runs quiet same)) answered refl

@@ -17,8 +17,10 @@ use Rattle.mig_base.proofs.RangeLemmas.{none_below_tells}
 use Rattle.mig_base.proofs.SetLemmas.{member_without, member_below}
 use Rattle.mig_model.specs.Userfault.{Object, Noted, Mode, is_registered, has_modes, registered_where, message_read, read_by, enabled_with}
 use Rattle.mig_model.specs.Space.{Space, IsSoundSpace}
-use Rattle.mig_model.specs.Ioctls.{first_error, left_by, mode_of, is_every, is_mapped_in, registered_in, registered, register_error, unregistered_in, range_unregistered, unregister_error, handshake_error, handshaken, put_pages, handed, missing_run, installed, same_bool, same_area, is_one_area, copy_errors, copy_error, copied, zeropage_errors, zeropage_error, zeropaged, protected_in, writeprotect_errors, writeprotect_error, write_protected, read_error, read_space}
+use Rattle.mig_model.specs.Ioctls.{left_by, mode_of, is_mapped_in, registered_in, registered, register_error, unregistered_in, range_unregistered, unregister_error, handshake_error, handshaken, put_pages, handed, missing_run, installed, same_area, is_one_area, copy_errors, copy_error, copied, zeropage_errors, zeropage_error, zeropaged, protected_in, writeprotect_errors, writeprotect_error, write_protected, read_error, read_space}
+use Rattle.mig_base.specs.Tests.{first_holding, same_bool, is_every}
 use Rattle.mig_model.proofs.HostLemmas.{get-put}
+use Rattle.mig_model.specs.Log.{present}
 
 none_absurd : {A : Type 0} → false ≡ true → A
 none_absurd h = absurd (false≢true h)
@@ -272,9 +274,9 @@ abbrev pub NoneHolds : List (Bool × Errno) → Type 0
 NoneHolds [] = Unit {0}
 NoneHolds (error ∷ errors) = (error.0 ≡ false) × NoneHolds errors
 
-pub none_holds : (errors : List (Bool × Errno)) → first_error errors ≡ None → NoneHolds errors
+pub none_holds : (errors : List (Bool × Errno)) → first_holding errors ≡ None → NoneHolds errors
 none_holds [] h = tt
-none_holds (error ∷ errors) h = let one = error_none error.0 error.1 (first_error errors) h in (one.0, none_holds errors one.1)
+none_holds (error ∷ errors) h = let one = error_none error.0 error.1 (first_holding errors) h in (one.0, none_holds errors one.1)
 
 -- a call that is refused leaves the space, so it is enough to look at one that is not
 left_sound : (error : Option Errno) (old new : Space) → IsSoundSpace old → (error ≡ None → IsSoundSpace new) → IsSoundSpace (left_by error old new)

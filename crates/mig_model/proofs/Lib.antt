@@ -3,6 +3,8 @@ pub mod HostLemmas
 pub mod CommandLemmas
 pub mod SpaceLemmas
 pub mod IoctlLemmas
+pub mod StepLemmas
+pub mod StepCases
 pub mod Breaking
 pub mod SendingLemmas
 pub mod Stopping
@@ -44,6 +46,7 @@ pub mod SourceSending
 pub mod PartsChanged
 pub mod PromiseLemmas
 pub mod StaysComplete
+pub mod WirePromises
 pub mod FrameLemmas
 pub mod WorldLemmas
 pub mod Issuing

@@ -21,10 +21,13 @@ use Rattle.mig_model.specs.Space.{fresh_space, IsSoundSpace}
 use Rattle.mig_model.specs.Guest.{is_present}
 use Rattle.mig_model.specs.Wire.{Sent}
 use Rattle.mig_model.specs.Wire.Frame.{Package}
-use Rattle.mig_model.specs.Nodes.{Source, no_pages, assembled, own_places, settled, space_of, commands_of}
-use Rattle.mig_model.specs.Migration.{World, delivered}
-use Rattle.mig_model.specs.Invariant.{Wires, IsKept, IsSwitching, AreOf, AreRight, AreFaults, AreFaithful, copies_of, has_copy, RanAt, are_requests, seen_host, seen_bytes, current_host}
-use Rattle.mig_model.proofs.FirstFrame.{at_state, none_some}
+use Rattle.mig_model.specs.Migration.{World}
+use Rattle.mig_model.specs.Invariant.{Wires, IsSoundWorld, IsSwitching, AreOf, AreRight, AreFaults, AreFaithful, copies_of, has_copy, RanAt, are_requests, seen_host, seen_bytes, current_host}
+use Rattle.mig_model.proofs.FirstFrame.{at_state, none_some, delivered}
+use Rattle.mig_model.specs.Log.{no_pages, present}
+use Rattle.mig_model.specs.Owed.{own_places}
+use Rattle.mig_model.specs.Source.{Source, commands_of, space_of}
+use Rattle.mig_model.specs.Destination.{assembled, settled}
 
 -- Owed pages at their own places
 
@@ -177,7 +180,7 @@ record IsPlan (source : Source) (kept : FinMap nat_cmp (List ℕ)) (rest : List 
 plan_of : (source : Source) (kept : FinMap nat_cmp (List ℕ)) (rest : List Sent) (epoch : ℕ) (areas : FinMap nat_cmp Prot) (owed : FinSet nat_cmp) (commands : List (Option Command)) →
     IsSwitching source kept (record { epoch = epoch; frame = Package areas owed commands } ∷ rest) → IsPlan source kept rest areas owed
 plan_of source kept rest epoch areas owed commands w =
-    let plan : Some (Package areas owed commands) ≡ Some (Package (space_of source).host.areas w.owed (commands_of source.guest.processors)) = w.plan in
+    let plan : Some (Package areas owed commands) ≡ Some (Package (space_of source).host.areas w.owed (commands_of source.guest.cpus)) = w.plan in
     let same_owed : w.owed ≡ owed = cc in
     record {
       same = cc;
@@ -189,24 +192,24 @@ plan_of source kept rest epoch areas owed commands w =
 
 pub package_taken : (epoch : ℕ) (areas : FinMap nat_cmp Prot) (owed : FinSet nat_cmp) (commands : List (Option Command)) (rest : List Sent) (world : World) →
     let old : World = at_state SourcePhase.Stopped DestPhase.Discarding false true (record { epoch = epoch; frame = Package areas owed commands } ∷ rest) world in
-    IsKept old → IsKept (delivered old old.forward)
+    IsSoundWorld old → IsSoundWorld (delivered old old.forward)
 package_taken epoch areas owed commands rest world kept =
     let old : World = at_state SourcePhase.Stopped DestPhase.Discarding false true (record { epoch = epoch; frame = Package areas owed commands } ∷ rest) world in
     let new : World = delivered old old.forward in
     let host : Host = world.source.guest.space.host in
     let pages : FinMap nat_cmp (List ℕ) = world.destination.kept in
-    let w = kept.wires refl in
-    let sound : IsSound host = kept.source_space.host in
+    let w = kept.flight.wires refl in
+    let sound : IsSound host = kept.spaces.source_space.host in
     let plan : IsPlan old.source pages rest areas owed = plan_of old.source pages rest epoch areas owed commands w.2 in
-    let not_ended : world.destination.ended ≡ false = not_true world.destination.ended (λ e. false≢true (kept.ended_after_run e)) in
-    let holds : memory (current_host new) ≡ memory_of new.transcript = ap memory (seen_source host owed areas pages plan.same plan.kept_rest sound) ∙ kept.holds in
-    let destination_space : IsSoundSpace new.destination.guest.space = IsSoundSpace-assembled areas pages (sound_rest host owed areas pages plan.same plan.kept_rest sound kept.kept_whole) in
+    let not_ended : world.destination.ended ≡ false = not_true world.destination.ended (λ e. false≢true (kept.phases.ended_after_run e)) in
+    let holds : memory (current_host new) ≡ memory_of new.transcript = ap memory (seen_source host owed areas pages plan.same plan.kept_rest sound) ∙ kept.memory.holds in
+    let destination_space : IsSoundSpace new.destination.guest.space = IsSoundSpace-assembled areas pages (sound_rest host owed areas pages plan.same plan.kept_rest sound kept.copies.kept_whole) in
     let unprotected : (page : ℕ) → contains new.destination.guest.space.protected page ≡ false = λ page. contains-empty nat_cmp page in
     let only_missing : (page : ℕ) → contains new.destination.guest.space.object.protect page ≡ false = assembled_protect areas pages in
     let destination_events : AreRight new.destination.guest.space.object.events = tt in
     let destination_faults : AreFaults new.destination.guest.space.object.faults = tt in
     let destination_phase : RanAt new.destination.phase new.destination.has_run new.destination.ended = (refl, not_ended) in
-    let ran_after_switch : new.destination.has_run ≡ true → new.source.switched ≡ true = λ h. kept.source_phase in
+    let ran_after_switch : new.destination.has_run ≡ true → new.source.switched ≡ true = λ h. kept.phases.source_phase in
     let ended_after_run : new.destination.ended ≡ true → new.destination.has_run ≡ true = λ h. refl in
     let not_run : new.destination.has_run ≡ false → (new.destination.owed ≡ finmap.empty) × (new.destination.guest.space ≡ fresh_space) × (new.destination.arrivals ≡ []) = λ h. absurd (false≢true (sym h)) in
     let kept_none : new.destination.has_run ≡ true → new.destination.kept ≡ finmap.empty = λ h. refl in
@@ -225,7 +228,7 @@ package_taken epoch areas owed commands rest world kept =
       ap is_some (plan.kept_rest page ∙ owed_none (contains owed page) (get host.bytes page) own.1),
     ) in
     let arrivals_faithful : new.destination.has_run ≡ true → AreFaithful new.source.guest.space.host.bytes new.destination.arrivals =
-    λ h. subst (AreFaithful host.bytes) (sym (kept.not_run refl).2) tt in
+    λ h. subst (AreFaithful host.bytes) (sym (kept.owing.not_run refl).2) tt in
     let flight_faithful : new.destination.has_run ≡ true → AreFaithful new.source.guest.space.host.bytes (copies_of new.forward) = λ h. plan.faithful in
     let ended_empty : new.destination.ended ≡ true → (new.destination.owed ≡ finmap.empty) × (new.destination.arrivals ≡ []) = λ h. absurd (false≢true (sym not_ended ∙ h)) in
     let wires : new.up ≡ true → Wires new.source new.destination new.forward new.back =
@@ -240,5 +243,5 @@ package_taken epoch areas owed commands rest world kept =
       },
     ) in
     let down : new.up ≡ false → (new.forward ≡ []) × (new.back ≡ []) × (new.source.phase ≢ SourcePhase.Idle) × (new.source.phase ≢ SourcePhase.Released) = λ h. absurd (false≢true (sym h)) in
-    let forward_epoch : AreOf new.source.epoch new.forward = kept.forward_epoch.1 in
+    let forward_epoch : AreOf new.source.epoch new.forward = kept.epochs.forward_epoch.1 in
     assumption

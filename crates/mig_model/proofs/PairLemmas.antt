@@ -20,13 +20,14 @@ use Rattle.mig_base.proofs.PageLemmas.{get-remove_range, get-moved_range}
 use Rattle.mig_base.proofs.SetLemmas.{member_without, member_below}
 use Rattle.mig_base.proofs.ReplyLemmas.{mremap_told}
 use Rattle.mig_model.specs.Host.{Host, memory, host_changed, IsSound}
-use Rattle.mig_model.specs.World.{is_access}
+use Rattle.mig_base.specs.Commands.{is_access}
 use Rattle.mig_model.specs.Userfault.{Object}
 use Rattle.mig_model.specs.Guest.{is_present}
 use Rattle.mig_model.specs.Space.{Space, IsSoundSpace, modes_after, protected_after}
 use Rattle.mig_model.proofs.CommandLemmas.{remapped_place}
 use Rattle.mig_model.proofs.SeenLemmas.{AreWatched, watched_mapped}
-use Rattle.mig_model.proofs.SettledCalls.{owed_changed, in_range_is}
+use Rattle.mig_model.proofs.SettledCalls.{in_range_is}
+use Rattle.mig_model.specs.Promises.{owed_changed}
 
 none_absurd : {A : Type 0} → false ≡ true → A
 none_absurd h = absurd (false≢true h)

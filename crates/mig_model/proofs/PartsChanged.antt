@@ -8,15 +8,18 @@ use Rattle.mig_base.specs.declared.refusal.Refusal.{Refusal}
 use Rattle.mig_base.specs.declared.schedule.Side.{Side}
 use Rattle.mig_base.specs.declared.schedule.Step.{Step}
 use Rattle.mig_base.specs.declared.command.Command.{Command}
-use Rattle.mig_model.specs.World.{is_access}
-use Rattle.mig_model.specs.Userfault.{Noted, next_message}
-use Rattle.mig_model.specs.Guest.{Guest, Fault, tried, outstanding, processor_at}
+use Rattle.mig_base.specs.Commands.{is_access}
+use Rattle.mig_model.specs.Guest.{Guest, Fault, tried}
 use Rattle.mig_model.specs.Wire.{Frame, Sent, page_frame, sending, sending_if}
 use Rattle.mig_model.specs.Wire.Frame.{Advise, End, Resume}
-use Rattle.mig_model.specs.Nodes.{Source, Destination, space_of, bytes_of, least_of, source_started, page_sent, switch_made, switch_frames, page_pushed, source_took, source_answers}
-use Rattle.mig_model.specs.Migration.{World, refusal_of, accepted, next, next_by, guest_of, with_guest_by, command_tried, retried, source_sends, sent_by, read_by_source, acted_by_source, delivered, delivered_back, read_by_destination, acted_by_destination}
+use Rattle.mig_model.specs.Migration.{World, next, guest_of, with_guest_by, after_command, source_sends, after_deliver, after_deliver_back, after_dest_act, answer}
 use Rattle.mig_model.specs.Parts.{Grows, Shrinks, GuestAlone, SourceAlone, DestinationAlone, Delivers, DeliversBack, ChangesParts}
 use Rattle.mig_model.proofs.Stopping.{append-nil}
+use Rattle.mig_model.proofs.StepLemmas.{Leaves, leaves-next}
+use Rattle.mig_model.proofs.StepCases.{made-break, made-deliver, made-deliver_back, made-dest_act, made-dest_read, made-end, made-install, made-issue, made-notice, made-push, made-resume, made-retry, made-round, made-send, made-serve, made-source_act, made-source_read, made-start, made-switch}
+use Rattle.mig_model.specs.Log.{present}
+use Rattle.mig_model.specs.Source.{Source, bytes_of, page_pushed, page_sent, source_answers, source_started, source_took, switch_frames, switch_made}
+use Rattle.mig_model.specs.Destination.{Destination}
 
 as_it_was : (wire : List Sent) → Grows wire wire
 as_it_was wire = record { more = []; is = sym (append-nil wire) }
@@ -57,15 +60,11 @@ tried_destination : (ran : Bool) (world : World) (guest : Guest) → ran ≡ fal
 tried_destination true world guest h = absurd (false≢true (sym h))
 tried_destination false world guest h = refl
 
-guest_alone : (world : World) (cpu : ℕ) (command : Command) → GuestAlone world (command_tried world cpu command)
+guest_alone : (world : World) (cpu : ℕ) (command : Command) → GuestAlone world (after_command world cpu command)
 guest_alone world cpu command =
     let ran = world.destination.has_run in
     let guest = tried (is_access command) (guest_of world) cpu command in
     record { forward = tried_forward ran world guest; back = tried_back ran world guest; up = tried_up ran world guest; source = tried_source ran world guest; destination = tried_destination ran world guest }
-
-retried_alone : (world : World) (cpu : ℕ) (o : Option Command) → GuestAlone world (retried world cpu o)
-retried_alone world cpu None = guest_kept world
-retried_alone world cpu (Some command) = guest_alone world cpu command
 
 source_kept : (world : World) → SourceAlone world world
 source_kept world = record { destination = refl; forward = as_it_was world.forward; back = refl; up = refl; transcript = refl }
@@ -77,65 +76,47 @@ quiet_source world node = record { destination = refl; forward = as_it_was world
 sending_source : (world : World) (node : Source) (frames : List Frame) → SourceAlone world (source_sends world node frames)
 sending_source world node frames = record { destination = refl; forward = grows_by world.forward node.epoch frames; back = refl; up = refl; transcript = refl }
 
-sent_alone : (world : World) (o : Option ℕ) → SourceAlone world (sent_by world o)
-sent_alone world None = source_kept world
-sent_alone world (Some page) = sending_source world (page_sent world.source page) (page_frame page (bytes_of world.source page) ∷ [])
-
-read_alone : (world : World) (o : Option Noted) → SourceAlone world (read_by_source world o)
-read_alone world None = source_kept world
-read_alone world (Some noted) = quiet_source world _
-
-acted_alone : (world : World) (held : List Fault) → SourceAlone world (acted_by_source world held)
-acted_alone world [] = source_kept world
-acted_alone world (fault ∷ rest) = quiet_source world _
-
 destination_kept : (world : World) → DestinationAlone world world
 destination_kept world = record { source = refl; forward = refl; back = as_it_was world.back; up = refl; transcript = refl }
 
 quiet_destination : (world : World) (node : Destination) → DestinationAlone world (record world { destination = node })
 quiet_destination world node = record { source = refl; forward = refl; back = as_it_was world.back; up = refl; transcript = refl }
 
-destination_read_alone : (world : World) (o : Option Noted) → DestinationAlone world (read_by_destination world o)
-destination_read_alone world None = destination_kept world
-destination_read_alone world (Some noted) = quiet_destination world _
-
-destination_acted_alone : (world : World) (held : List Fault) → DestinationAlone world (acted_by_destination world held)
-destination_acted_alone world [] = destination_kept world
-destination_acted_alone world (fault ∷ rest) = record { source = refl; forward = refl; back = grows_if world.up world.back _ _; up = refl; transcript = refl }
+acted_alone : (world : World) (fault : Fault) → DestinationAlone world (after_dest_act world fault)
+acted_alone world fault = record { source = refl; forward = refl; back = grows_if world.up world.back _ _; up = refl; transcript = refl }
 
 delivered_none : (world : World) → Delivers world world
 delivered_none world = record { source = refl; forward = none_taken world.forward; back = as_it_was world.back; up = refl; transcript = refl }
 
-delivered_one : (world : World) (wire : List Sent) → wire ≡ world.forward → Delivers world (delivered world wire)
-delivered_one world [] is = delivered_none world
-delivered_one world (sent ∷ rest) is = record { source = refl; forward = record { taken = sent ∷ []; is = sym is }; back = grows_if world.up world.back _ _; up = refl; transcript = refl }
+delivered_one : (world : World) (sent : Sent) (rest : List Sent) → world.forward ≡ sent ∷ rest → Delivers world (after_deliver world sent rest)
+delivered_one world sent rest is = record { source = refl; forward = record { taken = sent ∷ []; is = is }; back = grows_if world.up world.back _ _; up = refl; transcript = refl }
 
-delivered_back_one : (world : World) (wire : List Sent) → wire ≡ world.back → DeliversBack world (delivered_back world wire)
-delivered_back_one world [] is = record { destination = refl; forward = as_it_was world.forward; back = none_taken world.back; up = refl; transcript = refl }
-delivered_back_one world (sent ∷ rest) is = record { destination = refl; forward = grows_by world.forward (source_took world.source sent.frame).epoch (source_answers world.source sent.frame); back = record { taken = sent ∷ []; is = sym is }; up = refl; transcript = refl }
+delivered_back_one : (world : World) (sent : Sent) (rest : List Sent) → world.back ≡ sent ∷ rest → DeliversBack world (after_deliver_back world sent rest)
+delivered_back_one world sent rest is =
+    record { destination = refl; forward = grows_by world.forward (source_took world.source sent.frame).epoch (source_answers world.source sent.frame); back = record { taken = sent ∷ []; is = is }; up = refl; transcript = refl }
 
--- what an accepted step changes
-accepted_alone : (world : World) (step : Step) → ChangesParts world step (accepted world step)
-accepted_alone world (Step.Issue cpu command) = guest_alone world cpu command
-accepted_alone world (Step.Retry cpu) = retried_alone world cpu (outstanding (processor_at (guest_of world).processors cpu))
-accepted_alone world Step.Start = sending_source world (source_started world.source) (Advise ∷ [])
-accepted_alone world Step.Round = quiet_source world _
-accepted_alone world Step.Send = sent_alone world (least_of world.source.todo)
-accepted_alone world Step.SourceRead = read_alone world (next_message (space_of world.source).object)
-accepted_alone world Step.SourceAct = acted_alone world world.source.guest.held
-accepted_alone world Step.Switch = sending_source world (switch_made world.source) (switch_frames world.source)
-accepted_alone world Step.Deliver = delivered_one world world.forward refl
-accepted_alone world Step.DeliverBack = delivered_back_one world world.back refl
-accepted_alone world Step.DestRead = destination_read_alone world (next_message world.destination.guest.space.object)
-accepted_alone world Step.DestAct = destination_acted_alone world world.destination.guest.held
-accepted_alone world Step.Install = quiet_destination world _
-accepted_alone world (Step.Push ticket) = sending_source world (page_pushed world.source ticket.page) (page_frame ticket.page (bytes_of world.source ticket.page) ∷ [])
-accepted_alone world Step.Serve = quiet_source world _
-accepted_alone world Step.End = sending_source world (record world.source { ended = world.source.epoch }) (End ∷ [])
-accepted_alone world Step.Break = record { source = refl; destination = refl; transcript = refl }
-accepted_alone world (Step.Notice Side.Source) = record { phase = SourcePhase.Paused; is = refl }
-accepted_alone world (Step.Notice Side.Destination) = record { phase = DestPhase.Paused; is = refl }
-accepted_alone world Step.Resume = record { source = refl; destination = refl; forward = grows_by world.forward (world.source.epoch + 1) (Resume ∷ []); back = refl; transcript = refl }
+-- what a step that is not refused changes
+made_alone : (world : World) (step : Step) → Leaves (ChangesParts world step) (answer world step)
+made_alone world (Step.Issue cpu command) = made-issue _ world cpu command (λ idle may. guest_alone world cpu command)
+made_alone world (Step.Retry cpu) = made-retry _ world cpu (λ command waits woken may. guest_alone world cpu command)
+made_alone world Step.Start = made-start _ world (λ idle. sending_source world (source_started world.source) (Advise ∷ []))
+made_alone world Step.Round = made-round _ world (λ precopy quiet. quiet_source world _)
+made_alone world Step.Send = made-send _ world (λ page is precopy up quiet. sending_source world (page_sent world.source page) (page_frame page (bytes_of world.source page) ∷ []))
+made_alone world Step.SourceRead = made-source_read _ world (λ noted is started unswitched. quiet_source world _)
+made_alone world Step.SourceAct = made-source_act _ world (λ fault rest is started unswitched quiet. quiet_source world _)
+made_alone world Step.Switch = made-switch _ world (λ precopy up quiet. sending_source world (switch_made world.source) (switch_frames world.source))
+made_alone world Step.Deliver = made-deliver _ world (λ sent rest is started up free. delivered_one world sent rest is)
+made_alone world Step.DeliverBack = made-deliver_back _ world (λ sent rest is started up. delivered_back_one world sent rest is)
+made_alone world Step.DestRead = made-dest_read _ world (λ noted is ran. quiet_destination world _)
+made_alone world Step.DestAct = made-dest_act _ world (λ fault rest is ran quiet. acted_alone world fault)
+made_alone world Step.Install = made-install _ world (λ copy rest is ran quiet. quiet_destination world _)
+made_alone world (Step.Push ticket) = made-push _ world ticket (λ stopped up own present remains. sending_source world (page_pushed world.source ticket.page) (page_frame ticket.page (bytes_of world.source ticket.page) ∷ []))
+made_alone world Step.Serve = made-serve _ world (λ page pages is stopped up. quiet_source world _)
+made_alone world Step.End = made-end _ world (λ stopped other up none. sending_source world (record world.source { end_epoch = world.source.epoch }) (End ∷ []))
+made_alone world Step.Break = made-break _ world (λ started unreleased up. record { source = refl; destination = refl; transcript = refl })
+made_alone world (Step.Notice Side.Source) = made-notice _ world Side.Source (λ started unreleased down. record { phase = SourcePhase.Paused; is = refl })
+made_alone world (Step.Notice Side.Destination) = made-notice _ world Side.Destination (λ started unreleased down. record { phase = DestPhase.Paused; is = refl })
+made_alone world Step.Resume = made-resume _ world (λ from to down. record { source = refl; destination = refl; forward = grows_by world.forward (world.source.epoch + 1) (Resume ∷ []); back = refl; transcript = refl })
 
 -- a refused step changes nothing
 refused_alone : (world : World) (step : Step) → ChangesParts world step world
@@ -152,10 +133,5 @@ refused_alone world (Step.Notice Side.Destination) = record { phase = world.dest
 refused_alone world Step.Resume = record { source = refl; destination = refl; forward = as_it_was world.forward; back = refl; transcript = refl }
 refused_alone world _ = source_kept world
 
-alone_by : (refusal : Option Refusal) (world new : World) (step : Step) → ChangesParts world step new → ChangesParts world step (next_by refusal world new)
-alone_by None world new step h = h
-alone_by (Some refusal) world new step h = refused_alone world step
-
 pub changes_parts : (world : World) (step : Step) → ChangesParts world step (next world step)
-unfolding next
-changes_parts world step = alone_by (refusal_of world step) world (accepted world step) step (accepted_alone world step)
+changes_parts world step = leaves-next (ChangesParts world step) world step (refused_alone world step) (made_alone world step)

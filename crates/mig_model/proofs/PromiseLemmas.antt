@@ -17,13 +17,16 @@ use Rattle.mig_base.proofs.PageLemmas.{same_pages, get-map_below}
 use Rattle.mig_model.specs.Host.{Host, memory, IsSound}
 use Rattle.mig_model.specs.Userfault.{Noted}
 use Rattle.mig_model.specs.Guest.{Fault, is_present}
-use Rattle.mig_model.specs.Nodes.{is_released, is_stopped, is_precopy, is_source_paused, is_running, space_of, source_act, source_act_by, destination_act, destination_act_by, owed_after, settled, settled_by}
-use Rattle.mig_model.specs.Nodes.Act.{Zeroed}
+use Rattle.mig_model.specs.Guest.Act.{Zeroed}
 use Rattle.mig_model.specs.Migration.{World}
-use Rattle.mig_model.specs.Invariant.{IsKept, IsPrecopying, IsSwitching, IsReceiving, RanAt, seen_bytes, seen_host, current_by, copies_of, has_copy}
+use Rattle.mig_model.specs.Invariant.{IsSoundWorld, IsPrecopying, IsSwitching, IsReceiving, RanAt, seen_bytes, seen_host, current_by, copies_of, has_copy}
 use Rattle.mig_model.specs.Promises.{IsComplete, IsAlone, ArePaired, AreUnderWay}
 use Rattle.mig_model.proofs.Stopping.{in_phases, none_absurd}
 use Rattle.mig_model.proofs.SettledLemmas.{IsOneToOne-settled, values-settled}
+use Rattle.mig_model.specs.Log.{forgotten, present}
+use Rattle.mig_model.specs.Owed.{owed_after, settled_by}
+use Rattle.mig_model.specs.Source.{is_precopy, is_released, is_source_paused, is_stopped, released, source_act, source_act_by, space_of}
+use Rattle.mig_model.specs.Destination.{arrived, destination_act, destination_act_by, is_running, settled}
 
 -- A table without pairs
 
@@ -74,23 +77,23 @@ up_or_down false h = absurd (h refl)
 ended_told : (phase : DestPhase) (ran ended : Bool) → phase ≡ DestPhase.Ended → RanAt phase ran ended → ended ≡ true
 ended_told phase ran ended is told = subst (λ p. RanAt p ran ended) is told
 
-complete_in : (from : SourcePhase) (world : World) → is_released from ≡ true → IsKept (in_phases from world.destination.phase world) → IsAlone (in_phases from world.destination.phase world)
+complete_in : (from : SourcePhase) (world : World) → is_released from ≡ true → IsSoundWorld (in_phases from world.destination.phase world) → IsAlone (in_phases from world.destination.phase world)
 complete_in SourcePhase.Released world released kept =
-    let up = up_or_down world.up (λ h. (kept.down h).3 refl) in
-    let wires = kept.wires up in
-    let ended = ended_told world.destination.phase world.destination.has_run world.destination.ended wires.0 kept.destination_phase in
-    let ran = kept.ended_after_run ended in
-    let empty_now = kept.ended_empty ended in
+    let up = up_or_down world.up (λ h. (kept.flight.down h).3 refl) in
+    let wires = kept.flight.wires up in
+    let ended = ended_told world.destination.phase world.destination.has_run world.destination.ended wires.0 kept.phases.destination_phase in
+    let ran = kept.phases.ended_after_run ended in
+    let empty_now = kept.owing.ended_empty ended in
     let none_owed = λ (page : ℕ). ap (λ m. get m page) empty_now.0 ∙ get-empty nat_cmp page in
     let none = settled_none world.destination.guest.space.object.events (get world.destination.owed) none_owed in
     let host = world.destination.guest.space.host in
     let there = world.source.guest.space.host in
     record {
       holds =
-          ap memory (sym (seen_own host there (settled world.destination) kept.destination_space.host none))
+          ap memory (sym (seen_own host there (settled world.destination) kept.spaces.destination_space.host none))
           ∙ ap memory (ap (λ b. current_by b host there (settled world.destination)) (sym ran))
-          ∙ kept.holds;
-      alone = (kept.released_empty refl).0;
+          ∙ kept.memory.holds;
+      alone = (kept.pushing.released_empty refl).0;
       none_owed = empty_now.0;
       none_settled = none;
       none_arrived = empty_now.1;
@@ -100,7 +103,7 @@ complete_in SourcePhase.Precopy world released kept = none_absurd released
 complete_in SourcePhase.Stopped world released kept = none_absurd released
 complete_in SourcePhase.Paused world released kept = none_absurd released
 
-pub is_alone : (world : World) → IsKept world → IsComplete world → IsAlone world
+pub is_alone : (world : World) → IsSoundWorld world → IsComplete world → IsAlone world
 is_alone world kept complete = complete_in world.source.phase world complete kept
 
 -- Pairs
@@ -109,18 +112,18 @@ either_one : (a b : Bool) → a ≡ true → (a || b) ≡ true
 either_one true b h = refl
 either_one false b h = none_absurd h
 
-pub are_paired : (world : World) → IsKept world → ArePaired world
+pub are_paired : (world : World) → IsSoundWorld world → ArePaired world
 are_paired world kept =
     record {
-      one_to_one = kept.one_to_one;
-      present = kept.origins_present;
-      settled_one_to_one = λ page other origin h k. IsOneToOne-settled world.destination.guest.space.object.events (get world.destination.owed) kept.one_to_one page other origin h k;
-      settled_present = λ page origin h. let pair = values-settled world.destination.guest.space.object.events (get world.destination.owed) page origin h in kept.origins_present pair.0 origin pair.1;
+      one_to_one = kept.owing.one_to_one;
+      present = kept.owing.origins_present;
+      settled_one_to_one = λ page other origin h k. IsOneToOne-settled world.destination.guest.space.object.events (get world.destination.owed) kept.owing.one_to_one page other origin h k;
+      settled_present = λ page origin h. let pair = values-settled world.destination.guest.space.object.events (get world.destination.owed) page origin h in kept.owing.origins_present pair.0 origin pair.1;
       mapped = λ page origin h.
-          kept.destination_space.mapped page (either_one (contains world.destination.guest.space.object.missing page) (contains world.destination.guest.space.object.protect page) (kept.pairs_missing page origin h).0);
-      registered = λ page origin h. (kept.pairs_missing page origin h).0;
-      missing = λ page origin h. (kept.pairs_missing page origin h).1;
-      ended = kept.ended_empty;
+          kept.spaces.destination_space.mapped page (either_one (contains world.destination.guest.space.object.missing page) (contains world.destination.guest.space.object.protect page) (kept.owing.pairs_missing page origin h).0);
+      registered = λ page origin h. (kept.owing.pairs_missing page origin h).0;
+      missing = λ page origin h. (kept.owing.pairs_missing page origin h).1;
+      ended = kept.owing.ended_empty;
     }
 
 -- Whereabouts
@@ -129,62 +132,62 @@ are_paired world kept =
 none_some : {A : Type 0} (x : A) → None ≡ Some x → ⊥
 none_some x h = cc
 
-whereabouts_in : (from : SourcePhase) (to : DestPhase) (world : World) → is_stopped from ≡ true → world.destination.has_run ≡ true → world.up ≡ true → IsKept (in_phases from to world) → (page origin : ℕ) → get world.destination.owed page ≡ Some origin →
+whereabouts_in : (from : SourcePhase) (to : DestPhase) (world : World) → is_stopped from ≡ true → world.destination.has_run ≡ true → world.up ≡ true → IsSoundWorld (in_phases from to world) → (page origin : ℕ) → get world.destination.owed page ≡ Some origin →
     (contains world.source.remaining origin || has_copy (copies_of world.forward) origin || has_copy world.destination.arrivals origin) ≡ true
-whereabouts_in SourcePhase.Stopped DestPhase.Running world stopped ran up kept page origin owed = (kept.wires up).2.whereabouts page origin owed
-whereabouts_in SourcePhase.Stopped DestPhase.Idle world stopped ran up kept page origin owed = absurd (false≢true (sym kept.destination_phase ∙ ran))
-whereabouts_in SourcePhase.Stopped DestPhase.Advised world stopped ran up kept page origin owed = absurd (false≢true (sym kept.destination_phase ∙ ran))
-whereabouts_in SourcePhase.Stopped DestPhase.Discarding world stopped ran up kept page origin owed = absurd (false≢true (sym kept.destination_phase ∙ ran))
-whereabouts_in SourcePhase.Stopped DestPhase.Paused world stopped ran up kept page origin owed = absurd (kept.wires up)
-whereabouts_in SourcePhase.Stopped DestPhase.Ended world stopped ran up kept page origin owed = absurd (none_some origin (sym (ap (λ m. get m page) (kept.ended_empty kept.destination_phase).0 ∙ get-empty nat_cmp page) ∙ owed))
+whereabouts_in SourcePhase.Stopped DestPhase.Running world stopped ran up kept page origin owed = (kept.flight.wires up).2.whereabouts page origin owed
+whereabouts_in SourcePhase.Stopped DestPhase.Idle world stopped ran up kept page origin owed = absurd (false≢true (sym kept.phases.destination_phase ∙ ran))
+whereabouts_in SourcePhase.Stopped DestPhase.Advised world stopped ran up kept page origin owed = absurd (false≢true (sym kept.phases.destination_phase ∙ ran))
+whereabouts_in SourcePhase.Stopped DestPhase.Discarding world stopped ran up kept page origin owed = absurd (false≢true (sym kept.phases.destination_phase ∙ ran))
+whereabouts_in SourcePhase.Stopped DestPhase.Paused world stopped ran up kept page origin owed = absurd (kept.flight.wires up)
+whereabouts_in SourcePhase.Stopped DestPhase.Ended world stopped ran up kept page origin owed = absurd (none_some origin (sym (ap (λ m. get m page) (kept.owing.ended_empty kept.phases.destination_phase).0 ∙ get-empty nat_cmp page) ∙ owed))
 whereabouts_in SourcePhase.Idle to world stopped ran up kept page origin owed = none_absurd stopped
 whereabouts_in SourcePhase.Precopy to world stopped ran up kept page origin owed = none_absurd stopped
 whereabouts_in SourcePhase.Paused to world stopped ran up kept page origin owed = none_absurd stopped
 whereabouts_in SourcePhase.Released to world stopped ran up kept page origin owed = none_absurd stopped
 
-pub are_under_way : (world : World) → IsKept world → world.destination.has_run ≡ true → AreUnderWay world
+pub are_under_way : (world : World) → IsSoundWorld world → world.destination.has_run ≡ true → AreUnderWay world
 are_under_way world kept ran =
     record {
       whereabouts = λ up stopped. whereabouts_in world.source.phase world.destination.phase world stopped ran up kept;
-      in_flight = kept.flight_faithful ran;
-      arrived = kept.arrivals_faithful ran;
+      in_flight = kept.flight.flight_faithful ran;
+      arrived = kept.owing.arrivals_faithful ran;
     }
 
 -- What is in flight
 
-precopying_in : (from : SourcePhase) (to : DestPhase) (world : World) → is_precopy from ≡ true → world.up ≡ true → IsKept (in_phases from to world) → IsPrecopying (in_phases from to world).source world.destination.kept world.forward
-precopying_in SourcePhase.Precopy DestPhase.Idle world precopy up kept = (kept.wires up).2
-precopying_in SourcePhase.Precopy DestPhase.Advised world precopy up kept = (kept.wires up).2
-precopying_in SourcePhase.Precopy DestPhase.Discarding world precopy up kept = absurd (kept.wires up)
-precopying_in SourcePhase.Precopy DestPhase.Running world precopy up kept = absurd (kept.wires up)
-precopying_in SourcePhase.Precopy DestPhase.Paused world precopy up kept = absurd (kept.wires up)
-precopying_in SourcePhase.Precopy DestPhase.Ended world precopy up kept = absurd (kept.wires up)
+precopying_in : (from : SourcePhase) (to : DestPhase) (world : World) → is_precopy from ≡ true → world.up ≡ true → IsSoundWorld (in_phases from to world) → IsPrecopying (in_phases from to world).source world.destination.kept world.forward
+precopying_in SourcePhase.Precopy DestPhase.Idle world precopy up kept = (kept.flight.wires up).2
+precopying_in SourcePhase.Precopy DestPhase.Advised world precopy up kept = (kept.flight.wires up).2
+precopying_in SourcePhase.Precopy DestPhase.Discarding world precopy up kept = absurd (kept.flight.wires up)
+precopying_in SourcePhase.Precopy DestPhase.Running world precopy up kept = absurd (kept.flight.wires up)
+precopying_in SourcePhase.Precopy DestPhase.Paused world precopy up kept = absurd (kept.flight.wires up)
+precopying_in SourcePhase.Precopy DestPhase.Ended world precopy up kept = absurd (kept.flight.wires up)
 precopying_in SourcePhase.Idle to world precopy up kept = none_absurd precopy
 precopying_in SourcePhase.Stopped to world precopy up kept = none_absurd precopy
 precopying_in SourcePhase.Paused to world precopy up kept = none_absurd precopy
 precopying_in SourcePhase.Released to world precopy up kept = none_absurd precopy
 
-pub is_precopying : (world : World) → IsKept world → world.up ≡ true → is_precopy world.source.phase ≡ true → IsPrecopying world.source world.destination.kept world.forward
+pub is_precopying : (world : World) → IsSoundWorld world → world.up ≡ true → is_precopy world.source.phase ≡ true → IsPrecopying world.source world.destination.kept world.forward
 is_precopying world kept up precopy = precopying_in world.source.phase world.destination.phase world precopy up kept
 
-switching_in : (from : SourcePhase) (to : DestPhase) (world : World) → is_stopped from ≡ true → world.up ≡ true → world.destination.has_run ≡ false → IsKept (in_phases from to world) → IsSwitching (in_phases from to world).source world.destination.kept world.forward
-switching_in SourcePhase.Stopped DestPhase.Idle world stopped up ran kept = (kept.wires up).2
-switching_in SourcePhase.Stopped DestPhase.Advised world stopped up ran kept = (kept.wires up).2
-switching_in SourcePhase.Stopped DestPhase.Discarding world stopped up ran kept = (kept.wires up).2
-switching_in SourcePhase.Stopped DestPhase.Running world stopped up ran kept = absurd (false≢true (sym ran ∙ kept.destination_phase.0))
-switching_in SourcePhase.Stopped DestPhase.Paused world stopped up ran kept = absurd (kept.wires up)
-switching_in SourcePhase.Stopped DestPhase.Ended world stopped up ran kept = absurd (false≢true (sym ran ∙ kept.ended_after_run kept.destination_phase))
+switching_in : (from : SourcePhase) (to : DestPhase) (world : World) → is_stopped from ≡ true → world.up ≡ true → world.destination.has_run ≡ false → IsSoundWorld (in_phases from to world) → IsSwitching (in_phases from to world).source world.destination.kept world.forward
+switching_in SourcePhase.Stopped DestPhase.Idle world stopped up ran kept = (kept.flight.wires up).2
+switching_in SourcePhase.Stopped DestPhase.Advised world stopped up ran kept = (kept.flight.wires up).2
+switching_in SourcePhase.Stopped DestPhase.Discarding world stopped up ran kept = (kept.flight.wires up).2
+switching_in SourcePhase.Stopped DestPhase.Running world stopped up ran kept = absurd (false≢true (sym ran ∙ kept.phases.destination_phase.0))
+switching_in SourcePhase.Stopped DestPhase.Paused world stopped up ran kept = absurd (kept.flight.wires up)
+switching_in SourcePhase.Stopped DestPhase.Ended world stopped up ran kept = absurd (false≢true (sym ran ∙ kept.phases.ended_after_run kept.phases.destination_phase))
 switching_in SourcePhase.Idle to world stopped up ran kept = none_absurd stopped
 switching_in SourcePhase.Precopy to world stopped up ran kept = none_absurd stopped
 switching_in SourcePhase.Paused to world stopped up ran kept = none_absurd stopped
 switching_in SourcePhase.Released to world stopped up ran kept = none_absurd stopped
 
-pub is_switching : (world : World) → IsKept world → world.up ≡ true → is_stopped world.source.phase ≡ true → world.destination.has_run ≡ false → IsSwitching world.source world.destination.kept world.forward
+pub is_switching : (world : World) → IsSoundWorld world → world.up ≡ true → is_stopped world.source.phase ≡ true → world.destination.has_run ≡ false → IsSwitching world.source world.destination.kept world.forward
 is_switching world kept up stopped ran = switching_in world.source.phase world.destination.phase world stopped up ran kept
 
-receiving_in : (from : SourcePhase) (to : DestPhase) (world : World) → is_source_paused from ≡ true → is_running to ≡ true → world.up ≡ true → IsKept (in_phases from to world) →
+receiving_in : (from : SourcePhase) (to : DestPhase) (world : World) → is_source_paused from ≡ true → is_running to ≡ true → world.up ≡ true → IsSoundWorld (in_phases from to world) →
     IsReceiving (in_phases from to world).source (in_phases from to world).destination Received.Running world.back
-receiving_in SourcePhase.Paused DestPhase.Running world paused runs up kept = (kept.wires up).1
+receiving_in SourcePhase.Paused DestPhase.Running world paused runs up kept = (kept.flight.wires up).1
 receiving_in SourcePhase.Paused DestPhase.Idle world paused runs up kept = none_absurd runs
 receiving_in SourcePhase.Paused DestPhase.Advised world paused runs up kept = none_absurd runs
 receiving_in SourcePhase.Paused DestPhase.Discarding world paused runs up kept = none_absurd runs
@@ -195,7 +198,7 @@ receiving_in SourcePhase.Precopy to world paused runs up kept = none_absurd paus
 receiving_in SourcePhase.Stopped to world paused runs up kept = none_absurd paused
 receiving_in SourcePhase.Released to world paused runs up kept = none_absurd paused
 
-pub is_receiving : (world : World) → IsKept world → world.up ≡ true → is_source_paused world.source.phase ≡ true → is_running world.destination.phase ≡ true → IsReceiving world.source world.destination Received.Running world.back
+pub is_receiving : (world : World) → IsSoundWorld world → world.up ≡ true → is_source_paused world.source.phase ≡ true → is_running world.destination.phase ≡ true → IsReceiving world.source world.destination Received.Running world.back
 is_receiving world kept up paused runs = receiving_in world.source.phase world.destination.phase world paused runs up kept
 
 -- The zero pages of the handlers

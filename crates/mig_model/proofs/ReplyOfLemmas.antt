@@ -15,8 +15,8 @@ use Rattle.mig_base.specs.declared.command.Reply.TheVariants.{Value, Done, At, S
 use Rattle.mig_base.specs.Codes.{prot_number}
 use Rattle.mig_base.specs.Ranges.{in_range, count_below, none_below, rounded, free_place}
 use Rattle.mig_base.specs.Flat.{Cell, Memory, is_mapped, fill, zeros_with, moved, grown, written, same_prot, has_one_prot, is_unmapped, exceeds_limit, mremap_target, mremap_reply, mmap_reply, dontneed_reply, place_refusals, at_place, first_refusal, is_bad_target, is_page_start, is_aligned, access_reply, allows_load, allows_store, number_at, byte_of, reply_of}
-use Rattle.mig_model.specs.World.{is_access}
-use Rattle.mig_model.specs.Space.{is_made, page_of}
+use Rattle.mig_base.specs.Commands.{is_access, page_of}
+use Rattle.mig_model.specs.Space.{is_made}
 use Rattle.mig_model.proofs.NumberLemmas.{aligned_inside}
 
 none_absurd : {A : Type 0} → false ≡ true → A

@@ -16,11 +16,12 @@ use Rattle.mig_base.proofs.SetLemmas.{member_below}
 use Rattle.mig_model.specs.Host.{Host, IsSound}
 use Rattle.mig_model.specs.Wire.{Frame, Sent, sending}
 use Rattle.mig_model.specs.Wire.Frame.{Resume, Request, Recv}
-use Rattle.mig_model.specs.Nodes.{no_pages, owes_to, home, origins}
-use Rattle.mig_model.specs.Migration.{World, delivered}
-use Rattle.mig_model.specs.Invariant.{Wires, IsKept, IsReceiving, AreOf, RanAt, EpochAt}
+use Rattle.mig_model.specs.Migration.{World}
+use Rattle.mig_model.specs.Invariant.{Wires, IsSoundWorld, IsReceiving, AreOf, RanAt, EpochAt}
 use Rattle.mig_model.proofs.WireLemmas.{sending-behind, AreOf-sending, are_requests-sending}
-use Rattle.mig_model.proofs.FirstFrame.{at_state, none_some}
+use Rattle.mig_model.proofs.FirstFrame.{at_state, none_some, delivered}
+use Rattle.mig_model.specs.Log.{no_pages}
+use Rattle.mig_model.specs.Owed.{home, origins, owes_to}
 
 -- The pages that are still needed
 
@@ -98,12 +99,12 @@ resume_alone epoch source_epoch rest h = cc
 -- it has not run: what it kept is given up
 resume_waiting : (epoch : ℕ) (rest : List Sent) (world : World) →
     let old : World = at_state SourcePhase.Paused DestPhase.Paused false true (record { epoch = epoch; frame = Resume } ∷ rest) world in
-    IsKept old → IsKept (delivered old old.forward)
+    IsSoundWorld old → IsSoundWorld (delivered old old.forward)
 resume_waiting epoch rest world kept =
     let old : World = at_state SourcePhase.Paused DestPhase.Paused false true (record { epoch = epoch; frame = Resume } ∷ rest) world in
     let new : World = delivered old old.forward in
-    let w = kept.wires refl in
-    let same : epoch ≡ world.source.epoch = kept.forward_epoch.0 in
+    let w = kept.flight.wires refl in
+    let same : epoch ≡ world.source.epoch = kept.epochs.forward_epoch.0 in
     let destination_phase : RanAt new.destination.phase new.destination.has_run new.destination.ended = refl in
     let kept_none : new.destination.has_run ≡ true → new.destination.kept ≡ finmap.empty = λ h. refl in
     let kept_advised : new.destination.phase ≡ DestPhase.Idle → new.destination.kept ≡ finmap.empty = λ h. refl in
@@ -112,8 +113,8 @@ resume_waiting epoch rest world kept =
     answer_first world.back epoch (Recv Received.NotRun no_pages) [] w.1 ∙ ap (λ e. record { epoch = e; frame = Recv Received.NotRun no_pages } ∷ []) same in
     let wires : new.up ≡ true → Wires new.source new.destination new.forward new.back = λ u. (resume_alone epoch world.source.epoch rest w.0, answered, refl, refl) in
     let down : new.up ≡ false → (new.forward ≡ []) × (new.back ≡ []) × (new.source.phase ≢ SourcePhase.Idle) × (new.source.phase ≢ SourcePhase.Released) = λ h. absurd (false≢true (sym h)) in
-    let forward_epoch : AreOf new.source.epoch new.forward = kept.forward_epoch.1 in
-    let back_epoch : AreOf new.source.epoch new.back = subst (λ e. AreOf e new.back) same (AreOf-sending epoch world.back (Recv Received.NotRun no_pages ∷ []) (subst (λ e. AreOf e world.back) (sym same) kept.back_epoch)) in
+    let forward_epoch : AreOf new.source.epoch new.forward = kept.epochs.forward_epoch.1 in
+    let back_epoch : AreOf new.source.epoch new.back = subst (λ e. AreOf e new.back) same (AreOf-sending epoch world.back (Recv Received.NotRun no_pages ∷ []) (subst (λ e. AreOf e world.back) (sym same) kept.epochs.back_epoch)) in
     let epochs : new.destination.epoch ≤ new.source.epoch = omega (arith, same) in
     let epoch_at : new.up ≡ true → EpochAt new.destination.phase new.destination.epoch new.source.epoch = λ u. same in
     assumption
@@ -121,13 +122,13 @@ resume_waiting epoch rest world kept =
 -- it runs: it still needs what it is owed, and asks again for what it has asked
 resume_running : (epoch : ℕ) (rest : List Sent) (world : World) →
     let old : World = at_state SourcePhase.Paused DestPhase.Paused true true (record { epoch = epoch; frame = Resume } ∷ rest) (record world { destination = record world.destination { ended = false } }) in
-    IsKept old → IsKept (delivered old old.forward)
+    IsSoundWorld old → IsSoundWorld (delivered old old.forward)
 resume_running epoch rest world kept =
     let old : World = at_state SourcePhase.Paused DestPhase.Paused true true (record { epoch = epoch; frame = Resume } ∷ rest) (record world { destination = record world.destination { ended = false } }) in
     let new : World = delivered old old.forward in
     let owed : FinMap nat_cmp ℕ = world.destination.owed in
-    let w = kept.wires refl in
-    let same : epoch ≡ world.source.epoch = kept.forward_epoch.0 in
+    let w = kept.flight.wires refl in
+    let same : epoch ≡ world.source.epoch = kept.epochs.forward_epoch.0 in
     let frames : List Frame = map Request world.destination.requests in
     let destination_phase : RanAt new.destination.phase new.destination.has_run new.destination.ended = (refl, refl) in
     let kept_advised : new.destination.phase ≡ DestPhase.Idle → new.destination.kept ≡ finmap.empty = λ h. cc in
@@ -140,13 +141,13 @@ resume_running epoch rest world kept =
       requests = are_requests-sending epoch [] world.destination.requests refl;
       alone = λ h. absurd (h refl);
       none_listed = λ h. absurd (h refl);
-      needed = λ page origin h. origins-pair owed page origin h (kept.owed_below page origin h) (present_low world.source.guest.space.host origin kept.source_space.host (kept.origins_present page origin h));
-      owed_present = λ origin h. let pair = pair-origins owed origin h in kept.origins_present pair.0 origin pair.1;
+      needed = λ page origin h. origins-pair owed page origin h (kept.owing.owed_below page origin h) (present_low world.source.guest.space.host origin kept.spaces.source_space.host (kept.owing.origins_present page origin h));
+      owed_present = λ origin h. let pair = pair-origins owed origin h in kept.owing.origins_present pair.0 origin pair.1;
     } in
     let wires : new.up ≡ true → Wires new.source new.destination new.forward new.back = λ u. (resume_alone epoch world.source.epoch rest w.0, receiving) in
     let down : new.up ≡ false → (new.forward ≡ []) × (new.back ≡ []) × (new.source.phase ≢ SourcePhase.Idle) × (new.source.phase ≢ SourcePhase.Released) = λ h. absurd (false≢true (sym h)) in
-    let forward_epoch : AreOf new.source.epoch new.forward = kept.forward_epoch.1 in
-    let back_epoch : AreOf new.source.epoch new.back = subst (λ e. AreOf e new.back) same (AreOf-sending epoch world.back (Recv Received.Running (origins owed) ∷ frames) (subst (λ e. AreOf e world.back) (sym same) kept.back_epoch)) in
+    let forward_epoch : AreOf new.source.epoch new.forward = kept.epochs.forward_epoch.1 in
+    let back_epoch : AreOf new.source.epoch new.back = subst (λ e. AreOf e new.back) same (AreOf-sending epoch world.back (Recv Received.Running (origins owed) ∷ frames) (subst (λ e. AreOf e world.back) (sym same) kept.epochs.back_epoch)) in
     let epochs : new.destination.epoch ≤ new.source.epoch = omega (arith, same) in
     let epoch_at : new.up ≡ true → EpochAt new.destination.phase new.destination.epoch new.source.epoch = λ u. same in
     assumption
@@ -154,12 +155,12 @@ resume_running epoch rest world kept =
 -- it has ended: it needs nothing
 resume_ended : (epoch : ℕ) (rest : List Sent) (world : World) →
     let old : World = at_state SourcePhase.Paused DestPhase.Paused true true (record { epoch = epoch; frame = Resume } ∷ rest) (record world { destination = record world.destination { ended = true } }) in
-    IsKept old → IsKept (delivered old old.forward)
+    IsSoundWorld old → IsSoundWorld (delivered old old.forward)
 resume_ended epoch rest world kept =
     let old : World = at_state SourcePhase.Paused DestPhase.Paused true true (record { epoch = epoch; frame = Resume } ∷ rest) (record world { destination = record world.destination { ended = true } }) in
     let new : World = delivered old old.forward in
-    let w = kept.wires refl in
-    let same : epoch ≡ world.source.epoch = kept.forward_epoch.0 in
+    let w = kept.flight.wires refl in
+    let same : epoch ≡ world.source.epoch = kept.epochs.forward_epoch.0 in
     let destination_phase : RanAt new.destination.phase new.destination.has_run new.destination.ended = refl in
     let kept_advised : new.destination.phase ≡ DestPhase.Idle → new.destination.kept ≡ finmap.empty = λ h. cc in
     let receiving : IsReceiving new.source new.destination Received.Ended new.back =
@@ -171,25 +172,25 @@ resume_ended epoch rest world kept =
       requests = refl;
       alone = λ h. refl;
       none_listed = λ h. refl;
-      needed = λ page origin h. absurd (none_some origin (sym (get-empty nat_cmp page) ∙ sym (ap (λ o. get o page) (kept.ended_empty refl).0) ∙ h));
+      needed = λ page origin h. absurd (none_some origin (sym (get-empty nat_cmp page) ∙ sym (ap (λ o. get o page) (kept.owing.ended_empty refl).0) ∙ h));
       owed_present = λ page h. absurd (false≢true (sym (contains-empty nat_cmp page) ∙ h));
     } in
     let wires : new.up ≡ true → Wires new.source new.destination new.forward new.back = λ u. (resume_alone epoch world.source.epoch rest w.0, receiving) in
     let down : new.up ≡ false → (new.forward ≡ []) × (new.back ≡ []) × (new.source.phase ≢ SourcePhase.Idle) × (new.source.phase ≢ SourcePhase.Released) = λ h. absurd (false≢true (sym h)) in
-    let forward_epoch : AreOf new.source.epoch new.forward = kept.forward_epoch.1 in
-    let back_epoch : AreOf new.source.epoch new.back = subst (λ e. AreOf e new.back) same (AreOf-sending epoch world.back (Recv Received.Ended no_pages ∷ []) (subst (λ e. AreOf e world.back) (sym same) kept.back_epoch)) in
+    let forward_epoch : AreOf new.source.epoch new.forward = kept.epochs.forward_epoch.1 in
+    let back_epoch : AreOf new.source.epoch new.back = subst (λ e. AreOf e new.back) same (AreOf-sending epoch world.back (Recv Received.Ended no_pages ∷ []) (subst (λ e. AreOf e world.back) (sym same) kept.epochs.back_epoch)) in
     let epochs : new.destination.epoch ≤ new.source.epoch = omega (arith, same) in
     let epoch_at : new.up ≡ true → EpochAt new.destination.phase new.destination.epoch new.source.epoch = λ u. same in
     assumption
 
 resume_by : (ran ended : Bool) (epoch : ℕ) (rest : List Sent) (world : World) →
     let old : World = at_state SourcePhase.Paused DestPhase.Paused ran true (record { epoch = epoch; frame = Resume } ∷ rest) (record world { destination = record world.destination { ended = ended } }) in
-    IsKept old → IsKept (delivered old old.forward)
+    IsSoundWorld old → IsSoundWorld (delivered old old.forward)
 resume_by false ended epoch rest world kept = resume_waiting epoch rest (record world { destination = record world.destination { ended = ended } }) kept
 resume_by true false epoch rest world kept = resume_running epoch rest world kept
 resume_by true true epoch rest world kept = resume_ended epoch rest world kept
 
 pub resume_taken : (ran : Bool) (epoch : ℕ) (rest : List Sent) (world : World) →
     let old : World = at_state SourcePhase.Paused DestPhase.Paused ran true (record { epoch = epoch; frame = Resume } ∷ rest) world in
-    IsKept old → IsKept (delivered old old.forward)
+    IsSoundWorld old → IsSoundWorld (delivered old old.forward)
 resume_taken ran epoch rest world kept = resume_by ran world.destination.ended epoch rest world kept

@@ -15,11 +15,13 @@ use Rattle.mig_base.specs.declared.command.Access.TheVariants.{Answered, Missing
 use Rattle.mig_base.specs.Flat.{Cell, reply_of}
 use Rattle.mig_base.proofs.PageLemmas.{get-map_below}
 use Rattle.mig_model.specs.Host.{Host, memory, IsSound}
-use Rattle.mig_model.specs.World.{is_access}
-use Rattle.mig_model.specs.Space.{Space, IsSoundSpace, is_made, is_store, page_of, access_of}
+use Rattle.mig_base.specs.Commands.{is_access, page_of, is_store}
+use Rattle.mig_model.specs.Space.{Space, IsSoundSpace, is_made, access_of}
 use Rattle.mig_model.specs.Invariant.{seen_bytes, seen_host}
 use Rattle.mig_model.proofs.HostLemmas.{cell_at, memory-at}
 use Rattle.mig_model.proofs.ReplyOfLemmas.{prots, reply_of-prots, reply_of-page, reply_of-unmade}
+use Rattle.mig_model.specs.Log.{present}
+use Rattle.mig_model.specs.Promises.{gone}
 
 none_absurd : {A : Type 0} → false ≡ true → A
 none_absurd h = absurd (false≢true h)

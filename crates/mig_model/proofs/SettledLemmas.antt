@@ -11,8 +11,9 @@ use Rattle.mig_base.specs.Ranges.{in_range, least_below}
 use Rattle.mig_base.proofs.RangeLemmas.{least_below_tells, least_below-is}
 use Rattle.mig_base.proofs.PageLemmas.{get-remove_range, get-moved_range}
 use Rattle.mig_model.specs.Userfault.{Noted}
-use Rattle.mig_model.specs.Nodes.{owed_after, owed_table_after, settled_by, owes_to, home}
 use Rattle.mig_model.specs.Invariant.{IsRight}
+use Rattle.mig_model.specs.Owed.{home, owed_after, owed_table_after, owes_to, settled_by}
+use Rattle.mig_model.specs.Promises.{gone}
 
 pub none_some : {A : Type 0} (x : A) → None ≡ Some x → ⊥
 none_some x h = cc

@@ -1,6 +1,6 @@
 -- What each step does to the settled relation: a map call changes it as it changes the pages, an install takes away its own pair, and
 -- no other step changes it.
-use Rattle.std.proofs.Common.{◌≡◌, ℕ, ◌/◌, ◌*◌, Bool, true, false, cond, eqb, Option, Some, None, List, [], ◌∷◌, refl, sym, ap, ◌∙◌, subst, arith, if◌then◌else◌}
+use Rattle.std.proofs.Common.{◌≡◌, ℕ, ◌/◌, ◌*◌, Bool, true, false, cond, eqb, Option, Some, None, List, [], ◌∷◌, refl, sym, ap, ◌∙◌, subst, arith, if◌then◌else◌, IsOk}
 use Rattle.std.specs.Prelude.{Ok}
 use Rattle.std.specs.Ordering.{nat_cmp}
 use Rattle.std.specs.Cmp.{nat_cmp_total, unsigned_tied}
@@ -18,41 +18,46 @@ use Rattle.mig_base.specs.declared.command.Access.TheVariants.{Answered, Missing
 use Rattle.mig_base.specs.declared.message.Message.{Message}
 use Rattle.mig_base.specs.declared.message.Message.TheVariants.{PageFault, Remap, Remove, Unmap}
 use Rattle.mig_base.specs.Flat.{reply_of}
+use Rattle.mig_base.specs.Commands.{is_access, page_of}
 use Rattle.mig_model.specs.Host.{memory}
-use Rattle.mig_model.specs.World.{is_access}
-use Rattle.mig_model.specs.Userfault.{Noted, Object, waits_fault}
-use Rattle.mig_model.specs.Space.{Space, access_of, accessed_by, page_of}
-use Rattle.mig_model.specs.Guest.{Fault, tried}
+use Rattle.mig_model.specs.Userfault.{Noted, Object, waits_fault, next_of}
+use Rattle.mig_model.specs.Space.{Space, access_of, accessed_by}
+use Rattle.mig_model.specs.Guest.{tried, Act}
 use Rattle.mig_model.specs.Wire.{Frame, Sent, Copy}
 use Rattle.mig_model.specs.Wire.Frame.{Advise, Page, Zero, Discard, Package, End, Resume, Request, Recv, Done}
-use Rattle.mig_model.specs.Nodes.{Destination, Act, settled, settled_by, home, install_by, install_made, copy_came, resumed_by, received_of, destination_took, destination_act, destination_acted_by}
-use Rattle.mig_model.specs.Nodes.Act.{Unprotected, Zeroed, Woke, Forgot, Requested}
-use Rattle.mig_model.specs.Migration.{World, reasons, refusal_of, accepted, command_tried, with_guest_by, guest_by, next, next_by, outcome, outcome_by, effect_of, install_effect, install_effect_by, delivered, acted_by_destination}
-use Rattle.mig_model.specs.Invariant.{IsKept, AreFaults, AreRight, is_package}
-use Rattle.mig_model.specs.Promises.{owed_changed, leaves_settled}
-use Rattle.mig_model.proofs.Breaking.{none_applies}
-use Rattle.mig_model.proofs.Stopping.{not_none}
+use Rattle.mig_model.specs.Guest.Act.{Unprotected, Zeroed, Woke, Forgot, Requested}
+use Rattle.mig_model.specs.Migration.{World, with_guest_by, guest_by, next, outcome, install_effect, after_command, after_dest_read, answer, guest_of, runs, start}
+use Rattle.mig_model.specs.Invariant.{IsSoundWorld, AreFaults, AreRight, is_package}
+use Rattle.mig_model.specs.Promises.{owed_changed, leaves_settled, AreAccesses}
 use Rattle.mig_model.proofs.SwitchMade.{no_events}
-use Rattle.mig_model.proofs.PartsChanged.{changes_parts}
 use Rattle.mig_model.proofs.SettledLemmas.{settled_by-applied}
 use Rattle.mig_model.proofs.TriedLemmas.{settled_then}
 use Rattle.mig_model.proofs.DestinationCommands.{ready_of}
 use Rattle.mig_model.proofs.FirstFrame.{first_in_place}
 use Rattle.mig_model.proofs.FramesTaken.{with_first}
 use Rattle.mig_model.proofs.WaitingCommands.{package_told}
+use Rattle.mig_model.proofs.StepLemmas.{Leaves, holds-effect, leaves-next, leaves-ok}
+use Rattle.mig_model.proofs.StepCases.{made-break, made-deliver, made-deliver_back, made-dest_act, made-dest_read, made-end, made-install, made-issue, made-notice, made-push, made-resume, made-retry, made-round, made-send, made-serve, made-source_act, made-source_read, made-start, made-switch}
+use Rattle.mig_model.proofs.DestinationRead.{none_is, some_is}
+use Rattle.mig_model.specs.Cpus.{outstanding, processor_at}
+use Rattle.mig_model.specs.Log.{present}
+use Rattle.mig_model.specs.Owed.{home, settled_by}
+use Rattle.mig_model.specs.Destination.{Destination, copy_came, destination_act, destination_acted_by, destination_took, install_by, received_of, resumed_by, settled}
 
 -- A map call at the destination
 
-called_by : (ran access : Bool) (world : World) (cpu : ℕ) (command : Command) → ran ≡ true → access ≡ false → IsKept world → (page : ℕ) →
+called_by : (ran access : Bool) (world : World) (cpu : ℕ) (command : Command) → ran ≡ true → access ≡ false → IsSoundWorld world → (page : ℕ) →
     settled (with_guest_by ran world (tried access (guest_by ran world.source.guest world.destination.guest) cpu command)).destination page
     ≡ owed_changed (settled world.destination) command (reply_of (memory world.destination.guest.space.host) command) page
 called_by false access world cpu command runs is kept page = absurd (false≢true runs)
 called_by true true world cpu command runs is kept page = absurd (false≢true (sym is))
 called_by true false world cpu command runs is kept page = ap (λ f. f page) (settled_then world.destination.guest.space (get world.destination.owed) cpu command (ready_of world kept))
 
-pub settled_call : (world : World) (cpu : ℕ) (command : Command) → IsKept world → world.destination.has_run ≡ true → is_access command ≡ false → (page : ℕ) →
-    settled (command_tried world cpu command).destination page ≡ owed_changed (settled world.destination) command (reply_of (memory world.destination.guest.space.host) command) page
-settled_call world cpu command kept ran is page = called_by world.destination.has_run (is_access command) world cpu command ran is kept page
+pub settled_call : (world : World) (cpu : ℕ) (command : Command) → IsSoundWorld world → world.destination.has_run ≡ true → is_access command ≡ false → (page : ℕ) →
+    IsOk (outcome world (Step.Issue cpu command)) → settled (next world (Step.Issue cpu command)).destination page ≡ owed_changed (settled world.destination) command (reply_of (memory world.destination.guest.space.host) command) page
+settled_call world cpu command kept ran is page ok =
+    leaves-ok (λ new. settled new.destination page ≡ owed_changed (settled world.destination) command (reply_of (memory world.destination.guest.space.host) command) page) world (Step.Issue cpu command)
+    (made-issue _ world cpu command (λ idle may. called_by world.destination.has_run (is_access command) world cpu command ran is kept page)) ok
 
 -- A message that is read
 
@@ -65,34 +70,28 @@ at_queues faults events world =
     }
 
 event_settled : (message : Message) (cpu : ℕ) (events : List Noted) (world : World) → AreRight (record { message = message; cpu = cpu } ∷ events) → (page : ℕ) →
-    settled (accepted (at_queues [] (record { message = message; cpu = cpu } ∷ events) world) Step.DestRead).destination page ≡ settled (at_queues [] (record { message = message; cpu = cpu } ∷ events) world).destination page
+    settled (after_dest_read (at_queues [] (record { message = message; cpu = cpu } ∷ events) world) (record { message = message; cpu = cpu })).destination page ≡ settled (at_queues [] (record { message = message; cpu = cpu } ∷ events) world).destination page
 event_settled (PageFault addr write wp) cpu events world right page = absurd right.0
 event_settled (Remap from to len) cpu events world right page = ap (λ f. f page) (settled_by-applied (record { message = Remap from to len; cpu = cpu }) events world.destination.owed)
 event_settled (Remove start end) cpu events world right page = ap (λ f. f page) (settled_by-applied (record { message = Remove start end; cpu = cpu }) events world.destination.owed)
 event_settled (Unmap start end) cpu events world right page = ap (λ f. f page) (settled_by-applied (record { message = Unmap start end; cpu = cpu }) events world.destination.owed)
 
 fault_settled : (message : Message) (cpu : ℕ) (faults events : List Noted) (world : World) → AreFaults (record { message = message; cpu = cpu } ∷ faults) → (page : ℕ) →
-    settled (accepted (at_queues (record { message = message; cpu = cpu } ∷ faults) events world) Step.DestRead).destination page ≡ settled (at_queues (record { message = message; cpu = cpu } ∷ faults) events world).destination page
+    settled (after_dest_read (at_queues (record { message = message; cpu = cpu } ∷ faults) events world) (record { message = message; cpu = cpu })).destination page ≡ settled (at_queues (record { message = message; cpu = cpu } ∷ faults) events world).destination page
 fault_settled (PageFault addr write wp) cpu faults events world are page = refl
 fault_settled (Remap from to len) cpu faults events world are page = absurd are.0
 fault_settled (Remove start end) cpu faults events world are page = absurd are.0
 fault_settled (Unmap start end) cpu faults events world are page = absurd are.0
 
-read_settled : (faults events : List Noted) (world : World) → AreFaults faults → AreRight events → (page : ℕ) →
-    settled (accepted (at_queues faults events world) Step.DestRead).destination page ≡ settled (at_queues faults events world).destination page
-read_settled [] [] world are right page = refl
-read_settled [] (noted ∷ events) world are right page = event_settled noted.message noted.cpu events world right page
-read_settled (noted ∷ faults) events world are right page = fault_settled noted.message noted.cpu faults events world are page
-
-by_refusal : (refusal : Option Refusal) (old new : World) (page : ℕ) → settled new.destination page ≡ settled old.destination page → settled (next_by refusal old new).destination page ≡ settled old.destination page
-by_refusal None old new page h = h
-by_refusal (Some refusal) old new page h = refl
-
-pub settled_read : (world : World) → IsKept world → (page : ℕ) → settled (next world Step.DestRead).destination page ≡ settled world.destination page
-unfolding next
-settled_read world kept page =
-    by_refusal (refusal_of world Step.DestRead) world (accepted world Step.DestRead) page
-    (read_settled world.destination.guest.space.object.faults world.destination.guest.space.object.events world kept.destination_faults kept.destination_events page)
+read_settled : (faults events : List Noted) (noted : Noted) (world : World) → next_of faults events ≡ Some noted → AreFaults faults → AreRight events → (page : ℕ) →
+    settled (after_dest_read (at_queues faults events world) noted).destination page ≡ settled (at_queues faults events world).destination page
+read_settled [] [] noted world is are right page = absurd (none_is noted is)
+read_settled [] (first ∷ events) noted world is are right page =
+    subst (λ m. settled (after_dest_read (at_queues [] (first ∷ events) world) m).destination page ≡ settled (at_queues [] (first ∷ events) world).destination page) (some_is first noted is)
+    (event_settled first.message first.cpu events world right page)
+read_settled (first ∷ faults) events noted world is are right page =
+    subst (λ m. settled (after_dest_read (at_queues (first ∷ faults) events world) m).destination page ≡ settled (at_queues (first ∷ faults) events world).destination page) (some_is first noted is)
+    (fault_settled first.message first.cpu faults events world are page)
 
 -- A load or store
 
@@ -112,8 +111,15 @@ accessed_by_node true false world cpu command runs is page = absurd (false≢tru
 accessed_by_node true true world cpu command runs is page =
     ap (λ events. settled_by events (get world.destination.owed) page) (accessed_events (access_of world.destination.guest.space command) world.destination.guest.space cpu command)
 
-pub settled_access : (world : World) (cpu : ℕ) (command : Command) → world.destination.has_run ≡ true → is_access command ≡ true → (page : ℕ) → settled (command_tried world cpu command).destination page ≡ settled world.destination page
-settled_access world cpu command ran is page = accessed_by_node world.destination.has_run (is_access command) world cpu command ran is page
+settled_try : (world : World) (cpu : ℕ) (command : Command) → world.destination.has_run ≡ true → is_access command ≡ true → (page : ℕ) → settled (after_command world cpu command).destination page ≡ settled world.destination page
+settled_try world cpu command ran is page = accessed_by_node world.destination.has_run (is_access command) world cpu command ran is page
+
+-- the relation is what it was
+abbrev SettledAs : World → ℕ → World → Type 0
+SettledAs world page new = settled new.destination page ≡ settled world.destination page
+
+pub settled_access : (world : World) (cpu : ℕ) (command : Command) → world.destination.has_run ≡ true → is_access command ≡ true → (page : ℕ) → settled (next world (Step.Issue cpu command)).destination page ≡ settled world.destination page
+settled_access world cpu command ran is page = leaves-next (SettledAs world page) world (Step.Issue cpu command) refl (made-issue _ world cpu command (λ idle may. settled_try world cpu command ran is page))
 
 -- An install takes away its own pair
 
@@ -123,16 +129,13 @@ same_installed a b c d h = cc
 not_installed : (a c d : ℕ) → Effect.Dropped a ≡ Effect.Installed c d → ⊥
 not_installed a c d h = cc
 
-not_sent : (c d : ℕ) → Effect.EndSent ≡ Effect.Installed c d → ⊥
-not_sent c d h = cc
-
 page_again : (page addr : ℕ) → 4096 * page ≡ addr → page ≡ addr / 4096
 page_again page addr h = omega (arith, h)
 
 without_pair : (owed : FinMap nat_cmp ℕ) (page q : ℕ) → get (finmap.remove owed page) q ≡ (if eqb q page then None else get owed q)
 without_pair owed page q = finmap.get-remove nat_cmp_total owed page q ∙ ap (λ b. cond b None (get owed q)) (unsigned_tied q page)
 
-installed_by : (o : Option ℕ) (copy : Copy) (rest : List Copy) (world : World) (addr source : ℕ) → world.destination.guest.space.object.events ≡ [] → install_effect_by o copy.page ≡ Effect.Installed addr source → (page : ℕ) →
+installed_by : (o : Option ℕ) (copy : Copy) (rest : List Copy) (world : World) (addr source : ℕ) → world.destination.guest.space.object.events ≡ [] → install_effect o copy.page ≡ Effect.Installed addr source → (page : ℕ) →
     settled (install_by o world.destination copy rest) page ≡ (if eqb page (addr / 4096) then None else settled world.destination page)
 installed_by None copy rest world addr source quiet same page = absurd (not_installed (4096 * copy.page) addr source same)
 installed_by (Some here) copy rest world addr source quiet same page =
@@ -142,25 +145,22 @@ installed_by (Some here) copy rest world addr source quiet same page =
     ∙ ap (λ p. if eqb page p then None else get world.destination.owed page) at
     ∙ ap (λ o. if eqb page (addr / 4096) then None else o) (sym (ap (λ events. settled_by events (get world.destination.owed) page) quiet))
 
-installed_first : (arrivals : List Copy) (world : World) (addr source : ℕ) → world.destination.guest.space.object.events ≡ [] → install_effect world.destination arrivals ≡ Effect.Installed addr source → (page : ℕ) →
-    settled (install_made world.destination arrivals) page ≡ (if eqb page (addr / 4096) then None else settled world.destination page)
-installed_first [] world addr source quiet same page = absurd (not_sent addr source same)
-installed_first (copy ∷ rest) world addr source quiet same page = installed_by (home world.destination.owed copy.page) copy rest world addr source quiet same page
-
-outcome_told : (o : Option Refusal) (effect other : Effect) → outcome_by o effect ≡ Ok other → (o ≡ None) × (effect ≡ other)
-outcome_told None effect other h = (refl, cc)
-outcome_told (Some refusal) effect other h = absurd (cc)
-
 pub settled_install : (world : World) (addr source : ℕ) → outcome world Step.Install ≡ Ok (Effect.Installed addr source) → (page : ℕ) →
     settled (next world Step.Install).destination page ≡ (if eqb page (addr / 4096) then None else settled world.destination page)
-unfolding outcome next
 settled_install world addr source answered page =
-    let told = outcome_told (refusal_of world Step.Install) (effect_of world Step.Install) (Effect.Installed addr source) answered in
-    let quiet = no_events world.destination.guest.space.object.events (none_applies (reasons world Step.Install) told.0).1.1.0 in
-    ap (λ o. settled (next_by o world (accepted world Step.Install)).destination page) told.0
-    ∙ installed_first world.destination.arrivals world addr source quiet told.1 page
+    holds-effect (λ effect new. effect ≡ Effect.Installed addr source → settled new.destination page ≡ (if eqb page (addr / 4096) then None else settled world.destination page)) world Step.Install (Effect.Installed addr source)
+    (made-install _ world (λ copy rest first ran quiet same.
+    installed_by (home world.destination.owed copy.page) copy rest world addr source (no_events world.destination.guest.space.object.events quiet) same page)) answered refl
 
 -- Any other step
+
+-- where the destination runs, what waits there is a load or a store
+waits_by : (ran : Bool) (world : World) (cpu : ℕ) (command : Command) → AreAccesses world → ran ≡ true → outstanding (processor_at (guest_by ran world.source.guest world.destination.guest).cpus cpu) ≡ Some command → is_access command ≡ true
+waits_by true world cpu command waits ran is = waits.destination cpu command is
+waits_by false world cpu command waits ran is = absurd (false≢true ran)
+
+waits_here : (world : World) (cpu : ℕ) (command : Command) → AreAccesses world → world.destination.has_run ≡ true → outstanding (processor_at (guest_of world).cpus cpu) ≡ Some command → is_access command ≡ true
+waits_here world cpu command waits ran is = waits_by world.destination.has_run world cpu command waits ran is
 
 came_settled : (ran : Bool) (node : Destination) (copy : Copy) (page : ℕ) → settled (copy_came ran node copy) page ≡ settled node page
 came_settled true node copy page = refl
@@ -190,17 +190,13 @@ acted_settled Woke node fault page = refl
 acted_settled Forgot node fault page = refl
 acted_settled (Requested source) node fault page = refl
 
-held_settled : (held : List Fault) (world : World) (page : ℕ) → settled (acted_by_destination world held).destination page ≡ settled world.destination page
-held_settled [] world page = refl
-held_settled (fault ∷ rest) world page = acted_settled (destination_act world.destination fault) world.destination fault.page page
-
 -- a destination that has run takes no Package
-frame_settled : (frame : Frame) (epoch : ℕ) (rest : List Sent) (world : World) → IsKept world → world.up ≡ true → world.destination.has_run ≡ true → world.forward ≡ record { epoch = epoch; frame = frame } ∷ rest → (page : ℕ) →
+frame_settled : (frame : Frame) (epoch : ℕ) (rest : List Sent) (world : World) → IsSoundWorld world → world.up ≡ true → world.destination.has_run ≡ true → world.forward ≡ record { epoch = epoch; frame = frame } ∷ rest → (page : ℕ) →
     settled (destination_took world.destination epoch frame) page ≡ settled world.destination page
 frame_settled (Package areas owed commands) epoch rest world kept up ran first page =
-    let again = subst (λ w. IsKept (record world { forward = w })) first kept in
+    let again = subst (λ w. IsSoundWorld (record world { forward = w })) first kept in
     let old = with_first world.source.phase world.destination.phase epoch (Package areas owed commands) rest world in
-    let is = first_in_place old.source old.destination (record { epoch = epoch; frame = Package areas owed commands }) rest old.back (again.wires up) in
+    let is = first_in_place old.source old.destination (record { epoch = epoch; frame = Package areas owed commands }) rest old.back (again.flight.wires up) in
     absurd (false≢true (sym (package_told world.source.phase world.destination.phase epoch areas owed commands rest world is up again).1 ∙ ran))
 frame_settled Advise epoch rest world kept up ran first page = took_settled Advise world.destination epoch page refl
 frame_settled (Page number bytes) epoch rest world kept up ran first page = took_settled (Page number bytes) world.destination epoch page refl
@@ -212,52 +208,43 @@ frame_settled (Request number) epoch rest world kept up ran first page = took_se
 frame_settled (Recv state owed) epoch rest world kept up ran first page = took_settled (Recv state owed) world.destination epoch page refl
 frame_settled Done epoch rest world kept up ran first page = took_settled Done world.destination epoch page refl
 
-delivered_settled : (wire : List Sent) (world : World) → IsKept world → world.up ≡ true → world.destination.has_run ≡ true → world.forward ≡ wire → (page : ℕ) → settled (delivered world wire).destination page ≡ settled world.destination page
-delivered_settled [] world kept up ran first page = refl
-delivered_settled (sent ∷ rest) world kept up ran first page = frame_settled sent.frame sent.epoch rest world kept up ran first page
-
-by_step : (refusal : Option Refusal) (old new : World) (page : ℕ) → (refusal ≡ None → settled new.destination page ≡ settled old.destination page) → settled (next_by refusal old new).destination page ≡ settled old.destination page
-by_step None old new page h = h refl
-by_step (Some refusal) old new page h = refl
-
 same_node : (old new : World) (page : ℕ) → new.destination ≡ old.destination → settled new.destination page ≡ settled old.destination page
 same_node old new page h = ap (λ node. settled node page) h
 
-pub settled_else : (world : World) (step : Step) → IsKept world → world.destination.has_run ≡ true → leaves_settled step ≡ true → (page : ℕ) → settled (next world step).destination page ≡ settled world.destination page
-unfolding next
-settled_else world (Step.Issue cpu command) kept ran leaves page = by_step (refusal_of world (Step.Issue cpu command)) world (accepted world (Step.Issue cpu command)) page (λ free. settled_access world cpu command ran leaves page)
-settled_else world (Step.Retry cpu) kept ran leaves page = absurd (false≢true leaves)
-settled_else world Step.Install kept ran leaves page = absurd (false≢true leaves)
-settled_else world Step.Start kept ran leaves page = same_node world (next world Step.Start) page (changes_parts world Step.Start).destination
-settled_else world Step.Round kept ran leaves page = same_node world (next world Step.Round) page (changes_parts world Step.Round).destination
-settled_else world Step.Send kept ran leaves page = same_node world (next world Step.Send) page (changes_parts world Step.Send).destination
-settled_else world Step.SourceRead kept ran leaves page = same_node world (next world Step.SourceRead) page (changes_parts world Step.SourceRead).destination
-settled_else world Step.SourceAct kept ran leaves page = same_node world (next world Step.SourceAct) page (changes_parts world Step.SourceAct).destination
-settled_else world Step.Switch kept ran leaves page = same_node world (next world Step.Switch) page (changes_parts world Step.Switch).destination
-settled_else world Step.Deliver kept ran leaves page = by_step (refusal_of world Step.Deliver) world (accepted world Step.Deliver) page (λ free. delivered_settled world.forward world kept (not_none _ (none_applies (reasons world Step.Deliver) free).1.0) ran refl page)
-settled_else world Step.DeliverBack kept ran leaves page = same_node world (next world Step.DeliverBack) page (changes_parts world Step.DeliverBack).destination
-settled_else world Step.DestRead kept ran leaves page = settled_read world kept page
-settled_else world Step.DestAct kept ran leaves page = by_step (refusal_of world Step.DestAct) world (accepted world Step.DestAct) page (λ free. held_settled world.destination.guest.held world page)
-settled_else world (Step.Push ticket) kept ran leaves page = same_node world (next world (Step.Push ticket)) page (changes_parts world (Step.Push ticket)).destination
-settled_else world Step.Serve kept ran leaves page = same_node world (next world Step.Serve) page (changes_parts world Step.Serve).destination
-settled_else world Step.End kept ran leaves page = same_node world (next world Step.End) page (changes_parts world Step.End).destination
-settled_else world Step.Break kept ran leaves page = same_node world (next world Step.Break) page (changes_parts world Step.Break).destination
-settled_else world (Step.Notice Side.Source) kept ran leaves page = by_step (refusal_of world (Step.Notice Side.Source)) world (accepted world (Step.Notice Side.Source)) page (λ free. refl)
-settled_else world (Step.Notice Side.Destination) kept ran leaves page = by_step (refusal_of world (Step.Notice Side.Destination)) world (accepted world (Step.Notice Side.Destination)) page (λ free. refl)
-settled_else world Step.Resume kept ran leaves page = same_node world (next world Step.Resume) page (changes_parts world Step.Resume).destination
+settled_answer : (world : World) (step : Step) → IsSoundWorld world → AreAccesses world → world.destination.has_run ≡ true → leaves_settled step ≡ true → (page : ℕ) → Leaves (SettledAs world page) (answer world step)
+settled_answer world (Step.Issue cpu command) kept waits ran leaves page = made-issue _ world cpu command (λ idle may. settled_try world cpu command ran leaves page)
+settled_answer world (Step.Retry cpu) kept waits ran leaves page =
+    made-retry _ world cpu (λ command is woken may. settled_try world cpu command ran (waits_here world cpu command waits ran is) page)
+settled_answer world Step.Install kept waits ran leaves page = absurd (false≢true leaves)
+settled_answer world Step.Start kept waits ran leaves page = made-start _ world (λ idle. refl)
+settled_answer world Step.Round kept waits ran leaves page = made-round _ world (λ precopy quiet. refl)
+settled_answer world Step.Send kept waits ran leaves page = made-send _ world (λ number is precopy up quiet. refl)
+settled_answer world Step.SourceRead kept waits ran leaves page = made-source_read _ world (λ noted is started unswitched. refl)
+settled_answer world Step.SourceAct kept waits ran leaves page = made-source_act _ world (λ fault rest is started unswitched quiet. refl)
+settled_answer world Step.Switch kept waits ran leaves page = made-switch _ world (λ precopy up quiet. refl)
+settled_answer world Step.Deliver kept waits ran leaves page = made-deliver _ world (λ sent rest is started up free. frame_settled sent.frame sent.epoch rest world kept up ran is page)
+settled_answer world Step.DeliverBack kept waits ran leaves page = made-deliver_back _ world (λ sent rest is started up. refl)
+settled_answer world Step.DestRead kept waits ran leaves page =
+    made-dest_read _ world (λ noted is runs. read_settled world.destination.guest.space.object.faults world.destination.guest.space.object.events noted world is kept.spaces.destination_faults kept.spaces.destination_events page)
+settled_answer world Step.DestAct kept waits ran leaves page = made-dest_act _ world (λ fault rest is runs quiet. acted_settled (destination_act world.destination fault) world.destination fault.page page)
+settled_answer world (Step.Push ticket) kept waits ran leaves page = made-push _ world ticket (λ stopped up own present remains. refl)
+settled_answer world Step.Serve kept waits ran leaves page = made-serve _ world (λ number pages is stopped up. refl)
+settled_answer world Step.End kept waits ran leaves page = made-end _ world (λ stopped other up none. refl)
+settled_answer world Step.Break kept waits ran leaves page = made-break _ world (λ started unreleased up. refl)
+settled_answer world (Step.Notice Side.Source) kept waits ran leaves page = made-notice _ world Side.Source (λ started unreleased down. refl)
+settled_answer world (Step.Notice Side.Destination) kept waits ran leaves page = made-notice _ world Side.Destination (λ started unreleased down. refl)
+settled_answer world Step.Resume kept waits ran leaves page = made-resume _ world (λ from to down. refl)
+
+pub settled_else : (world : World) (step : Step) → IsSoundWorld world → AreAccesses world → world.destination.has_run ≡ true → leaves_settled step ≡ true → (page : ℕ) → settled (next world step).destination page ≡ settled world.destination page
+settled_else world step kept waits ran leaves page = leaves-next (SettledAs world page) world step refl (settled_answer world step kept waits ran leaves page)
 
 -- A copy that is given up leaves the relation
 
-dropped_by : (o : Option ℕ) (copy : Copy) (rest : List Copy) (world : World) (source page : ℕ) → install_effect_by o copy.page ≡ Effect.Dropped source → settled (install_by o world.destination copy rest) page ≡ settled world.destination page
+dropped_by : (o : Option ℕ) (copy : Copy) (rest : List Copy) (world : World) (source page : ℕ) → install_effect o copy.page ≡ Effect.Dropped source → settled (install_by o world.destination copy rest) page ≡ settled world.destination page
 dropped_by None copy rest world source page same = refl
 dropped_by (Some here) copy rest world source page same = absurd (cc)
 
-dropped_first : (arrivals : List Copy) (world : World) (source page : ℕ) → install_effect world.destination arrivals ≡ Effect.Dropped source → settled (install_made world.destination arrivals) page ≡ settled world.destination page
-dropped_first [] world source page same = refl
-dropped_first (copy ∷ rest) world source page same = dropped_by (home world.destination.owed copy.page) copy rest world source page same
-
 pub settled_dropped : (world : World) (source page : ℕ) → outcome world Step.Install ≡ Ok (Effect.Dropped source) → settled (next world Step.Install).destination page ≡ settled world.destination page
-unfolding outcome next
 settled_dropped world source page answered =
-    let told = outcome_told (refusal_of world Step.Install) (effect_of world Step.Install) (Effect.Dropped source) answered in
-    ap (λ o. settled (next_by o world (accepted world Step.Install)).destination page) told.0 ∙ dropped_first world.destination.arrivals world source page told.1
+    holds-effect (λ effect new. effect ≡ Effect.Dropped source → settled new.destination page ≡ settled world.destination page) world Step.Install (Effect.Dropped source)
+    (made-install _ world (λ copy rest first ran quiet same. dropped_by (home world.destination.owed copy.page) copy rest world source page same)) answered refl

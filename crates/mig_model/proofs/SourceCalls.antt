@@ -22,10 +22,10 @@ use Rattle.mig_base.proofs.SetLemmas.{member_without, member_below}
 use Rattle.mig_base.proofs.ReplyLemmas.{IsRemapped, found_inside, mremap_told}
 use Rattle.mig_base.proofs.ReplyLemmas.IsWhere.{Shrunk, Grew, Moved, Told}
 use Rattle.mig_model.specs.Host.{Host, memory, host_changed}
-use Rattle.mig_model.specs.World.{is_access}
+use Rattle.mig_base.specs.Commands.{is_access}
 use Rattle.mig_model.specs.Guest.{in_bytes}
-use Rattle.mig_model.specs.Userfault.{Object, is_registered}
-use Rattle.mig_model.specs.Space.{Space, IsSoundSpace, is_watched, told, remap_messages, call_messages, modes_after, protected_after}
+use Rattle.mig_model.specs.Userfault.{Object, is_registered, is_watched}
+use Rattle.mig_model.specs.Space.{Space, IsSoundSpace, told, remap_messages, call_messages, modes_after, protected_after}
 use Rattle.mig_model.proofs.HostLemmas.{is_mapped-memory, memory-none}
 use Rattle.mig_model.proofs.CommandLemmas.{one_prot_some}
 use Rattle.mig_model.proofs.SourceMessages.{tells, tells-append, unmapped_outside, removed_outside, dropped_outside, outside_told, in_bytes-pages, Stays, stays_there, moved_away}

@@ -17,21 +17,22 @@ use Rattle.mig_base.specs.Flat.{no_memory, reply_of, after, memory_of, IsFlatRun
 use Rattle.mig_base.proofs.FlatLemmas.{memory_from-push, IsRunFrom-push}
 use Rattle.mig_base.proofs.SetLemmas.{same_members}
 use Rattle.mig_model.specs.Host.{Host, memory, host_changed, host_after, IsSound}
-use Rattle.mig_model.specs.World.{is_access}
+use Rattle.mig_base.specs.Commands.{is_access}
 use Rattle.mig_model.specs.Userfault.{Object, fault_queued, waits_fault}
 use Rattle.mig_model.specs.Space.{Space, IsSoundSpace, is_made, access_of, accessed_by, called, queued_by, call_messages, modes_after}
-use Rattle.mig_model.specs.Guest.{access_took, call_took, took_by, tried, entries_of, outstanding, processor_at}
-use Rattle.mig_model.specs.Nodes.{space_of}
-use Rattle.mig_model.specs.Migration.{World, reasons, refusal_of, accepted, runs, guest_of, retried, command_tried}
-use Rattle.mig_model.specs.Invariant.{IsKept, AreRight, is_unread}
+use Rattle.mig_model.specs.Guest.{took_by, tried}
+use Rattle.mig_model.specs.Migration.{World, after_command, answer, made}
+use Rattle.mig_model.specs.Invariant.{IsSoundWorld, AreRight, is_unread}
 use Rattle.mig_model.proofs.HostLemmas.{get-put}
 use Rattle.mig_model.proofs.CommandLemmas.{memory-changed}
 use Rattle.mig_model.proofs.SpaceLemmas.{IsSoundSpace-accessed, IsSoundSpace-called, access_reply}
-use Rattle.mig_model.proofs.SourceKept.{none_refused, source_holds, IsChanged, changed}
+use Rattle.mig_model.proofs.SourceKept.{source_holds, IsChanged, changed}
 use Rattle.mig_model.proofs.SourceMessages.{noted_all, events_queued, tells, is_unread-append, AreRight-append}
 use Rattle.mig_model.proofs.SourceCalls.{untouched}
 use Rattle.mig_model.proofs.SourceEvents.{IsUnregistered, right_messages, no_messages, modes_same, none_missing, modes_events, queued_missing, queued_protect}
-use Rattle.mig_model.proofs.SourceTests.{not_false, none_absurd, never_true, and_both, or_second, or_none, some_either, append_nil, eqb_tells}
+use Rattle.mig_model.proofs.SourceTests.{none_absurd, never_true, and_both, or_second, or_none, some_either, append_nil, eqb_tells}
+use Rattle.mig_model.specs.Cpus.{access_took, call_took, entries_of}
+use Rattle.mig_model.specs.Source.{space_of}
 
 -- The transcript
 
@@ -96,28 +97,28 @@ elsewhere space (Munmap addr len) page other access answered watched protected =
 elsewhere space (Mremap addr old_len new_len may_move fixed) page other access answered watched protected = none_absurd access
 elsewhere space (DontNeed addr len) page other access answered watched protected = none_absurd access
 
-answered_changed : (world : World) (cpu : ℕ) (command : Command) (reply : Reply) (processors : List CpuState) → IsKept world → world.destination.has_run ≡ false → world.source.switched ≡ false → is_access command ≡ true →
+answered_changed : (world : World) (cpu : ℕ) (command : Command) (reply : Reply) (processors : List CpuState) → IsSoundWorld world → world.destination.has_run ≡ false → world.source.switched ≡ false → is_access command ≡ true →
     access_of (space_of world.source) command ≡ Answered reply →
-    IsChanged world.source (record world.source.guest { space = record (space_of world.source) { host = host_after (space_of world.source).host command }; processors = processors }) world.source.clean world.source.todo
+    IsChanged world.source (record world.source.guest { space = record (space_of world.source) { host = host_after (space_of world.source).host command }; cpus = processors }) world.source.log.clean world.source.log.todo
     (world.transcript ++ record { cpu = cpu; command = command; reply = reply } ∷ [])
 answered_changed world cpu command reply processors kept bare unswitched access answered =
     let space = space_of world.source in
     let holds = source_holds world kept bare in
-    let sound = kept.source_space in
+    let sound = kept.spaces.source_space in
     let same : reply ≡ reply_of (memory space.host) command = access_reply space command reply answered in
     let entered : (world.transcript ++ entry_of space.host cpu command ∷ []) ≡ (world.transcript ++ record { cpu = cpu; command = command; reply = reply } ∷ []) =
     ap (λ r. world.transcript ++ record { cpu = cpu; command = command; reply = r } ∷ []) (sym same) in
     record {
-      flat = subst IsFlatRun entered (flat_entered space.host world.transcript cpu command holds kept.flat);
+      flat = subst IsFlatRun entered (flat_entered space.host world.transcript cpu command holds kept.memory.flat);
       holds = holds_entered space.host world.transcript cpu command sound.host holds ∙ ap memory_of entered;
       space = subst (λ a. IsSoundSpace (accessed_by a space cpu command)) answered (IsSoundSpace-accessed space cpu command access sound);
-      modes = kept.both_modes;
-      events = kept.source_events;
-      idle = λ h. let was = kept.idle_source h in (was.0, was.1, was.3, was.4);
-      protected = λ page h u. kept.clean_protected unswitched page h u;
-      sendable = λ page h u. let was = kept.todo_sendable unswitched page h u in (present_after space.host command (reply_of (memory space.host) command) page access was.0, was.1);
+      modes = kept.spaces.both_modes;
+      events = kept.spaces.source_events;
+      idle = λ h. let was = kept.precopy.idle_source h in (was.0, was.1, was.3, was.4);
+      protected = λ page h u. kept.precopy.clean_protected unswitched page h u;
+      sendable = λ page h u. let was = kept.precopy.todo_sendable unswitched page h u in (present_after space.host command (reply_of (memory space.host) command) page access was.0, was.1);
       copies = λ page h u.
-          let protected = kept.clean_protected unswitched page h u in
+          let protected = kept.precopy.clean_protected unswitched page h u in
           (h, u, elsewhere space command page reply access answered (sound.watched page protected) protected);
     }
 
@@ -136,36 +137,36 @@ alike_if false object new alike = alike
 faulted_alike : (object : Object) (addr : ℕ) (write wp : Bool) (cpu : ℕ) → IsAlike object (fault_queued object addr write wp cpu)
 faulted_alike object addr write wp cpu = alike_if (waits_fault object.faults addr wp) object _ (record { events = refl; missing = refl; protect = refl })
 
-slept_changed : (world : World) (processors : List CpuState) (object : Object) → IsKept world → world.destination.has_run ≡ false → world.source.switched ≡ false → IsAlike (space_of world.source).object object →
+slept_changed : (world : World) (processors : List CpuState) (object : Object) → IsSoundWorld world → world.destination.has_run ≡ false → world.source.switched ≡ false → IsAlike (space_of world.source).object object →
     IsSoundSpace (record (space_of world.source) { object = object }) →
-    IsChanged world.source (record world.source.guest { space = record (space_of world.source) { object = object }; processors = processors }) world.source.clean world.source.todo (world.transcript ++ [])
+    IsChanged world.source (record world.source.guest { space = record (space_of world.source) { object = object }; cpus = processors }) world.source.log.clean world.source.log.todo (world.transcript ++ [])
 slept_changed world processors object kept bare unswitched alike sound =
     let space = space_of world.source in
     let events = alike.events in
     let unread : (page : ℕ) → is_unread object.events page ≡ false → is_unread space.object.events page ≡ false = λ page u. ap (λ e. is_unread e page) (sym events) ∙ u in
     record {
-      flat = subst IsFlatRun (append_nil world.transcript) kept.flat;
+      flat = subst IsFlatRun (append_nil world.transcript) kept.memory.flat;
       holds = source_holds world kept bare ∙ ap memory_of (append_nil world.transcript);
       space = sound;
-      modes = λ page. ap (λ s. contains s page) alike.missing ∙ kept.both_modes page ∙ sym (ap (λ s. contains s page) alike.protect);
-      events = subst AreRight (sym events) kept.source_events;
-      idle = λ h. let was = kept.idle_source h in (was.0, was.1, events ∙ was.3, λ page. ap (λ s. contains s page) alike.missing ∙ was.4 page);
-      protected = λ page h u. kept.clean_protected unswitched page h (unread page u);
-      sendable = λ page h u. let was = kept.todo_sendable unswitched page h (unread page u) in (was.0, ap (λ s. contains s page) alike.protect ∙ was.1);
+      modes = λ page. ap (λ s. contains s page) alike.missing ∙ kept.spaces.both_modes page ∙ sym (ap (λ s. contains s page) alike.protect);
+      events = subst AreRight (sym events) kept.spaces.source_events;
+      idle = λ h. let was = kept.precopy.idle_source h in (was.0, was.1, events ∙ was.3, λ page. ap (λ s. contains s page) alike.missing ∙ was.4 page);
+      protected = λ page h u. kept.precopy.clean_protected unswitched page h (unread page u);
+      sendable = λ page h u. let was = kept.precopy.todo_sendable unswitched page h (unread page u) in (was.0, ap (λ s. contains s page) alike.protect ∙ was.1);
       copies = λ page h u. (h, unread page u, refl);
     }
 
-access_changed : (world : World) (cpu : ℕ) (command : Command) (processors : List CpuState) (answer : Access) → IsKept world → world.destination.has_run ≡ false → world.source.switched ≡ false → is_access command ≡ true →
+access_changed : (world : World) (cpu : ℕ) (command : Command) (processors : List CpuState) (answer : Access) → IsSoundWorld world → world.destination.has_run ≡ false → world.source.switched ≡ false → is_access command ≡ true →
     access_of (space_of world.source) command ≡ answer →
-    IsChanged world.source (record world.source.guest { space = accessed_by answer (space_of world.source) cpu command; processors = processors }) world.source.clean world.source.todo
+    IsChanged world.source (record world.source.guest { space = accessed_by answer (space_of world.source) cpu command; cpus = processors }) world.source.log.clean world.source.log.todo
     (world.transcript ++ entries_of cpu command (access_took answer))
 access_changed world cpu command processors (Answered reply) kept bare unswitched access is = answered_changed world cpu command reply processors kept bare unswitched access is
 access_changed world cpu command processors Missing kept bare unswitched access is =
     slept_changed world processors _ kept bare unswitched (faulted_alike (space_of world.source).object _ _ _ cpu)
-    (subst (λ a. IsSoundSpace (accessed_by a (space_of world.source) cpu command)) is (IsSoundSpace-accessed (space_of world.source) cpu command access kept.source_space))
+    (subst (λ a. IsSoundSpace (accessed_by a (space_of world.source) cpu command)) is (IsSoundSpace-accessed (space_of world.source) cpu command access kept.spaces.source_space))
 access_changed world cpu command processors Protected kept bare unswitched access is =
     slept_changed world processors _ kept bare unswitched (faulted_alike (space_of world.source).object _ _ _ cpu)
-    (subst (λ a. IsSoundSpace (accessed_by a (space_of world.source) cpu command)) is (IsSoundSpace-accessed (space_of world.source) cpu command access kept.source_space))
+    (subst (λ a. IsSoundSpace (accessed_by a (space_of world.source) cpu command)) is (IsSoundSpace-accessed (space_of world.source) cpu command access kept.spaces.source_space))
 
 -- Map calls
 
@@ -173,13 +174,13 @@ entered_once : (cpu : ℕ) (command : Command) (reply : Reply) (count : ℕ) →
 entered_once cpu command reply zero = refl
 entered_once cpu command reply (suc count) = refl
 
-call_changed : (world : World) (cpu : ℕ) (command : Command) (processors : List CpuState) → IsKept world → world.destination.has_run ≡ false → world.source.switched ≡ false → is_access command ≡ false →
-    IsChanged world.source (record world.source.guest { space = called (space_of world.source) cpu command; processors = processors }) world.source.clean world.source.todo
+call_changed : (world : World) (cpu : ℕ) (command : Command) (processors : List CpuState) → IsSoundWorld world → world.destination.has_run ≡ false → world.source.switched ≡ false → is_access command ≡ false →
+    IsChanged world.source (record world.source.guest { space = called (space_of world.source) cpu command; cpus = processors }) world.source.log.clean world.source.log.todo
     (world.transcript ++ entries_of cpu command (call_took (reply_of (memory (space_of world.source).host) command) (queued_by (space_of world.source) command)))
 call_changed world cpu command processors kept bare unswitched call =
     let space = space_of world.source in
     let holds = source_holds world kept bare in
-    let sound = kept.source_space in
+    let sound = kept.spaces.source_space in
     let reply = reply_of (memory space.host) command in
     let messages = call_messages space.object command reply in
     let modes = modes_after space.object command reply in
@@ -188,38 +189,38 @@ call_changed world cpu command processors kept bare unswitched call =
     let missing : new.object.missing ≡ modes.missing = queued_missing modes messages cpu in
     let protect : new.object.protect ≡ modes.protect = queued_protect modes messages cpu in
     let events : new.object.events ≡ space.object.events ++ noted_all messages cpu = events_queued modes messages cpu ∙ ap (λ e. e ++ noted_all messages cpu) (modes_events space.object command reply) in
-    let both : space.object.missing ≡ space.object.protect = same_members space.object.missing space.object.protect kept.both_modes in
+    let both : space.object.missing ≡ space.object.protect = same_members space.object.missing space.object.protect kept.spaces.both_modes in
     -- an unread event that tells nothing of the page leaves what was known of it
     let unread = λ (page : ℕ) (u : is_unread new.object.events page ≡ false). or_none (is_unread space.object.events page) (tells messages page) (sym (is_unread-append space.object.events messages cpu page) ∙ ap (λ e. is_unread e page) (sym events) ∙ u) in
     let registered = λ (page : ℕ) (h : contains space.object.protect page ≡ true). or_second (contains space.object.missing page) (contains space.object.protect page) h in
     let same = λ (page : ℕ) (h : contains space.object.protect page ≡ true) (u : is_unread new.object.events page ≡ false). untouched space command reply page sound call refl (registered page h) (unread page u).1 in
     record {
-      flat = subst IsFlatRun entered (flat_entered space.host world.transcript cpu command holds kept.flat);
+      flat = subst IsFlatRun entered (flat_entered space.host world.transcript cpu command holds kept.memory.flat);
       holds = holds_entered space.host world.transcript cpu command sound.host holds ∙ ap memory_of entered;
       space = IsSoundSpace-called space cpu command call sound;
       modes = λ page. ap (λ s. contains s page) (missing ∙ modes_same space.object command reply both ∙ sym protect);
-      events = subst AreRight (sym events) (AreRight-append space.object.events messages cpu kept.source_events (right_messages space.host space.object command reply sound.host refl));
+      events = subst AreRight (sym events) (AreRight-append space.object.events messages cpu kept.spaces.source_events (right_messages space.host space.object command reply sound.host refl));
       idle = λ h.
-          let was = kept.idle_source h in
-          let none : IsUnregistered space.object = λ page. ap (λ b. b || contains space.object.protect page) (was.4 page) ∙ sym (kept.both_modes page) ∙ was.4 page in
+          let was = kept.precopy.idle_source h in
+          let none : IsUnregistered space.object = λ page. ap (λ b. b || contains space.object.protect page) (was.4 page) ∙ sym (kept.spaces.both_modes page) ∙ was.4 page in
           let nothing : messages ≡ [] = no_messages space.object command reply none in
           (was.0, was.1, events ∙ ap (λ m. space.object.events ++ noted_all m cpu) nothing ∙ ap (λ e. e ++ []) was.3, λ page. ap (λ s. contains s page) missing ∙ none_missing space.object command reply was.4 page);
       protected = λ page h u.
-          let was = kept.clean_protected unswitched page h (unread page u).0 in
+          let was = kept.precopy.clean_protected unswitched page h (unread page u).0 in
           (same page (sound.watched page was) u).protected ∙ was;
       sendable = λ page h u.
-          let was = kept.todo_sendable unswitched page h (unread page u).0 in
+          let was = kept.precopy.todo_sendable unswitched page h (unread page u).0 in
           let stays = same page was.1 u in
           (ap is_some stays.bytes ∙ was.0, ap (λ s. contains s page) protect ∙ stays.protect ∙ was.1);
       copies = λ page h u.
-          let was = kept.clean_protected unswitched page h (unread page u).0 in
+          let was = kept.precopy.clean_protected unswitched page h (unread page u).0 in
           (h, (unread page u).0, (same page (sound.watched page was) u).bytes);
     }
 
 -- Every command
 
-tried_changed : (world : World) (cpu : ℕ) (command : Command) (access : Bool) → IsKept world → world.destination.has_run ≡ false → world.source.switched ≡ false → is_access command ≡ access →
-    IsChanged world.source (tried access world.source.guest cpu command) world.source.clean world.source.todo (world.transcript ++ entries_of cpu command (took_by access (space_of world.source) command))
+tried_changed : (world : World) (cpu : ℕ) (command : Command) (access : Bool) → IsSoundWorld world → world.destination.has_run ≡ false → world.source.switched ≡ false → is_access command ≡ access →
+    IsChanged world.source (tried access world.source.guest cpu command) world.source.log.clean world.source.log.todo (world.transcript ++ entries_of cpu command (took_by access (space_of world.source) command))
 tried_changed world cpu command true kept bare unswitched is = access_changed world cpu command _ (access_of (space_of world.source) command) kept bare unswitched is refl
 tried_changed world cpu command false kept bare unswitched is = call_changed world cpu command _ kept bare unswitched is
 
@@ -230,33 +231,12 @@ tried_at_source world cpu command =
       transcript = world.transcript ++ entries_of cpu command (took_by (is_access command) (space_of world.source) command);
     }
 
-command_at_source : (world : World) (cpu : ℕ) (command : Command) → world.destination.has_run ≡ false → tried_at_source world cpu command ≡ command_tried world cpu command
+command_at_source : (world : World) (cpu : ℕ) (command : Command) → world.destination.has_run ≡ false → tried_at_source world cpu command ≡ after_command world cpu command
 command_at_source world cpu command bare = rw bare refl
 
-pub kept-command_at_source : (world : World) (cpu : ℕ) (command : Command) → world.destination.has_run ≡ false → world.source.switched ≡ false → IsKept world → IsKept (command_tried world cpu command)
+pub kept-command_at_source : (world : World) (cpu : ℕ) (command : Command) → world.destination.has_run ≡ false → world.source.switched ≡ false → IsSoundWorld world → IsSoundWorld (after_command world cpu command)
 kept-command_at_source world cpu command bare unswitched kept =
-    subst IsKept (command_at_source world cpu command bare)
-    (changed world (tried (is_access command) world.source.guest cpu command) world.source.clean world.source.todo world.source.rounds world.source.faults
+    subst IsSoundWorld (command_at_source world cpu command bare)
+    (changed world (tried (is_access command) world.source.guest cpu command) world.source.log.clean world.source.log.todo world.source.log.held world.source.rounds world.source.faults
     (world.transcript ++ entries_of cpu command (took_by (is_access command) (space_of world.source) command)) kept bare unswitched
     (tried_changed world cpu command (is_access command) kept bare unswitched refl))
-
--- Issue and Retry
-
-runs_not_switched : (switched ran : Bool) → ran ≡ false → (not switched || ran) ≡ true → switched ≡ false
-runs_not_switched true true bare h = bare
-runs_not_switched true false bare h = none_absurd h
-runs_not_switched false ran bare h = refl
-
-retried_at_source : (world : World) (cpu : ℕ) (o : Option Command) → world.destination.has_run ≡ false → world.source.switched ≡ false → IsKept world → IsKept (retried world cpu o)
-retried_at_source world cpu None bare unswitched kept = kept
-retried_at_source world cpu (Some command) bare unswitched kept = kept-command_at_source world cpu command bare unswitched kept
-
-pub kept-issue_at_source : (world : World) (cpu : ℕ) (command : Command) → world.destination.has_run ≡ false → IsKept world → refusal_of world (Step.Issue cpu command) ≡ None → IsKept (accepted world (Step.Issue cpu command))
-kept-issue_at_source world cpu command bare kept allowed =
-    let tests = none_refused (reasons world (Step.Issue cpu command)) allowed in
-    kept-command_at_source world cpu command bare (runs_not_switched world.source.switched world.destination.has_run bare (not_false (runs world) tests.1.1.0)) kept
-
-pub kept-retry_at_source : (world : World) (cpu : ℕ) → world.destination.has_run ≡ false → IsKept world → refusal_of world (Step.Retry cpu) ≡ None → IsKept (accepted world (Step.Retry cpu))
-kept-retry_at_source world cpu bare kept allowed =
-    let tests = none_refused (reasons world (Step.Retry cpu)) allowed in
-    retried_at_source world cpu (outstanding (processor_at (guest_of world).processors cpu)) bare (runs_not_switched world.source.switched world.destination.has_run bare (not_false (runs world) tests.1.1.1.0)) kept

@@ -18,8 +18,8 @@ use Rattle.mig_base.proofs.RangeLemmas.{none_below-from}
 use Rattle.mig_base.proofs.SetLemmas.{member_without, member_below}
 use Rattle.mig_base.proofs.ReplyLemmas.{mmap_inside, munmap_whole, dontneed_done, dontneed_hole, mremap_told}
 use Rattle.mig_model.specs.Host.{Host, IsSound, memory}
-use Rattle.mig_model.specs.Userfault.{Object, is_registered, event_queued}
-use Rattle.mig_model.specs.Space.{is_watched, told, remap_messages, call_messages, modes_after, all_queued}
+use Rattle.mig_model.specs.Userfault.{Object, is_registered, event_queued, is_watched}
+use Rattle.mig_model.specs.Space.{told, remap_messages, call_messages, modes_after, all_queued}
 use Rattle.mig_model.proofs.CommandLemmas.{remapped_place}
 use Rattle.mig_model.proofs.SourceMessages.{AllRight, AllRight-append, told_right}
 use Rattle.mig_model.proofs.SourceCalls.{moved_apart}

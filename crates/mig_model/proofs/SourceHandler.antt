@@ -18,16 +18,17 @@ use Rattle.mig_base.proofs.SetLemmas.{member_below, member_removed}
 use Rattle.mig_model.specs.Userfault.{Noted, Object, is_registered, next_of, next_message, read_by, message_read}
 use Rattle.mig_model.specs.Space.{Space, IsSoundSpace}
 use Rattle.mig_model.specs.Ioctls.{protected_in}
-use Rattle.mig_model.specs.Guest.{Fault, is_changed_by, read_guest, zero_installed, is_forgotten, is_present}
-use Rattle.mig_model.specs.Nodes.{Act, space_of, unchanged, is_source_idle, source_act, source_act_by, source_acted_by}
-use Rattle.mig_model.specs.Nodes.Act.{Unprotected, Zeroed, Woke, Forgot, Requested}
-use Rattle.mig_model.specs.Migration.{World, reasons, refusal_of, accepted, read_by_source, acted_by_source}
-use Rattle.mig_model.specs.Invariant.{IsKept, AreRight, is_unread}
+use Rattle.mig_model.specs.Guest.{Fault, is_changed_by, read_guest, zero_installed, is_forgotten, is_present, Act}
+use Rattle.mig_model.specs.Guest.Act.{Unprotected, Zeroed, Woke, Forgot, Requested}
+use Rattle.mig_model.specs.Migration.{World, after_source_act, after_source_read, next, start}
+use Rattle.mig_model.specs.Invariant.{IsSoundWorld, AreRight, is_unread}
 use Rattle.mig_model.proofs.IoctlLemmas.{IsSoundSpace-read, IsSoundSpace-protected, IsSoundSpace-installed, CanPut}
-use Rattle.mig_model.proofs.SourceKept.{none_refused, source_holds, IsChanged, changed}
+use Rattle.mig_model.proofs.SourceKept.{source_holds, IsChanged, changed}
 use Rattle.mig_model.proofs.SourceCalls.{registered_below}
 use Rattle.mig_model.proofs.SourceZeros.{memory_zeroed, missing_none, more_present, elsewhere}
 use Rattle.mig_model.proofs.SourceTests.{in_one_is, none_absurd, not_false, not_true, never_true, and_parts, or_first, or_second, or_none, ltb_true}
+use Rattle.mig_model.specs.Log.{forgotten, present, unchanged}
+use Rattle.mig_model.specs.Source.{is_source_idle, source_act, source_act_by, source_acted_by, space_of}
 
 -- The tests of both steps
 
@@ -35,8 +36,8 @@ never_idle : {A : Type 0} (phase : SourcePhase) → not (is_source_idle phase) �
 never_idle phase h idle = none_absurd (sym (not_true (is_source_idle phase) h) ∙ ap is_source_idle idle)
 
 -- a destination has run only once the source has stopped
-pub has_not_run : (world : World) → IsKept world → world.source.switched ≡ false → world.destination.has_run ≡ false
-has_not_run world kept unswitched = never_true world.destination.has_run (λ h. false≢true (sym unswitched ∙ kept.ran_after_switch h))
+pub has_not_run : (world : World) → IsSoundWorld world → world.source.switched ≡ false → world.destination.has_run ≡ false
+has_not_run world kept unswitched = never_true world.destination.has_run (λ h. false≢true (sym unswitched ∙ kept.phases.ran_after_switch h))
 
 -- A message is read
 
@@ -70,51 +71,44 @@ member_unchanged s message page h =
     (sym (contains-retain s (λ q. not (is_changed_by message q)) page (λ x e. ap (λ q. not (is_changed_by message q)) (sym (nat_cmp-IsAntisymmetric page x e)))) ∙ h) in
     (both.0, not_true (is_changed_by message page) both.1)
 
-read_changed : (world : World) (noted : Noted) (processors : List CpuState) (held : List Fault) → IsKept world → world.source.switched ≡ false → not (is_source_idle world.source.phase) ≡ true →
+read_changed : (world : World) (noted : Noted) (processors : List CpuState) → IsSoundWorld world → world.source.switched ≡ false → not (is_source_idle world.source.phase) ≡ true →
     next_message (space_of world.source).object ≡ Some noted →
-    IsChanged world.source (record { space = record (space_of world.source) { object = message_read (space_of world.source).object }; processors = processors; held = held })
-    (unchanged world.source.clean noted.message) (unchanged world.source.todo noted.message) world.transcript
-read_changed world noted processors held kept unswitched started next =
+    IsChanged world.source (record { space = record (space_of world.source) { object = message_read (space_of world.source).object }; cpus = processors })
+    (unchanged world.source.log.clean noted.message) (unchanged world.source.log.todo noted.message) world.transcript
+read_changed world noted processors kept unswitched started next =
     let space = space_of world.source in
     let read : IsRead space.object (message_read space.object) noted.message = is_read space.object.faults space.object.events space.object noted next in
     record {
-      flat = kept.flat;
+      flat = kept.memory.flat;
       holds = source_holds world kept (has_not_run world kept unswitched);
-      space = IsSoundSpace-read space kept.source_space;
-      modes = λ page. ap (λ s. contains s page) read.missing ∙ kept.both_modes page ∙ sym (ap (λ s. contains s page) read.protect);
-      events = read.right kept.source_events;
+      space = IsSoundSpace-read space kept.spaces.source_space;
+      modes = λ page. ap (λ s. contains s page) read.missing ∙ kept.spaces.both_modes page ∙ sym (ap (λ s. contains s page) read.protect);
+      events = read.right kept.spaces.source_events;
       idle = λ h. never_idle world.source.phase started h;
       protected = λ page h u.
-          let was = member_unchanged world.source.clean noted.message page h in
-          kept.clean_protected unswitched page was.0 (read.unread page was.1 u);
+          let was = member_unchanged world.source.log.clean noted.message page h in
+          kept.precopy.clean_protected unswitched page was.0 (read.unread page was.1 u);
       sendable = λ page h u.
-          let was = member_unchanged world.source.todo noted.message page h in
-          let sendable = kept.todo_sendable unswitched page was.0 (read.unread page was.1 u) in
+          let was = member_unchanged world.source.log.todo noted.message page h in
+          let sendable = kept.precopy.todo_sendable unswitched page was.0 (read.unread page was.1 u) in
           (sendable.0, ap (λ s. contains s page) read.protect ∙ sendable.1);
       copies = λ page h u.
-          let was = member_unchanged world.source.clean noted.message page h in
+          let was = member_unchanged world.source.log.clean noted.message page h in
           (was.0, read.unread page was.1 u, refl);
     }
 
 -- whatever the message is
-read_by_message : (world : World) (noted : Noted) (message : Message) → IsKept world → world.source.switched ≡ false → not (is_source_idle world.source.phase) ≡ true → next_message (space_of world.source).object ≡ Some noted →
-    IsChanged world.source (read_guest world.source.guest noted.cpu message) (unchanged world.source.clean noted.message) (unchanged world.source.todo noted.message) world.transcript
-read_by_message world noted (PageFault addr write wp) kept unswitched started next = read_changed world noted _ _ kept unswitched started next
-read_by_message world noted (Remap from to len) kept unswitched started next = read_changed world noted _ _ kept unswitched started next
-read_by_message world noted (Remove start end) kept unswitched started next = read_changed world noted _ _ kept unswitched started next
-read_by_message world noted (Unmap start end) kept unswitched started next = read_changed world noted _ _ kept unswitched started next
+read_by_message : (world : World) (noted : Noted) (message : Message) → IsSoundWorld world → world.source.switched ≡ false → not (is_source_idle world.source.phase) ≡ true → next_message (space_of world.source).object ≡ Some noted →
+    IsChanged world.source (read_guest world.source.guest noted.cpu message) (unchanged world.source.log.clean noted.message) (unchanged world.source.log.todo noted.message) world.transcript
+read_by_message world noted (PageFault addr write wp) kept unswitched started next = read_changed world noted _ kept unswitched started next
+read_by_message world noted (Remap from to len) kept unswitched started next = read_changed world noted _ kept unswitched started next
+read_by_message world noted (Remove start end) kept unswitched started next = read_changed world noted _ kept unswitched started next
+read_by_message world noted (Unmap start end) kept unswitched started next = read_changed world noted _ kept unswitched started next
 
-read_next : (world : World) (next : Option Noted) → IsKept world → world.source.switched ≡ false → not (is_source_idle world.source.phase) ≡ true → next_message (space_of world.source).object ≡ next → IsKept (read_by_source world next)
-read_next world None kept unswitched started is = kept
-read_next world (Some noted) kept unswitched started is =
-    changed world (read_guest world.source.guest noted.cpu noted.message) (unchanged world.source.clean noted.message) (unchanged world.source.todo noted.message) world.source.rounds _ world.transcript
-    kept (has_not_run world kept unswitched) unswitched (read_by_message world noted noted.message kept unswitched started is)
-
-pub kept-source_read : (world : World) → IsKept world → refusal_of world Step.SourceRead ≡ None → IsKept (accepted world Step.SourceRead)
-kept-source_read world kept accepted =
-    let tests = none_refused (reasons world Step.SourceRead) accepted in
-    let runs = and_parts (not (is_source_idle world.source.phase)) (not world.source.switched) (not_false _ tests.0) in
-    read_next world (next_message (space_of world.source).object) kept (not_true world.source.switched runs.1) runs.0 refl
+pub kept-source_read : (world : World) (noted : Noted) → IsSoundWorld world → next_message (space_of world.source).object ≡ Some noted → is_source_idle world.source.phase ≡ false → world.source.switched ≡ false → IsSoundWorld (after_source_read world noted)
+kept-source_read world noted kept is started unswitched =
+    changed world (read_guest world.source.guest noted.cpu noted.message) (unchanged world.source.log.clean noted.message) (unchanged world.source.log.todo noted.message) _ world.source.rounds _ world.transcript
+    kept (has_not_run world kept unswitched) unswitched (read_by_message world noted noted.message kept unswitched (ap not started) is)
 
 -- A fault is worked
 
@@ -149,18 +143,18 @@ not_in_one : (page q : ℕ) → eqb q page ≡ false → in_range page 1 q ≡ f
 not_in_one page q h = grind (arith, nat_tests)
 
 -- nothing but processors and held faults has changed
-same_changed : (world : World) (processors : List CpuState) (held : List Fault) → IsKept world → world.source.switched ≡ false →
-    IsChanged world.source (record { space = space_of world.source; processors = processors; held = held }) world.source.clean world.source.todo world.transcript
-same_changed world processors held kept unswitched =
+same_changed : (world : World) (processors : List CpuState) → IsSoundWorld world → world.source.switched ≡ false →
+    IsChanged world.source (record { space = space_of world.source; cpus = processors }) world.source.log.clean world.source.log.todo world.transcript
+same_changed world processors kept unswitched =
     record {
-      flat = kept.flat;
+      flat = kept.memory.flat;
       holds = source_holds world kept (has_not_run world kept unswitched);
-      space = kept.source_space;
-      modes = kept.both_modes;
-      events = kept.source_events;
-      idle = λ h. let was = kept.idle_source h in (was.0, was.1, was.3, was.4);
-      protected = λ page h u. kept.clean_protected unswitched page h u;
-      sendable = λ page h u. kept.todo_sendable unswitched page h u;
+      space = kept.spaces.source_space;
+      modes = kept.spaces.both_modes;
+      events = kept.spaces.source_events;
+      idle = λ h. let was = kept.precopy.idle_source h in (was.0, was.1, was.3, was.4);
+      protected = λ page h u. kept.precopy.clean_protected unswitched page h u;
+      sendable = λ page h u. kept.precopy.todo_sendable unswitched page h u;
       copies = λ page h u. (h, u, refl);
     }
 
@@ -168,73 +162,66 @@ protected_below : (space : Space) (page : ℕ) → IsSoundSpace space → contai
 protected_below space page sound h =
     ltb_true page HIGH_PAGE (registered_below space page sound (or_second (contains space.object.missing page) (contains space.object.protect page) (sound.watched page h)))
 
-unprotected_changed : (world : World) (page : ℕ) (processors : List CpuState) (held : List Fault) → IsKept world → world.source.switched ≡ false → not (is_source_idle world.source.phase) ≡ true → IsWatched (space_of world.source) page →
-    IsChanged world.source (record { space = protected_in (space_of world.source) page 1 false; processors = processors; held = held }) (remove world.source.clean page) world.source.todo world.transcript
-unprotected_changed world page processors held kept unswitched started watched =
+unprotected_changed : (world : World) (page : ℕ) (processors : List CpuState) → IsSoundWorld world → world.source.switched ≡ false → not (is_source_idle world.source.phase) ≡ true → IsWatched (space_of world.source) page →
+    IsChanged world.source (record { space = protected_in (space_of world.source) page 1 false; cpus = processors }) (remove world.source.log.clean page) world.source.log.todo world.transcript
+unprotected_changed world page processors kept unswitched started watched =
     let space = space_of world.source in
-    let removed = λ (q : ℕ) (h : contains (remove world.source.clean page) q ≡ true). and_parts (not (eqb q page)) (contains world.source.clean q) (sym (member_removed world.source.clean page q) ∙ h) in
+    let removed = λ (q : ℕ) (h : contains (remove world.source.log.clean page) q ≡ true). and_parts (not (eqb q page)) (contains world.source.log.clean q) (sym (member_removed world.source.log.clean page q) ∙ h) in
     record {
-      flat = kept.flat;
+      flat = kept.memory.flat;
       holds = source_holds world kept (has_not_run world kept unswitched);
-      space = IsSoundSpace-protected space page 1 false (λ q h. ap (contains space.object.protect) (in_one_is page q h) ∙ watched.protect) kept.source_space;
-      modes = kept.both_modes;
-      events = kept.source_events;
+      space = IsSoundSpace-protected space page 1 false (λ q h. ap (contains space.object.protect) (in_one_is page q h) ∙ watched.protect) kept.spaces.source_space;
+      modes = kept.spaces.both_modes;
+      events = kept.spaces.source_events;
       idle = λ h. never_idle world.source.phase started h;
       protected = λ q h u.
-          let was = kept.clean_protected unswitched q (removed q h).1 u in
-          member_below _ HIGH_PAGE q ∙ rw (protected_below space q kept.source_space was, not_in_one page q (not_true (eqb q page) (removed q h).0)) was;
-      sendable = λ q h u. kept.todo_sendable unswitched q h u;
+          let was = kept.precopy.clean_protected unswitched q (removed q h).1 u in
+          member_below _ HIGH_PAGE q ∙ rw (protected_below space q kept.spaces.source_space was, not_in_one page q (not_true (eqb q page) (removed q h).0)) was;
+      sendable = λ q h u. kept.precopy.todo_sendable unswitched q h u;
       copies = λ q h u. ((removed q h).1, u, refl);
     }
 
-zeroed_changed : (world : World) (page : ℕ) (processors : List CpuState) (held : List Fault) → IsKept world → world.source.switched ≡ false → not (is_source_idle world.source.phase) ≡ true → IsWatched (space_of world.source) page →
+zeroed_changed : (world : World) (page : ℕ) (processors : List CpuState) → IsSoundWorld world → world.source.switched ≡ false → not (is_source_idle world.source.phase) ≡ true → IsWatched (space_of world.source) page →
     is_present (space_of world.source) page ≡ false →
-    IsChanged world.source (record { space = zero_installed (space_of world.source) page; processors = processors; held = held }) world.source.clean world.source.todo world.transcript
-zeroed_changed world page processors held kept unswitched started watched missing =
+    IsChanged world.source (record { space = zero_installed (space_of world.source) page; cpus = processors }) world.source.log.clean world.source.log.todo world.transcript
+zeroed_changed world page processors kept unswitched started watched missing =
     let space = space_of world.source in
-    let sound = kept.source_space in
+    let sound = kept.spaces.source_space in
     let can : CanPut space page 1 (λ i. zero_page) false =
     record { mapped = λ q h. ap (contains_key space.host.areas) (in_one_is page q h) ∙ watched.mapped; whole = λ i l. length-zero_page; watched = λ e q h. none_absurd e } in
     record {
-      flat = kept.flat;
+      flat = kept.memory.flat;
       holds = memory_zeroed space.host page (missing_none (get space.host.bytes page) missing) ∙ source_holds world kept (has_not_run world kept unswitched);
       space = IsSoundSpace-installed space page 1 (λ i. zero_page) false can sound;
-      modes = kept.both_modes;
-      events = kept.source_events;
+      modes = kept.spaces.both_modes;
+      events = kept.spaces.source_events;
       idle = λ h. never_idle world.source.phase started h;
       protected = λ q h u.
-          let was = kept.clean_protected unswitched q h u in
+          let was = kept.precopy.clean_protected unswitched q h u in
           member_below _ HIGH_PAGE q ∙ rw (protected_below space q sound was) (or_first (contains space.protected q) _ was);
-      sendable = λ q h u. let was = kept.todo_sendable unswitched q h u in (more_present space page q was.0, was.1);
-      copies = λ q h u. (h, u, elsewhere space page q missing (sound.present q (kept.clean_protected unswitched q h u)));
+      sendable = λ q h u. let was = kept.precopy.todo_sendable unswitched q h u in (more_present space page q was.0, was.1);
+      copies = λ q h u. (h, u, elsewhere space page q missing (sound.present q (kept.precopy.clean_protected unswitched q h u)));
     }
 
 -- Every act
 
-acted : (world : World) (fault : Fault) (act : Act) → IsKept world → world.source.switched ≡ false → not (is_source_idle world.source.phase) ≡ true → source_act world.source fault ≡ act →
-    IsKept (record world { source = source_acted_by act world.source fault.page })
+acted : (world : World) (fault : Fault) (act : Act) → IsSoundWorld world → world.source.switched ≡ false → not (is_source_idle world.source.phase) ≡ true → source_act world.source fault ≡ act →
+    IsSoundWorld (record world { source = source_acted_by act world.source fault.page })
 acted world fault Unprotected kept unswitched started is =
     let space = space_of world.source in
-    let watched = is_watched space fault.page (kept.both_modes fault.page) (unprotected_is _ _ _ is) in
-    changed world _ _ _ world.source.rounds world.source.faults world.transcript kept (has_not_run world kept unswitched) unswitched (unprotected_changed world fault.page _ _ kept unswitched started watched)
+    let watched = is_watched space fault.page (kept.spaces.both_modes fault.page) (unprotected_is _ _ _ is) in
+    changed world _ _ _ _ world.source.rounds world.source.faults world.transcript kept (has_not_run world kept unswitched) unswitched (unprotected_changed world fault.page _ kept unswitched started watched)
 acted world fault Zeroed kept unswitched started is =
     let space = space_of world.source in
     let told = zeroed_is (is_forgotten space fault.page) (is_present space fault.page) (contains space.protected fault.page && fault.wp) is in
-    let watched = is_watched space fault.page (kept.both_modes fault.page) told.0 in
-    changed world _ _ _ world.source.rounds world.source.faults world.transcript kept (has_not_run world kept unswitched) unswitched (zeroed_changed world fault.page _ _ kept unswitched started watched told.1)
+    let watched = is_watched space fault.page (kept.spaces.both_modes fault.page) told.0 in
+    changed world _ _ _ _ world.source.rounds world.source.faults world.transcript kept (has_not_run world kept unswitched) unswitched (zeroed_changed world fault.page _ kept unswitched started watched told.1)
 acted world fault Woke kept unswitched started is =
-    changed world _ _ _ world.source.rounds world.source.faults world.transcript kept (has_not_run world kept unswitched) unswitched (same_changed world _ _ kept unswitched)
+    changed world _ _ _ _ world.source.rounds world.source.faults world.transcript kept (has_not_run world kept unswitched) unswitched (same_changed world _ kept unswitched)
 acted world fault Forgot kept unswitched started is =
-    changed world _ _ _ world.source.rounds world.source.faults world.transcript kept (has_not_run world kept unswitched) unswitched (same_changed world _ _ kept unswitched)
+    changed world _ _ _ _ world.source.rounds world.source.faults world.transcript kept (has_not_run world kept unswitched) unswitched (same_changed world _ kept unswitched)
 acted world fault (Requested source) kept unswitched started is =
-    changed world _ _ _ world.source.rounds world.source.faults world.transcript kept (has_not_run world kept unswitched) unswitched (same_changed world _ _ kept unswitched)
+    changed world _ _ _ _ world.source.rounds world.source.faults world.transcript kept (has_not_run world kept unswitched) unswitched (same_changed world _ kept unswitched)
 
-acted_first : (world : World) (held : List Fault) → IsKept world → world.source.switched ≡ false → not (is_source_idle world.source.phase) ≡ true → IsKept (acted_by_source world held)
-acted_first world [] kept unswitched started = kept
-acted_first world (fault ∷ rest) kept unswitched started = acted world fault (source_act world.source fault) kept unswitched started refl
-
-pub kept-source_act : (world : World) → IsKept world → refusal_of world Step.SourceAct ≡ None → IsKept (accepted world Step.SourceAct)
-kept-source_act world kept accepted =
-    let tests = none_refused (reasons world Step.SourceAct) accepted in
-    let runs = and_parts (not (is_source_idle world.source.phase)) (not world.source.switched) (not_false _ tests.0) in
-    acted_first world world.source.guest.held kept (not_true world.source.switched runs.1) runs.0
+pub kept-source_act : (world : World) (fault : Fault) → IsSoundWorld world → is_source_idle world.source.phase ≡ false → world.source.switched ≡ false → IsSoundWorld (after_source_act world fault)
+kept-source_act world fault kept started unswitched = acted world fault (source_act world.source fault) kept unswitched (ap not started) refl

@@ -18,16 +18,17 @@ use Rattle.mig_model.specs.Space.{Space, IsSoundSpace}
 use Rattle.mig_model.specs.Ioctls.{protected_in}
 use Rattle.mig_model.specs.Guest.{is_present}
 use Rattle.mig_model.specs.Wire.{Sent, page_frame}
-use Rattle.mig_model.specs.Nodes.{space_of, bytes_of, is_precopy, least_of, present, page_sent}
-use Rattle.mig_model.specs.Migration.{World, reasons, refusal_of, accepted, sent_by}
-use Rattle.mig_model.specs.Invariant.{IsKept, IsPrecopying, Wires, Flow, flow_after, flow_next, kept_by, is_unread}
+use Rattle.mig_model.specs.Migration.{World, after_send, is_changing, next}
+use Rattle.mig_model.specs.Invariant.{IsSoundWorld, IsPrecopying, Wires, Flow, flow_after, flow_next, kept_by, is_unread}
 use Rattle.mig_model.specs.Invariant.Flow.{BeforeAdvise, Copies}
 use Rattle.mig_model.proofs.IoctlLemmas.{IsSoundSpace-protected}
-use Rattle.mig_model.proofs.SourceKept.{none_refused, source_holds, IsNext, renewed}
+use Rattle.mig_model.proofs.SourceKept.{source_holds, IsNext, renewed}
 use Rattle.mig_model.proofs.SourceFrames.{copy_in-page_frame, flow_next-page_frame, flow_after-push, AreOf-push, copies_whole-push, kept_by-page}
 use Rattle.mig_model.proofs.SourceHandler.{has_not_run}
-use Rattle.mig_model.proofs.SourceTests.{in_one_is, none_absurd, not_false, and_parts, or_second, eqb_tells, in_one, or_either}
+use Rattle.mig_model.proofs.SourceTests.{in_one_is, none_absurd, and_parts, or_second, eqb_tells, in_one, or_either}
 use Rattle.mig_model.proofs.SourceRounds.{precopy_unswitched, never_idle, watched_below}
+use Rattle.mig_model.specs.Log.{least_of, present}
+use Rattle.mig_model.specs.Source.{bytes_of, is_precopy, page_sent, space_of}
 
 present_bytes : {X : Type 0} (o : Option X) (zeros : X) → is_some o ≡ true → Some (unwrap_or o zeros) ≡ o
 present_bytes None zeros h = none_absurd h
@@ -49,32 +50,32 @@ whole_bytes : (space : Space) (page : ℕ) (o : Option (List ℕ)) → IsSoundSp
 whole_bytes space page None sound e h = none_absurd h
 whole_bytes space page (Some bytes) sound e h = sound.host.whole page bytes e
 
-is_sent : (world : World) (page : ℕ) → IsKept world → world.source.switched ≡ false → (space_of world.source).object.events ≡ [] → least_of world.source.todo ≡ Some page → IsSent world page
+is_sent : (world : World) (page : ℕ) → IsSoundWorld world → world.source.switched ≡ false → (space_of world.source).object.events ≡ [] → least_of world.source.log.todo ≡ Some page → IsSent world page
 is_sent world page kept unswitched quiet found =
     let space = space_of world.source in
-    let least = least_below_tells (contains world.source.todo) HIGH_PAGE page found in
-    let was = kept.todo_sendable unswitched page least (ap (λ e. is_unread e page) quiet) in
+    let least = least_below_tells (contains world.source.log.todo) HIGH_PAGE page found in
+    let was = kept.precopy.todo_sendable unswitched page least (ap (λ e. is_unread e page) quiet) in
     record {
       present = was.0;
       watched = was.1;
-      whole = whole_bytes space page (get space.host.bytes page) kept.source_space refl was.0;
-      low = watched_below space page kept.source_space was.1;
+      whole = whole_bytes space page (get space.host.bytes page) kept.spaces.source_space refl was.0;
+      low = watched_below space page kept.spaces.source_space was.1;
     }
 
-still_after : (world : World) (page q : ℕ) → IsKept world → world.source.switched ≡ false → IsSent world page → contains (insert world.source.clean page) q ≡ true → is_unread (space_of world.source).object.events q ≡ false →
+still_after : (world : World) (page q : ℕ) → IsSoundWorld world → world.source.switched ≡ false → IsSent world page → contains (insert world.source.log.clean page) q ≡ true → is_unread (space_of world.source).object.events q ≡ false →
     contains (protected_in (space_of world.source) page 1 true).protected q ≡ true
 still_after world page q kept unswitched is h u =
     let space = space_of world.source in
-    let either : (eqb q page || contains world.source.clean q) ≡ true = sym (member_inserted world.source.clean page q) ∙ h in
+    let either : (eqb q page || contains world.source.log.clean q) ≡ true = sym (member_inserted world.source.log.clean page q) ∙ h in
     let new : eqb q page ≡ true → contains (protected_in space page 1 true).protected q ≡ true = λ e.
     let here = eqb_tells q page e in
     member_below _ HIGH_PAGE q ∙ protected_now (ltb q HIGH_PAGE) (in_range page 1 q) (is_present space q) (contains space.protected q) (ap (λ k. ltb k HIGH_PAGE) here ∙ is.low) (ap (is_present space) here ∙ is.present)
     (ap (λ b. b || contains space.protected q) (in_one page q ∙ e)) in
-    let old : contains world.source.clean q ≡ true → contains (protected_in space page 1 true).protected q ≡ true = λ clean.
-    let was = kept.clean_protected unswitched q clean u in
-    member_below _ HIGH_PAGE q ∙ protected_now (ltb q HIGH_PAGE) (in_range page 1 q) (is_present space q) (contains space.protected q) (watched_below space q kept.source_space (kept.source_space.watched q was)) (kept.source_space.present q was)
+    let old : contains world.source.log.clean q ≡ true → contains (protected_in space page 1 true).protected q ≡ true = λ clean.
+    let was = kept.precopy.clean_protected unswitched q clean u in
+    member_below _ HIGH_PAGE q ∙ protected_now (ltb q HIGH_PAGE) (in_range page 1 q) (is_present space q) (contains space.protected q) (watched_below space q kept.spaces.source_space (kept.spaces.source_space.watched q was)) (kept.spaces.source_space.present q was)
     (or_second (in_range page 1 q) (contains space.protected q) was) in
-    or_either (eqb q page) (contains world.source.clean q) either new old
+    or_either (eqb q page) (contains world.source.log.clean q) either new old
 
 abbrev page_wire : World → ℕ → List Sent
 page_wire world page = world.forward ++ record { epoch = world.source.epoch; frame = page_frame page (bytes_of world.source page) } ∷ []
@@ -102,11 +103,11 @@ sent_copies world page flow kept is right old =
       clean_copy = λ q h u.
           newest q ∙ here_or_before (eqb q page) bytes (get (kept_by kept world.forward) q) (get space.host.bytes q)
           (λ e. present_bytes (get space.host.bytes page) zero_page is.present ∙ ap (get space.host.bytes) (sym (eqb_tells q page e)))
-          (λ e. old.clean_copy q (was_clean (eqb q page) (contains source.clean q) (sym (member_inserted source.clean page q) ∙ h) e) u);
+          (λ e. old.clean_copy q (was_clean (eqb q page) (contains source.log.clean q) (sym (member_inserted source.log.clean page q) ∙ h) e) u);
       copies_sent = λ q h.
-          member_inserted source.sent page q ∙ ⊎_elim
-          (λ (e : eqb q page ≡ true). ap (λ b. b || contains source.sent q) e)
-          (λ (e : is_some (get (kept_by kept world.forward) q) ≡ true). or_second (eqb q page) (contains source.sent q) (old.copies_sent q e))
+          member_inserted source.log.sent page q ∙ ⊎_elim
+          (λ (e : eqb q page ≡ true). ap (λ b. b || contains source.log.sent q) e)
+          (λ (e : is_some (get (kept_by kept world.forward) q) ≡ true). or_second (eqb q page) (contains source.log.sent q) (old.copies_sent q e))
           (copied_or_before (eqb q page) bytes (get (kept_by kept world.forward) q) (sym (ap is_some (newest q)) ∙ h));
     }
 
@@ -140,50 +141,44 @@ wires_sent SourcePhase.Stopped to world page now is wires = none_absurd now
 wires_sent SourcePhase.Paused to world page now is wires = none_absurd now
 wires_sent SourcePhase.Released to world page now is wires = none_absurd now
 
-sent_next : (world : World) (page : ℕ) → IsKept world → is_precopy world.source.phase ≡ true → world.up ≡ true → world.source.switched ≡ false → IsSent world page →
+sent_next : (world : World) (page : ℕ) → IsSoundWorld world → is_precopy world.source.phase ≡ true → world.up ≡ true → world.source.switched ≡ false → IsSent world page →
     IsNext world (page_sent world.source page) (page_wire world page) world.transcript
 sent_next world page kept precopy up unswitched is =
     let source = world.source in
     let space = space_of source in
-    let before = kept.before_switch unswitched in
+    let before = kept.pushing.before_switch unswitched in
     record {
-      flat = kept.flat;
+      flat = kept.memory.flat;
       holds = source_holds world kept (has_not_run world kept unswitched);
-      space = IsSoundSpace-protected space page 1 true (λ q h. ap (contains space.object.protect) (in_one_is page q h) ∙ is.watched) kept.source_space;
-      modes = kept.both_modes;
-      events = kept.source_events;
-      phase = kept.source_phase;
+      space = IsSoundSpace-protected space page 1 true (λ q h. ap (contains space.object.protect) (in_one_is page q h) ∙ is.watched) kept.spaces.source_space;
+      modes = kept.spaces.both_modes;
+      events = kept.spaces.source_events;
+      phase = kept.phases.source_phase;
       unswitched = unswitched;
       remaining = before.0;
       unended = before.1;
-      before = kept.ended_before;
-      fresh = kept.paused_fresh;
+      before = kept.pushing.ended_before;
+      fresh = kept.pushing.paused_fresh;
       idle = λ h. never_idle source.phase precopy h;
       whole = copies_whole-push world.forward (record { epoch = source.epoch; frame = page_frame page (bytes_of source page) }) (record { page = page; bytes = bytes_of source page })
-          (copy_in-page_frame page (bytes_of source page) is.whole) is.whole kept.copies_whole;
+          (copy_in-page_frame page (bytes_of source page) is.whole) is.whole kept.copies.copies_whole;
       protected = λ q h u. still_after world page q kept unswitched is h u;
       sendable = λ q h u.
-          kept.todo_sendable unswitched q (and_parts (not (eqb q page)) (contains source.todo q) (sym (member_removed source.todo page q) ∙ h)).1 u;
+          kept.precopy.todo_sendable unswitched q (and_parts (not (eqb q page)) (contains source.log.todo q) (sym (member_removed source.log.todo page q) ∙ h)).1 u;
       down = λ h. none_absurd (sym h ∙ up);
-      wires = λ h. wires_sent source.phase world.destination.phase world page precopy is (kept.wires h);
-      forward_epoch = AreOf-push source.epoch world.forward (page_frame page (bytes_of source page)) kept.forward_epoch;
-      back_epoch = kept.back_epoch;
-      epochs = kept.epochs;
-      epoch_at = kept.epoch_at;
+      wires = λ h. wires_sent source.phase world.destination.phase world page precopy is (kept.flight.wires h);
+      forward_epoch = AreOf-push source.epoch world.forward (page_frame page (bytes_of source page)) kept.epochs.forward_epoch;
+      back_epoch = kept.epochs.back_epoch;
+      epochs = kept.epochs.not_ahead;
+      epoch_at = kept.epochs.epoch_at;
     }
 
 no_event : (events : List Noted) → ltb 0 (length events) ≡ false → events ≡ []
 no_event [] h = refl
 no_event (noted ∷ events) h = absurd (grind (arith, nat_tests))
 
-sent_least : (world : World) (o : Option ℕ) → IsKept world → is_precopy world.source.phase ≡ true → world.up ≡ true → (space_of world.source).object.events ≡ [] → least_of world.source.todo ≡ o → IsKept (sent_by world o)
-sent_least world None kept precopy up quiet found = kept
-sent_least world (Some page) kept precopy up quiet found =
-    let unswitched = precopy_unswitched world.source.phase world.source.switched precopy kept.source_phase in
+pub kept-send : (world : World) (page : ℕ) → IsSoundWorld world → least_of world.source.log.todo ≡ Some page → is_precopy world.source.phase ≡ true → world.up ≡ true → is_changing world.source.guest ≡ false → IsSoundWorld (after_send world page)
+kept-send world page kept found precopy up quiet =
+    let unswitched = precopy_unswitched world.source.phase world.source.switched precopy kept.phases.source_phase in
     renewed world (page_sent world.source page) (page_wire world page) world.transcript kept (has_not_run world kept unswitched)
-    (sent_next world page kept precopy up unswitched (is_sent world page kept unswitched quiet found))
-
-pub kept-send : (world : World) → IsKept world → refusal_of world Step.Send ≡ None → IsKept (accepted world Step.Send)
-kept-send world kept allowed =
-    let tests = none_refused (reasons world Step.Send) allowed in
-    sent_least world (least_of world.source.todo) kept (not_false (is_precopy world.source.phase) tests.0) (not_false world.up tests.1.0) (no_event (space_of world.source).object.events tests.1.1.1.0) refl
+    (sent_next world page kept precopy up unswitched (is_sent world page kept unswitched (no_event (space_of world.source).object.events quiet) found))

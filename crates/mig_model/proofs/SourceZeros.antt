@@ -15,6 +15,7 @@ use Rattle.mig_model.specs.Guest.{zero_installed, is_present}
 use Rattle.mig_model.proofs.HostLemmas.{same_memory, memory-at}
 use Rattle.mig_model.proofs.IoctlLemmas.{get-put_pages}
 use Rattle.mig_model.proofs.SourceTests.{in_one_is, none_absurd, never_true, some_either}
+use Rattle.mig_model.specs.Log.{present}
 
 zero_bytes : (here : Bool) (o : Option (List ℕ)) (i : ℕ) → (here ≡ true → o ≡ None) → get_or (unwrap_or (cond here (Some zero_page) o) []) i 0 ≡ get_or (unwrap_or o []) i 0
 zero_bytes true o i h = get_or-zero_page i ∙ sym (ap (λ p. get_or (unwrap_or p []) i 0) (h refl))

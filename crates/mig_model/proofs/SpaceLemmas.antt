@@ -22,11 +22,13 @@ use Rattle.mig_base.proofs.PageLemmas.{get-set_range, get-remove_range, get-move
 use Rattle.mig_base.proofs.SetLemmas.{member_without, member_below}
 use Rattle.mig_base.proofs.ReplyLemmas.{IsRemapped, mremap_told}
 use Rattle.mig_model.specs.Host.{Host, memory, host_changed, host_after, IsSound}
-use Rattle.mig_model.specs.World.{is_access}
+use Rattle.mig_base.specs.Commands.{is_access}
 use Rattle.mig_model.specs.Userfault.{Object, Mode, mode_at, fault_queued, event_queued, waits_fault}
 use Rattle.mig_model.specs.Space.{Space, fresh_space, IsSoundSpace, access_of, accessed_by, accessed, called, modes_after, protected_after, call_messages, all_queued}
 use Rattle.mig_model.proofs.HostLemmas.{IsSound-empty, memory-none, get-put}
 use Rattle.mig_model.proofs.CommandLemmas.{IsSound-changed, one_prot_some}
+use Rattle.mig_model.specs.Log.{present}
+use Rattle.mig_model.specs.Promises.{gone}
 
 abbrev PageMap : Type 0 → Type 0
 PageMap X = FinMap nat_cmp X

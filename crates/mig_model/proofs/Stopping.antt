@@ -1,4 +1,4 @@
--- Push, Serve and SendEnd keep what every world of the whole migration keeps: a stopped source sends.
+-- Push, Serve and End keep what every world of the whole migration keeps: a stopped source sends.
 use Rattle.std.proofs.Common.{◌≡◌, ◌≢◌, ℕ, zero, suc, ◌<◌, ◌≤◌, ◌&&◌, ◌||◌, Bool, true, false, cond, not, eqb, Option, Some, None, List, [], ◌∷◌, ◌++◌, refl, sym, ap, ◌∙◌, subst, ◌⊎◌, inl, inr, ⊎_elim, arith, length, is_some, unwrap_or}
 use Rattle.std.specs.Ordering.{nat_cmp}
 use Rattle.std.specs.FinMap.{FinMap, get}
@@ -19,12 +19,12 @@ use Rattle.mig_model.specs.Space.{Space}
 use Rattle.mig_model.specs.Wire.{Sent, Copy, page_frame}
 use Rattle.mig_model.specs.Wire.Frame.{End}
 use Rattle.mig_model.specs.Guest.{is_present}
-use Rattle.mig_model.specs.Nodes.{Source, is_stopped, space_of, bytes_of, page_pushed, request_served, no_pages, least_of}
-use Rattle.mig_model.specs.Migration.{World, reasons, refusal_of, accepted}
-use Rattle.mig_model.specs.Invariant.{IsKept, StoppedWires, IsSwitching, Flow, flow_after, flow_of, copies_of, has_copy, AreFaithful, AreWhole, behind}
+use Rattle.mig_model.specs.Migration.{World, after_end, after_push, after_serve}
+use Rattle.mig_model.specs.Invariant.{IsSoundWorld, StoppedWires, IsSwitching, Flow, flow_after, flow_of, copies_of, has_copy, AreFaithful, AreWhole, behind}
 use Rattle.mig_model.specs.Invariant.Flow.{BeforeAdvise, Copies, BeforePackage, Pushed, AfterEnd}
-use Rattle.mig_model.proofs.Breaking.{none_applies}
 use Rattle.mig_model.proofs.SendingLemmas.{flow_sent, copies_of-append, AreWhole-append, AreFaithful-append, has_copy-append, AreOf-one, has_package, copies_of-page, page_flow}
+use Rattle.mig_model.specs.Log.{least_of, no_pages, present}
+use Rattle.mig_model.specs.Source.{Source, bytes_of, is_stopped, page_pushed, request_served, space_of}
 
 -- a world in these phases
 abbrev pub in_phases : SourcePhase → DestPhase → World → World
@@ -37,14 +37,14 @@ pub no_member : (page : ℕ) → contains no_pages page ≡ false
 no_member page = contains-empty nat_cmp page
 
 -- as long as a page remains End was not sent
-not_ended : (source : Source) (page : ℕ) → (source.ended ≡ source.epoch → source.remaining ≡ no_pages) → contains source.remaining page ≡ true → source.ended ≢ source.epoch
+not_ended : (source : Source) (page : ℕ) → (source.end_epoch ≡ source.epoch → source.remaining ≡ no_pages) → contains source.remaining page ≡ true → source.end_epoch ≢ source.epoch
 not_ended source page rest remains ended = false≢true (sym (ap (λ s. contains s page) (rest ended) ∙ no_member page) ∙ remains)
 
 eqb-other : (a b : ℕ) → a ≢ b → eqb a b ≡ false
 eqb-other a b h = grind (arith, nat_tests)
 
-pub flow_open : (source : Source) → source.ended ≢ source.epoch → flow_of source ≡ Pushed
-flow_open source other = ap (λ b. cond b AfterEnd Pushed) (eqb-other source.ended source.epoch other)
+pub flow_open : (source : Source) → source.end_epoch ≢ source.epoch → flow_of source ≡ Pushed
+flow_open source other = ap (λ b. cond b AfterEnd Pushed) (eqb-other source.end_epoch source.epoch other)
 
 present_bytes : (o : Option (List ℕ)) → is_some o ≡ true → o ≡ Some (unwrap_or o zero_page)
 present_bytes None h = none_absurd h
@@ -121,7 +121,7 @@ pushed_switching source kept forward page held whole old =
 abbrev pub stopped_at : DestPhase → World → World
 stopped_at to world = in_phases SourcePhase.Stopped to world
 
-pushed_wires : (to : DestPhase) (world : World) (page : ℕ) → get (space_of world.source).host.bytes page ≡ Some (bytes_of world.source page) → length (bytes_of world.source page) ≡ 4096 → world.source.ended ≢ world.source.epoch →
+pushed_wires : (to : DestPhase) (world : World) (page : ℕ) → get (space_of world.source).host.bytes page ≡ Some (bytes_of world.source page) → length (bytes_of world.source page) ≡ 4096 → world.source.end_epoch ≢ world.source.epoch →
     ((flow : Flow) → flow_after flow world.forward ≡ Some (flow_of world.source) → flow_after flow (world.forward ++ pushed_frame world.source page ∷ []) ≡ Some (flow_of world.source)) →
     StoppedWires (stopped_at to world).source (stopped_at to world).destination world.forward world.back → StoppedWires (page_pushed (stopped_at to world).source page) (stopped_at to world).destination (world.forward ++ pushed_frame world.source page ∷ []) world.back
 pushed_wires DestPhase.Idle world page held whole other flows old = (flows BeforeAdvise old.0, old.1, pushed_switching (stopped_at DestPhase.Idle world).source world.destination.kept world.forward page held whole old.2)
@@ -152,152 +152,102 @@ both_true false b h = h
 was_there : (remaining : FinSet nat_cmp) (page q : ℕ) → contains (finset.remove remaining page) q ≡ true → contains remaining q ≡ true
 was_there remaining page q h = both_true (eqb q page) (contains remaining q) (sym (member_removed remaining page q) ∙ h)
 
-pushed_in : (from : SourcePhase) (to : DestPhase) (world : World) (ticket : Ticket) → is_stopped from ≡ true → world.up ≡ true → is_present (space_of world.source) ticket.page ≡ true → contains world.source.remaining ticket.page ≡ true →
-    IsKept (in_phases from to world) → IsKept (accepted (in_phases from to world) (Step.Push ticket))
-pushed_in SourcePhase.Stopped to world ticket stopped up present remains kept =
+pushed_in : (from : SourcePhase) (to : DestPhase) (world : World) (page : ℕ) → is_stopped from ≡ true → world.up ≡ true → is_present (space_of world.source) page ≡ true → contains world.source.remaining page ≡ true →
+    IsSoundWorld (in_phases from to world) → IsSoundWorld (after_push (in_phases from to world) page)
+pushed_in SourcePhase.Stopped to world page stopped up present remains kept =
     let source = world.source in
-    let page = ticket.page in
     let bytes = (space_of source).host.bytes in
     let more = pushed_frame source page ∷ [] in
     let held : get bytes page ≡ Some (bytes_of source page) = present_bytes (get bytes page) present in
-    let whole : length (bytes_of source page) ≡ 4096 = kept.source_space.host.whole page (bytes_of source page) held in
-    let other = not_ended source page kept.end_sent remains in
+    let whole : length (bytes_of source page) ≡ 4096 = kept.spaces.source_space.host.whole page (bytes_of source page) held in
+    let other = not_ended source page kept.pushing.end_sent remains in
     let still = flow_open source other in
     let copies : copies_of (world.forward ++ more) ≡ copies_of world.forward ++ record { page = page; bytes = bytes_of source page } ∷ [] =
     copies_of-append world.forward more ∙ ap (λ c. copies_of world.forward ++ c) (copies_of-page source.epoch page (bytes_of source page) whole) in
     let flows = λ (flow : Flow) (h : flow_after flow world.forward ≡ Some (flow_of source)). flow_sent flow Pushed Pushed world.forward (pushed_frame source page) (h ∙ ap (λ f. Some f) still) (page_flow page (bytes_of source page)).1 ∙ ap (λ f. Some f) (sym still) in
     record {
-      flat = kept.flat;
-      holds = kept.holds;
-      source_space = kept.source_space;
-      destination_space = kept.destination_space;
-      both_modes = kept.both_modes;
-      unprotected = kept.unprotected;
-      only_missing = kept.only_missing;
-      source_events = kept.source_events;
-      destination_events = kept.destination_events;
-      destination_faults = kept.destination_faults;
-      source_phase = kept.source_phase;
-      destination_phase = kept.destination_phase;
-      ran_after_switch = kept.ran_after_switch;
-      ended_after_run = kept.ended_after_run;
-      source_quiet = kept.source_quiet;
-      before_switch = λ h. absurd (false≢true (sym h ∙ kept.source_phase));
-      end_sent = λ h. absurd (other h);
-      remaining_present = λ q h. kept.remaining_present q (was_there source.remaining page q h);
-      ended_before = kept.ended_before;
-      paused_fresh = kept.paused_fresh;
-      idle_source = kept.idle_source;
-      not_run = kept.not_run;
-      kept_none = kept.kept_none;
-      kept_advised = kept.kept_advised;
-      kept_whole = kept.kept_whole;
-      copies_whole = subst AreWhole (sym copies) (AreWhole-append (copies_of world.forward) _ kept.copies_whole (whole, tt));
-      clean_protected = kept.clean_protected;
-      todo_sendable = kept.todo_sendable;
-      one_to_one = kept.one_to_one;
-      owed_below = kept.owed_below;
-      origins_present = kept.origins_present;
-      pairs_missing = kept.pairs_missing;
-      arrivals_faithful = kept.arrivals_faithful;
-      flight_faithful = λ ran. subst (λ c. AreFaithful bytes c) (sym copies) (AreFaithful-append bytes (copies_of world.forward) _ (kept.flight_faithful ran) (held, tt));
-      ended_empty = kept.ended_empty;
-      released_empty = λ h. absurd (stopped_not_released h);
-      down = λ h. absurd (false≢true (sym h ∙ up));
-      wires = λ h. pushed_wires to world page held whole other flows (kept.wires h);
-      forward_epoch = AreOf-one source.epoch world.forward (page_frame page (bytes_of source page)) kept.forward_epoch;
-      back_epoch = kept.back_epoch;
-      epochs = kept.epochs;
-      epoch_at = kept.epoch_at;
+      memory = kept.memory;
+      spaces = kept.spaces;
+      phases = kept.phases;
+      precopy = kept.precopy;
+      pushing = record {
+        before_switch = λ h. absurd (false≢true (sym h ∙ kept.phases.source_phase));
+        end_sent = λ h. absurd (other h);
+        remaining_present = λ q h. kept.pushing.remaining_present q (was_there source.remaining page q h);
+        ended_before = kept.pushing.ended_before;
+        paused_fresh = kept.pushing.paused_fresh;
+        released_empty = λ h. absurd (stopped_not_released h);
+      };
+      copies = record {
+        kept_none = kept.copies.kept_none;
+        kept_advised = kept.copies.kept_advised;
+        kept_whole = kept.copies.kept_whole;
+        copies_whole = subst AreWhole (sym copies) (AreWhole-append (copies_of world.forward) _ kept.copies.copies_whole (whole, tt));
+      };
+      owing = kept.owing;
+      flight = record {
+        flight_faithful = λ ran. subst (λ c. AreFaithful bytes c) (sym copies) (AreFaithful-append bytes (copies_of world.forward) _ (kept.flight.flight_faithful ran) (held, tt));
+        down = λ h. absurd (false≢true (sym h ∙ up));
+        wires = λ h. pushed_wires to world page held whole other flows (kept.flight.wires h);
+      };
+      epochs = record {
+        forward_epoch = AreOf-one source.epoch world.forward (page_frame page (bytes_of source page)) kept.epochs.forward_epoch;
+        back_epoch = kept.epochs.back_epoch;
+        not_ahead = kept.epochs.not_ahead;
+        epoch_at = kept.epochs.epoch_at;
+      };
     }
-pushed_in SourcePhase.Idle to world ticket stopped up present remains kept = none_absurd stopped
-pushed_in SourcePhase.Precopy to world ticket stopped up present remains kept = none_absurd stopped
-pushed_in SourcePhase.Paused to world ticket stopped up present remains kept = none_absurd stopped
-pushed_in SourcePhase.Released to world ticket stopped up present remains kept = none_absurd stopped
+pushed_in SourcePhase.Idle to world page stopped up present remains kept = none_absurd stopped
+pushed_in SourcePhase.Precopy to world page stopped up present remains kept = none_absurd stopped
+pushed_in SourcePhase.Paused to world page stopped up present remains kept = none_absurd stopped
+pushed_in SourcePhase.Released to world page stopped up present remains kept = none_absurd stopped
 
-pub not_none : (b : Bool) → not b ≡ false → b ≡ true
-not_none true h = refl
-not_none false h = none_absurd (sym h)
-
-pub kept-push : (world : World) (ticket : Ticket) → IsKept world → refusal_of world (Step.Push ticket) ≡ None → IsKept (accepted world (Step.Push ticket))
-kept-push world ticket kept free =
-    let told = none_applies (reasons world (Step.Push ticket)) free in
-    pushed_in world.source.phase world.destination.phase world ticket (not_none _ told.0) (not_none _ told.1.0) (not_none _ told.1.1.1.0) (not_none _ told.1.1.1.1.0) kept
+pub kept-push : (world : World) (page : ℕ) → IsSoundWorld world → is_stopped world.source.phase ≡ true → world.up ≡ true → is_present (space_of world.source) page ≡ true → contains world.source.remaining page ≡ true → IsSoundWorld (after_push world page)
+kept-push world page kept stopped up present remains = pushed_in world.source.phase world.destination.phase world page stopped up present remains kept
 
 -- Serve
 
-served_wires : (to : DestPhase) (world : World) → StoppedWires (stopped_at to world).source (stopped_at to world).destination world.forward world.back →
-    StoppedWires (request_served (stopped_at to world).source) (stopped_at to world).destination world.forward world.back
-served_wires DestPhase.Idle world old = (old.0, old.1, record { owed = old.2.owed; plan = old.2.plan; owed_present = old.2.owed_present; kept_rest = old.2.kept_rest; whereabouts = old.2.whereabouts; faithful = old.2.faithful })
-served_wires DestPhase.Advised world old = (old.0, old.1, record { owed = old.2.owed; plan = old.2.plan; owed_present = old.2.owed_present; kept_rest = old.2.kept_rest; whereabouts = old.2.whereabouts; faithful = old.2.faithful })
-served_wires DestPhase.Discarding world old = (old.0, old.1, record { owed = old.2.owed; plan = old.2.plan; owed_present = old.2.owed_present; kept_rest = old.2.kept_rest; whereabouts = old.2.whereabouts; faithful = old.2.faithful })
-served_wires DestPhase.Running world old = (old.0, old.1, record { whereabouts = old.2.whereabouts })
-served_wires DestPhase.Paused world old = absurd old
-served_wires DestPhase.Ended world old = old
+served_wires : (to : DestPhase) (world : World) (pages : List ℕ) → StoppedWires (stopped_at to world).source (stopped_at to world).destination world.forward world.back →
+    StoppedWires (request_served (stopped_at to world).source pages) (stopped_at to world).destination world.forward world.back
+served_wires DestPhase.Idle world pages old = (old.0, old.1, record { owed = old.2.owed; plan = old.2.plan; owed_present = old.2.owed_present; kept_rest = old.2.kept_rest; whereabouts = old.2.whereabouts; faithful = old.2.faithful })
+served_wires DestPhase.Advised world pages old = (old.0, old.1, record { owed = old.2.owed; plan = old.2.plan; owed_present = old.2.owed_present; kept_rest = old.2.kept_rest; whereabouts = old.2.whereabouts; faithful = old.2.faithful })
+served_wires DestPhase.Discarding world pages old = (old.0, old.1, record { owed = old.2.owed; plan = old.2.plan; owed_present = old.2.owed_present; kept_rest = old.2.kept_rest; whereabouts = old.2.whereabouts; faithful = old.2.faithful })
+served_wires DestPhase.Running world pages old = (old.0, old.1, record { whereabouts = old.2.whereabouts })
+served_wires DestPhase.Paused world pages old = absurd old
+served_wires DestPhase.Ended world pages old = old
 
-served_in : (from : SourcePhase) (to : DestPhase) (world : World) → is_stopped from ≡ true → IsKept (in_phases from to world) → IsKept (accepted (in_phases from to world) Step.Serve)
-served_in SourcePhase.Stopped to world stopped kept =
+served_in : (from : SourcePhase) (to : DestPhase) (world : World) (pages : List ℕ) → is_stopped from ≡ true → IsSoundWorld (in_phases from to world) → IsSoundWorld (after_serve (in_phases from to world) pages)
+served_in SourcePhase.Stopped to world pages stopped kept =
     record {
-      flat = kept.flat;
-      holds = kept.holds;
-      source_space = kept.source_space;
-      destination_space = kept.destination_space;
-      both_modes = kept.both_modes;
-      unprotected = kept.unprotected;
-      only_missing = kept.only_missing;
-      source_events = kept.source_events;
-      destination_events = kept.destination_events;
-      destination_faults = kept.destination_faults;
-      source_phase = kept.source_phase;
-      destination_phase = kept.destination_phase;
-      ran_after_switch = kept.ran_after_switch;
-      ended_after_run = kept.ended_after_run;
-      source_quiet = kept.source_quiet;
-      before_switch = kept.before_switch;
-      end_sent = kept.end_sent;
-      remaining_present = kept.remaining_present;
-      ended_before = kept.ended_before;
-      paused_fresh = kept.paused_fresh;
-      idle_source = kept.idle_source;
-      not_run = kept.not_run;
-      kept_none = kept.kept_none;
-      kept_advised = kept.kept_advised;
-      kept_whole = kept.kept_whole;
-      copies_whole = kept.copies_whole;
-      clean_protected = kept.clean_protected;
-      todo_sendable = kept.todo_sendable;
-      one_to_one = kept.one_to_one;
-      owed_below = kept.owed_below;
-      origins_present = kept.origins_present;
-      pairs_missing = kept.pairs_missing;
-      arrivals_faithful = kept.arrivals_faithful;
-      flight_faithful = kept.flight_faithful;
-      ended_empty = kept.ended_empty;
-      released_empty = kept.released_empty;
-      down = kept.down;
-      wires = λ up. served_wires to world (kept.wires up);
-      forward_epoch = kept.forward_epoch;
-      back_epoch = kept.back_epoch;
+      memory = kept.memory;
+      spaces = kept.spaces;
+      phases = kept.phases;
+      precopy = kept.precopy;
+      pushing = kept.pushing;
+      copies = kept.copies;
+      owing = kept.owing;
+      flight = record {
+        flight_faithful = kept.flight.flight_faithful;
+        down = kept.flight.down;
+        wires = λ up. served_wires to world pages (kept.flight.wires up);
+      };
       epochs = kept.epochs;
-      epoch_at = kept.epoch_at;
     }
-served_in SourcePhase.Idle to world stopped kept = none_absurd stopped
-served_in SourcePhase.Precopy to world stopped kept = none_absurd stopped
-served_in SourcePhase.Paused to world stopped kept = none_absurd stopped
-served_in SourcePhase.Released to world stopped kept = none_absurd stopped
+served_in SourcePhase.Idle to world pages stopped kept = none_absurd stopped
+served_in SourcePhase.Precopy to world pages stopped kept = none_absurd stopped
+served_in SourcePhase.Paused to world pages stopped kept = none_absurd stopped
+served_in SourcePhase.Released to world pages stopped kept = none_absurd stopped
 
-pub kept-serve : (world : World) → IsKept world → refusal_of world Step.Serve ≡ None → IsKept (accepted world Step.Serve)
-kept-serve world kept free =
-    let told = none_applies (reasons world Step.Serve) free in
-    served_in world.source.phase world.destination.phase world (not_none _ told.0) kept
+pub kept-serve : (world : World) (pages : List ℕ) → IsSoundWorld world → is_stopped world.source.phase ≡ true → IsSoundWorld (after_serve world pages)
+kept-serve world pages kept stopped = served_in world.source.phase world.destination.phase world pages stopped kept
 
--- SendEnd
+-- End
 
 abbrev end_frame : Source → Sent
 end_frame source = record { epoch = source.epoch; frame = End }
 
 abbrev end_sent_by : Source → Source
-end_sent_by source = record source { ended = source.epoch }
+end_sent_by source = record source { end_epoch = source.epoch }
 
 eqb-is : (a b : ℕ) → a ≡ b → eqb a b ≡ true
 eqb-is a b h = grind (arith, nat_tests)
@@ -341,11 +291,11 @@ found_some : (o : Option ℕ) → is_some o ≡ false → o ≡ None
 found_some None h = refl
 found_some (Some page) h = none_absurd (sym h)
 
-nothing_remains : (world : World) → IsKept world → least_of world.source.remaining ≡ None → world.source.remaining ≡ no_pages
+nothing_remains : (world : World) → IsSoundWorld world → least_of world.source.remaining ≡ None → world.source.remaining ≡ no_pages
 nothing_remains world kept none =
     same_members world.source.remaining no_pages (λ q.
     not_true (contains world.source.remaining q) (λ remains.
-    let low = present_below (space_of world.source) q kept.source_space.host (kept.remaining_present q remains) in
+    let low = present_below (space_of world.source) q kept.spaces.source_space.host (kept.pushing.remaining_present q remains) in
     some_least (contains world.source.remaining) HIGH_PAGE q low remains none) ∙ sym (no_member q))
 
 ended_switching : (source : Source) (kept : FinMap nat_cmp (List ℕ)) (forward : List Sent) → IsSwitching source kept forward → IsSwitching (end_sent_by source) kept (forward ++ end_frame source ∷ [])
@@ -362,7 +312,7 @@ ended_switching source kept forward old =
       faithful = subst (λ c. AreFaithful (space_of source).host.bytes c) (sym copies) old.faithful;
     }
 
-ended_wires : (to : DestPhase) (world : World) → eqb world.source.ended world.source.epoch ≡ false →
+ended_wires : (to : DestPhase) (world : World) → eqb world.source.end_epoch world.source.epoch ≡ false →
     ((flow : Flow) → flow_after flow world.forward ≡ Some (flow_of world.source) → flow_after flow (world.forward ++ end_frame world.source ∷ []) ≡ Some (flow_of (end_sent_by world.source))) →
     StoppedWires (stopped_at to world).source (stopped_at to world).destination world.forward world.back → StoppedWires (end_sent_by (stopped_at to world).source) (stopped_at to world).destination (world.forward ++ end_frame world.source ∷ []) world.back
 ended_wires DestPhase.Idle world other flows old = (flows BeforeAdvise old.0, old.1, ended_switching (stopped_at DestPhase.Idle world).source world.destination.kept world.forward old.2)
@@ -377,9 +327,9 @@ ended_wires DestPhase.Running world other flows old =
       },
     )
 ended_wires DestPhase.Paused world other flows old = absurd old
-ended_wires DestPhase.Ended world other flows old = absurd (false≢true (sym other ∙ eqb-is world.source.ended world.source.epoch old.2))
+ended_wires DestPhase.Ended world other flows old = absurd (false≢true (sym other ∙ eqb-is world.source.end_epoch world.source.epoch old.2))
 
-ended_in : (from : SourcePhase) (to : DestPhase) (world : World) → is_stopped from ≡ true → world.up ≡ true → eqb world.source.ended world.source.epoch ≡ false → least_of world.source.remaining ≡ None → IsKept (in_phases from to world) → IsKept (accepted (in_phases from to world) Step.End)
+ended_in : (from : SourcePhase) (to : DestPhase) (world : World) → is_stopped from ≡ true → world.up ≡ true → eqb world.source.end_epoch world.source.epoch ≡ false → least_of world.source.remaining ≡ None → IsSoundWorld (in_phases from to world) → IsSoundWorld (after_end (in_phases from to world))
 ended_in SourcePhase.Stopped to world stopped up other none kept =
     let source = world.source in
     let bytes = (space_of source).host.bytes in
@@ -389,60 +339,41 @@ ended_in SourcePhase.Stopped to world stopped up other none kept =
     let copies : copies_of (world.forward ++ end_frame source ∷ []) ≡ copies_of world.forward = copies_of-append world.forward (end_frame source ∷ []) ∙ append-nil (copies_of world.forward) in
     let flows = λ (flow : Flow) (h : flow_after flow world.forward ≡ Some (flow_of source)). flow_sent flow Pushed AfterEnd world.forward (end_frame source) (h ∙ ap (λ f. Some f) before) refl ∙ ap (λ f. Some f) (sym after) in
     record {
-      flat = kept.flat;
-      holds = kept.holds;
-      source_space = kept.source_space;
-      destination_space = kept.destination_space;
-      both_modes = kept.both_modes;
-      unprotected = kept.unprotected;
-      only_missing = kept.only_missing;
-      source_events = kept.source_events;
-      destination_events = kept.destination_events;
-      destination_faults = kept.destination_faults;
-      source_phase = kept.source_phase;
-      destination_phase = kept.destination_phase;
-      ran_after_switch = kept.ran_after_switch;
-      ended_after_run = kept.ended_after_run;
-      source_quiet = kept.source_quiet;
-      before_switch = λ h. absurd (false≢true (sym h ∙ kept.source_phase));
-      end_sent = λ h. nothing;
-      remaining_present = kept.remaining_present;
-      ended_before = omega arith;
-      paused_fresh = λ h paused. absurd (stopped_not_paused paused);
-      idle_source = kept.idle_source;
-      not_run = kept.not_run;
-      kept_none = kept.kept_none;
-      kept_advised = kept.kept_advised;
-      kept_whole = kept.kept_whole;
-      copies_whole = subst AreWhole (sym copies) kept.copies_whole;
-      clean_protected = kept.clean_protected;
-      todo_sendable = kept.todo_sendable;
-      one_to_one = kept.one_to_one;
-      owed_below = kept.owed_below;
-      origins_present = kept.origins_present;
-      pairs_missing = kept.pairs_missing;
-      arrivals_faithful = kept.arrivals_faithful;
-      flight_faithful = λ ran. subst (λ c. AreFaithful bytes c) (sym copies) (kept.flight_faithful ran);
-      ended_empty = kept.ended_empty;
-      released_empty = λ h. absurd (stopped_not_released h);
-      down = λ h. absurd (false≢true (sym h ∙ up));
-      wires = λ h. ended_wires to world other flows (kept.wires h);
-      forward_epoch = AreOf-one source.epoch world.forward End kept.forward_epoch;
-      back_epoch = kept.back_epoch;
-      epochs = kept.epochs;
-      epoch_at = kept.epoch_at;
+      memory = kept.memory;
+      spaces = kept.spaces;
+      phases = kept.phases;
+      precopy = kept.precopy;
+      pushing = record {
+        before_switch = λ h. absurd (false≢true (sym h ∙ kept.phases.source_phase));
+        end_sent = λ h. nothing;
+        remaining_present = kept.pushing.remaining_present;
+        ended_before = omega arith;
+        paused_fresh = λ h paused. absurd (stopped_not_paused paused);
+        released_empty = λ h. absurd (stopped_not_released h);
+      };
+      copies = record {
+        kept_none = kept.copies.kept_none;
+        kept_advised = kept.copies.kept_advised;
+        kept_whole = kept.copies.kept_whole;
+        copies_whole = subst AreWhole (sym copies) kept.copies.copies_whole;
+      };
+      owing = kept.owing;
+      flight = record {
+        flight_faithful = λ ran. subst (λ c. AreFaithful bytes c) (sym copies) (kept.flight.flight_faithful ran);
+        down = λ h. absurd (false≢true (sym h ∙ up));
+        wires = λ h. ended_wires to world other flows (kept.flight.wires h);
+      };
+      epochs = record {
+        forward_epoch = AreOf-one source.epoch world.forward End kept.epochs.forward_epoch;
+        back_epoch = kept.epochs.back_epoch;
+        not_ahead = kept.epochs.not_ahead;
+        epoch_at = kept.epochs.epoch_at;
+      };
     }
 ended_in SourcePhase.Idle to world stopped up other none kept = none_absurd stopped
 ended_in SourcePhase.Precopy to world stopped up other none kept = none_absurd stopped
 ended_in SourcePhase.Paused to world stopped up other none kept = none_absurd stopped
 ended_in SourcePhase.Released to world stopped up other none kept = none_absurd stopped
 
-or_none : (a b : Bool) → (a || b) ≡ false → (a ≡ false) × (b ≡ false)
-or_none true b h = none_absurd (sym h)
-or_none false b h = (refl, h)
-
-pub kept-send_end : (world : World) → IsKept world → refusal_of world Step.End ≡ None → IsKept (accepted world Step.End)
-kept-send_end world kept free =
-    let told = none_applies (reasons world Step.End) free in
-    let phases = or_none (not (is_stopped world.source.phase)) (eqb world.source.ended world.source.epoch) told.0 in
-    ended_in world.source.phase world.destination.phase world (not_none _ phases.0) (not_none _ told.1.0) phases.1 (found_some (least_of world.source.remaining) told.1.1.0) kept
+pub kept-end : (world : World) → IsSoundWorld world → is_stopped world.source.phase ≡ true → world.up ≡ true → eqb world.source.end_epoch world.source.epoch ≡ false → least_of world.source.remaining ≡ None → IsSoundWorld (after_end world)
+kept-end world kept stopped up other none = ended_in world.source.phase world.destination.phase world stopped up other none kept

@@ -16,13 +16,14 @@ use Rattle.mig_model.specs.Userfault.{Noted}
 use Rattle.mig_model.specs.Wire.{Sent, kept_after}
 use Rattle.mig_model.specs.Wire.Frame.{Discard, Package}
 use Rattle.mig_model.specs.Guest.{is_present}
-use Rattle.mig_model.specs.Nodes.{Source, is_precopy, space_of, less, present, not_clean, commands_of, switch_made}
-use Rattle.mig_model.specs.Migration.{World, reasons, refusal_of, accepted}
-use Rattle.mig_model.specs.Invariant.{IsKept, PrecopyWires, StoppedWires, IsPrecopying, IsSwitching, Flow, flow_after, flow_of, copies_of, has_copy, AreFaithful, AreWhole, is_unread, kept_by, behind, package_in}
+use Rattle.mig_model.specs.Migration.{World, after_switch, is_changing}
+use Rattle.mig_model.specs.Invariant.{IsSoundWorld, PrecopyWires, StoppedWires, IsPrecopying, IsSwitching, Flow, flow_after, flow_of, copies_of, has_copy, AreFaithful, AreWhole, is_unread, kept_by, behind, package_in}
 use Rattle.mig_model.specs.Invariant.Flow.{BeforeAdvise, Copies, BeforePackage, Pushed}
-use Rattle.mig_model.proofs.Breaking.{none_applies}
 use Rattle.mig_model.proofs.SendingLemmas.{flow_sent, copies_of-append, AreOf-one, has_no_package}
-use Rattle.mig_model.proofs.Stopping.{in_phases, none_absurd, flow_open, append-nil, present_below, not_none, stopped_not_paused, stopped_not_released}
+use Rattle.mig_model.proofs.Stopping.{in_phases, none_absurd, flow_open, append-nil, present_below, stopped_not_paused, stopped_not_released}
+use Rattle.mig_model.proofs.FirstFrame.{nothing_behind}
+use Rattle.mig_model.specs.Log.{less, present}
+use Rattle.mig_model.specs.Source.{Source, commands_of, is_precopy, not_clean, space_of, switch_made}
 
 pub member_less : (set other : FinSet nat_cmp) (q : ℕ) → contains (less set other) q ≡ (contains set q && not (contains other q))
 member_less set other q = contains-retain set (λ page. not (contains other page)) q (λ x e. ap (λ k. not (contains other k)) (sym (nat_cmp-IsAntisymmetric q x e)))
@@ -76,10 +77,10 @@ no_events (noted ∷ events) h = none_absurd (sym h ∙ some_above (length event
 
 -- the two frames of a switch
 abbrev discard_frame : Source → Sent
-discard_frame source = record { epoch = source.epoch; frame = Discard (less source.sent source.clean) }
+discard_frame source = record { epoch = source.epoch; frame = Discard (less source.log.sent source.log.clean) }
 
 abbrev package_frame : Source → Sent
-package_frame source = record { epoch = source.epoch; frame = Package (space_of source).host.areas (not_clean source) (commands_of source.guest.processors) }
+package_frame source = record { epoch = source.epoch; frame = Package (space_of source).host.areas (not_clean source) (commands_of source.guest.cpus) }
 
 abbrev switched_wire : Source → List Sent → List Sent
 switched_wire source forward = (forward ++ discard_frame source ∷ []) ++ package_frame source ∷ []
@@ -95,13 +96,13 @@ and_right : (a b : Bool) → (a && b) ≡ true → b ≡ true
 and_right true b h = h
 and_right false b h = none_absurd h
 
-pub member_not_clean : (source : Source) (page : ℕ) → contains (not_clean source) page ≡ ((ltb page HIGH_PAGE && is_present (space_of source) page) && not (contains source.clean page))
-member_not_clean source page = member_less (present (space_of source)) source.clean page ∙ ap (λ b. b && not (contains source.clean page)) (member_below (λ q. is_present (space_of source) q) HIGH_PAGE page)
+pub member_not_clean : (source : Source) (page : ℕ) → contains (not_clean source) page ≡ ((ltb page HIGH_PAGE && is_present (space_of source) page) && not (contains source.log.clean page))
+member_not_clean source page = member_less (present (space_of source)) source.log.clean page ∙ ap (λ b. b && not (contains source.log.clean page)) (member_below (λ q. is_present (space_of source) q) HIGH_PAGE page)
 
 owed_is_present : (source : Source) (page : ℕ) → contains (not_clean source) page ≡ true → is_present (space_of source) page ≡ true
 owed_is_present source page h = and_right (ltb page HIGH_PAGE) _ (and_left (ltb page HIGH_PAGE && is_present (space_of source) page) _ (sym (member_not_clean source page) ∙ h))
 
-switching : (flow : Flow) (world : World) → IsKept world → (space_of world.source).object.events ≡ [] → flow_after flow world.forward ≡ Some Copies → IsPrecopying world.source world.destination.kept world.forward →
+switching : (flow : Flow) (world : World) → IsSoundWorld world → (space_of world.source).object.events ≡ [] → flow_after flow world.forward ≡ Some Copies → IsPrecopying world.source world.destination.kept world.forward →
     IsSwitching (switch_made world.source) world.destination.kept (switched_wire world.source world.forward)
 switching flow world kept quiet flows old =
     let source = world.source in
@@ -116,22 +117,22 @@ switching flow world kept quiet flows old =
       kept_rest = λ page.
           ap (λ w. get (kept_by world.destination.kept w) page) joined
           ∙ ap (λ k. get k page) there.kept_then
-          ∙ get-discarded (kept_by world.destination.kept world.forward) (less source.sent source.clean) page
-          ∙ ap (λ b. cond b None (get (kept_by world.destination.kept world.forward) page)) (member_less source.sent source.clean page)
-          ∙ rest_of (contains source.clean page) (contains source.sent page) (ltb page HIGH_PAGE) (is_present (space_of source) page) (get (kept_by world.destination.kept world.forward) page) (get (space_of source).host.bytes page)
+          ∙ get-discarded (kept_by world.destination.kept world.forward) (less source.log.sent source.log.clean) page
+          ∙ ap (λ b. cond b None (get (kept_by world.destination.kept world.forward) page)) (member_less source.log.sent source.log.clean page)
+          ∙ rest_of (contains source.log.clean page) (contains source.log.sent page) (ltb page HIGH_PAGE) (is_present (space_of source) page) (get (kept_by world.destination.kept world.forward) page) (get (space_of source).host.bytes page)
           (λ clean. old.clean_copy page clean (ap (λ e. is_unread e page) quiet)) (old.copies_sent page) refl
-          (λ is. low_true page (present_below (space_of source) page kept.source_space.host is))
+          (λ is. low_true page (present_below (space_of source) page kept.spaces.source_space.host is))
           ∙ sym (ap (λ b. cond b None (get (space_of source).host.bytes page)) (member_not_clean source page));
       whereabouts = λ page h. ap (λ b. b || has_copy (copies_of (behind (switched_wire source world.forward))) page) h;
       faithful = subst (λ c. AreFaithful (space_of source).host.bytes c) (sym nothing_behind) tt;
     }
 
-flows_on : (flow : Flow) (world : World) → flow_after flow world.forward ≡ Some Copies → world.source.ended ≢ world.source.epoch → flow_after flow (switched_wire world.source world.forward) ≡ Some (flow_of world.source)
+flows_on : (flow : Flow) (world : World) → flow_after flow world.forward ≡ Some Copies → world.source.end_epoch ≢ world.source.epoch → flow_after flow (switched_wire world.source world.forward) ≡ Some (flow_of world.source)
 flows_on flow world h other =
     flow_sent flow BeforePackage Pushed (world.forward ++ discard_frame world.source ∷ []) (package_frame world.source) (flow_sent flow Copies BeforePackage world.forward (discard_frame world.source) h refl) refl
     ∙ ap (λ f. Some f) (sym (flow_open world.source other))
 
-switched_wires : (to : DestPhase) (world : World) → IsKept (in_phases SourcePhase.Precopy to world) → (space_of world.source).object.events ≡ [] → world.source.ended ≢ world.source.epoch →
+switched_wires : (to : DestPhase) (world : World) → IsSoundWorld (in_phases SourcePhase.Precopy to world) → (space_of world.source).object.events ≡ [] → world.source.end_epoch ≢ world.source.epoch →
     PrecopyWires (in_phases SourcePhase.Precopy to world).source (in_phases SourcePhase.Precopy to world).destination world.forward world.back →
     StoppedWires (switch_made (in_phases SourcePhase.Precopy to world).source) (in_phases SourcePhase.Precopy to world).destination (switched_wire world.source world.forward) world.back
 switched_wires DestPhase.Idle world kept quiet other old =
@@ -152,64 +153,69 @@ precopy_not_idle h = cc
 was_not_ended : (A : Type 0) → (A ⊎ (SourcePhase.Precopy ≡ SourcePhase.Idle)) → A
 was_not_ended A told = ⊎_elim (λ a. a) (λ idle. absurd (precopy_not_idle idle)) told
 
-switched_in : (from : SourcePhase) (to : DestPhase) (world : World) → is_precopy from ≡ true → world.up ≡ true → (space_of world.source).object.events ≡ [] → IsKept (in_phases from to world) → IsKept (accepted (in_phases from to world) Step.Switch)
+switched_in : (from : SourcePhase) (to : DestPhase) (world : World) → is_precopy from ≡ true → world.up ≡ true → (space_of world.source).object.events ≡ [] → IsSoundWorld (in_phases from to world) → IsSoundWorld (after_switch (in_phases from to world))
 switched_in SourcePhase.Precopy to world precopy up quiet kept =
     let source = world.source in
-    let other : source.ended ≢ source.epoch = was_not_ended _ (kept.before_switch kept.source_phase).1 in
+    let other : source.end_epoch ≢ source.epoch = was_not_ended _ (kept.pushing.before_switch kept.phases.source_phase).1 in
     let copies : copies_of (switched_wire source world.forward) ≡ copies_of world.forward =
     copies_of-append (world.forward ++ discard_frame source ∷ []) (package_frame source ∷ []) ∙ append-nil (copies_of (world.forward ++ discard_frame source ∷ []))
     ∙ copies_of-append world.forward (discard_frame source ∷ []) ∙ append-nil (copies_of world.forward) in
-    let sound = kept.source_space in
+    let sound = kept.spaces.source_space in
     record {
-      flat = kept.flat;
-      holds = kept.holds;
-      source_space = record { host = sound.host; mapped = sound.mapped; present = sound.present; watched = sound.watched };
-      destination_space = kept.destination_space;
-      both_modes = kept.both_modes;
-      unprotected = kept.unprotected;
-      only_missing = kept.only_missing;
-      source_events = kept.source_events;
-      destination_events = kept.destination_events;
-      destination_faults = kept.destination_faults;
-      source_phase = refl;
-      destination_phase = kept.destination_phase;
-      ran_after_switch = λ ran. refl;
-      ended_after_run = kept.ended_after_run;
-      source_quiet = λ h. quiet;
-      before_switch = λ h. absurd (false≢true (sym h));
-      end_sent = λ h. absurd (other h);
-      remaining_present = λ page h. owed_is_present source page h;
-      ended_before = kept.ended_before;
-      paused_fresh = λ h paused. absurd (stopped_not_paused paused);
-      idle_source = λ h. absurd (stopped_not_idle h);
-      not_run = kept.not_run;
-      kept_none = kept.kept_none;
-      kept_advised = kept.kept_advised;
-      kept_whole = kept.kept_whole;
-      copies_whole = subst AreWhole (sym copies) kept.copies_whole;
-      clean_protected = λ h. absurd (false≢true (sym h));
-      todo_sendable = λ h. absurd (false≢true (sym h));
-      one_to_one = kept.one_to_one;
-      owed_below = kept.owed_below;
-      origins_present = kept.origins_present;
-      pairs_missing = kept.pairs_missing;
-      arrivals_faithful = kept.arrivals_faithful;
-      flight_faithful = λ ran. absurd (false≢true (sym kept.source_phase ∙ kept.ran_after_switch ran));
-      ended_empty = kept.ended_empty;
-      released_empty = λ h. absurd (stopped_not_released h);
-      down = λ h. absurd (false≢true (sym h ∙ up));
-      wires = λ h. switched_wires to world kept quiet other (kept.wires h);
-      forward_epoch = AreOf-one source.epoch (world.forward ++ discard_frame source ∷ []) (package_frame source).frame (AreOf-one source.epoch world.forward (discard_frame source).frame kept.forward_epoch);
-      back_epoch = kept.back_epoch;
-      epochs = kept.epochs;
-      epoch_at = kept.epoch_at;
+      memory = kept.memory;
+      spaces = record {
+        source_space = record { host = sound.host; mapped = sound.mapped; present = sound.present; watched = sound.watched };
+        destination_space = kept.spaces.destination_space;
+        both_modes = kept.spaces.both_modes;
+        unprotected = kept.spaces.unprotected;
+        only_missing = kept.spaces.only_missing;
+        source_events = kept.spaces.source_events;
+        destination_events = kept.spaces.destination_events;
+        destination_faults = kept.spaces.destination_faults;
+      };
+      phases = record {
+        source_phase = refl;
+        destination_phase = kept.phases.destination_phase;
+        ran_after_switch = λ ran. refl;
+        ended_after_run = kept.phases.ended_after_run;
+        source_quiet = λ h. quiet;
+      };
+      precopy = record {
+        idle_source = λ h. absurd (stopped_not_idle h);
+        clean_protected = λ h. absurd (false≢true (sym h));
+        todo_sendable = λ h. absurd (false≢true (sym h));
+      };
+      pushing = record {
+        before_switch = λ h. absurd (false≢true (sym h));
+        end_sent = λ h. absurd (other h);
+        remaining_present = λ page h. owed_is_present source page h;
+        ended_before = kept.pushing.ended_before;
+        paused_fresh = λ h paused. absurd (stopped_not_paused paused);
+        released_empty = λ h. absurd (stopped_not_released h);
+      };
+      copies = record {
+        kept_none = kept.copies.kept_none;
+        kept_advised = kept.copies.kept_advised;
+        kept_whole = kept.copies.kept_whole;
+        copies_whole = subst AreWhole (sym copies) kept.copies.copies_whole;
+      };
+      owing = kept.owing;
+      flight = record {
+        flight_faithful = λ ran. absurd (false≢true (sym kept.phases.source_phase ∙ kept.phases.ran_after_switch ran));
+        down = λ h. absurd (false≢true (sym h ∙ up));
+        wires = λ h. switched_wires to world kept quiet other (kept.flight.wires h);
+      };
+      epochs = record {
+        forward_epoch = AreOf-one source.epoch (world.forward ++ discard_frame source ∷ []) (package_frame source).frame (AreOf-one source.epoch world.forward (discard_frame source).frame kept.epochs.forward_epoch);
+        back_epoch = kept.epochs.back_epoch;
+        not_ahead = kept.epochs.not_ahead;
+        epoch_at = kept.epochs.epoch_at;
+      };
     }
 switched_in SourcePhase.Idle to world precopy up quiet kept = none_absurd precopy
 switched_in SourcePhase.Stopped to world precopy up quiet kept = none_absurd precopy
 switched_in SourcePhase.Paused to world precopy up quiet kept = none_absurd precopy
 switched_in SourcePhase.Released to world precopy up quiet kept = none_absurd precopy
 
-pub kept-switch : (world : World) → IsKept world → refusal_of world Step.Switch ≡ None → IsKept (accepted world Step.Switch)
-kept-switch world kept free =
-    let told = none_applies (reasons world Step.Switch) free in
-    switched_in world.source.phase world.destination.phase world (not_none _ told.0) (not_none _ told.1.0) (no_events (space_of world.source).object.events told.1.1.0) kept
+pub kept-switch : (world : World) → IsSoundWorld world → is_precopy world.source.phase ≡ true → world.up ≡ true → is_changing world.source.guest ≡ false → IsSoundWorld (after_switch world)
+kept-switch world kept precopy up quiet = switched_in world.source.phase world.destination.phase world precopy up (no_events (space_of world.source).object.events quiet) kept

@@ -14,21 +14,24 @@ use Rattle.mig_base.specs.declared.command.Access.TheVariants.{Answered, Missing
 use Rattle.mig_base.specs.declared.command.Entry.{Entry}
 use Rattle.mig_base.specs.declared.message.Message.{Message}
 use Rattle.mig_base.specs.Flat.{reply_of}
+use Rattle.mig_base.specs.Commands.{is_access, page_of}
 use Rattle.mig_model.specs.Host.{Host, memory, host_changed, host_after, IsSound}
-use Rattle.mig_model.specs.World.{is_access}
 use Rattle.mig_model.specs.Userfault.{Object, Noted, waits_fault, event_queued}
-use Rattle.mig_model.specs.Space.{Space, IsSoundSpace, is_made, page_of, access_of, accessed_by, called, modes_after, call_messages, all_queued, queued_by}
-use Rattle.mig_model.specs.Guest.{Took, access_took, call_took, took_by, space_by, entries_of}
-use Rattle.mig_model.specs.Guest.Took.{Answer, Sleep}
-use Rattle.mig_model.specs.Nodes.{settled_by}
+use Rattle.mig_model.specs.Space.{Space, IsSoundSpace, is_made, access_of, accessed_by, called, modes_after, call_messages, all_queued, queued_by}
+use Rattle.mig_model.specs.Guest.{took_by, space_by}
+use Rattle.mig_model.specs.Cpus.Took.{Answer, Sleep}
 use Rattle.mig_model.specs.Invariant.{AreRight, seen_host}
 use Rattle.mig_model.proofs.HostLemmas.{get-put}
 use Rattle.mig_model.proofs.SpaceLemmas.{IsSoundSpace-accessed, IsSoundSpace-called}
 use Rattle.mig_model.proofs.SeenLemmas.{answered_seen, owed_none, watched_mapped, seen_own, reply_of-seen_call}
-use Rattle.mig_model.proofs.SettledCalls.{owed_changed, settled_messages, settled-queued, right-queued}
+use Rattle.mig_model.proofs.SettledCalls.{settled_messages, settled-queued, right-queued}
 use Rattle.mig_model.proofs.EventLemmas.{settled_called, right_called}
 use Rattle.mig_model.proofs.ChangedLemmas.{called_seen, accessed_seen}
 use Rattle.mig_model.proofs.PairLemmas.{ArePairs, HasNone, pairs_watched, pairs_called, none_protected, none_in_mode}
+use Rattle.mig_model.specs.Cpus.{Took, access_took, call_took, entries_of}
+use Rattle.mig_model.specs.Log.{present}
+use Rattle.mig_model.specs.Owed.{settled_by}
+use Rattle.mig_model.specs.Promises.{owed_changed}
 
 none_absurd : {A : Type 0} → false ≡ true → A
 none_absurd h = absurd (false≢true h)

@@ -13,25 +13,28 @@ use Rattle.mig_base.specs.declared.command.Access.TheVariants.{Answered, Missing
 use Rattle.mig_base.specs.declared.message.Message.{Message}
 use Rattle.mig_base.specs.declared.message.Message.TheVariants.{PageFault, Remap, Remove, Unmap}
 use Rattle.mig_base.specs.Flat.{reply_of}
+use Rattle.mig_base.specs.Commands.{is_access}
 use Rattle.mig_model.specs.Host.{memory}
-use Rattle.mig_model.specs.World.{is_access}
-use Rattle.mig_model.specs.Userfault.{Noted, next_message}
 use Rattle.mig_model.specs.Space.{Space, access_of, queued_by}
-use Rattle.mig_model.specs.Guest.{woken_if, Guest, Fault, idle_processors, processor_at, processor_after, outstanding, taken_over, all_woken, is_left_by, message_less, read_guest, took_by, access_took, call_took, tried}
+use Rattle.mig_model.specs.Guest.{Guest, is_left_by, read_guest, took_by, tried, Act}
 use Rattle.mig_model.specs.Wire.{Frame, Sent, Copy}
 use Rattle.mig_model.specs.Wire.Frame.{Advise, Page, Zero, Discard, Package, End, Resume, Request, Recv, Done}
-use Rattle.mig_model.specs.Nodes.{Source, Destination, Act, commands_of, home, install_by, install_made, least_of, space_of, source_act, source_acted_by, source_took, destination_act, destination_acted_by, destination_took, copy_came, resumed_by, received_of}
-use Rattle.mig_model.specs.Nodes.Act.{Unprotected, Zeroed, Woke, Forgot, Requested}
-use Rattle.mig_model.specs.Migration.{World, first_world_with, reasons, refusal_of, accepted, next, after_steps, guest_by, guest_of, with_guest_by, command_tried, retried, sent_by, read_by_source, acted_by_source, delivered, delivered_back, read_by_destination, acted_by_destination}
-use Rattle.mig_model.specs.Invariant.{IsKept}
+use Rattle.mig_model.specs.Guest.Act.{Unprotected, Zeroed, Woke, Forgot, Requested}
+use Rattle.mig_model.specs.Migration.{World, first_world_with, next, after_steps, guest_by, with_guest_by, after_command, answer, start}
+use Rattle.mig_model.specs.Invariant.{IsSoundWorld}
 use Rattle.mig_model.specs.Promises.{IsReached, AllAccess, AreAccesses}
-use Rattle.mig_model.proofs.Breaking.{none_applies}
-use Rattle.mig_model.proofs.Stopping.{not_none}
 use Rattle.mig_model.proofs.FirstFrame.{first_in_place}
 use Rattle.mig_model.proofs.FramesTaken.{with_first}
 use Rattle.mig_model.proofs.WaitingCommands.{woken_keeps, taken_keeps, package_told}
-use Rattle.mig_model.proofs.EveryStep.{kept-next, by_refusal}
+use Rattle.mig_model.proofs.EveryStep.{kept-next}
 use Rattle.mig_model.proofs.FirstWorld.{kept-first}
+use Rattle.mig_model.proofs.StepLemmas.{Leaves, leaves-next}
+use Rattle.mig_model.proofs.StepCases.{made-break, made-deliver, made-deliver_back, made-dest_act, made-dest_read, made-end, made-install, made-issue, made-notice, made-push, made-resume, made-retry, made-round, made-send, made-serve, made-source_act, made-source_read, made-start, made-switch}
+use Rattle.mig_model.specs.Cpus.{access_took, all_woken, call_took, idle_processors, message_less, outstanding, processor_after, processor_at, taken_over, woken_if}
+use Rattle.mig_model.specs.Log.{less, present}
+use Rattle.mig_model.specs.Owed.{home}
+use Rattle.mig_model.specs.Source.{Source, commands_of, source_act, source_acted_by, source_took}
+use Rattle.mig_model.specs.Destination.{Destination, copy_came, destination_act, destination_acted_by, destination_took, install_by, received_of, resumed_by}
 
 -- the second are as many as the first, and have to make what the first have to, and nothing else
 record IsLike (old new : List CpuState) : Type 0 where
@@ -72,8 +75,8 @@ set_access (p ∷ ps) zero new one all (suc k) command h = all (suc k) command h
 set_access (p ∷ ps) (suc i) new one all zero command h = all zero command h
 set_access (p ∷ ps) (suc i) new one all (suc k) command h = set_access ps i new one (λ j c e. all (suc j) c e) k command h
 
-guest_access : (guest : Guest) (cpu : ℕ) (command : Command) → AllAccess guest.processors → AllAccess (tried (is_access command) guest cpu command).processors
-guest_access guest cpu command all = set_access guest.processors cpu _ (λ other h. tried_access (is_access command) guest.space command other refl h) all
+guest_access : (guest : Guest) (cpu : ℕ) (command : Command) → AllAccess guest.cpus → AllAccess (tried (is_access command) guest cpu command).cpus
+guest_access guest cpu command all = set_access guest.cpus cpu _ (λ other h. tried_access (is_access command) guest.space command other refl h) all
 
 -- A message that is read
 
@@ -101,17 +104,17 @@ set_same (p ∷ ps) zero new same (suc k) = refl
 set_same (p ∷ ps) (suc i) new same zero = refl
 set_same (p ∷ ps) (suc i) new same (suc k) = set_same ps i new same k
 
-event_like : (guest : Guest) (cpu : ℕ) (message : Message) → IsLike guest.processors (all_woken (is_left_by message) (set guest.processors cpu (message_less (processor_at guest.processors cpu))))
+event_like : (guest : Guest) (cpu : ℕ) (message : Message) → IsLike guest.cpus (all_woken (is_left_by message) (set guest.cpus cpu (message_less (processor_at guest.cpus cpu))))
 event_like guest cpu message =
-    let less = message_less (processor_at guest.processors cpu) in
-    let woken = woken_like (is_left_by message) (set guest.processors cpu less) in
+    let less = message_less (processor_at guest.cpus cpu) in
+    let woken = woken_like (is_left_by message) (set guest.cpus cpu less) in
     record {
-      waits = λ k. woken.waits k ∙ set_same guest.processors cpu less (less_same (processor_at guest.processors cpu)) k;
-      many = woken.many ∙ set_many guest.processors cpu less;
+      waits = λ k. woken.waits k ∙ set_same guest.cpus cpu less (less_same (processor_at guest.cpus cpu)) k;
+      many = woken.many ∙ set_many guest.cpus cpu less;
     }
 
-read_like : (guest : Guest) (cpu : ℕ) (message : Message) → IsLike guest.processors (read_guest guest cpu message).processors
-read_like guest cpu (PageFault addr write wp) = unchanged guest.processors
+read_like : (guest : Guest) (cpu : ℕ) (message : Message) → IsLike guest.cpus (read_guest guest cpu message).cpus
+read_like guest cpu (PageFault addr write wp) = unchanged guest.cpus
 read_like guest cpu (Remap from to len) = event_like guest cpu (Remap from to len)
 read_like guest cpu (Remove start end) = event_like guest cpu (Remove start end)
 read_like guest cpu (Unmap start end) = event_like guest cpu (Unmap start end)
@@ -125,125 +128,91 @@ taken_like processors = record { waits = taken_keeps processors; many = taken_ma
 
 -- The nodes
 
-source_act_like : (act : Act) (node : Source) (page : ℕ) → IsLike node.guest.processors (source_acted_by act node page).guest.processors
-source_act_like Unprotected node page = woken_like (λ q. eqb q page) node.guest.processors
-source_act_like Zeroed node page = woken_like (λ q. eqb q page) node.guest.processors
-source_act_like Woke node page = woken_like (λ q. eqb q page) node.guest.processors
-source_act_like Forgot node page = woken_like (λ q. eqb q page) node.guest.processors
-source_act_like (Requested source) node page = woken_like (λ q. eqb q page) node.guest.processors
+source_act_like : (act : Act) (node : Source) (page : ℕ) → IsLike node.guest.cpus (source_acted_by act node page).guest.cpus
+source_act_like Unprotected node page = woken_like (λ q. eqb q page) node.guest.cpus
+source_act_like Zeroed node page = woken_like (λ q. eqb q page) node.guest.cpus
+source_act_like Woke node page = woken_like (λ q. eqb q page) node.guest.cpus
+source_act_like Forgot node page = woken_like (λ q. eqb q page) node.guest.cpus
+source_act_like (Requested source) node page = woken_like (λ q. eqb q page) node.guest.cpus
 
-destination_act_like : (act : Act) (node : Destination) (page : ℕ) → IsLike node.guest.processors (destination_acted_by act node page).guest.processors
-destination_act_like Unprotected node page = woken_like (λ q. eqb q page) node.guest.processors
-destination_act_like Zeroed node page = woken_like (λ q. eqb q page) node.guest.processors
-destination_act_like Woke node page = woken_like (λ q. eqb q page) node.guest.processors
-destination_act_like Forgot node page = woken_like (λ q. eqb q page) node.guest.processors
-destination_act_like (Requested source) node page = unchanged node.guest.processors
+destination_act_like : (act : Act) (node : Destination) (page : ℕ) → IsLike node.guest.cpus (destination_acted_by act node page).guest.cpus
+destination_act_like Unprotected node page = woken_like (λ q. eqb q page) node.guest.cpus
+destination_act_like Zeroed node page = woken_like (λ q. eqb q page) node.guest.cpus
+destination_act_like Woke node page = woken_like (λ q. eqb q page) node.guest.cpus
+destination_act_like Forgot node page = woken_like (λ q. eqb q page) node.guest.cpus
+destination_act_like (Requested source) node page = unchanged node.guest.cpus
 
-install_like : (o : Option ℕ) (node : Destination) (copy : Copy) (rest : List Copy) → IsLike node.guest.processors (install_by o node copy rest).guest.processors
-install_like None node copy rest = unchanged node.guest.processors
-install_like (Some page) node copy rest = woken_like (λ q. eqb q page) node.guest.processors
+install_like : (o : Option ℕ) (node : Destination) (copy : Copy) (rest : List Copy) → IsLike node.guest.cpus (install_by o node copy rest).guest.cpus
+install_like None node copy rest = unchanged node.guest.cpus
+install_like (Some page) node copy rest = woken_like (λ q. eqb q page) node.guest.cpus
 
-rebuilt_like : (switched : Bool) (a b node : Source) → IsLike node.guest.processors a.guest.processors → IsLike node.guest.processors b.guest.processors → IsLike node.guest.processors (if switched then a else b).guest.processors
+rebuilt_like : (switched : Bool) (a b node : Source) → IsLike node.guest.cpus a.guest.cpus → IsLike node.guest.cpus b.guest.cpus → IsLike node.guest.cpus (if switched then a else b).guest.cpus
 rebuilt_like true a b node one two = one
 rebuilt_like false a b node one two = two
 
-took_like : (frame : Frame) (node : Source) → IsLike node.guest.processors (source_took node frame).guest.processors
-took_like (Recv Received.NotRun owed) node = rebuilt_like node.switched _ _ node (unchanged node.guest.processors) (unchanged node.guest.processors)
-took_like (Recv Received.Running owed) node = unchanged node.guest.processors
-took_like (Recv Received.Ended owed) node = unchanged node.guest.processors
-took_like Done node = unchanged node.guest.processors
-took_like (Request page) node = unchanged node.guest.processors
-took_like Advise node = unchanged node.guest.processors
-took_like (Page page bytes) node = unchanged node.guest.processors
-took_like (Zero page) node = unchanged node.guest.processors
-took_like (Discard pages) node = unchanged node.guest.processors
-took_like (Package areas owed commands) node = unchanged node.guest.processors
-took_like End node = unchanged node.guest.processors
-took_like Resume node = unchanged node.guest.processors
+took_like : (frame : Frame) (node : Source) → IsLike node.guest.cpus (source_took node frame).guest.cpus
+took_like (Recv Received.NotRun owed) node = rebuilt_like node.switched _ _ node (unchanged node.guest.cpus) (unchanged node.guest.cpus)
+took_like (Recv Received.Running owed) node = unchanged node.guest.cpus
+took_like (Recv Received.Ended owed) node = unchanged node.guest.cpus
+took_like Done node = unchanged node.guest.cpus
+took_like (Request page) node = unchanged node.guest.cpus
+took_like Advise node = unchanged node.guest.cpus
+took_like (Page page bytes) node = unchanged node.guest.cpus
+took_like (Zero page) node = unchanged node.guest.cpus
+took_like (Discard pages) node = unchanged node.guest.cpus
+took_like (Package areas owed commands) node = unchanged node.guest.cpus
+took_like End node = unchanged node.guest.cpus
+took_like Resume node = unchanged node.guest.cpus
 
-came_like : (ran : Bool) (node : Destination) (copy : Copy) → IsLike node.guest.processors (copy_came ran node copy).guest.processors
-came_like true node copy = unchanged node.guest.processors
-came_like false node copy = unchanged node.guest.processors
+came_like : (ran : Bool) (node : Destination) (copy : Copy) → IsLike node.guest.cpus (copy_came ran node copy).guest.cpus
+came_like true node copy = unchanged node.guest.cpus
+came_like false node copy = unchanged node.guest.cpus
 
-resumed_like : (state : Received) (node : Destination) → IsLike node.guest.processors (resumed_by state node).guest.processors
-resumed_like Received.NotRun node = unchanged node.guest.processors
-resumed_like Received.Running node = unchanged node.guest.processors
-resumed_like Received.Ended node = unchanged node.guest.processors
+resumed_like : (state : Received) (node : Destination) → IsLike node.guest.cpus (resumed_by state node).guest.cpus
+resumed_like Received.NotRun node = unchanged node.guest.cpus
+resumed_like Received.Running node = unchanged node.guest.cpus
+resumed_like Received.Ended node = unchanged node.guest.cpus
 
 -- Steps: what both nodes' processors still have to make
 
 -- only loads and stores wait, and the nodes have as many processors
 record Wait (world : World) : Type 0 where
-  source : AllAccess world.source.guest.processors
-  destination : AllAccess world.destination.guest.processors
-  many : length world.destination.guest.processors ≡ length world.source.guest.processors
+  source : AllAccess world.source.guest.cpus
+  destination : AllAccess world.destination.guest.cpus
+  many : length world.destination.guest.cpus ≡ length world.source.guest.cpus
 
-source_like : (world : World) (processors : List CpuState) → IsLike world.source.guest.processors processors → Wait world → AllAccess processors × (length world.destination.guest.processors ≡ length processors)
-source_like world processors like all = (all_like world.source.guest.processors processors like all.source, all.many ∙ sym like.many)
+source_like : (world : World) (processors : List CpuState) → IsLike world.source.guest.cpus processors → Wait world → AllAccess processors × (length world.destination.guest.cpus ≡ length processors)
+source_like world processors like all = (all_like world.source.guest.cpus processors like all.source, all.many ∙ sym like.many)
 
-destination_like : (world : World) (processors : List CpuState) → IsLike world.destination.guest.processors processors → Wait world → AllAccess processors × (length processors ≡ length world.source.guest.processors)
-destination_like world processors like all = (all_like world.destination.guest.processors processors like all.destination, like.many ∙ all.many)
+destination_like : (world : World) (processors : List CpuState) → IsLike world.destination.guest.cpus processors → Wait world → AllAccess processors × (length processors ≡ length world.source.guest.cpus)
+destination_like world processors like all = (all_like world.destination.guest.cpus processors like all.destination, like.many ∙ all.many)
 
 by_guest : (ran : Bool) (world : World) (cpu : ℕ) (command : Command) → Wait world → Wait (with_guest_by ran world (tried (is_access command) (guest_by ran world.source.guest world.destination.guest) cpu command))
 by_guest true world cpu command all =
-    record { source = all.source; destination = guest_access world.destination.guest cpu command all.destination; many = set_many world.destination.guest.processors cpu _ ∙ all.many }
+    record { source = all.source; destination = guest_access world.destination.guest cpu command all.destination; many = set_many world.destination.guest.cpus cpu _ ∙ all.many }
 by_guest false world cpu command all =
-    record { source = guest_access world.source.guest cpu command all.source; destination = all.destination; many = all.many ∙ sym (set_many world.source.guest.processors cpu _) }
+    record { source = guest_access world.source.guest cpu command all.source; destination = all.destination; many = all.many ∙ sym (set_many world.source.guest.cpus cpu _) }
 
-tried_all : (world : World) (cpu : ℕ) (command : Command) → Wait world → Wait (command_tried world cpu command)
+tried_all : (world : World) (cpu : ℕ) (command : Command) → Wait world → Wait (after_command world cpu command)
 tried_all world cpu command all = let new = by_guest world.destination.has_run world cpu command all in record { source = new.source; destination = new.destination; many = new.many }
-
-retried_all : (o : Option Command) (world : World) (cpu : ℕ) → Wait world → Wait (retried world cpu o)
-retried_all None world cpu all = all
-retried_all (Some command) world cpu all = tried_all world cpu command all
-
-sent_all : (o : Option ℕ) (world : World) → Wait world → Wait (sent_by world o)
-sent_all None world all = all
-sent_all (Some page) world all = record { source = all.source; destination = all.destination; many = all.many }
-
-read_source_all : (o : Option Noted) (world : World) → Wait world → Wait (read_by_source world o)
-read_source_all None world all = all
-read_source_all (Some noted) world all = let new = source_like world _ (read_like world.source.guest noted.cpu noted.message) all in record { source = new.0; destination = all.destination; many = new.1 }
-
-acted_source_all : (held : List Fault) (world : World) → Wait world → Wait (acted_by_source world held)
-acted_source_all [] world all = all
-acted_source_all (fault ∷ rest) world all =
-    let new = source_like world _ (source_act_like (source_act world.source fault) world.source fault.page) all in record { source = new.0; destination = all.destination; many = new.1 }
-
-read_destination_all : (o : Option Noted) (world : World) → Wait world → Wait (read_by_destination world o)
-read_destination_all None world all = all
-read_destination_all (Some noted) world all = let new = destination_like world _ (read_like world.destination.guest noted.cpu noted.message) all in record { source = all.source; destination = new.0; many = new.1 }
-
-acted_destination_all : (held : List Fault) (world : World) → Wait world → Wait (acted_by_destination world held)
-acted_destination_all [] world all = all
-acted_destination_all (fault ∷ rest) world all =
-    let new = destination_like world _ (destination_act_like (destination_act world.destination fault) world.destination fault.page) all in record { source = all.source; destination = new.0; many = new.1 }
-
-install_all : (copies : List Copy) (world : World) → Wait world → Wait (record world { destination = install_made world.destination copies })
-install_all [] world all = all
-install_all (copy ∷ rest) world all = let new = destination_like world _ (install_like (home world.destination.owed copy.page) world.destination copy rest) all in record { source = all.source; destination = new.0; many = new.1 }
-
-delivered_back_all : (wire : List Sent) (world : World) → Wait world → Wait (delivered_back world wire)
-delivered_back_all [] world all = all
-delivered_back_all (sent ∷ rest) world all = let new = source_like world _ (took_like sent.frame world.source) all in record { source = new.0; destination = all.destination; many = new.1 }
 
 -- the destination's processors and those of the source, after a frame
 abbrev pub AfterFrame : World → List CpuState → Type 0
-AfterFrame world processors = AllAccess processors × (length processors ≡ length world.source.guest.processors)
+AfterFrame world processors = AllAccess processors × (length processors ≡ length world.source.guest.cpus)
 
-unmoved : (world : World) → Wait world → AfterFrame world world.destination.guest.processors
-unmoved world all = destination_like world world.destination.guest.processors (unchanged world.destination.guest.processors) all
+unmoved : (world : World) → Wait world → AfterFrame world world.destination.guest.cpus
+unmoved world all = destination_like world world.destination.guest.cpus (unchanged world.destination.guest.cpus) all
 
 -- the commands of a Package are those that wait at the source
-frame_all : (frame : Frame) (epoch : ℕ) (rest : List Sent) (world : World) → IsKept world → world.up ≡ true → world.forward ≡ record { epoch = epoch; frame = frame } ∷ rest → Wait world →
-    AfterFrame world (destination_took world.destination epoch frame).guest.processors
+frame_all : (frame : Frame) (epoch : ℕ) (rest : List Sent) (world : World) → IsSoundWorld world → world.up ≡ true → world.forward ≡ record { epoch = epoch; frame = frame } ∷ rest → Wait world →
+    AfterFrame world (destination_took world.destination epoch frame).guest.cpus
 frame_all (Package areas owed commands) epoch rest world kept up first all =
-    let again = subst (λ w. IsKept (record world { forward = w })) first kept in
+    let again = subst (λ w. IsSoundWorld (record world { forward = w })) first kept in
     let old = with_first world.source.phase world.destination.phase epoch (Package areas owed commands) rest world in
-    let is = first_in_place old.source old.destination (record { epoch = epoch; frame = Package areas owed commands }) rest old.back (again.wires up) in
+    let is = first_in_place old.source old.destination (record { epoch = epoch; frame = Package areas owed commands }) rest old.back (again.flight.wires up) in
     let told = package_told world.source.phase world.destination.phase epoch areas owed commands rest world is up again in
-    let new = source_like world _ (taken_like world.source.guest.processors) all in
-    subst (λ cs. AfterFrame world (map taken_over cs)) (sym told.0) (new.0, taken_many world.source.guest.processors)
+    let new = source_like world _ (taken_like world.source.guest.cpus) all in
+    subst (λ cs. AfterFrame world (map taken_over cs)) (sym told.0) (new.0, taken_many world.source.guest.cpus)
 frame_all (Page page bytes) epoch rest world kept up first all = destination_like world _ (came_like world.destination.has_run world.destination _) all
 frame_all (Zero page) epoch rest world kept up first all = destination_like world _ (came_like world.destination.has_run world.destination _) all
 frame_all Resume epoch rest world kept up first all = destination_like world _ (resumed_like (received_of world.destination) _) all
@@ -254,42 +223,51 @@ frame_all (Request page) epoch rest world kept up first all = unmoved world all
 frame_all (Recv state owed) epoch rest world kept up first all = unmoved world all
 frame_all Done epoch rest world kept up first all = unmoved world all
 
-delivered_all : (wire : List Sent) (world : World) → IsKept world → world.up ≡ true → world.forward ≡ wire → Wait world → Wait (delivered world wire)
-delivered_all [] world kept up first all = all
-delivered_all (sent ∷ rest) world kept up first all = let new = frame_all sent.frame sent.epoch rest world kept up first all in record { source = all.source; destination = new.0; many = new.1 }
-
-accepted_all : (world : World) (step : Step) → IsKept world → Wait world → refusal_of world step ≡ None → Wait (accepted world step)
-accepted_all world (Step.Issue cpu command) kept all free = tried_all world cpu command all
-accepted_all world (Step.Retry cpu) kept all free = retried_all (outstanding (processor_at (guest_of world).processors cpu)) world cpu all
-accepted_all world Step.Send kept all free = sent_all (least_of world.source.todo) world all
-accepted_all world Step.SourceRead kept all free = read_source_all (next_message (space_of world.source).object) world all
-accepted_all world Step.SourceAct kept all free = acted_source_all world.source.guest.held world all
-accepted_all world Step.Deliver kept all free = delivered_all world.forward world kept (not_none _ (none_applies (reasons world Step.Deliver) free).1.0) refl all
-accepted_all world Step.DeliverBack kept all free = delivered_back_all world.back world all
-accepted_all world Step.DestRead kept all free = read_destination_all (next_message world.destination.guest.space.object) world all
-accepted_all world Step.DestAct kept all free = acted_destination_all world.destination.guest.held world all
-accepted_all world Step.Install kept all free = install_all world.destination.arrivals world all
-accepted_all world Step.Start kept all free = record { source = all.source; destination = all.destination; many = all.many }
-accepted_all world Step.Round kept all free = record { source = all.source; destination = all.destination; many = all.many }
-accepted_all world Step.Switch kept all free = record { source = all.source; destination = all.destination; many = all.many }
-accepted_all world (Step.Push ticket) kept all free = record { source = all.source; destination = all.destination; many = all.many }
-accepted_all world Step.Serve kept all free = record { source = all.source; destination = all.destination; many = all.many }
-accepted_all world Step.End kept all free = record { source = all.source; destination = all.destination; many = all.many }
-accepted_all world Step.Break kept all free = record { source = all.source; destination = all.destination; many = all.many }
-accepted_all world (Step.Notice Side.Source) kept all free = record { source = all.source; destination = all.destination; many = all.many }
-accepted_all world (Step.Notice Side.Destination) kept all free = record { source = all.source; destination = all.destination; many = all.many }
-accepted_all world Step.Resume kept all free = record { source = all.source; destination = all.destination; many = all.many }
+waits_answer : (world : World) (step : Step) → IsSoundWorld world → Wait world → Leaves Wait (answer world step)
+waits_answer world (Step.Issue cpu command) kept all = made-issue _ world cpu command (λ idle may. tried_all world cpu command all)
+waits_answer world (Step.Retry cpu) kept all = made-retry _ world cpu (λ command waits woken may. tried_all world cpu command all)
+waits_answer world Step.Start kept all = made-start _ world (λ idle. record { source = all.source; destination = all.destination; many = all.many })
+waits_answer world Step.Round kept all = made-round _ world (λ precopy quiet. record { source = all.source; destination = all.destination; many = all.many })
+waits_answer world Step.Send kept all = made-send _ world (λ page is precopy up quiet. record { source = all.source; destination = all.destination; many = all.many })
+waits_answer world Step.SourceRead kept all =
+    made-source_read _ world (λ noted is started unswitched.
+    let new = source_like world _ (read_like world.source.guest noted.cpu noted.message) all in record { source = new.0; destination = all.destination; many = new.1 })
+waits_answer world Step.SourceAct kept all =
+    made-source_act _ world (λ fault rest is started unswitched quiet.
+    let new = source_like world _ (source_act_like (source_act world.source fault) world.source fault.page) all in record { source = new.0; destination = all.destination; many = new.1 })
+waits_answer world Step.Switch kept all = made-switch _ world (λ precopy up quiet. record { source = all.source; destination = all.destination; many = all.many })
+waits_answer world Step.Deliver kept all =
+    made-deliver _ world (λ sent rest is started up free.
+    let new = frame_all sent.frame sent.epoch rest world kept up is all in record { source = all.source; destination = new.0; many = new.1 })
+waits_answer world Step.DeliverBack kept all =
+    made-deliver_back _ world (λ sent rest is started up.
+    let new = source_like world _ (took_like sent.frame world.source) all in record { source = new.0; destination = all.destination; many = new.1 })
+waits_answer world Step.DestRead kept all =
+    made-dest_read _ world (λ noted is ran.
+    let new = destination_like world _ (read_like world.destination.guest noted.cpu noted.message) all in record { source = all.source; destination = new.0; many = new.1 })
+waits_answer world Step.DestAct kept all =
+    made-dest_act _ world (λ fault rest is ran quiet.
+    let new = destination_like world _ (destination_act_like (destination_act world.destination fault) world.destination fault.page) all in record { source = all.source; destination = new.0; many = new.1 })
+waits_answer world Step.Install kept all =
+    made-install _ world (λ copy rest is ran quiet.
+    let new = destination_like world _ (install_like (home world.destination.owed copy.page) world.destination copy rest) all in record { source = all.source; destination = new.0; many = new.1 })
+waits_answer world (Step.Push ticket) kept all = made-push _ world ticket (λ stopped up own present remains. record { source = all.source; destination = all.destination; many = all.many })
+waits_answer world Step.Serve kept all = made-serve _ world (λ page pages is stopped up. record { source = all.source; destination = all.destination; many = all.many })
+waits_answer world Step.End kept all = made-end _ world (λ stopped other up none. record { source = all.source; destination = all.destination; many = all.many })
+waits_answer world Step.Break kept all = made-break _ world (λ started unreleased up. record { source = all.source; destination = all.destination; many = all.many })
+waits_answer world (Step.Notice Side.Source) kept all = made-notice _ world Side.Source (λ started unreleased down. record { source = all.source; destination = all.destination; many = all.many })
+waits_answer world (Step.Notice Side.Destination) kept all = made-notice _ world Side.Destination (λ started unreleased down. record { source = all.source; destination = all.destination; many = all.many })
+waits_answer world Step.Resume kept all = made-resume _ world (λ from to down. record { source = all.source; destination = all.destination; many = all.many })
 
 idle_all : (count : ℕ) → AllAccess (idle_processors count)
 idle_all zero k command h = absurd (none_some command h)
 idle_all (suc count) zero command h = absurd (none_some command h)
 idle_all (suc count) (suc k) command h = idle_all count k command h
 
-next_all : (world : World) (step : Step) → IsKept world → Wait world → Wait (next world step)
-unfolding next
-next_all world step kept all = by_refusal Wait (refusal_of world step) world (accepted world step) all (accepted_all world step kept all)
+next_all : (world : World) (step : Step) → IsSoundWorld world → Wait world → Wait (next world step)
+next_all world step kept all = leaves-next Wait world step all (waits_answer world step kept all)
 
-steps_all : (world : World) (steps : List Step) → IsKept world → Wait world → Wait (after_steps world steps)
+steps_all : (world : World) (steps : List Step) → IsSoundWorld world → Wait world → Wait (after_steps world steps)
 steps_all world [] kept all = all
 steps_all world (step ∷ steps) kept all = steps_all (next world step) steps (kept-next world step kept) (next_all world step kept all)
 
@@ -303,5 +281,5 @@ pub are_accesses : (world : World) → IsReached world → AreAccesses world
 are_accesses world reached = let all = waits world reached in record { source = all.source; destination = all.destination }
 
 -- both nodes have as many processors
-pub as_many : (world : World) → IsReached world → length world.destination.guest.processors ≡ length world.source.guest.processors
+pub as_many : (world : World) → IsReached world → length world.destination.guest.cpus ≡ length world.source.guest.cpus
 as_many world reached = (waits world reached).many

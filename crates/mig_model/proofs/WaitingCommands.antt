@@ -1,5 +1,5 @@
 -- A command that waits is changed by no step but the Retry that answers it.
-use Rattle.std.proofs.Common.{◌≡◌, ℕ, zero, suc, Bool, true, false, eqb, Option, Some, None, List, [], ◌∷◌, refl, sym, ap, ◌∙◌, subst, arith, if◌then◌else◌}
+use Rattle.std.proofs.Common.{◌≡◌, ℕ, zero, suc, Bool, true, false, eqb, Option, Some, None, List, [], ◌∷◌, refl, sym, ap, ◌∙◌, subst, arith, if◌then◌else◌, IsOk}
 use Rattle.std.specs.Prelude.{map, set}
 use Rattle.std.specs.Ordering.{nat_cmp}
 use Rattle.std.specs.FinMap.{FinMap}
@@ -17,21 +17,23 @@ use Rattle.mig_base.specs.declared.Prot.{Prot}
 use Rattle.mig_base.specs.declared.command.Command.{Command}
 use Rattle.mig_base.specs.declared.message.Message.{Message}
 use Rattle.mig_base.specs.declared.message.Message.TheVariants.{PageFault, Remap, Remove, Unmap}
-use Rattle.mig_model.specs.World.{is_access}
-use Rattle.mig_model.specs.Userfault.{Noted, next_message}
-use Rattle.mig_model.specs.Space.{page_of}
-use Rattle.mig_model.specs.Guest.{Guest, Fault, processor_at, processor_after, is_idle, is_left_by, outstanding, taken_over, woken_if, all_woken, message_less, read_guest, took_by, tried}
+use Rattle.mig_base.specs.Commands.{is_access, page_of}
+use Rattle.mig_model.specs.Guest.{Guest, Fault, is_left_by, read_guest, took_by, tried, Act}
 use Rattle.mig_model.specs.Wire.{Frame, Sent, Copy}
 use Rattle.mig_model.specs.Wire.Frame.{Advise, Page, Zero, Discard, Package, End, Resume, Request, Recv, Done}
-use Rattle.mig_model.specs.Nodes.{Source, Destination, Act, commands_of, least_of, space_of, home, install_by, install_made, received_of, resumed_by, source_act, source_acted, source_acted_by, source_read, page_sent, destination_read, destination_acted, source_took, destination_act, destination_acted_by, destination_took, copy_came}
-use Rattle.mig_model.specs.Nodes.Act.{Unprotected, Zeroed, Woke, Forgot, Requested}
-use Rattle.mig_model.specs.Migration.{World, reasons, refusal_of, accepted, next, next_by, guest_by, guest_of, with_guest_by, command_tried, retried, sent_by, read_by_source, acted_by_source, delivered, delivered_back, read_by_destination, acted_by_destination}
-use Rattle.mig_model.specs.Invariant.{IsKept, is_package}
+use Rattle.mig_model.specs.Guest.Act.{Unprotected, Zeroed, Woke, Forgot, Requested}
+use Rattle.mig_model.specs.Migration.{World, next, guest_by, guest_of, with_guest_by, after_command, after_dest_act, after_install, answer, outcome, start}
+use Rattle.mig_model.specs.Invariant.{IsSoundWorld, is_package}
 use Rattle.mig_model.specs.Promises.{is_retry_of}
-use Rattle.mig_model.proofs.Breaking.{none_applies}
-use Rattle.mig_model.proofs.Stopping.{not_none}
-use Rattle.mig_model.proofs.FirstFrame.{comes, first_in_place}
+use Rattle.mig_model.proofs.FirstFrame.{comes, first_in_place, delivered}
 use Rattle.mig_model.proofs.FramesTaken.{with_first, commands_in}
+use Rattle.mig_model.proofs.StepLemmas.{Leaves, leaves-next, leaves-ok}
+use Rattle.mig_model.proofs.StepCases.{made-break, made-deliver, made-deliver_back, made-dest_act, made-dest_read, made-end, made-install, made-issue, made-notice, made-push, made-resume, made-retry, made-round, made-send, made-serve, made-source_act, made-source_read, made-start, made-switch}
+use Rattle.mig_model.specs.Cpus.{all_woken, is_idle, message_less, outstanding, processor_after, processor_at, taken_over, woken_if}
+use Rattle.mig_model.specs.Log.{present}
+use Rattle.mig_model.specs.Owed.{home}
+use Rattle.mig_model.specs.Source.{Source, commands_of, source_act, source_acted_by, source_took}
+use Rattle.mig_model.specs.Destination.{Destination, copy_came, destination_act, destination_acted, destination_acted_by, destination_read, destination_took, install_by, received_of, resumed_by}
 
 -- Processors
 
@@ -90,13 +92,13 @@ taken_keeps (p ∷ ps) (suc k) = taken_keeps ps k
 
 -- the second guest still has to make what the first has to
 abbrev pub StillWaits : Guest → Guest → Type 0
-StillWaits old new = (k : ℕ) (command : Command) → outstanding (processor_at old.processors k) ≡ Some command → outstanding (processor_at new.processors k) ≡ Some command
+StillWaits old new = (k : ℕ) (command : Command) → outstanding (processor_at old.cpus k) ≡ Some command → outstanding (processor_at new.cpus k) ≡ Some command
 
-read_keeps : (guest : Guest) (cpu : ℕ) (message : Message) (k : ℕ) (command : Command) → outstanding (processor_at guest.processors k) ≡ Some command →
-    outstanding (processor_at (all_woken (is_left_by message) (set guest.processors cpu (message_less (processor_at guest.processors cpu)))) k) ≡ Some command
+read_keeps : (guest : Guest) (cpu : ℕ) (message : Message) (k : ℕ) (command : Command) → outstanding (processor_at guest.cpus k) ≡ Some command →
+    outstanding (processor_at (all_woken (is_left_by message) (set guest.cpus cpu (message_less (processor_at guest.cpus cpu)))) k) ≡ Some command
 read_keeps guest cpu message k command h =
-    woken_keeps (is_left_by message) (set guest.processors cpu (message_less (processor_at guest.processors cpu))) k
-    ∙ set_keeps guest.processors cpu k (message_less (processor_at guest.processors cpu)) command h (λ e. less_keeps (processor_at guest.processors cpu) command (ap (λ i. outstanding (processor_at guest.processors i)) e ∙ h))
+    woken_keeps (is_left_by message) (set guest.cpus cpu (message_less (processor_at guest.cpus cpu))) k
+    ∙ set_keeps guest.cpus cpu k (message_less (processor_at guest.cpus cpu)) command h (λ e. less_keeps (processor_at guest.cpus cpu) command (ap (λ i. outstanding (processor_at guest.cpus i)) e ∙ h))
 
 pub waits_read : (guest : Guest) (cpu : ℕ) (message : Message) → StillWaits guest (read_guest guest cpu message)
 waits_read guest cpu (PageFault addr write wp) k command h = h
@@ -116,26 +118,22 @@ waits_destination false from old new still k command h = h
 -- the steps of the nodes
 
 pub waits_source_act : (act : Act) (node : Source) (page : ℕ) → StillWaits node.guest (source_acted_by act node page).guest
-waits_source_act Unprotected node page k command h = woken_keeps (λ q. eqb q page) node.guest.processors k ∙ h
-waits_source_act Zeroed node page k command h = woken_keeps (λ q. eqb q page) node.guest.processors k ∙ h
-waits_source_act Woke node page k command h = woken_keeps (λ q. eqb q page) node.guest.processors k ∙ h
-waits_source_act Forgot node page k command h = woken_keeps (λ q. eqb q page) node.guest.processors k ∙ h
-waits_source_act (Requested source) node page k command h = woken_keeps (λ q. eqb q page) node.guest.processors k ∙ h
+waits_source_act Unprotected node page k command h = woken_keeps (λ q. eqb q page) node.guest.cpus k ∙ h
+waits_source_act Zeroed node page k command h = woken_keeps (λ q. eqb q page) node.guest.cpus k ∙ h
+waits_source_act Woke node page k command h = woken_keeps (λ q. eqb q page) node.guest.cpus k ∙ h
+waits_source_act Forgot node page k command h = woken_keeps (λ q. eqb q page) node.guest.cpus k ∙ h
+waits_source_act (Requested source) node page k command h = woken_keeps (λ q. eqb q page) node.guest.cpus k ∙ h
 
 pub waits_destination_act : (act : Act) (node : Destination) (page : ℕ) → StillWaits node.guest (destination_acted_by act node page).guest
-waits_destination_act Unprotected node page k command h = woken_keeps (λ q. eqb q page) node.guest.processors k ∙ h
-waits_destination_act Zeroed node page k command h = woken_keeps (λ q. eqb q page) node.guest.processors k ∙ h
-waits_destination_act Woke node page k command h = woken_keeps (λ q. eqb q page) node.guest.processors k ∙ h
-waits_destination_act Forgot node page k command h = woken_keeps (λ q. eqb q page) node.guest.processors k ∙ h
+waits_destination_act Unprotected node page k command h = woken_keeps (λ q. eqb q page) node.guest.cpus k ∙ h
+waits_destination_act Zeroed node page k command h = woken_keeps (λ q. eqb q page) node.guest.cpus k ∙ h
+waits_destination_act Woke node page k command h = woken_keeps (λ q. eqb q page) node.guest.cpus k ∙ h
+waits_destination_act Forgot node page k command h = woken_keeps (λ q. eqb q page) node.guest.cpus k ∙ h
 waits_destination_act (Requested source) node page k command h = h
 
 install_waits : (o : Option ℕ) (node : Destination) (copy : Copy) (rest : List Copy) → StillWaits node.guest (install_by o node copy rest).guest
 install_waits None node copy rest k command h = h
-install_waits (Some page) node copy rest k command h = woken_keeps (λ q. eqb q page) node.guest.processors k ∙ h
-
-pub waits_install : (node : Destination) (copies : List Copy) → StillWaits node.guest (install_made node copies).guest
-waits_install node [] k command h = h
-waits_install node (copy ∷ rest) k command h = install_waits (home node.owed copy.page) node copy rest k command h
+install_waits (Some page) node copy rest k command h = woken_keeps (λ q. eqb q page) node.guest.cpus k ∙ h
 
 -- Steps
 
@@ -148,18 +146,18 @@ same_ran true world guest = refl
 same_ran false world guest = refl
 
 -- the guest once a command was tried
-tried_guest : (world : World) (cpu : ℕ) (command : Command) → guest_of (command_tried world cpu command) ≡ tried (is_access command) (guest_of world) cpu command
+tried_guest : (world : World) (cpu : ℕ) (command : Command) → guest_of (after_command world cpu command) ≡ tried (is_access command) (guest_of world) cpu command
 tried_guest world cpu command =
     let ran = world.destination.has_run in
     let guest = tried (is_access command) (guest_of world) cpu command in
     ap (λ b. guest_by b (with_guest_by ran world guest).source.guest (with_guest_by ran world guest).destination.guest) (same_ran ran world guest) ∙ same_guest ran world guest
 
 -- another processor has tried a command
-tried_keeps : (world : World) (cpu : ℕ) (tries : Command) (k : ℕ) (command : Command) → (cpu ≡ k → ⊥) → outstanding (processor_at (guest_of world).processors k) ≡ Some command →
-    outstanding (processor_at (guest_of (command_tried world cpu tries)).processors k) ≡ Some command
+tried_keeps : (world : World) (cpu : ℕ) (tries : Command) (k : ℕ) (command : Command) → (cpu ≡ k → ⊥) → outstanding (processor_at (guest_of world).cpus k) ≡ Some command →
+    outstanding (processor_at (guest_of (after_command world cpu tries)).cpus k) ≡ Some command
 tried_keeps world cpu tries k command other h =
-    ap (λ g. outstanding (processor_at g.processors k)) (tried_guest world cpu tries)
-    ∙ set_keeps (guest_of world).processors cpu k (processor_after tries (took_by (is_access tries) (guest_of world).space tries)) command h (λ e. absurd (other e))
+    ap (λ g. outstanding (processor_at g.cpus k)) (tried_guest world cpu tries)
+    ∙ set_keeps (guest_of world).cpus cpu k (processor_after tries (took_by (is_access tries) (guest_of world).space tries)) command h (λ e. absurd (other e))
 
 idle_none : (p : CpuState) (command : Command) → is_idle p ≡ true → outstanding p ≡ Some command → ⊥
 idle_none CpuState.Idle command h e = none_some command e
@@ -169,29 +167,6 @@ idle_none (CpuState.InCall reply left) command h e = false≢true h
 
 eqb-is : (a b : ℕ) → a ≡ b → eqb a b ≡ true
 eqb-is a b h = grind (arith, nat_tests)
-
-retried_keeps : (o : Option Command) (world : World) (cpu k : ℕ) (command : Command) → (cpu ≡ k → ⊥) → outstanding (processor_at (guest_of world).processors k) ≡ Some command →
-    outstanding (processor_at (guest_of (retried world cpu o)).processors k) ≡ Some command
-retried_keeps None world cpu k command other h = h
-retried_keeps (Some tries) world cpu k command other h = tried_keeps world cpu tries k command other h
-
-sent_keeps : (o : Option ℕ) (world : World) → StillWaits (guest_of world) (guest_of (sent_by world o))
-sent_keeps None world k command h = h
-sent_keeps (Some page) world k command h = waits_source world.destination.has_run world.source.guest (page_sent world.source page).guest world.destination.guest (λ i c e. e) k command h
-
-read_source_keeps : (o : Option Noted) (world : World) → StillWaits (guest_of world) (guest_of (read_by_source world o))
-read_source_keeps None world k command h = h
-read_source_keeps (Some noted) world k command h = waits_source world.destination.has_run world.source.guest (source_read world.source noted).guest world.destination.guest (waits_read world.source.guest noted.cpu noted.message) k command h
-
-acted_source_keeps : (held : List Fault) (world : World) → StillWaits (guest_of world) (guest_of (acted_by_source world held))
-acted_source_keeps [] world k command h = h
-acted_source_keeps (fault ∷ rest) world k command h =
-    waits_source world.destination.has_run world.source.guest (source_acted world.source fault).guest world.destination.guest (waits_source_act (source_act world.source fault) world.source fault.page) k command h
-
-read_destination_keeps : (o : Option Noted) (world : World) → StillWaits (guest_of world) (guest_of (read_by_destination world o))
-read_destination_keeps None world k command h = h
-read_destination_keeps (Some noted) world k command h =
-    waits_destination world.destination.has_run world.source.guest world.destination.guest (destination_read world.destination noted).guest (waits_read world.destination.guest noted.cpu noted.message) k command h
 
 acted_ran : (act : Act) (node : Destination) (page : ℕ) → (destination_acted_by act node page).has_run ≡ node.has_run
 acted_ran Unprotected node page = refl
@@ -204,18 +179,15 @@ installed_ran : (o : Option ℕ) (node : Destination) (copy : Copy) (rest : List
 installed_ran None node copy rest = refl
 installed_ran (Some page) node copy rest = refl
 
-installed_keeps : (copies : List Copy) (world : World) (k : ℕ) (command : Command) → outstanding (processor_at (guest_of world).processors k) ≡ Some command →
-    outstanding (processor_at (guest_by (install_made world.destination copies).has_run world.source.guest (install_made world.destination copies).guest).processors k) ≡ Some command
-installed_keeps [] world k command h = h
-installed_keeps (copy ∷ rest) world k command h =
+installed_keeps : (copy : Copy) (rest : List Copy) (world : World) → StillWaits (guest_of world) (guest_of (after_install world copy rest))
+installed_keeps copy rest world k command h =
     let o = home world.destination.owed copy.page in
-    ap (λ b. outstanding (processor_at (guest_by b world.source.guest (install_by o world.destination copy rest).guest).processors k)) (installed_ran o world.destination copy rest)
+    ap (λ b. outstanding (processor_at (guest_by b world.source.guest (install_by o world.destination copy rest).guest).cpus k)) (installed_ran o world.destination copy rest)
     ∙ waits_destination world.destination.has_run world.source.guest world.destination.guest (install_by o world.destination copy rest).guest (install_waits o world.destination copy rest) k command h
 
-acted_destination_keeps : (held : List Fault) (world : World) → StillWaits (guest_of world) (guest_of (acted_by_destination world held))
-acted_destination_keeps [] world k command h = h
-acted_destination_keeps (fault ∷ rest) world k command h =
-    ap (λ b. outstanding (processor_at (guest_by b world.source.guest (destination_acted world.destination fault).guest).processors k)) (acted_ran (destination_act world.destination fault) world.destination fault.page)
+acted_destination_keeps : (fault : Fault) (world : World) → StillWaits (guest_of world) (guest_of (after_dest_act world fault))
+acted_destination_keeps fault world k command h =
+    ap (λ b. outstanding (processor_at (guest_by b world.source.guest (destination_acted world.destination fault).guest).cpus k)) (acted_ran (destination_act world.destination fault) world.destination fault.page)
     ∙ waits_destination world.destination.has_run world.source.guest world.destination.guest (destination_acted world.destination fault).guest (waits_destination_act (destination_act world.destination fault) world.destination fault.page) k command h
 
 -- Deliveries
@@ -248,36 +220,36 @@ same_took Done node epoch h = record { guest = refl; ran = refl }
 
 -- a Package that comes next has the outstanding commands of the source, and the destination has not run
 pub package_told : (from : SourcePhase) (to : DestPhase) (epoch : ℕ) (areas : FinMap nat_cmp Prot) (owed : FinSet nat_cmp) (commands : List (Option Command)) (rest : List Sent) (world : World) →
-    comes from to (Package areas owed commands) ≡ true → world.up ≡ true → IsKept (with_first from to epoch (Package areas owed commands) rest world) →
-    (commands ≡ commands_of world.source.guest.processors) × (world.destination.has_run ≡ false)
+    comes from to (Package areas owed commands) ≡ true → world.up ≡ true → IsSoundWorld (with_first from to epoch (Package areas owed commands) rest world) →
+    (commands ≡ commands_of world.source.guest.cpus) × (world.destination.has_run ≡ false)
 unfolding commands_in
 package_told SourcePhase.Stopped DestPhase.Discarding epoch areas owed commands rest world is up kept =
-    let told = (kept.wires up).2 in
-    (ap (λ o. elim o [ None ↦ commands | Some frame ↦ commands_in frame commands ]) told.plan, kept.destination_phase)
+    let told = (kept.flight.wires up).2 in
+    (ap (λ o. elim o [ None ↦ commands | Some frame ↦ commands_in frame commands ]) told.plan, kept.phases.destination_phase)
 package_told SourcePhase.Precopy DestPhase.Idle epoch areas owed commands rest world is up kept = absurd (false≢true is)
 package_told SourcePhase.Paused DestPhase.Paused epoch areas owed commands rest world is up kept = absurd (false≢true is)
 package_told _ _ epoch areas owed commands rest world is up kept = absurd (false≢true is)
 
-package_keeps : (epoch : ℕ) (areas : FinMap nat_cmp Prot) (owed : FinSet nat_cmp) (commands : List (Option Command)) (rest : List Sent) (world : World) → world.up ≡ true → world.forward ≡ record { epoch = epoch; frame = Package areas owed commands } ∷ rest → IsKept world →
+package_keeps : (epoch : ℕ) (areas : FinMap nat_cmp Prot) (owed : FinSet nat_cmp) (commands : List (Option Command)) (rest : List Sent) (world : World) → world.up ≡ true → world.forward ≡ record { epoch = epoch; frame = Package areas owed commands } ∷ rest → IsSoundWorld world →
     StillWaits (guest_of world) (guest_of (delivered world (record { epoch = epoch; frame = Package areas owed commands } ∷ rest)))
 package_keeps epoch areas owed commands rest world up first kept k command h =
-    let again = subst (λ w. IsKept (record world { forward = w })) first kept in
+    let again = subst (λ w. IsSoundWorld (record world { forward = w })) first kept in
     let old = with_first world.source.phase world.destination.phase epoch (Package areas owed commands) rest world in
-    let is = first_in_place old.source old.destination (record { epoch = epoch; frame = Package areas owed commands }) rest old.back (again.wires up) in
+    let is = first_in_place old.source old.destination (record { epoch = epoch; frame = Package areas owed commands }) rest old.back (again.flight.wires up) in
     let told = package_told world.source.phase world.destination.phase epoch areas owed commands rest world is up again in
     ap (λ cs. outstanding (processor_at (map taken_over cs) k)) told.0
-    ∙ taken_keeps world.source.guest.processors k
-    ∙ ap (λ b. outstanding (processor_at (guest_by b world.source.guest world.destination.guest).processors k)) (sym told.1)
+    ∙ taken_keeps world.source.guest.cpus k
+    ∙ ap (λ b. outstanding (processor_at (guest_by b world.source.guest world.destination.guest).cpus k)) (sym told.1)
     ∙ h
 
-same_keeps : (world : World) (new : Destination) → IsSame world.destination new → (k : ℕ) (command : Command) → outstanding (processor_at (guest_of world).processors k) ≡ Some command →
-    outstanding (processor_at (guest_by new.has_run world.source.guest new.guest).processors k) ≡ Some command
+same_keeps : (world : World) (new : Destination) → IsSame world.destination new → (k : ℕ) (command : Command) → outstanding (processor_at (guest_of world).cpus k) ≡ Some command →
+    outstanding (processor_at (guest_by new.has_run world.source.guest new.guest).cpus k) ≡ Some command
 same_keeps world new is k command h =
-    ap (λ b. outstanding (processor_at (guest_by b world.source.guest new.guest).processors k)) is.ran
-    ∙ ap (λ g. outstanding (processor_at (guest_by world.destination.has_run world.source.guest g).processors k)) is.guest
+    ap (λ b. outstanding (processor_at (guest_by b world.source.guest new.guest).cpus k)) is.ran
+    ∙ ap (λ g. outstanding (processor_at (guest_by world.destination.has_run world.source.guest g).cpus k)) is.guest
     ∙ h
 
-delivered_first : (epoch : ℕ) (frame : Frame) (rest : List Sent) (world : World) → world.up ≡ true → world.forward ≡ record { epoch = epoch; frame = frame } ∷ rest → IsKept world → StillWaits (guest_of world) (guest_of (delivered world (record { epoch = epoch; frame = frame } ∷ rest)))
+delivered_first : (epoch : ℕ) (frame : Frame) (rest : List Sent) (world : World) → world.up ≡ true → world.forward ≡ record { epoch = epoch; frame = frame } ∷ rest → IsSoundWorld world → StillWaits (guest_of world) (guest_of (delivered world (record { epoch = epoch; frame = frame } ∷ rest)))
 delivered_first epoch (Package areas owed commands) rest world up first kept k command h = package_keeps epoch areas owed commands rest world up first kept k command h
 delivered_first epoch Advise rest world up first kept k command h = same_keeps world _ (same_took Advise world.destination epoch refl) k command h
 delivered_first epoch (Page page bytes) rest world up first kept k command h = same_keeps world _ (same_took (Page page bytes) world.destination epoch refl) k command h
@@ -288,10 +260,6 @@ delivered_first epoch Resume rest world up first kept k command h = same_keeps w
 delivered_first epoch (Request page) rest world up first kept k command h = same_keeps world _ (same_took (Request page) world.destination epoch refl) k command h
 delivered_first epoch (Recv state owed) rest world up first kept k command h = same_keeps world _ (same_took (Recv state owed) world.destination epoch refl) k command h
 delivered_first epoch Done rest world up first kept k command h = same_keeps world _ (same_took Done world.destination epoch refl) k command h
-
-delivered_keeps : (wire : List Sent) (world : World) → world.up ≡ true → world.forward ≡ wire → IsKept world → StillWaits (guest_of world) (guest_of (delivered world wire))
-delivered_keeps [] world up first kept k command h = h
-delivered_keeps (sent ∷ rest) world up first kept k command h = delivered_first sent.epoch sent.frame rest world up first kept k command h
 
 rebuilt_by : (switched : Bool) (a b node : Source) → StillWaits node.guest a.guest → StillWaits node.guest b.guest → StillWaits node.guest (if switched then a else b).guest
 rebuilt_by true a b node one two = one
@@ -311,50 +279,43 @@ took_keeps (Package areas owed commands) node k command h = h
 took_keeps End node k command h = h
 took_keeps Resume node k command h = h
 
-delivered_back_keeps : (wire : List Sent) (world : World) → StillWaits (guest_of world) (guest_of (delivered_back world wire))
-delivered_back_keeps [] world k command h = h
-delivered_back_keeps (sent ∷ rest) world k command h =
-    waits_source world.destination.has_run world.source.guest (source_took world.source sent.frame).guest world.destination.guest (took_keeps sent.frame world.source) k command h
-
 same_source : (world : World) (new : Guest) → StillWaits world.source.guest new → StillWaits (guest_of world) (guest_by world.destination.has_run new world.destination.guest)
 same_source world new still k command h = waits_source world.destination.has_run world.source.guest new world.destination.guest still k command h
 
-accepted_keeps : (world : World) (step : Step) (k : ℕ) (command : Command) → IsKept world → is_retry_of step k ≡ false → refusal_of world step ≡ None → outstanding (processor_at (guest_of world).processors k) ≡ Some command →
-    outstanding (processor_at (guest_of (accepted world step)).processors k) ≡ Some command
-accepted_keeps world (Step.Issue cpu tries) k command kept other free h =
-    let told = none_applies (reasons world (Step.Issue cpu tries)) free in
-    tried_keeps world cpu tries k command (λ e. idle_none (processor_at (guest_of world).processors cpu) command (not_none _ told.1.0) (ap (λ i. outstanding (processor_at (guest_of world).processors i)) e ∙ h)) h
-accepted_keeps world (Step.Retry cpu) k command kept other free h =
-    retried_keeps (outstanding (processor_at (guest_of world).processors cpu)) world cpu k command (λ e. false≢true (sym other ∙ eqb-is cpu k e)) h
-accepted_keeps world Step.Start k command kept other free h = same_source world _ (λ i c e. e) k command h
-accepted_keeps world Step.Round k command kept other free h = same_source world _ (λ i c e. e) k command h
-accepted_keeps world Step.Send k command kept other free h = sent_keeps (least_of world.source.todo) world k command h
-accepted_keeps world Step.SourceRead k command kept other free h = read_source_keeps (next_message (space_of world.source).object) world k command h
-accepted_keeps world Step.SourceAct k command kept other free h = acted_source_keeps world.source.guest.held world k command h
-accepted_keeps world Step.Switch k command kept other free h = same_source world _ (λ i c e. e) k command h
-accepted_keeps world Step.Deliver k command kept other free h = delivered_keeps world.forward world (not_none _ (none_applies (reasons world Step.Deliver) free).1.0) refl kept k command h
-accepted_keeps world Step.DeliverBack k command kept other free h = delivered_back_keeps world.back world k command h
-accepted_keeps world Step.DestRead k command kept other free h = read_destination_keeps (next_message world.destination.guest.space.object) world k command h
-accepted_keeps world Step.DestAct k command kept other free h = acted_destination_keeps world.destination.guest.held world k command h
-accepted_keeps world Step.Install k command kept other free h = installed_keeps world.destination.arrivals world k command h
-accepted_keeps world (Step.Push ticket) k command kept other free h = same_source world _ (λ i c e. e) k command h
-accepted_keeps world Step.Serve k command kept other free h = same_source world _ (λ i c e. e) k command h
-accepted_keeps world Step.End k command kept other free h = same_source world _ (λ i c e. e) k command h
-accepted_keeps world Step.Break k command kept other free h = h
-accepted_keeps world (Step.Notice Side.Source) k command kept other free h = h
-accepted_keeps world (Step.Notice Side.Destination) k command kept other free h = h
-accepted_keeps world Step.Resume k command kept other free h = same_source world _ (λ i c e. e) k command h
+-- a processor of a number still has to make its command
+abbrev WaitsIn : ℕ → Command → World → Type 0
+WaitsIn k command world = outstanding (processor_at (guest_of world).cpus k) ≡ Some command
 
-kept_by_refusal : (refusal : Option Refusal) (old new : World) (k : ℕ) (command : Command) → outstanding (processor_at (guest_of old).processors k) ≡ Some command → (refusal ≡ None → outstanding (processor_at (guest_of new).processors k) ≡ Some command) →
-    outstanding (processor_at (guest_of (next_by refusal old new)).processors k) ≡ Some command
-kept_by_refusal None old new k command h more = more refl
-kept_by_refusal (Some refusal) old new k command h more = h
+waiting_answer : (world : World) (step : Step) (k : ℕ) (command : Command) → IsSoundWorld world → is_retry_of step k ≡ false → WaitsIn k command world → Leaves (WaitsIn k command) (answer world step)
+waiting_answer world (Step.Issue cpu tries) k command kept other h =
+    made-issue _ world cpu tries (λ idle may.
+    tried_keeps world cpu tries k command (λ e. idle_none (processor_at (guest_of world).cpus cpu) command idle (ap (λ i. outstanding (processor_at (guest_of world).cpus i)) e ∙ h)) h)
+waiting_answer world (Step.Retry cpu) k command kept other h = made-retry _ world cpu (λ tries is woken may. tried_keeps world cpu tries k command (λ e. false≢true (sym other ∙ eqb-is cpu k e)) h)
+waiting_answer world Step.Start k command kept other h = made-start _ world (λ idle. same_source world _ (λ i c e. e) k command h)
+waiting_answer world Step.Round k command kept other h = made-round _ world (λ precopy quiet. same_source world _ (λ i c e. e) k command h)
+waiting_answer world Step.Send k command kept other h = made-send _ world (λ page is precopy up quiet. same_source world _ (λ i c e. e) k command h)
+waiting_answer world Step.SourceRead k command kept other h = made-source_read _ world (λ noted is started unswitched. same_source world _ (waits_read world.source.guest noted.cpu noted.message) k command h)
+waiting_answer world Step.SourceAct k command kept other h =
+    made-source_act _ world (λ fault rest is started unswitched quiet. same_source world _ (waits_source_act (source_act world.source fault) world.source fault.page) k command h)
+waiting_answer world Step.Switch k command kept other h = made-switch _ world (λ precopy up quiet. same_source world _ (λ i c e. e) k command h)
+waiting_answer world Step.Deliver k command kept other h = made-deliver _ world (λ sent rest is started up free. delivered_first sent.epoch sent.frame rest world up is kept k command h)
+waiting_answer world Step.DeliverBack k command kept other h = made-deliver_back _ world (λ sent rest is started up. same_source world _ (took_keeps sent.frame world.source) k command h)
+waiting_answer world Step.DestRead k command kept other h =
+    made-dest_read _ world (λ noted is ran.
+    waits_destination world.destination.has_run world.source.guest world.destination.guest (destination_read world.destination noted).guest (waits_read world.destination.guest noted.cpu noted.message) k command h)
+waiting_answer world Step.DestAct k command kept other h = made-dest_act _ world (λ fault rest is ran quiet. acted_destination_keeps fault world k command h)
+waiting_answer world Step.Install k command kept other h = made-install _ world (λ copy rest is ran quiet. installed_keeps copy rest world k command h)
+waiting_answer world (Step.Push ticket) k command kept other h = made-push _ world ticket (λ stopped up own present remains. same_source world _ (λ i c e. e) k command h)
+waiting_answer world Step.Serve k command kept other h = made-serve _ world (λ page pages is stopped up. same_source world _ (λ i c e. e) k command h)
+waiting_answer world Step.End k command kept other h = made-end _ world (λ stopped ended up none. same_source world _ (λ i c e. e) k command h)
+waiting_answer world Step.Break k command kept other h = made-break _ world (λ started unreleased up. h)
+waiting_answer world (Step.Notice Side.Source) k command kept other h = made-notice _ world Side.Source (λ started unreleased down. h)
+waiting_answer world (Step.Notice Side.Destination) k command kept other h = made-notice _ world Side.Destination (λ started unreleased down. h)
+waiting_answer world Step.Resume k command kept other h = made-resume _ world (λ from to down. same_source world _ (λ i c e. e) k command h)
 
-pub waiting_command : (world : World) (step : Step) (k : ℕ) (command : Command) → IsKept world → is_retry_of step k ≡ false → outstanding (processor_at (guest_of world).processors k) ≡ Some command →
-    outstanding (processor_at (guest_of (next world step)).processors k) ≡ Some command
-unfolding next
-waiting_command world step k command kept other h =
-    kept_by_refusal (refusal_of world step) world (accepted world step) k command h (λ free. accepted_keeps world step k command kept other free h)
+pub waiting_command : (world : World) (step : Step) (k : ℕ) (command : Command) → IsSoundWorld world → is_retry_of step k ≡ false → outstanding (processor_at (guest_of world).cpus k) ≡ Some command →
+    outstanding (processor_at (guest_of (next world step)).cpus k) ≡ Some command
+waiting_command world step k command kept other h = leaves-next (WaitsIn k command) world step h (waiting_answer world step k command kept other h)
 
 -- What a Retry makes of its processor
 
@@ -363,11 +324,15 @@ set_here [] i new command h = absurd (none_some command h)
 set_here (p ∷ ps) zero new command h = refl
 set_here (p ∷ ps) (suc i) new command h = set_here ps i new command h
 
-pub retried_at : (world : World) (cpu : ℕ) (command : Command) → refusal_of world (Step.Retry cpu) ≡ None → outstanding (processor_at (guest_of world).processors cpu) ≡ Some command →
-    processor_at (guest_of (next world (Step.Retry cpu))).processors cpu ≡ processor_after command (took_by (is_access command) (guest_of world).space command)
-unfolding next
-retried_at world cpu command free waits =
-    ap (λ o. processor_at (guest_of (next_by o world (accepted world (Step.Retry cpu)))).processors cpu) free
-    ∙ ap (λ o. processor_at (guest_of (retried world cpu o)).processors cpu) waits
-    ∙ ap (λ g. processor_at g.processors cpu) (tried_guest world cpu command)
-    ∙ set_here (guest_of world).processors cpu (processor_after command (took_by (is_access command) (guest_of world).space command)) command waits
+some_command : (a b : Command) → Some a ≡ Some b → a ≡ b
+some_command a b h = cc
+
+pub retried_at : (world : World) (cpu : ℕ) (command : Command) → IsOk (outcome world (Step.Retry cpu)) → outstanding (processor_at (guest_of world).cpus cpu) ≡ Some command →
+    processor_at (guest_of (next world (Step.Retry cpu))).cpus cpu ≡ processor_after command (took_by (is_access command) (guest_of world).space command)
+retried_at world cpu command ok waits =
+    leaves-ok (λ new. processor_at (guest_of new).cpus cpu ≡ processor_after command (took_by (is_access command) (guest_of world).space command)) world (Step.Retry cpu)
+    (made-retry _ world cpu (λ other is woken may.
+    let same = some_command other command (sym is ∙ waits) in
+    ap (λ g. processor_at g.cpus cpu) (tried_guest world cpu other)
+    ∙ set_here (guest_of world).cpus cpu (processor_after other (took_by (is_access other) (guest_of world).space other)) command waits
+    ∙ ap (λ c. processor_after c (took_by (is_access c) (guest_of world).space c)) same)) ok

@@ -9,19 +9,24 @@ use Rattle.std.specs.FinSet.{FinSet, contains}
 use Rattle.mig_base.specs.declared.phase.DestPhase.{DestPhase}
 use Rattle.mig_base.specs.declared.phase.Received.{Received}
 use Rattle.mig_base.specs.declared.phase.SourcePhase.{SourcePhase}
+use Rattle.mig_base.specs.declared.command.Entry.{Entry}
 use Rattle.mig_base.specs.declared.TheConstants.{PAGE_SIZE, HIGH_PAGE}
 use Rattle.mig_base.specs.declared.message.Message.{Message}
 use Rattle.mig_base.specs.declared.message.Message.TheVariants.{PageFault, Remap, Remove, Unmap}
+use Rattle.mig_base.specs.Tests.{is_empty}
 use Rattle.mig_base.specs.Pages.{map_below}
 use Rattle.mig_base.specs.Flat.{IsFlatRun, memory_of}
 use Rattle.mig_model.specs.Host.{Host, memory}
 use Rattle.mig_model.specs.Userfault.{Noted}
-use Rattle.mig_model.specs.Space.{fresh_space, IsSoundSpace}
-use Rattle.mig_model.specs.Guest.{is_changed_by, is_present}
+use Rattle.mig_model.specs.Space.{Space, fresh_space, IsSoundSpace}
 use Rattle.mig_model.specs.Wire.{Frame, Sent, Copy, copy_in, kept_after}
 use Rattle.mig_model.specs.Wire.Frame.{Advise, Page, Zero, Discard, Package, End, Resume, Request, Recv, Done}
-use Rattle.mig_model.specs.Nodes.{Source, Destination, space_of, settled, no_pages, commands_of}
 use Rattle.mig_model.specs.Migration.{World}
+use Rattle.mig_model.specs.Guest.{is_changed_by, is_present}
+use Rattle.mig_model.specs.Log.{no_pages, present}
+use Rattle.mig_model.specs.Owed.{Owed, settled_by}
+use Rattle.mig_model.specs.Source.{Source, commands_of, released, space_of}
+use Rattle.mig_model.specs.Destination.{Destination, arrived, settled}
 
 -- The memory that the guest sees
 
@@ -161,10 +166,6 @@ abbrev pub is_done : Frame → Bool
 is_done Done = true
 is_done frame = false
 
-abbrev pub is_none : List Sent → Bool
-is_none [] = true
-is_none (sent ∷ rest) = false
-
 -- requests alone, and requests with Done behind them
 abbrev pub are_requests : List Sent → Bool
 are_requests [] = true
@@ -172,18 +173,18 @@ are_requests (sent ∷ rest) = is_request sent.frame && are_requests rest
 
 abbrev pub are_requests_and_done : List Sent → Bool
 are_requests_and_done [] = false
-are_requests_and_done (sent ∷ rest) = is_request sent.frame && are_requests_and_done rest || is_done sent.frame && is_none rest
+are_requests_and_done (sent ∷ rest) = is_request sent.frame && are_requests_and_done rest || is_done sent.frame && is_empty rest
 
 -- What is in flight in each pair of phases, while the link is up
 
 -- how far the wire gets, once Switch was made: End is the last frame on it, or was taken, if it was sent in this epoch
 abbrev pub flow_of : Source → Flow
-flow_of source = if source.ended == source.epoch then AfterEnd else Pushed
+flow_of source = if source.end_epoch == source.epoch then AfterEnd else Pushed
 
 pub record IsSwitching (source : Source) (kept : FinMap nat_cmp (List ℕ)) (forward : List Sent) : Type 0 where
   pub owed : FinSet nat_cmp
   -- the Package tells the source's state
-  pub plan : package_in forward ≡ Some (Package (space_of source).host.areas owed (commands_of source.guest.processors))
+  pub plan : package_in forward ≡ Some (Package (space_of source).host.areas owed (commands_of source.guest.cpus))
   pub owed_present : (page : ℕ) → contains owed page ≡ true → is_present (space_of source) page ≡ true
   -- when it is taken the kept table is what it does not owe
   pub kept_rest : (page : ℕ) → get (kept_by kept forward) page ≡ (if contains owed page then None else get (space_of source).host.bytes page)
@@ -193,9 +194,9 @@ pub record IsSwitching (source : Source) (kept : FinMap nat_cmp (List ℕ)) (for
 
 pub record IsPrecopying (source : Source) (kept : FinMap nat_cmp (List ℕ)) (forward : List Sent) : Type 0 where
   -- the newest copy of a clean page is right, unless an unread event has changed the page
-  pub clean_copy : (page : ℕ) → contains source.clean page ≡ true → is_unread (space_of source).object.events page ≡ false → get (kept_by kept forward) page ≡ get (space_of source).host.bytes page
+  pub clean_copy : (page : ℕ) → contains source.log.clean page ≡ true → is_unread (space_of source).object.events page ≡ false → get (kept_by kept forward) page ≡ get (space_of source).host.bytes page
   -- each page that has a copy was sent in this epoch
-  pub copies_sent : (page : ℕ) → contains_key (kept_by kept forward) page ≡ true → contains source.sent page ≡ true
+  pub copies_sent : (page : ℕ) → contains_key (kept_by kept forward) page ≡ true → contains source.log.sent page ≡ true
 
 -- while the destination runs and the source is stopped
 pub record IsFlowing (source : Source) (destination : Destination) (forward : List Sent) : Type 0 where
@@ -210,7 +211,7 @@ StoppedWires source destination forward back = elim destination.phase [
   | DestPhase.Discarding ↦ (flow_after BeforePackage forward ≡ Some (flow_of source)) × (back ≡ []) × IsSwitching source destination.kept forward
   | DestPhase.Running ↦ (flow_after Pushed forward ≡ Some (flow_of source)) × (are_requests back ≡ true) × IsFlowing source destination forward
   | DestPhase.Paused ↦ ⊥
-  | DestPhase.Ended ↦ (forward ≡ []) × (are_requests_and_done back ≡ true) × (source.ended ≡ source.epoch)
+  | DestPhase.Ended ↦ (forward ≡ []) × (are_requests_and_done back ≡ true) × (source.end_epoch ≡ source.epoch)
 ]
 
 -- the first frame of a wire back is a Recv of this state, whose pages are those that the destination still needs at least, all of
@@ -289,69 +290,102 @@ EpochAt DestPhase.Ended epoch source_epoch = epoch ≡ source_epoch
 
 -- The invariant
 
-pub record IsKept (world : World) : Type 0 where
-  -- the transcript is a flat run, and the guest's current memory is its last memory
-  pub flat : IsFlatRun world.transcript
-  pub holds : memory (current_host world) ≡ memory_of world.transcript
-  -- the spaces of both nodes are in order
-  pub source_space : IsSoundSpace (space_of world.source)
-  pub destination_space : IsSoundSpace world.destination.guest.space
+-- the transcript is a flat run, and what the guest sees is its last memory
+pub record HoldsMemory (here there : Host) (owed : ℕ → Option ℕ) (has_run : Bool) (transcript : List Entry) : Type 0 where
+  pub flat : IsFlatRun transcript
+  pub holds : memory (current_by has_run here there owed) ≡ memory_of transcript
+
+-- the spaces of both nodes are in order
+pub record AreSoundSpaces (source destination : Space) : Type 0 where
+  pub source_space : IsSoundSpace source
+  pub destination_space : IsSoundSpace destination
   -- a page of the source is registered in both modes or in none; at the destination none is write-protected
-  pub both_modes : (page : ℕ) → contains (space_of world.source).object.missing page ≡ contains (space_of world.source).object.protect page
-  pub unprotected : (page : ℕ) → contains world.destination.guest.space.protected page ≡ false
-  pub only_missing : (page : ℕ) → contains world.destination.guest.space.object.protect page ≡ false
+  pub both_modes : (page : ℕ) → contains source.object.missing page ≡ contains source.object.protect page
+  pub unprotected : (page : ℕ) → contains destination.protected page ≡ false
+  pub only_missing : (page : ℕ) → contains destination.object.protect page ≡ false
   -- unread events are of whole pages, and moves are between ranges that lie apart
-  pub source_events : AreRight (space_of world.source).object.events
-  pub destination_events : AreRight world.destination.guest.space.object.events
+  pub source_events : AreRight source.object.events
+  pub destination_events : AreRight destination.object.events
   -- the queue of page faults holds page faults alone: an event that was read from it would change the owed table before its turn
-  pub destination_faults : AreFaults world.destination.guest.space.object.faults
-  -- the phase of the source tells whether Switch was made, and that of the destination whether it has run and ended
-  pub source_phase : SwitchedAt world.source.phase world.source.switched
-  pub destination_phase : RanAt world.destination.phase world.destination.has_run world.destination.ended
-  pub ran_after_switch : world.destination.has_run ≡ true → world.source.switched ≡ true
-  pub ended_after_run : world.destination.ended ≡ true → world.destination.has_run ≡ true
+  pub destination_faults : AreFaults destination.object.faults
+
+-- the phases tell whether Switch was made, and whether the destination has run and ended
+pub record AreSoundPhases (from : SourcePhase) (switched : Bool) (to : DestPhase) (has_run ended : Bool) (events : List Noted) : Type 0 where
+  pub source_phase : SwitchedAt from switched
+  pub destination_phase : RanAt to has_run ended
+  pub ran_after_switch : has_run ≡ true → switched ≡ true
+  pub ended_after_run : ended ≡ true → has_run ≡ true
   -- a source that has stopped has no unread event
-  pub source_quiet : world.source.switched ≡ true → (space_of world.source).object.events ≡ []
-  -- before Switch nothing remains, and End was not sent
-  pub before_switch : world.source.switched ≡ false → (world.source.remaining ≡ no_pages) × (world.source.ended ≢ world.source.epoch ⊎ (world.source.phase ≡ SourcePhase.Idle))
-  -- once End is sent nothing remains
-  pub end_sent : world.source.ended ≡ world.source.epoch → world.source.remaining ≡ no_pages
-  -- what remains is present
-  pub remaining_present : (page : ℕ) → contains world.source.remaining page ≡ true → is_present (space_of world.source) page ≡ true
-  pub ended_before : world.source.ended ≤ world.source.epoch
-  -- after a resumption End was not sent again before the source knows what the destination needs
-  pub paused_fresh : world.up ≡ true → world.source.phase ≡ SourcePhase.Paused → world.source.ended ≢ world.source.epoch
+  pub source_quiet : switched ≡ true → events ≡ []
+
+-- what the log says of the pages of a source that has not stopped
+pub record IsSoundLog (from : SourcePhase) (switched : Bool) (space : Space) (clean todo sent : FinSet nat_cmp) : Type 0 where
   -- a source that has not started watches nothing and has sent nothing
-  pub idle_source : world.source.phase ≡ SourcePhase.Idle → (world.source.clean ≡ no_pages) × (world.source.todo ≡ no_pages) × (world.source.sent ≡ no_pages) × ((space_of world.source).object.events ≡ []) × ((page : ℕ) → contains (space_of world.source).object.missing page ≡ false)
-  -- a destination that has not run owes nothing, and holds no event and no arrival
-  pub not_run : world.destination.has_run ≡ false → (world.destination.owed ≡ finmap.empty) × (world.destination.guest.space ≡ fresh_space) × (world.destination.arrivals ≡ [])
-  -- only a destination that was advised and has not run keeps copies
-  pub kept_none : world.destination.has_run ≡ true → world.destination.kept ≡ finmap.empty
-  pub kept_advised : world.destination.phase ≡ DestPhase.Idle → world.destination.kept ≡ finmap.empty
-  pub kept_whole : (page : ℕ) (bytes : List ℕ) → get world.destination.kept page ≡ Some bytes → length bytes ≡ PAGE_SIZE
-  pub copies_whole : AreWhole (copies_of world.forward)
+  pub idle_source : from ≡ SourcePhase.Idle → (clean ≡ no_pages) × (todo ≡ no_pages) × (sent ≡ no_pages) × (space.object.events ≡ []) × ((page : ℕ) → contains space.object.missing page ≡ false)
   -- a clean page is present, registered and protected, and a page to be sent is present and registered, unless an unread event has
   -- changed it
-  pub clean_protected : world.source.switched ≡ false → (page : ℕ) → contains world.source.clean page ≡ true → is_unread (space_of world.source).object.events page ≡ false → contains (space_of world.source).protected page ≡ true
-  pub todo_sendable : world.source.switched ≡ false → (page : ℕ) → contains world.source.todo page ≡ true → is_unread (space_of world.source).object.events page ≡ false → (is_present (space_of world.source) page ≡ true) × (contains (space_of world.source).object.protect page ≡ true)
-  -- no source page is owed to two pages, and each is present at the source
-  pub one_to_one : (page other origin : ℕ) → get world.destination.owed page ≡ Some origin → get world.destination.owed other ≡ Some origin → page ≡ other
-  pub owed_below : (page origin : ℕ) → get world.destination.owed page ≡ Some origin → page < HIGH_PAGE
-  pub origins_present : (page origin : ℕ) → get world.destination.owed page ≡ Some origin → is_present (space_of world.source) origin ≡ true
-  -- each page that is still owed is mapped, registered and missing
-  pub pairs_missing : (page origin : ℕ) → settled world.destination page ≡ Some origin → (contains world.destination.guest.space.object.missing page ≡ true) × (is_present world.destination.guest.space page ≡ false)
-  -- the copies that came have the source's bytes, and so have those in flight from then on
-  pub arrivals_faithful : world.destination.has_run ≡ true → AreFaithful (space_of world.source).host.bytes world.destination.arrivals
-  pub flight_faithful : world.destination.has_run ≡ true → AreFaithful (space_of world.source).host.bytes (copies_of world.forward)
-  -- a destination that has ended is owed nothing, and no copy waits
-  pub ended_empty : world.destination.ended ≡ true → (world.destination.owed ≡ finmap.empty) × (world.destination.arrivals ≡ [])
+  pub clean_protected : switched ≡ false → (page : ℕ) → contains clean page ≡ true → is_unread space.object.events page ≡ false → contains space.protected page ≡ true
+  pub todo_sendable : switched ≡ false → (page : ℕ) → contains todo page ≡ true → is_unread space.object.events page ≡ false → (is_present space page ≡ true) × (contains space.object.protect page ≡ true)
+
+-- what remains to be pushed, and whether End was sent: its last epoch is told
+pub record IsSoundPushing (from : SourcePhase) (switched up : Bool) (epoch end_epoch : ℕ) (space : Space) (remaining : FinSet nat_cmp) : Type 0 where
+  -- before Switch nothing remains, and End was not sent
+  pub before_switch : switched ≡ false → (remaining ≡ no_pages) × (end_epoch ≢ epoch ⊎ (from ≡ SourcePhase.Idle))
+  -- once End is sent nothing remains
+  pub end_sent : end_epoch ≡ epoch → remaining ≡ no_pages
+  -- what remains is present
+  pub remaining_present : (page : ℕ) → contains remaining page ≡ true → is_present space page ≡ true
+  pub ended_before : end_epoch ≤ epoch
+  -- after a resumption End was not sent again before the source knows what the destination needs
+  pub paused_fresh : up ≡ true → from ≡ SourcePhase.Paused → end_epoch ≢ epoch
   -- a released source holds nothing
-  pub released_empty : world.source.phase ≡ SourcePhase.Released → (space_of world.source ≡ fresh_space) × (world.source.remaining ≡ no_pages)
-  -- the link
-  pub down : world.up ≡ false → (world.forward ≡ []) × (world.back ≡ []) × (world.source.phase ≢ SourcePhase.Idle) × (world.source.phase ≢ SourcePhase.Released)
-  pub wires : world.up ≡ true → Wires world.source world.destination world.forward world.back
-  -- every frame in flight is of the source's epoch, and the destination's is no later
-  pub forward_epoch : AreOf world.source.epoch world.forward
-  pub back_epoch : AreOf world.source.epoch world.back
-  pub epochs : world.destination.epoch ≤ world.source.epoch
-  pub epoch_at : world.up ≡ true → EpochAt world.destination.phase world.destination.epoch world.source.epoch
+  pub released_empty : from ≡ SourcePhase.Released → (space ≡ fresh_space) × (remaining ≡ no_pages)
+
+-- only a destination that was advised and has not run keeps copies, and each copy is a whole page
+pub record AreSoundCopies (to : DestPhase) (has_run : Bool) (kept : FinMap nat_cmp (List ℕ)) (forward : List Sent) : Type 0 where
+  pub kept_none : has_run ≡ true → kept ≡ finmap.empty
+  pub kept_advised : to ≡ DestPhase.Idle → kept ≡ finmap.empty
+  pub kept_whole : (page : ℕ) (bytes : List ℕ) → get kept page ≡ Some bytes → length bytes ≡ PAGE_SIZE
+  pub copies_whole : AreWhole (copies_of forward)
+
+-- the pages that are owed, and the copies that have arrived for them
+pub record IsSoundOwing (bytes : FinMap nat_cmp (List ℕ)) (destination : Space) (has_run ended : Bool) (owed : Owed) (arrivals : List Copy) : Type 0 where
+  -- a destination that has not run owes nothing, and holds no event and no arrival
+  pub not_run : has_run ≡ false → (owed ≡ finmap.empty) × (destination ≡ fresh_space) × (arrivals ≡ [])
+  -- no source page is owed to two pages, and each is present at the source
+  pub one_to_one : (page other origin : ℕ) → get owed page ≡ Some origin → get owed other ≡ Some origin → page ≡ other
+  pub owed_below : (page origin : ℕ) → get owed page ≡ Some origin → page < HIGH_PAGE
+  pub origins_present : (page origin : ℕ) → get owed page ≡ Some origin → contains_key bytes origin ≡ true
+  -- each page that is still owed is mapped, registered and missing
+  pub pairs_missing : (page origin : ℕ) → settled_by destination.object.events (get owed) page ≡ Some origin → (contains destination.object.missing page ≡ true) × (is_present destination page ≡ false)
+  -- the copies that came have the source's bytes
+  pub arrivals_faithful : has_run ≡ true → AreFaithful bytes arrivals
+  -- a destination that has ended is owed nothing, and no copy waits
+  pub ended_empty : ended ≡ true → (owed ≡ finmap.empty) × (arrivals ≡ [])
+
+-- what is in flight
+pub record IsSoundFlight (source : Source) (destination : Destination) (forward back : List Sent) (up : Bool) : Type 0 where
+  -- from the run of the destination on the copies in flight have the source's bytes
+  pub flight_faithful : destination.has_run ≡ true → AreFaithful (space_of source).host.bytes (copies_of forward)
+  -- while the link is down nothing is, and a migration has begun and is not complete
+  pub down : up ≡ false → (forward ≡ []) × (back ≡ []) × (source.phase ≢ SourcePhase.Idle) × (source.phase ≢ SourcePhase.Released)
+  pub wires : up ≡ true → Wires source destination forward back
+
+-- every frame in flight is of the source's epoch, and the destination's is no later
+pub record AreSoundEpochs (epoch : ℕ) (to : DestPhase) (dest_epoch : ℕ) (forward back : List Sent) (up : Bool) : Type 0 where
+  pub forward_epoch : AreOf epoch forward
+  pub back_epoch : AreOf epoch back
+  pub not_ahead : dest_epoch ≤ epoch
+  pub epoch_at : up ≡ true → EpochAt to dest_epoch epoch
+
+-- what every world keeps
+pub record IsSoundWorld (world : World) : Type 0 where
+  pub memory : HoldsMemory world.destination.guest.space.host (space_of world.source).host (settled world.destination) world.destination.has_run world.transcript
+  pub spaces : AreSoundSpaces (space_of world.source) world.destination.guest.space
+  pub phases : AreSoundPhases world.source.phase world.source.switched world.destination.phase world.destination.has_run world.destination.ended (space_of world.source).object.events
+  pub precopy : IsSoundLog world.source.phase world.source.switched (space_of world.source) world.source.log.clean world.source.log.todo world.source.log.sent
+  pub pushing : IsSoundPushing world.source.phase world.source.switched world.up world.source.epoch world.source.end_epoch (space_of world.source) world.source.remaining
+  pub copies : AreSoundCopies world.destination.phase world.destination.has_run world.destination.kept world.forward
+  pub owing : IsSoundOwing (space_of world.source).host.bytes world.destination.guest.space world.destination.has_run world.destination.ended world.destination.owed world.destination.arrivals
+  pub flight : IsSoundFlight world.source world.destination world.forward world.back world.up
+  pub epochs : AreSoundEpochs world.source.epoch world.destination.phase world.destination.epoch world.forward world.back world.up

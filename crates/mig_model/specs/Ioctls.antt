@@ -1,7 +1,7 @@
 -- The calls of a userfault object as a table: what each answers, and the space afterwards. ioctl_userfaultfd(2) and
 -- userfaultfd(2). This project's own: the order where several errors apply; what counts as one area, and what a call that stops part
 -- way answers; EAGAIN while an event is unread (the kernel's mmap_changing); and the mode of a page that is registered again.
-use Rattle.std.specs.Prelude.{ℕ, zero, suc, ◌+◌, ◌*◌, ◌/◌, ◌%◌, ◌==◌, ◌&&◌, ◌||◌, not, nat_lt, Bool, true, false, if◌then◌else◌, Option, Some, None, Result, Ok, Err, is_some, unwrap_or, List, [], ◌∷◌, length, take, drop}
+use Rattle.std.specs.Prelude.{ℕ, zero, suc, ◌+◌, ◌*◌, ◌/◌, ◌%◌, ◌==◌, ◌&&◌, ◌||◌, not, nat_lt, Bool, false, if◌then◌else◌, Option, Some, None, Result, Ok, Err, is_some, unwrap_or, List, [], ◌∷◌, length, take, drop}
 use Rattle.std.specs.Ordering.{nat_cmp}
 use Rattle.std.specs.FinMap.{FinMap, get, insert, contains_key}
 use Rattle.std.specs.FinSet.{contains}
@@ -16,6 +16,7 @@ use Rattle.mig_base.specs.Bits.{is_one}
 use Rattle.mig_base.specs.Bytes.{zero_page}
 use Rattle.mig_base.specs.Ranges.{in_range, least_below, none_below}
 use Rattle.mig_base.specs.Sets.{without, pages_where}
+use Rattle.mig_base.specs.Tests.{same_bool, is_every, first_holding}
 use Rattle.mig_model.specs.Userfault.{Object, Mode, enabled_with, has_modes, is_registered, registered_where, unregistered, next_message, message_read, changing}
 use Rattle.mig_model.specs.Space.{Space}
 
@@ -24,15 +25,6 @@ abbrev pub same_prot : Option Prot → Option Prot → Bool
 same_prot (Some prot) (Some other) = prot_number prot == prot_number other
 same_prot (Some prot) None = false
 same_prot None other = false
-
-abbrev pub same_bool : Bool → Bool → Bool
-same_bool true other = other
-same_bool false other = not other
-
--- the first error whose test holds
-abbrev pub first_error : List (Bool × Errno) → Option Errno
-first_error [] = None
-first_error (error ∷ errors) = if error.0 then Some error.1 else first_error errors
 
 -- what is answered: the error, if there is one
 abbrev pub answered_by : {A : Type 0} → Option Errno → A → Result A Errno
@@ -76,10 +68,6 @@ mode_of bits = record { missing = is_one bits 0; protect = is_one bits 1 }
 abbrev pub is_bad_range : ℕ → ℕ → Bool
 is_bad_range start len = not (start % PAGE_SIZE == 0) || not (len % PAGE_SIZE == 0) || len == 0 || nat_lt start LOW || nat_lt HIGH (start + len)
 
--- whether each page of a range passes a test
-abbrev pub is_every : (ℕ → Bool) → ℕ → ℕ → Bool
-is_every test first count = none_below (λ i. not (test (first + i))) count
-
 -- whether no page of it is mapped
 abbrev pub is_bare : Space → ℕ → ℕ → Bool
 is_bare space first count = none_below (λ i. contains_key space.host.areas (first + i)) count
@@ -88,7 +76,7 @@ is_bare space first count = none_below (λ i. contains_key space.host.areas (fir
 
 -- the errors of a handshake: another API, a feature that is not there, or a handshake made before
 abbrev pub handshake_error : Space → ℕ → ℕ → Option Errno
-handshake_error space api features = first_error ((not (api == 170), Einval) ∷ (has_unknown is_feature features, Einval) ∷ (space.object.enabled, Einval) ∷ [])
+handshake_error space api features = first_holding ((not (api == 170), Einval) ∷ (has_unknown is_feature features, Einval) ∷ (space.object.enabled, Einval) ∷ [])
 
 abbrev pub handshake_answer : Space → ℕ → ℕ → Result ℕ Errno
 handshake_answer space api features = answered_by (handshake_error space api features) all_features
@@ -104,7 +92,7 @@ is_bad_mode bits = bits == 0 || nat_lt 3 bits
 
 abbrev pub register_error : Space → ℕ → ℕ → ℕ → Option Errno
 register_error space start len bits =
-    first_error
+    first_holding
     ((not space.object.enabled, Einval) ∷ (not (has_events space.object), Einval) ∷ (is_bad_mode bits, Einval) ∷ (is_bad_range start len, Einval)
     ∷ (is_bare space (start / PAGE_SIZE) (len / PAGE_SIZE), Einval) ∷ [])
 
@@ -127,7 +115,7 @@ registered space start len bits = left_by (register_error space start len bits) 
 
 abbrev pub unregister_error : Space → ℕ → ℕ → Option Errno
 unregister_error space start len =
-    first_error ((not space.object.enabled, Einval) ∷ (is_bad_range start len, Einval) ∷ (is_bare space (start / PAGE_SIZE) (len / PAGE_SIZE), Einval) ∷ [])
+    first_holding ((not space.object.enabled, Einval) ∷ (is_bad_range start len, Einval) ∷ (is_bare space (start / PAGE_SIZE) (len / PAGE_SIZE), Einval) ∷ [])
 
 abbrev pub unregister_answer : Space → ℕ → ℕ → Result Wake Errno
 unregister_answer space start len = answered_by (unregister_error space start len) (Range start len)
@@ -141,7 +129,7 @@ range_unregistered space start len = left_by (unregister_error space start len) 
 -- UFFDIO_WAKE
 
 abbrev pub wake_answer : Space → ℕ → ℕ → Result Wake Errno
-wake_answer space start len = answered_by (first_error ((not space.object.enabled, Einval) ∷ (is_bad_range start len, Einval) ∷ [])) (Range start len)
+wake_answer space start len = answered_by (first_holding ((not space.object.enabled, Einval) ∷ (is_bad_range start len, Einval) ∷ [])) (Range start len)
 
 -- UFFDIO_COPY and UFFDIO_ZEROPAGE
 
@@ -165,7 +153,7 @@ copy_errors space start len bits =
     ∷ (is_one bits 1 && not (contains space.object.protect (start / PAGE_SIZE)), Einval) ∷ []
 
 abbrev pub copy_error : Space → ℕ → ℕ → ℕ → Option Errno
-copy_error space start len bits = first_error (copy_errors space start len bits)
+copy_error space start len bits = first_holding (copy_errors space start len bits)
 
 abbrev pub zeropage_errors : Space → ℕ → ℕ → ℕ → List (Bool × Errno)
 zeropage_errors space start len bits =
@@ -173,7 +161,7 @@ zeropage_errors space start len bits =
     ∷ (not (is_one_area space (start / PAGE_SIZE) (len / PAGE_SIZE)), Enoent) ∷ []
 
 abbrev pub zeropage_error : Space → ℕ → ℕ → ℕ → Option Errno
-zeropage_error space start len bits = first_error (zeropage_errors space start len bits)
+zeropage_error space start len bits = first_holding (zeropage_errors space start len bits)
 
 -- how many pages of the range come before the first that is present
 abbrev pub missing_run : Space → ℕ → ℕ → ℕ
@@ -253,7 +241,7 @@ writeprotect_errors space start len bits =
     ∷ (not (is_every (λ page. contains space.object.protect page) (start / PAGE_SIZE) (len / PAGE_SIZE)), Enoent) ∷ []
 
 abbrev pub writeprotect_error : Space → ℕ → ℕ → ℕ → Option Errno
-writeprotect_error space start len bits = first_error (writeprotect_errors space start len bits)
+writeprotect_error space start len bits = first_holding (writeprotect_errors space start len bits)
 
 abbrev pub writeprotect_answer : Space → ℕ → ℕ → ℕ → Result Wake Errno
 writeprotect_answer space start len bits = answered_by (writeprotect_error space start len bits) (if bits == 0 then Range start len else Nobody)
@@ -271,7 +259,7 @@ write_protected space start len bits = left_by (writeprotect_error space start l
 -- read(2) of the object
 
 abbrev pub read_error : Space → Option Errno
-read_error space = first_error ((not space.object.enabled, Einval) ∷ (not (is_some (next_message space.object)), Eagain) ∷ [])
+read_error space = first_holding ((not space.object.enabled, Einval) ∷ (not (is_some (next_message space.object)), Eagain) ∷ [])
 
 abbrev pub read_space : Space → Space
 read_space space = left_by (read_error space) space (record space { object = message_read space.object })

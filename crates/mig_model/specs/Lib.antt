@@ -5,9 +5,13 @@ pub mod World
 pub mod Userfault
 pub mod Space
 pub mod Ioctls
+pub mod Cpus
 pub mod Guest
 pub mod Wire
-pub mod Nodes
+pub mod Log
+pub mod Owed
+pub mod Source
+pub mod Destination
 pub mod Migration
 pub mod Invariant
 pub mod Parts

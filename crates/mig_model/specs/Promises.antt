@@ -17,14 +17,17 @@ use Rattle.mig_base.specs.Ranges.{in_range, pages_of}
 use Rattle.mig_base.specs.Bytes.{zero_page}
 use Rattle.mig_base.specs.Flat.{memory_of}
 use Rattle.mig_model.specs.Host.{memory}
-use Rattle.mig_model.specs.World.{is_access}
+use Rattle.mig_base.specs.Commands.{is_access}
 use Rattle.mig_model.specs.Space.{Space, fresh_space}
-use Rattle.mig_model.specs.Guest.{is_present, outstanding, processor_at}
-use Rattle.mig_model.specs.Wire.{Frame, Sent}
+use Rattle.mig_model.specs.Wire.{Frame, Sent, sending}
 use Rattle.mig_model.specs.Wire.Frame.{Advise, Page, Zero, Discard, Package, End, Resume, Request, Recv, Done}
-use Rattle.mig_model.specs.Nodes.{Source, Destination, no_pages, space_of, settled, is_released, is_stopped, is_source_paused}
 use Rattle.mig_model.specs.Migration.{World, first_world_with, after_steps}
 use Rattle.mig_model.specs.Invariant.{copies_of, has_copy, AreFaithful}
+use Rattle.mig_model.specs.Cpus.{outstanding, processor_at}
+use Rattle.mig_model.specs.Guest.{is_present}
+use Rattle.mig_model.specs.Log.{no_pages}
+use Rattle.mig_model.specs.Source.{Source, is_released, is_source_paused, is_stopped, source_answers, source_took, space_of}
+use Rattle.mig_model.specs.Destination.{Destination, destination_answers, destination_took, settled}
 
 -- a world that some list of steps leads to, from a first world with some counts
 pub record IsReached (world : World) : Type 0 where
@@ -116,7 +119,7 @@ IsGood node (Package areas owed commands) =
     ((page : ℕ) → contains owed page ≡ true → contains_key node.kept page ≡ false)
     × ((page : ℕ) → contains owed page ≡ true → contains_key areas page ≡ true)
     × ((page : ℕ) → contains_key node.kept page ≡ true → contains_key areas page ≡ true)
-    × (length commands ≡ length node.guest.processors)
+    × (length commands ≡ length node.guest.cpus)
 IsGood node End = node.arrivals ≡ [] → node.owed ≡ finmap.empty
 IsGood node frame = Unit {0}
 
@@ -130,7 +133,7 @@ pub record IsTaken (node : Destination) (sent : Sent) : Type 0 where
 -- pages it has. Only a destination that runs lists pages, and one runs or has ended only after the switch
 abbrev pub IsInPlaceBack : Source → Frame → Type 0
 IsInPlaceBack node (Request page) = is_stopped node.phase ≡ true
-IsInPlaceBack node Done = (is_stopped node.phase ≡ true) × (node.ended ≡ node.epoch)
+IsInPlaceBack node Done = (is_stopped node.phase ≡ true) × (node.end_epoch ≡ node.epoch)
 IsInPlaceBack node (Recv state owed) =
     (is_source_paused node.phase ≡ true) × ((page : ℕ) → contains owed page ≡ true → is_present (space_of node) page ≡ true)
     × (state ≢ Received.Running → owed ≡ no_pages)
@@ -158,10 +161,9 @@ owed_changed owed (DontNeed addr len) Done = gone owed (addr / PAGE_SIZE) (pages
 owed_changed owed (DontNeed addr len) (Refused Enomem) = gone owed (addr / PAGE_SIZE) (pages_of len)
 owed_changed owed _ _ = owed
 
--- the steps that are neither a map call, an install, nor a Retry, whose command is told apart
+-- the steps that are neither a map call nor an install
 abbrev pub leaves_settled : Step → Bool
 leaves_settled (Step.Issue cpu command) = is_access command
-leaves_settled (Step.Retry cpu) = false
 leaves_settled Step.Install = false
 leaves_settled step = true
 
@@ -178,8 +180,58 @@ AllAccess processors = (k : ℕ) (command : Command) → outstanding (processor_
 
 -- so on both nodes: only a load or a store waits
 pub record AreAccesses (world : World) : Type 0 where
-  pub source : AllAccess world.source.guest.processors
-  pub destination : AllAccess world.destination.guest.processors
+  pub source : AllAccess world.source.guest.cpus
+  pub destination : AllAccess world.destination.guest.cpus
+
+-- Deliveries
+
+-- a Deliver has taken exactly the first frame of the wire. What it leaves of the destination, and the frames that this answers, are a
+-- function of the destination as it was and of the frame with its epoch
+pub record IsDelivered (old new : World) (sent : Sent) (rest : List Sent) : Type 0 where
+  pub destination : new.destination ≡ destination_took old.destination sent.epoch sent.frame
+  pub forward : new.forward ≡ rest
+  pub back : new.back ≡ sending old.back new.destination.epoch (destination_answers old.destination sent.frame)
+
+-- the same of the wire back and the source
+pub record IsDeliveredBack (old new : World) (sent : Sent) (rest : List Sent) : Type 0 where
+  pub source : new.source ≡ source_took old.source sent.frame
+  pub back : new.back ≡ rest
+  pub forward : new.forward ≡ sending old.forward new.source.epoch (source_answers old.source sent.frame)
+
+-- the steps that take from the wire to the destination, and those that take from the wire back
+abbrev pub takes_forward : Step → Bool
+takes_forward Step.Deliver = true
+takes_forward Step.Break = true
+takes_forward step = false
+
+abbrev pub takes_back : Step → Bool
+takes_back Step.DeliverBack = true
+takes_back Step.Break = true
+takes_back step = false
+
+abbrev pub is_break : Step → Bool
+is_break Step.Break = true
+is_break step = false
+
+abbrev pub is_recv : Frame → Bool
+is_recv (Recv state owed) = true
+is_recv frame = false
+
+-- Completion
+
+-- the frames by which the source knows that the destination has everything
+abbrev pub is_last : Frame → Bool
+is_last Done = true
+is_last (Recv Received.Ended owed) = true
+is_last frame = false
+
+-- a step that takes such a frame
+pub record Completes (world : World) (step : Step) : Type 0 where
+  pub step_is : step ≡ Step.DeliverBack
+  pub sent : Sent
+  pub rest : List Sent
+  pub first : world.back ≡ sent ∷ rest
+  pub last : is_last sent.frame ≡ true
 
 -- Completion can be reached
 

@@ -6,18 +6,19 @@ use Rattle.std.specs.FinSet.{FinSet, empty, contains}
 use Rattle.mig_base.specs.declared.TheConstants.{PAGE_SIZE, HIGH}
 use Rattle.mig_base.specs.declared.command.Errno.TheVariants.{Enomem}
 use Rattle.mig_base.specs.declared.command.Command.{Command}
-use Rattle.mig_base.specs.declared.command.Command.TheVariants.{Load, Store, Mmap, Munmap, Mremap, DontNeed}
+use Rattle.mig_base.specs.declared.command.Command.TheVariants.{Mmap, Munmap, Mremap, DontNeed}
 use Rattle.mig_base.specs.declared.command.Reply.{Reply}
 use Rattle.mig_base.specs.declared.command.Reply.TheVariants.{Value, Done, At, Refused}
 use Rattle.mig_base.specs.declared.command.Access.{Access}
 use Rattle.mig_base.specs.declared.command.Access.TheVariants.{Answered, Missing, Protected}
 use Rattle.mig_base.specs.declared.message.Message.{Message}
 use Rattle.mig_base.specs.declared.message.Message.TheVariants.{Remap, Remove, Unmap}
-use Rattle.mig_base.specs.Ranges.{none_below, lesser, pages_of, rounded}
+use Rattle.mig_base.specs.Commands.{is_store, page_of}
+use Rattle.mig_base.specs.Ranges.{lesser, pages_of, rounded}
 use Rattle.mig_base.specs.Sets.{without, moved_set}
 use Rattle.mig_base.specs.Flat.{reply_of}
 use Rattle.mig_model.specs.Host.{Host, bare_host, memory, host_after, IsSound}
-use Rattle.mig_model.specs.Userfault.{Object, fresh_object, mode_at, is_registered, unregistered, moved_modes, fault_queued, event_queued}
+use Rattle.mig_model.specs.Userfault.{Object, fresh_object, mode_at, is_registered, is_watched, unregistered, moved_modes, fault_queued, event_queued}
 
 -- a host, its present pages that are write-protected, and its userfault object
 pub record Space : Type 0 where
@@ -39,16 +40,6 @@ pub record IsSoundSpace (space : Space) : Type 0 where
   pub watched : (page : ℕ) → contains space.protected page ≡ true → contains space.object.protect page ≡ true
 
 -- Loads and stores
-
--- the page of an access, and whether it is a store
-abbrev pub page_of : Command → ℕ
-page_of (Load addr width) = addr / PAGE_SIZE
-page_of (Store addr width value) = addr / PAGE_SIZE
-page_of _ = 0
-
-abbrev pub is_store : Command → Bool
-is_store (Store addr width value) = true
-is_store _ = false
 
 -- whether the flat memory would make the access
 abbrev pub is_made : Reply → Bool
@@ -75,10 +66,6 @@ abbrev pub accessed : Space → ℕ → Command → Space
 accessed space cpu command = accessed_by (access_of space command) space cpu command
 
 -- Map calls
-
--- whether a page of the range is registered
-abbrev pub is_watched : Object → ℕ → ℕ → Bool
-is_watched object first count = not (none_below (λ i. is_registered object (first + i)) count)
 
 -- a message, if there is reason for it
 abbrev pub told : Bool → Message → List Message

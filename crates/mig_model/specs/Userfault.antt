@@ -1,10 +1,11 @@
 -- A userfault object: which pages it watches, and the messages that wait to be read. userfaultfd(2), API 0xAA, the missing and
 -- the write-protect mode.
-use Rattle.std.specs.Prelude.{ℕ, ◌==◌, ◌&&◌, ◌||◌, not, Bool, true, false, if◌then◌else◌, Option, Some, None, List, [], ◌∷◌, ◌++◌, length}
+use Rattle.std.specs.Prelude.{ℕ, ◌+◌, ◌==◌, ◌&&◌, ◌||◌, not, Bool, true, false, if◌then◌else◌, Option, Some, None, List, [], ◌∷◌, ◌++◌, length}
 use Rattle.std.specs.Ordering.{nat_cmp}
 use Rattle.std.specs.FinSet.{FinSet, empty, contains}
 use Rattle.mig_base.specs.declared.message.Message.{Message}
 use Rattle.mig_base.specs.declared.message.Message.TheVariants.{PageFault, Remap, Remove, Unmap}
+use Rattle.mig_base.specs.Ranges.{none_below}
 use Rattle.mig_base.specs.Sets.{without, pages_where, moved_set}
 
 -- a message that waits, and the processor that caused it
@@ -48,6 +49,10 @@ mode_at object page = record { missing = contains object.missing page; protect =
 -- whether a page is registered in any mode
 abbrev pub is_registered : Object → ℕ → Bool
 is_registered object page = contains object.missing page || contains object.protect page
+
+-- whether a page of a range is registered
+abbrev pub is_watched : Object → ℕ → ℕ → Bool
+is_watched object first count = not (none_below (λ i. is_registered object (first + i)) count)
 
 -- whether a page has all modes asked for
 abbrev pub has_modes : Object → ℕ → Mode → Bool

@@ -39,8 +39,11 @@ pub record Sent : Type 0 where
   pub frame : Frame
 
 -- the frame of a page that is sent: bytes that are all zeros are not sent one by one
+abbrev pub is_zeros : List ℕ → Bool
+is_zeros bytes = list_all (λ byte. byte == 0) bytes
+
 abbrev pub page_frame : ℕ → List ℕ → Frame
-page_frame page bytes = if list_all (λ byte. byte == 0) bytes then Zero page else Page page bytes
+page_frame page bytes = if is_zeros bytes then Zero page else Page page bytes
 
 -- a copy of a page
 pub record Copy : Type 0 where

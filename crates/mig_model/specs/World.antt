@@ -1,10 +1,9 @@
 -- The machine: what each step of a world answers, and the world after it.
-use Rattle.std.specs.Prelude.{◌≡◌, ℕ, ◌+◌, ◌-◌, ◌^◌, ◌==◌, ◌&&◌, ◌||◌, not, nat_lt, Bool, true, false, if◌then◌else◌, Option, Some, None, Result, Ok, Err, IsOk, List, [], ◌∷◌, ◌++◌, ◌⊎◌}
+use Rattle.std.specs.Prelude.{◌≡◌, ℕ, ◌+◌, ◌-◌, ◌^◌, ◌==◌, ◌&&◌, ◌||◌, not, nat_lt, Bool, true, false, Option, Some, None, Result, Ok, Err, IsOk, List, [], ◌∷◌, ◌++◌, ◌⊎◌}
 use Rattle.std.specs.FinSet as finset
 use Rattle.std.specs.FinMap as finmap
 use Rattle.mig_base.specs.declared.TheConstants.{HIGH_PAGE}
 use Rattle.mig_base.specs.declared.command.Command.{Command}
-use Rattle.mig_base.specs.declared.command.Command.TheVariants.{Load, Store, Mmap, Munmap, Mremap, DontNeed}
 use Rattle.mig_base.specs.declared.command.Entry.{Entry}
 use Rattle.mig_base.specs.declared.step.Step.{Step}
 use Rattle.mig_base.specs.declared.step.Step.TheVariants as step
@@ -17,6 +16,8 @@ use Rattle.mig_base.specs.declared.step.DestinationPhase.TheVariants as destinat
 use Rattle.mig_base.specs.declared.step.WorldPhase.{WorldPhase}
 use Rattle.mig_base.specs.declared.step.WorldPhase.TheVariants as world_phase
 use Rattle.mig_base.specs.declared.step.SourcePhase.{SourcePhase}
+use Rattle.mig_base.specs.Commands.{is_access}
+use Rattle.mig_base.specs.Tests.{is_empty, first_holding}
 use Rattle.mig_base.specs.Flat.{reply_of}
 use Rattle.mig_model.specs.Host.{Host, bare_host, memory, host_after}
 use Rattle.mig_model.specs.Frame.{Frame, Sent, page_frames, sent_in}
@@ -60,39 +61,20 @@ running_host false from to = from.host
 abbrev pub active_host : World → Host
 active_host world = running_host (has_run world.destination.phase) world.source world.destination
 
--- whether a command is a load or a store
-abbrev pub is_access : Command → Bool
-is_access (Load addr width) = true
-is_access (Store addr width value) = true
-is_access (Mmap len prot place) = false
-is_access (Munmap addr len) = false
-is_access (Mremap addr old_len new_len may_move fixed) = false
-is_access (DontNeed addr len) = false
-
 -- whether a host may take the command now: while none runs processors there is none, and a destination takes no map call yet
 abbrev pub may_issue : World → Command → Bool
 may_issue world command = not (has_switched world.source.phase) || (has_run world.destination.phase && is_access command)
 
 -- Refusals, in their order; want of memory comes after them
 
--- whether a wire is empty
-abbrev pub is_empty : List Sent → Bool
-is_empty [] = true
-is_empty (sent ∷ rest) = false
-
--- the first refusal whose test holds
-abbrev pub first_of : List (Bool × Refusal) → Option Refusal
-first_of [] = None
-first_of (refusal ∷ refusals) = if refusal.0 then Some refusal.1 else first_of refusals
-
 -- why a step is refused, if it is
 abbrev pub refusal_of : World → Step → Option Refusal
-refusal_of world (step.Issue cpu command) = first_of ((not (nat_lt cpu world.cpus), NoCpu) ∷ (not (may_issue world command), Phase) ∷ [])
-refusal_of world step.Start = first_of ((not (is_idle world.source.phase), Phase) ∷ (world.source.epoch == 2 ^ 32 - 1, CountUsed) ∷ [])
-refusal_of world step.Switch = first_of ((not (is_precopy world.source.phase), Phase) ∷ [])
-refusal_of world step.Deliver = first_of ((is_idle world.source.phase, Phase) ∷ (is_empty world.forward, NothingThere) ∷ [])
-refusal_of world step.DeliverBack = first_of ((is_idle world.source.phase, Phase) ∷ (is_empty world.back, NothingThere) ∷ [])
-refusal_of world step.End = first_of ((not (is_stopped world.source.phase) || world.source.end_sent, Phase) ∷ [])
+refusal_of world (step.Issue cpu command) = first_holding ((not (nat_lt cpu world.cpus), NoCpu) ∷ (not (may_issue world command), Phase) ∷ [])
+refusal_of world step.Start = first_holding ((not (is_idle world.source.phase), Phase) ∷ (world.source.epoch == 2 ^ 32 - 1, CountUsed) ∷ [])
+refusal_of world step.Switch = first_holding ((not (is_precopy world.source.phase), Phase) ∷ [])
+refusal_of world step.Deliver = first_holding ((is_idle world.source.phase, Phase) ∷ (is_empty world.forward, NothingThere) ∷ [])
+refusal_of world step.DeliverBack = first_holding ((is_idle world.source.phase, Phase) ∷ (is_empty world.back, NothingThere) ∷ [])
+refusal_of world step.End = first_holding ((not (is_stopped world.source.phase) || world.source.end_sent, Phase) ∷ [])
 
 -- What an accepted step does
 

@@ -10,7 +10,8 @@ ghost use Rattle.mig_base.specs.Flat.{IsFlatRun, memory_of, reply_of, after};
 ghost use Rattle.mig_model.specs.Host.{Host, bare_host, memory, host_after, IsSound};
 ghost use Rattle.mig_model.specs.Frame.{Sent};
 ghost use Rattle.mig_model.specs.Node.{IsTaken, is_in_place_back, destination_took};
-ghost use Rattle.mig_model.specs.World.{World, first_world_with, is_access, active_host, after_steps, next, phase_of};
+ghost use Rattle.mig_model.specs.World.{World, first_world_with, active_host, after_steps, next, phase_of};
+ghost use Rattle.mig_base.specs.Commands.{is_access};
 ghost use Rattle.mig_model.specs.Space.{Space, fresh_space, IsSoundSpace, access_of, accessed, called};
 ghost use Rattle.mig_model.specs.Ioctls.{handshaken, registered, range_unregistered, copied, zeropaged, write_protected, read_space};
 

@@ -2,23 +2,27 @@
 //! and resumptions, in any order, those that are refused among them. Each law is a function with an empty body, whose contract is
 //! the law.
 
-ghost use Rattle.std.specs.Prelude.{◌≡◌, ℕ, ◌/◌, ◌∷◌, ◌++◌, ◌==◌, ◌&&◌, not, true, false, if◌then◌else◌, None, Some, Ok, List};
+ghost use Rattle.std.specs.Prelude.{◌≡◌, ◌≢◌, ℕ, ◌*◌, ◌/◌, [], ◌∷◌, ◌++◌, ◌==◌, ◌&&◌, not, true, false, if◌then◌else◌, Some, Ok, Err, IsOk, List};
+ghost use Rattle.std.specs.FinMap.{get};
 ghost use Rattle.std.specs.FinSet.{contains};
 ghost use Rattle.mig_base.specs.declared.effect.Effect.{Effect};
 ghost use Rattle.mig_base.specs.declared.phase.Received.{Received};
+ghost use Rattle.mig_base.specs.declared.refusal.Refusal.{Refusal};
 ghost use Rattle.mig_base.specs.declared.schedule.Step.{Step};
 ghost use Rattle.mig_base.specs.declared.schedule.Ticket.{Ticket};
 ghost use Rattle.mig_base.specs.declared.command.Command.{Command};
 ghost use Rattle.mig_base.specs.Flat.{IsFlatRun, memory_of, reply_of};
+ghost use Rattle.mig_base.specs.Commands.{is_access};
 ghost use Rattle.mig_model.specs.Host.{memory};
-ghost use Rattle.mig_model.specs.World.{is_access};
-ghost use Rattle.mig_model.specs.Guest.{outstanding, processor_at, processor_after, entries_of, took_by};
-ghost use Rattle.mig_model.specs.Wire.{Sent};
-ghost use Rattle.mig_model.specs.Nodes.{space_of, settled, is_precopy, is_stopped, is_source_paused, is_running};
-ghost use Rattle.mig_model.specs.Migration.{World, guest_of, refusal_of, command_tried, outcome, accepted, next, first_world, after_steps};
-ghost use Rattle.mig_model.specs.Invariant.{IsKept, IsPrecopying, IsSwitching, IsReceiving, current_host};
-ghost use Rattle.mig_model.specs.Parts.{ChangesParts};
-ghost use Rattle.mig_model.specs.Promises.{AreAccesses, IsReached, IsComplete, IsAlone, ArePaired, AreUnderWay, IsPut, IsZeroed, IsTaken, keeps_remaining, IsInPlaceBack, owed_changed, leaves_settled, is_retry_of, story};
+ghost use Rattle.mig_model.specs.Cpus.{outstanding, processor_at, processor_after, entries_of};
+ghost use Rattle.mig_model.specs.Guest.{took_by};
+ghost use Rattle.mig_model.specs.Source.{is_released, space_of, is_precopy, is_stopped, is_source_paused};
+ghost use Rattle.mig_model.specs.Destination.{settled, is_running};
+ghost use Rattle.mig_model.specs.Wire.{Sent, Copy};
+ghost use Rattle.mig_model.specs.Migration.{World, guest_of, outcome, next, first_world, after_steps};
+ghost use Rattle.mig_model.specs.Invariant.{IsSoundWorld, IsPrecopying, IsSwitching, IsReceiving, current_host};
+ghost use Rattle.mig_model.specs.Parts.{Grows, ChangesParts};
+ghost use Rattle.mig_model.specs.Promises.{AreAccesses, IsReached, IsComplete, IsAlone, ArePaired, AreUnderWay, IsPut, IsZeroed, IsTaken, keeps_remaining, IsInPlaceBack, owed_changed, leaves_settled, is_retry_of, IsDelivered, IsDeliveredBack, takes_forward, takes_back, is_break, is_recv, is_last, Completes, story};
 
 /// The commands in the transcript, made in turn on one flat memory, give the replies in it, and what the guest sees is that memory at
 /// the end. Before the destination runs it is the source's; from then on each page is the destination's own, or that of the source
@@ -28,10 +32,13 @@ pub fn every_schedule()
     ensures current { (world : World) → IsReached world → memory (current_host world) ≡ memory_of world.transcript }
 {}
 
-/// Completion: the destination's own pages are the flat memory, the source has none, and nothing is owed or waits. It lasts.
+/// Completion: the destination's own pages are the flat memory, the source has none, and nothing is owed or waits. It lasts. A
+/// migration completes exactly by the taking of Done, or of a Recv of a destination that has ended.
 pub fn completion()
     ensures alone { (world : World) → IsReached world → IsComplete world → IsAlone world }
-    ensures stays { (world : World) (steps : List Step) → IsReached world → IsComplete world → IsComplete (after_steps world steps) }
+    ensures stays { (world : World) (steps : List Step) → IsReached world → IsComplete world → IsComplete (after_steps world steps) × IsAlone (after_steps world steps) }
+    ensures taken { (world : World) (sent : Sent) (rest : List Sent) → IsOk (outcome world Step.DeliverBack) → world.back ≡ sent ∷ rest → is_last sent.frame ≡ true → IsComplete (next world Step.DeliverBack) }
+    ensures only { (world : World) (step : Step) → is_released world.source.phase ≡ false → IsComplete (next world step) → Completes world step }
 {}
 
 /// A migration can be completed: these steps lead there, with nothing to move. So the laws of completion are not about nothing.
@@ -71,15 +78,16 @@ pub fn owed_pages_are_under_way()
 
 /// Once the destination has run: what a map call does to the settled relation is what it does to the pages. Of a range that it
 /// unmaps, replaces or makes zeros the pairs are gone, and of one that it moves they stand at the new place. An install takes its own
-/// pair away. A copy that is given up, a load or store, tried for the first time or again, and every other step leave the relation.
+/// pair away. A copy that is given up, a load or store, tried for the first time or again, and every other step leave the relation;
+/// so does a step that is refused.
 pub fn the_settled_relation()
-    ensures call { (world : World) (cpu : ℕ) (command : Command) (page : ℕ) → IsReached world → world.destination.has_run ≡ true → is_access command ≡ false →
-        settled (accepted world (Step.Issue cpu command)).destination page ≡ owed_changed (settled world.destination) command (reply_of (memory world.destination.guest.space.host) command) page }
+    ensures call { (world : World) (cpu : ℕ) (command : Command) (page : ℕ) → IsReached world → world.destination.has_run ≡ true → is_access command ≡ false → IsOk (outcome world (Step.Issue cpu command)) →
+        settled (next world (Step.Issue cpu command)).destination page ≡ owed_changed (settled world.destination) command (reply_of (memory world.destination.guest.space.host) command) page }
     ensures install { (world : World) (addr source page : ℕ) → outcome world Step.Install ≡ Ok (Effect.Installed addr source) →
         settled (next world Step.Install).destination page ≡ (if page == addr / 4096 then None else settled world.destination page) }
     ensures dropped { (world : World) (source page : ℕ) → outcome world Step.Install ≡ Ok (Effect.Dropped source) → settled (next world Step.Install).destination page ≡ settled world.destination page }
     ensures access { (world : World) (cpu : ℕ) (command : Command) (page : ℕ) → world.destination.has_run ≡ true → is_access command ≡ true →
-        settled (command_tried world cpu command).destination page ≡ settled world.destination page }
+        settled (next world (Step.Issue cpu command)).destination page ≡ settled world.destination page }
     ensures others { (world : World) (step : Step) (page : ℕ) → IsReached world → world.destination.has_run ≡ true → leaves_settled step ≡ true →
         settled (next world step).destination page ≡ settled world.destination page }
 {}
@@ -105,9 +113,9 @@ pub fn no_frame_is_refused()
 /// did not.
 pub fn a_waiting_command()
     ensures kept { (world : World) (step : Step) (cpu : ℕ) (command : Command) → IsReached world → is_retry_of step cpu ≡ false →
-        outstanding (processor_at (guest_of world).processors cpu) ≡ Some command → outstanding (processor_at (guest_of (next world step)).processors cpu) ≡ Some command }
-    ensures retry { (world : World) (cpu : ℕ) (command : Command) → refusal_of world (Step.Retry cpu) ≡ None → outstanding (processor_at (guest_of world).processors cpu) ≡ Some command →
-        processor_at (guest_of (next world (Step.Retry cpu))).processors cpu ≡ processor_after command (took_by (is_access command) (guest_of world).space command) }
+        outstanding (processor_at (guest_of world).cpus cpu) ≡ Some command → outstanding (processor_at (guest_of (next world step)).cpus cpu) ≡ Some command }
+    ensures retry { (world : World) (cpu : ℕ) (command : Command) → IsOk (outcome world (Step.Retry cpu)) → outstanding (processor_at (guest_of world).cpus cpu) ≡ Some command →
+        processor_at (guest_of (next world (Step.Retry cpu))).cpus cpu ≡ processor_after command (took_by (is_access command) (guest_of world).space command) }
 {}
 
 /// A command that waits is a load or a store, on either node: a map call waits only for its messages to be read, and has taken effect.
@@ -118,25 +126,55 @@ pub fn waiting_commands_are_accesses()
 /// A command that takes effect is entered with its processor and its reply, at its first try or at a Retry; one that sleeps is not. That
 /// no other step enters anything is among the parts that a step may change.
 pub fn what_is_entered()
-    ensures issue { (world : World) (cpu : ℕ) (command : Command) → refusal_of world (Step.Issue cpu command) ≡ None →
+    ensures issue { (world : World) (cpu : ℕ) (command : Command) → IsOk (outcome world (Step.Issue cpu command)) →
         (next world (Step.Issue cpu command)).transcript ≡ world.transcript ++ entries_of cpu command (took_by (is_access command) (guest_of world).space command) }
-    ensures retry { (world : World) (cpu : ℕ) (command : Command) → refusal_of world (Step.Retry cpu) ≡ None → outstanding (processor_at (guest_of world).processors cpu) ≡ Some command →
+    ensures retry { (world : World) (cpu : ℕ) (command : Command) → IsOk (outcome world (Step.Retry cpu)) → outstanding (processor_at (guest_of world).cpus cpu) ≡ Some command →
         (next world (Step.Retry cpu)).transcript ≡ world.transcript ++ entries_of cpu command (took_by (is_access command) (guest_of world).space command) }
 {}
 
-/// A page that is pushed remains no longer, and no page comes to remain but by Switch and by a frame that the source takes.
+/// A page that is pushed remains no longer, and no page comes to remain but by Switch and by the taking of a Recv.
 pub fn pages_that_remain()
-    ensures push { (world : World) (ticket : Ticket) (q : ℕ) → refusal_of world (Step.Push ticket) ≡ None →
+    ensures push { (world : World) (ticket : Ticket) (q : ℕ) → IsOk (outcome world (Step.Push ticket)) →
         contains (next world (Step.Push ticket)).source.remaining q ≡ (not (q == ticket.page) && contains world.source.remaining q) }
     ensures shrinks { (world : World) (step : Step) (q : ℕ) → keeps_remaining step ≡ true → contains (next world step).source.remaining q ≡ true → contains world.source.remaining q ≡ true }
+    ensures back { (world : World) (sent : Sent) (rest : List Sent) (q : ℕ) → world.back ≡ sent ∷ rest → is_recv sent.frame ≡ false →
+        contains (next world Step.DeliverBack).source.remaining q ≡ true → contains world.source.remaining q ≡ true }
 {}
 
-/// Each step changes only its own parts. No step of the source puts anything at the destination but by the wire.
+/// A delivery takes exactly the first frame of its wire. What it leaves of the node that takes it, and the frames that this node
+/// answers, are a function of the node as it was and of the frame with its epoch: nothing passes between the nodes but by the wires.
+pub fn a_delivery_is_a_function()
+    ensures forward { (world : World) (sent : Sent) (rest : List Sent) → IsOk (outcome world Step.Deliver) → world.forward ≡ sent ∷ rest → IsDelivered world (next world Step.Deliver) sent rest }
+    ensures back { (world : World) (sent : Sent) (rest : List Sent) → IsOk (outcome world Step.DeliverBack) → world.back ≡ sent ∷ rest → IsDeliveredBack world (next world Step.DeliverBack) sent rest }
+{}
+
+/// The wires keep the order of their frames, and lose them only by Break: every step but a delivery and Break only puts frames at the
+/// end of a wire. Break empties both wires and takes the link down, and no other step takes it down.
+pub fn the_wires()
+    ensures forward { (world : World) (step : Step) → takes_forward step ≡ false → Grows world.forward (next world step).forward }
+    ensures back { (world : World) (step : Step) → takes_back step ≡ false → Grows world.back (next world step).back }
+    ensures broken { (world : World) → IsOk (outcome world Step.Break) → ((next world Step.Break).forward ≡ []) × ((next world Step.Break).back ≡ []) × ((next world Step.Break).up ≡ false) }
+    ensures up { (world : World) (step : Step) → is_break step ≡ false → world.up ≡ true → (next world step).up ≡ true }
+{}
+
+/// An Install takes exactly the first copy that has arrived. It is installed where its page is owed now, and given up exactly where
+/// that page is owed nowhere.
+pub fn what_is_installed()
+    ensures first { (world : World) (copy : Copy) (rest : List Copy) → IsOk (outcome world Step.Install) → world.destination.arrivals ≡ copy ∷ rest → (next world Step.Install).destination.arrivals ≡ rest }
+    ensures owed { (world : World) (copy : Copy) (rest : List Copy) (page : ℕ) → IsReached world → IsOk (outcome world Step.Install) → world.destination.arrivals ≡ copy ∷ rest → get world.destination.owed page ≡ Some copy.page →
+        outcome world Step.Install ≡ Ok (Effect.Installed (4096 * page) (4096 * copy.page)) }
+    ensures given_up { (world : World) (copy : Copy) (rest : List Copy) → IsOk (outcome world Step.Install) → world.destination.arrivals ≡ copy ∷ rest → ((page : ℕ) → get world.destination.owed page ≢ Some copy.page) →
+        outcome world Step.Install ≡ Ok (Effect.Dropped (4096 * copy.page)) }
+{}
+
+/// Each step changes only its own parts. No step of the source puts anything at the destination but by the wire. A step that is
+/// refused changes nothing.
 pub fn each_step_changes_its_parts()
-    ensures { (world : World) (step : Step) → ChangesParts world step (next world step) }
+    ensures refused { (world : World) (step : Step) (refusal : Refusal) → outcome world step ≡ Err refusal → next world step ≡ world }
+    ensures parts { (world : World) (step : Step) → ChangesParts world step (next world step) }
 {}
 
 /// What every world keeps, clause by clause.
 pub fn the_invariant()
-    ensures { (world : World) → IsReached world → IsKept world }
+    ensures { (world : World) → IsReached world → IsSoundWorld world }
 {}

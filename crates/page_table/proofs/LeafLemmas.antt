@@ -1,5 +1,5 @@
 -- A table of 1024 pages: one page changed, a range made missing.
-use Rattle.std.proofs.Common.{◌≡◌, ◌≢◌, ℕ, ◌+◌, ◌<◌, ◌&&◌, ◌||◌, Bool, true, false, cond, not, eqb, refl, sym, ap, ◌∙◌, arith, List, length, get_or, set, get_or-set_same, get_or-set_other, None}
+use Rattle.std.proofs.Common.{◌≡◌, ◌≢◌, ℕ, ◌+◌, ◌<◌, ◌&&◌, ◌||◌, Bool, true, false, cond, not, eqb, refl, sym, ap, ◌∙◌, arith, List, length, get_or, set, get_or-set_same, get_or-set_other, Some, None, Option, ◌≤◌, length-append, length-take, length-drop, ◌*◌}
 use mathlib.Core.Logic.{dite}
 use native.Mathlib.Decide.{ℕ_discrete}
 use Rattle.std.specs.Ordering.{nat_cmp}
@@ -8,7 +8,11 @@ use Rattle.std.proofs.lemmas.Bool.Decides.{nat_tests}
 use Rattle.mig_base.specs.Ranges.{in_range}
 use Rattle.mig_base.specs.Sets.{without}
 use Rattle.mig_base.proofs.SetLemmas.{member_inserted, member_removed, member_without}
-use Rattle.page_table.specs.Bytes.{Page, bytes_of}
+use Rattle.mig_base.specs.declared.TheConstants.{PAGE_SIZE}
+use Rattle.std.specs.Option.{option_map}
+use Rattle.std.proofs.lemmas.Option.{same_Some}
+use Rattle.mig_base.specs.Bytes.{overwrite}
+use Rattle.page_table.specs.Bytes.{Page, bytes_of, IsWhole, AreWhole}
 use Rattle.page_table.specs.Leaves.{Cell, no_cell}
 
 pub eqb-true : (a b : ℕ) → a ≡ b → eqb a b ≡ true
@@ -81,3 +85,36 @@ bare_more old pages first count inside is = λ i.
     dite (ℕ_discrete i (first + count))
     (λ e. rw (grows_here first count i e) (ap (λ k. get_or (set pages (first + count) None) k None) e ∙ get_or-set_same pages (first + count) None None inside))
     (λ n. rw (grows_not first count i n) (get_or-set_other pages (first + count) i None None n ∙ is i))
+
+-- the present pages of a leaf, gathered one by one
+
+pub none_of_leaf : (q first : ℕ) (member there : Bool) → member ≡ (member || (in_range first 0 q && there))
+none_of_leaf q first member there = grind (arith, nat_tests)
+
+pub one_of_leaf : (q at i : ℕ) (member there : Bool) → (q ≡ at * 1024 + i → there ≡ true) → (eqb q (at * 1024 + i) || (member || (in_range (1024 * at) i q && there))) ≡ (member || (in_range (1024 * at) (i + 1) q && there))
+one_of_leaf q at i member there h = grind (arith, nat_tests)
+
+pub next_of_leaf : (q at i : ℕ) (member there : Bool) → (q ≡ at * 1024 + i → there ≡ false) → (member || (in_range (1024 * at) i q && there)) ≡ (member || (in_range (1024 * at) (i + 1) q && there))
+next_of_leaf q at i member there h = grind (arith, nat_tests)
+
+-- pages that have their bytes
+
+pub whole_set : (pages : List Page) (at : ℕ) (page : Page) → at < length pages → AreWhole pages → IsWhole page → AreWhole (set pages at page)
+whole_set pages at page inside whole sized i bytes h =
+    dite (ℕ_discrete i at)
+    (λ e. sized bytes (sym (ap bytes_of (ap (λ k. get_or (set pages at page) k None) e ∙ get_or-set_same pages at page None inside)) ∙ h))
+    (λ n. whole i bytes (sym (ap bytes_of (get_or-set_other pages at i page None n)) ∙ h))
+
+overwritten : (held bytes : List ℕ) (offset : ℕ) → length held ≡ PAGE_SIZE → offset + length bytes ≤ PAGE_SIZE → length (overwrite held offset bytes) ≡ PAGE_SIZE
+unfolding overwrite
+overwritten held bytes offset size inside = simp (length-append, length-take, length-drop) (omega arith)
+
+pub whole_written : (old new : List Page) (at offset : ℕ) (bytes : List ℕ) → offset + length bytes ≤ PAGE_SIZE → AreWhole old → bytes_of (get_or new at None) ≡ option_map (λ held. overwrite held offset bytes) (bytes_of (get_or old at None)) → ((j : ℕ) → j ≢ at → get_or new j None ≡ get_or old j None) → AreWhole new
+whole_written old new at offset bytes inside whole here others i written h =
+    dite (ℕ_discrete i at)
+    (λ e. held_written (bytes_of (get_or old at None)) (whole at) (sym here ∙ ap bytes_of (ap (λ k. get_or new k None) (sym e)) ∙ h))
+    (λ n. whole i written (sym (ap bytes_of (others i n)) ∙ h))
+  where
+    held_written : (o : Option (List ℕ)) → ((held : List ℕ) → o ≡ Some held → length held ≡ PAGE_SIZE) → option_map (λ held. overwrite held offset bytes) o ≡ Some written → length written ≡ PAGE_SIZE
+    held_written None size e = let absent : None ≡ Some written = e in cc
+    held_written (Some held) size e = sym (ap length (same_Some (overwrite held offset bytes) written e)) ∙ overwritten held bytes offset (size held refl) inside

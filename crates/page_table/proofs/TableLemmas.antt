@@ -1,5 +1,5 @@
 -- Tables of 1024 pages as one: one table changed, one page changed, a range cleared, a range moved.
-use Rattle.std.proofs.Common.{◌≡◌, ◌≢◌, ℕ, zero, suc, ◌+◌, ◌-◌, ◌*◌, ◌/◌, ◌%◌, ◌<◌, ◌≤◌, ◌&&◌, Bool, true, false, cond, eqb, ltb, refl, sym, ap, ◌∙◌, ◌⊎◌, ⊎_elim, inl, inr, arith, List, ◌∷◌, [], ◌++◌, length, min, get_or, set, get_or-set_same, get_or-set_other, None}
+use Rattle.std.proofs.Common.{◌≡◌, ◌≢◌, ℕ, zero, suc, ◌+◌, ◌-◌, ◌*◌, ◌/◌, ◌%◌, ◌<◌, ◌≤◌, ◌&&◌, Bool, true, false, cond, eqb, ltb, refl, sym, ap, ◌∙◌, ◌⊎◌, ⊎_elim, inl, inr, arith, List, ◌∷◌, [], ◌++◌, length, min, get_or, set, Some, get_or-set_same, get_or-set_other, None}
 use mathlib.Core.Logic.{dite}
 use native.Mathlib.Decide.{ℕ_discrete}
 use Rattle.std.proofs.Math.ListN.{get_or-eq_default}
@@ -7,6 +7,7 @@ use Rattle.std.proofs.lemmas.List.{get_or_append_left, get_or-append_right}
 use Rattle.std.proofs.lemmas.Option.{same_Some, slice_get-get_or}
 use Rattle.std.proofs.lemmas.Bool.Decides.{nat_tests}
 use Rattle.std.proofs.lemmas.Bool.{false≢true}
+use Rattle.mig_base.specs.declared.TheConstants.{PAGE_SIZE}
 use Rattle.mig_base.specs.Ranges.{in_range}
 use Rattle.mig_base.proofs.BitLemmas.{below_or_past}
 use Rattle.page_table.specs.Leaves.{Cell, Place, cell_in, cell_at, is_place, has_place, no_cell, moved_cell}
@@ -216,3 +217,12 @@ places_kept places at place inside h q t =
 pub same_table : (places : Places) (p q : ℕ) → q / 1024 ≡ p / 1024 → has_place places p ≡ true → has_place places q ≡ true
 unfolding has_place
 same_table places p q e h = ap (λ k. is_place (get_or places k None)) e ∙ h
+
+whole_in : (place : Place) (i : ℕ) (bytes : List ℕ) → (cell_in place i).0 ≡ Some bytes → length bytes ≡ PAGE_SIZE
+whole_in None i bytes h = let absent : None ≡ Some bytes = h in cc
+whole_in (Some leaf) i bytes h = let sized = leaf.value.sized in sized i bytes h
+
+-- a page that is present has its bytes
+pub whole_cell : (places : Places) (q : ℕ) (bytes : List ℕ) → (cell_at places q).0 ≡ Some bytes → length bytes ≡ PAGE_SIZE
+unfolding cell_at
+whole_cell places q bytes h = whole_in (get_or places (q / 1024) None) (q % 1024) bytes h

@@ -1,5 +1,5 @@
 -- What a table shows of its places.
-use Rattle.std.proofs.Common.{◌≡◌, ℕ, zero, suc, ◌+◌, ◌-◌, ◌/◌, ◌≤◌, ◌&&◌, ◌||◌, Bool, true, false, cond, not, eqb, ltb, refl, sym, ap, ◌∙◌, ⊎_elim, arith, List, length, [], Option, Some, None, is_some, unwrap_or}
+use Rattle.std.proofs.Common.{◌≡◌, ℕ, ◌+◌, ◌-◌, ◌/◌, ◌≤◌, ◌&&◌, ◌||◌, Bool, true, false, cond, not, eqb, ltb, refl, sym, ap, ◌∙◌, ⊎_elim, arith, List, length, [], Option, Some, None, is_some, unwrap_or}
 use Rattle.std.specs.Option.{option_map}
 use Rattle.std.specs.Ordering.{nat_cmp}
 use Rattle.std.specs.Cmp.{nat_cmp_total, unsigned_tied}
@@ -9,9 +9,9 @@ use Rattle.std.proofs.lemmas.Bool.Decides.{nat_tests}
 use Rattle.std.proofs.lemmas.Bool.{false≢true}
 use Rattle.mig_base.specs.declared.TheConstants.{HIGH_PAGE}
 use Rattle.mig_base.specs.Ranges.{in_range}
-use Rattle.mig_base.specs.Pages.{remove_range}
+use Rattle.mig_base.specs.Pages.{remove_range, map_below}
 use Rattle.mig_base.specs.Sets.{without, set_below}
-use Rattle.mig_base.proofs.PageLemmas.{same_pages, get-remove_range}
+use Rattle.mig_base.proofs.PageLemmas.{same_pages, get-remove_range, get-map_below}
 use Rattle.mig_base.proofs.SetLemmas.{same_members, member_inserted, member_removed, member_without, member_below}
 use mathlib.Core.Logic.{dite}
 use native.Mathlib.Decide.{ℕ_discrete}
@@ -20,27 +20,8 @@ use Rattle.mig_base.proofs.BitLemmas.{bool_cases}
 use Rattle.page_table.proofs.LeafLemmas.{eqb-true, eqb-false}
 use Rattle.page_table.specs.Leaves.{Cell, Place, cell_at, cell_in, is_place, has_place, no_cell, written_cell, moved_cell}
 use Rattle.mig_base.specs.Bytes.{overwrite, page_at}
-use Rattle.page_table.specs.Views.{Pages, map_below, pages_of, IsTable}
-use Rattle.page_table.proofs.TableLemmas.{past_places}
-
-got_here : {X : Type 0} (o : Option X) (m : map.FinMap nat_cmp X) (k q : ℕ) → map.get (elim o [ None ↦ m | Some x ↦ map.insert m k x ]) q ≡ elim o [ None ↦ map.get m q | Some x ↦ cond (eqb q k) (Some x) (map.get m q) ]
-got_here None m k q = refl
-got_here (Some x) m k q = map.get-insert nat_cmp_total m k x q ∙ ap (λ b. cond b (Some x) (map.get m q)) (unsigned_tied q k)
-
-step : {X : Type 0} (o p : Option X) (bound q : ℕ) → (q ≡ bound → p ≡ o) → elim o [ None ↦ cond (ltb q bound) p None | Some x ↦ cond (eqb q bound) (Some x) (cond (ltb q bound) p None) ] ≡ cond (ltb q (suc bound)) p None
-step None p bound q h = grind (arith, nat_tests)
-step (Some x) p bound q h = grind (arith, nat_tests)
-
-nothing : {X : Type 0} (q : ℕ) (o : Option X) → cond (ltb q 0) o None ≡ None
-nothing q o = grind (arith, nat_tests)
-
-pub get-map_below : {X : Type 0} (f : ℕ → Option X) (bound q : ℕ) → map.get (map_below f bound) q ≡ cond (ltb q bound) (f q) None
-unfolding map_below
-get-map_below f zero q = map.get-empty nat_cmp q ∙ sym (nothing q (f q))
-get-map_below f (suc bound) q =
-    got_here (f bound) (map_below f bound) bound q
-    ∙ ap (λ r. elim (f bound) [ None ↦ r | Some x ↦ cond (eqb q bound) (Some x) r ]) (get-map_below f bound q)
-    ∙ step (f bound) (f q) bound q (λ e. ap f e)
+use Rattle.page_table.specs.Views.{Pages, pages_of, IsTable}
+use Rattle.page_table.proofs.TableLemmas.{past_places, at_place}
 
 all_bytes : (q : ℕ) (o : Option (List ℕ)) → (HIGH_PAGE ≤ q → o ≡ None) → cond (ltb q HIGH_PAGE) o None ≡ o
 all_bytes q o h = grind (arith, nat_tests)
@@ -232,17 +213,24 @@ none_gathered q b = grind (arith, nat_tests)
 pub gathered_none : (places : List Place) → IsGathered places set.empty 0
 gathered_none places q = set.contains-empty nat_cmp q ∙ none_gathered q (is_some (cell_at places q).0)
 
-one_gathered : (q bound : ℕ) (b : Bool) → (q ≡ bound → b ≡ true) → (eqb q bound || (ltb q bound && b)) ≡ (ltb q (bound + 1) && b)
-one_gathered q bound b h = grind (arith, nat_tests)
+gathered_leaf : (q at : ℕ) (b : Bool) → ((ltb q (1024 * at) && b) || (in_range (1024 * at) 1024 q && b)) ≡ (ltb q (1024 * (at + 1)) && b)
+gathered_leaf q at b = grind (arith, nat_tests)
 
-pub gathered_more : (places : List Place) (pages : set.FinSet nat_cmp) (bound : ℕ) → IsGathered places pages bound → is_some (cell_at places bound).0 ≡ true → IsGathered places (set.insert pages bound) (bound + 1)
-gathered_more places pages bound is h q = member_inserted pages bound q ∙ ap (λ b. eqb q bound || b) (is q) ∙ one_gathered q bound (is_some (cell_at places q).0) (λ e. ap (λ k. is_some (cell_at places k).0) e ∙ h)
+in_leaf : (places : List Place) (place : Place) (at q : ℕ) → place ≡ get_or places at None → (in_range (1024 * at) 1024 q && is_some (cell_in place (q % 1024)).0) ≡ (in_range (1024 * at) 1024 q && is_some (cell_at places q).0)
+in_leaf places place at q is =
+    ⊎_elim
+    (λ (here : in_range (1024 * at) 1024 q ≡ true). let own : q / 1024 ≡ at = this_leaf q at here in ap (λ x. in_range (1024 * at) 1024 q && is_some x.0) (ap (λ o. cell_in o (q % 1024)) is ∙ at_place places q at own))
+    (λ (other : in_range (1024 * at) 1024 q ≡ false). rw other refl)
+    (bool_cases (in_range (1024 * at) 1024 q))
+  where
+    this_leaf : (q at : ℕ) → in_range (1024 * at) 1024 q ≡ true → q / 1024 ≡ at
+    this_leaf q at h = grind (arith, nat_tests)
 
-none_there : (q bound : ℕ) (b : Bool) → (q ≡ bound → b ≡ false) → (ltb q bound && b) ≡ (ltb q (bound + 1) && b)
-none_there q bound b h = grind (arith, nat_tests)
-
-pub gathered_past : (places : List Place) (pages : set.FinSet nat_cmp) (bound : ℕ) → IsGathered places pages bound → is_some (cell_at places bound).0 ≡ false → IsGathered places pages (bound + 1)
-gathered_past places pages bound is h q = is q ∙ none_there q bound (is_some (cell_at places q).0) (λ e. ap (λ k. is_some (cell_at places k).0) e ∙ h)
+pub gathered_more : (places : List Place) (place : Place) (pages new : set.FinSet nat_cmp) (at : ℕ) → place ≡ get_or places at None → IsGathered places pages (1024 * at) → ((q : ℕ) → set.contains new q ≡ (set.contains pages q || (in_range (1024 * at) 1024 q && is_some (cell_in place (q % 1024)).0))) → IsGathered places new (1024 * (at + 1))
+gathered_more places place pages new at is old h q =
+    h q ∙ ap (λ b. b || (in_range (1024 * at) 1024 q && is_some (cell_in place (q % 1024)).0)) (old q)
+    ∙ ap (λ b. (ltb q (1024 * at) && is_some (cell_at places q).0) || b) (in_leaf places place at q is)
+    ∙ gathered_leaf q at (is_some (cell_at places q).0)
 
 all_there : (q bound : ℕ) (b : Bool) → (bound ≤ q → b ≡ false) → (ltb q bound && b) ≡ b
 all_there q bound b h = grind (arith, nat_tests)

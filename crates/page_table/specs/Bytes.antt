@@ -1,10 +1,9 @@
 -- The bytes of pages.
-use Rattle.std.specs.Prelude.{ℕ, ◌+◌, List, ◌++◌, [], replicate, length, take, drop, unwrap_or, Option}
+use Rattle.std.specs.Prelude.{◌≡◌, ℕ, List, Option, Some, None, length, slice_index_or}
+use Rattle.mig_base.specs.declared.TheConstants.{PAGE_SIZE}
 use Rattle.std.specs.Option.{option_map}
 use Rattle.std.specs.declared.boxed.Box.{Box}
 use Rattle.std.specs.declared.alloc.Global.{Global}
-use Rattle.std.specs.Ordering.{nat_cmp}
-use Rattle.std.specs.FinMap.{FinMap, get}
 
 -- a page as a table has it: its box, if it is present
 abbrev pub Page : Type 0
@@ -13,3 +12,11 @@ Page = Option (Box (List ℕ) Global)
 -- a page's bytes, if it is present
 abbrev pub bytes_of : Page → Option (List ℕ)
 bytes_of page = option_map (λ b. b.value) page
+
+-- a page that is present has as many bytes as a page has
+abbrev pub IsWhole : Page → Type 0
+IsWhole page = (bytes : List ℕ) → bytes_of page ≡ Some bytes → length bytes ≡ PAGE_SIZE
+
+-- and so has each of a list
+abbrev pub AreWhole : List Page → Type 0
+AreWhole pages = (i : ℕ) → IsWhole (slice_index_or pages i None)

@@ -5,6 +5,7 @@ use Rattle.std.specs.FinSet.{contains}
 use Rattle.std.specs.declared.boxed.Box.{Box}
 use Rattle.std.specs.declared.alloc.Global.{Global}
 use Rattle.mig_base.specs.Ranges.{in_range}
+use Rattle.mig_base.specs.declared.chunk.TheConstants.{CHUNK}
 use Rattle.page_table.specs.declared.leaf.Leaf.{Leaf}
 use Rattle.mig_base.specs.Bytes.{overwrite}
 use Rattle.page_table.specs.Bytes.{bytes_of}
@@ -33,7 +34,7 @@ is_place (Some leaf) = true
 
 -- what a list of places says of a page
 unfoldable pub cell_at : List Place → ℕ → Cell
-cell_at places q = cell_in (slice_index_or places (q / 1024) None) (q % 1024)
+cell_at places q = cell_in (slice_index_or places (q / CHUNK) None) (q % CHUNK)
 
 -- a missing page
 abbrev pub no_cell : Cell
@@ -49,7 +50,7 @@ written_cell cell offset bytes = (option_map (λ held. overwrite held offset byt
 
 -- whether there is a leaf for a page
 unfoldable pub has_place : List Place → ℕ → Bool
-has_place places q = is_place (slice_index_or places (q / 1024) None)
+has_place places q = is_place (slice_index_or places (q / CHUNK) None)
 
 -- the cells after a range was moved
 abbrev pub moved_cell : (ℕ → Cell) → ℕ → ℕ → ℕ → ℕ → Cell

@@ -1,10 +1,12 @@
 -- A table of pages as callers see it.
-use Rattle.std.specs.Prelude.{◌≡◌, ℕ, zero, suc, ◌≤◌, true, List, Option, Some, None, length, is_some, refl}
+use Rattle.std.specs.Prelude.{◌≡◌, ℕ, ◌≤◌, true, List, length, is_some, refl}
 use Rattle.std.specs.Ordering.{nat_cmp}
 use Rattle.std.specs.FinMap as map
 use Rattle.std.specs.FinSet as set
 use Rattle.std.specs.Coded.{Coded, code_by, coded×, coded_ℕ, coded_list}
 use Rattle.mig_base.specs.declared.TheConstants.{HIGH_PAGE}
+use Rattle.mig_base.specs.declared.chunk.TheConstants.{CHUNKS}
+use Rattle.mig_base.specs.Pages.{map_below}
 use Rattle.mig_base.specs.Sets.{set_below}
 use Rattle.page_table.specs.Leaves.{Place, cell_at}
 
@@ -17,16 +19,11 @@ pub record Pages : Type 0 where
 abbrev pub coded_pages : Coded Pages
 coded_pages = code_by (map.FinMap nat_cmp (List ℕ) × set.FinSet nat_cmp) (coded× (map.code coded_ℕ (coded_list coded_ℕ)) (set.code coded_ℕ)) (λ p. (p.bytes, p.protected)) (λ p. record { bytes = p.0; protected = p.1 }) (λ _. refl)
 
--- the map with a function's values below a bound
-unfoldable pub map_below : {X : Type 0} → (ℕ → Option X) → ℕ → map.FinMap nat_cmp X
-map_below f zero = map.empty
-map_below f (suc bound) = elim (f bound) [ None ↦ map_below f bound | Some x ↦ map.insert (map_below f bound) bound x ]
-
 -- what the places show
 unfoldable pub pages_of : List Place → Pages
 pages_of places = record { bytes = map_below (λ q. (cell_at places q).0) HIGH_PAGE; protected = set_below (λ q. (cell_at places q).1) HIGH_PAGE }
 
 -- no more places than there are pages for, and only present pages are protected
 pub record IsTable (places : List Place) : Type 0 where
-  pub few : length places ≤ 1024
+  pub few : length places ≤ CHUNKS
   pub inside : (q : ℕ) → (cell_at places q).1 ≡ true → is_some (cell_at places q).0 ≡ true

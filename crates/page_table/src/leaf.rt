@@ -1,41 +1,40 @@
-//! Leaves: 1024 pages each, some of them present, and the set of those that are protected.
+//! Leaves: `CHUNK` pages each, some of them present, and the set of those that are protected.
 
-ghost use Rattle.std.specs.Prelude.{◌≡◌, ◌≢◌, ℕ, ◌+◌, ◌<◌, ◌≤◌, true, false, nat_eq, if◌then◌else◌, None, OnOk, IfOk, length, slice_index_or, slice_set};
+ghost use Rattle.std.specs.Prelude.{◌≡◌, ◌≢◌, ℕ, ◌+◌, ◌*◌, ◌%◌, ◌<◌, ◌&&◌, ◌||◌, is_some, ◌≤◌, true, false, nat_eq, if◌then◌else◌, None, OnOk, IfOk, length, slice_index_or, slice_set};
 ghost use Rattle.std.specs.FinSet.{contains};
 ghost use Rattle.std.specs.Option.{option_map};
 ghost use Rattle.mig_base.specs.Ranges.{in_range};
 ghost use Rattle.mig_base.specs.Bytes.{overwrite};
-ghost use Rattle.page_table.specs.Bytes.{bytes_of};
+ghost use Rattle.mig_base.specs.declared.TheConstants.{PAGE_SIZE};
+ghost use Rattle.mig_base.specs.declared.chunk.TheConstants.{CHUNK};
+ghost use Rattle.page_table.specs.Bytes.{AreWhole, bytes_of};
 
-use mig_base::NoMemory;
-use mig_base::chunk::Chunk;
+use mig_base::chunk::{CHUNK, Chunk};
+use mig_base::{NoMemory, PAGE_BYTES};
 use std::alloc::Global;
 
 /// A page: its bytes, or nothing where it is missing.
-pub type Page = Option<Box<[u8; 4096]>>;
+pub type Page = Option<Box<[u8; PAGE_BYTES]>>;
 
 /// A place for a leaf: empty until one of its pages is put.
 pub type Place = Option<Box<Leaf>>;
 
-/// 1024 pages, and the places of those that are protected.
+/// `CHUNK` pages, and the places of those that are protected.
 #[derive(Drop)]
 pub struct Leaf {
     pub pages: Vec<Page>,
     pub protected: Chunk,
-    pub ghost whole: { length pages.items ≡ 1024 },
+    pub ghost whole: { length pages.items ≡ CHUNK },
+    pub ghost sized: { AreWhole pages.items },
 }
 
-/// A list of 1024 missing pages.
+/// A list of `CHUNK` missing pages.
 pub fn missing_pages(alloc: Global) -> Result<Vec<Page>, NoMemory>
-    ensures { IfOk result (λ pages. (length pages.items ≡ 1024) × ((i : ℕ) → slice_index_or pages.items i None ≡ None)) }
+    ensures { IfOk result (λ pages. (length pages.items ≡ CHUNK) × ((i : ℕ) → slice_index_or pages.items i None ≡ None)) }
 {
-    let Ok(mut pages) = Vec::with_capacity(alloc, 1024) else {
-        return Err(NoMemory);
-    };
-    for _ in 0..1024u32 {
-        let Ok(()) = pages.push(None) else {
-            return Err(NoMemory);
-        };
+    let mut pages = Vec::with_capacity(alloc, CHUNK as usize)?;
+    for _ in 0..CHUNK {
+        pages.push(None)?;
     }
     Ok(pages)
 }
@@ -60,7 +59,7 @@ pub fn put_page(pages: &mut Vec<Page>, i: usize, page: Page)
 /// Writes bytes into a page of a list, where it is present.
 pub fn write_page(pages: &mut Vec<Page>, i: usize, offset: usize, bytes: &[u8])
     requires place { i < length pages.old.items }
-    requires inside { offset + length bytes.now ≤ 4096 }
+    requires inside { offset + length bytes.now ≤ PAGE_SIZE }
     ensures here { bytes_of (slice_index_or pages.new.items i None) ≡ option_map (λ held. overwrite held offset bytes.now) (bytes_of (slice_index_or pages.old.items i None)) }
     ensures others { (j : ℕ) → j ≢ i → slice_index_or pages.new.items j None ≡ slice_index_or pages.old.items j None }
     ensures size { length pages.new.items ≡ length pages.old.items }
@@ -70,7 +69,7 @@ pub fn write_page(pages: &mut Vec<Page>, i: usize, offset: usize, bytes: &[u8])
 
 /// Writes bytes into a page, where it is present.
 fn write_bytes(page: &mut Page, offset: usize, bytes: &[u8])
-    requires { offset + length bytes.now ≤ 4096 }
+    requires { offset + length bytes.now ≤ PAGE_SIZE }
     ensures { bytes_of page.new ≡ option_map (λ held. overwrite held offset bytes.now) (bytes_of page.old) }
 {
     if let Some(held) = page {
@@ -80,7 +79,7 @@ fn write_bytes(page: &mut Page, offset: usize, bytes: &[u8])
 
 /// Puts a number into a set, or takes it out.
 pub fn set_member(set: &mut Chunk, i: u32, member: bool)
-    requires { i < 1024 }
+    requires { i < CHUNK }
     ensures { (j : ℕ) → contains set.new j ≡ (if nat_eq j i then member else contains set.old j) }
 {
     if member {
@@ -92,7 +91,7 @@ pub fn set_member(set: &mut Chunk, i: u32, member: bool)
 
 /// Makes the pages of a range missing.
 pub fn clear_list(pages: &mut Vec<Page>, first: u32, count: u32)
-    requires { (first + count ≤ length pages.old.items) × (first + count ≤ 1024) }
+    requires { (first + count ≤ length pages.old.items) × (first + count ≤ CHUNK) }
     ensures pages { (i : ℕ) → slice_index_or pages.new.items i None ≡ (if in_range first count i then None else slice_index_or pages.old.items i None) }
     ensures size { length pages.new.items ≡ length pages.old.items }
 {

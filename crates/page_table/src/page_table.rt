@@ -1,6 +1,6 @@
 //! The type that callers see: present pages, with their bytes and their protection.
 
-ghost use Rattle.std.specs.Prelude.{◌≡◌, ℕ, ◌+◌, ◌-◌, ◌<◌, ◌≤◌, ◌⊎◌, ◌↔◌, true, false, if◌then◌else◌, None, Err, OnOk, OnErr, IfOk, IfErr, IsTrue, length};
+ghost use Rattle.std.specs.Prelude.{◌≡◌, ℕ, ◌+◌, ◌-◌, ◌<◌, ◌≤◌, ◌⊎◌, ◌↔◌, true, false, if◌then◌else◌, List, Some, None, Err, OnOk, OnErr, IfOk, IfErr, IsTrue, length};
 ghost use Rattle.std.specs.Option.{option_copied};
 ghost use Rattle.std.specs.FinMap as map;
 ghost use Rattle.std.specs.FinSet as set;
@@ -8,16 +8,17 @@ ghost use Rattle.std.specs.Ordering.{nat_cmp};
 ghost use Rattle.mig_base.specs.Ranges.{in_range};
 ghost use Rattle.mig_base.specs.Pages.{remove_range};
 ghost use Rattle.mig_base.specs.Sets.{without};
-ghost use Rattle.mig_base.specs.declared.TheConstants.{HIGH_PAGE};
+ghost use Rattle.mig_base.specs.declared.TheConstants.{HIGH_PAGE, PAGE_SIZE};
 ghost use Rattle.mig_base.specs.Bytes.{zero_page, page_at, overwrite};
 
 use crate::leaf::Place;
+use crate::place::has_page_size;
 use crate::table::{
     bytes_at, clear_range, is_present_at, is_protected_at, make_place, make_places, move_cells,
     present_of, protect_at, put_at, write_at,
 };
 use mig_base::page_set::PageSet;
-use mig_base::{NoMemory, PageNo};
+use mig_base::{NoMemory, PAGE_BYTES, PageNo};
 use std::alloc::Global;
 use std::marker::Model;
 use thiserror::Error;
@@ -66,7 +67,7 @@ impl PageTable {
     }
 
     /// The 4096 bytes of a page, or `None` if it is missing. Any page number may be asked for.
-    pub fn get(&self, page: PageNo) -> Option<&[u8; 4096]>
+    pub fn get(&self, page: PageNo) -> Option<&[u8; PAGE_BYTES]>
         ensures { option_copied result ≡ map.get self.now.bytes page }
     {
         bytes_at(&self.places, page)
@@ -83,7 +84,7 @@ impl PageTable {
         is_protected_at(&self.places, page)
     }
 
-    /// The present pages, as a set of its own. It goes over each leaf that was ever made, page by page.
+    /// The present pages, as a set of its own. It walks each leaf that was ever made.
     ///
     /// `NoMemory` comes only where the set could not grow.
     pub fn present(&self) -> Result<PageSet, NoMemory>
@@ -99,8 +100,8 @@ impl PageTable {
     pub fn put(
         &mut self,
         page: PageNo,
-        bytes: Box<[u8; 4096]>,
-    ) -> Result<(), (PutFault, Box<[u8; 4096]>)>
+        bytes: Box<[u8; PAGE_BYTES]>,
+    ) -> Result<(), (PutFault, Box<[u8; PAGE_BYTES]>)>
         requires { page < HIGH_PAGE }
         ensures ok { OnOk result (self.new.bytes ≡ map.insert self.old.bytes page bytes.value) }
         ensures protected { self.new.protected ≡ self.old.protected }
@@ -113,6 +114,7 @@ impl PageTable {
         let Ok(()) = make_place(self.alloc, &mut self.places, page) else {
             return Err((PutFault::NoMemory, bytes));
         };
+        has_page_size(&bytes);
         put_at(&mut self.places, page, Some(bytes), false);
         Ok(())
     }
@@ -131,7 +133,7 @@ impl PageTable {
         if is_present_at(&self.places, page) {
             return Err(PutFault::Present);
         }
-        let Ok(zeros) = Box::new(self.alloc, [0; 4096]) else {
+        let Ok(zeros) = Box::new(self.alloc, [0; PAGE_BYTES]) else {
             return Err(PutFault::NoMemory);
         };
         let Ok(()) = make_place(self.alloc, &mut self.places, page) else {
@@ -144,11 +146,12 @@ impl PageTable {
     /// Gives a present page the bytes of the box, which are not copied, in place of its own. It is not protected afterwards.
     ///
     /// It takes no memory.
-    pub fn replace(&mut self, page: PageNo, bytes: Box<[u8; 4096]>)
+    pub fn replace(&mut self, page: PageNo, bytes: Box<[u8; PAGE_BYTES]>)
         requires present { IsTrue (map.contains_key self.old.bytes page) }
         ensures bytes { self.new.bytes ≡ map.insert self.old.bytes page bytes.value }
         ensures protected { self.new.protected ≡ set.remove self.old.protected page }
     {
+        has_page_size(&bytes);
         let bytes = Some(bytes);
         put_at(&mut self.places, page, bytes, false);
     }
@@ -158,7 +161,7 @@ impl PageTable {
     /// It takes no memory and touches only the bytes written.
     pub fn write(&mut self, page: PageNo, offset: usize, bytes: &[u8])
         requires present { IsTrue (map.contains_key self.old.bytes page) }
-        requires inside { offset + length bytes.now ≤ 4096 }
+        requires inside { offset + length bytes.now ≤ PAGE_SIZE }
         ensures bytes { self.new.bytes ≡ map.insert self.old.bytes page (overwrite (page_at self.old.bytes page) offset bytes.now) }
         ensures protected { self.new.protected ≡ self.old.protected }
     {
@@ -194,6 +197,14 @@ impl PageTable {
         protect_at(&mut self.places, page, false);
     }
 
+    /// A law of every table: a present page has its `PAGE_SIZE` bytes, and lies below `HIGH_PAGE`. The call does nothing.
+    pub fn has_whole_pages(&self)
+        ensures whole { (q : ℕ) (bytes : List ℕ) → map.get self.now.bytes q ≡ Some bytes → length bytes ≡ PAGE_SIZE }
+        ensures inside { (q : ℕ) → HIGH_PAGE ≤ q → map.get self.now.bytes q ≡ None }
+    {
+        let _ = &self.places;
+    }
+
     /// Moves the `count` pages from `from` on, with their protection, in place of those from `to` on. No byte is copied.
     ///
     /// What was present in the target range is given up, where the source page is missing too, and the source range is
@@ -205,9 +216,7 @@ impl PageTable {
         ensures protected { OnOk result ((q : ℕ) → set.contains self.new.protected q ≡ (if in_range to count q then set.contains self.old.protected (from + (q - to)) else if in_range from count q then false else set.contains self.old.protected q)) }
         ensures err { OnErr result (self.new ≡ self.old) }
     {
-        let Ok(()) = make_places(self.alloc, &mut self.places, to, count) else {
-            return Err(NoMemory);
-        };
+        make_places(self.alloc, &mut self.places, to, count)?;
         move_cells(&mut self.places, from, to, count);
         Ok(())
     }

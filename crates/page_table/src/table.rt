@@ -4,22 +4,23 @@ ghost use Rattle.std.specs.Prelude.{◌≡◌, ℕ, ◌+◌, ◌-◌, ◌/◌, �
 ghost use Rattle.std.specs.FinSet.{contains};
 ghost use Rattle.std.specs.Option.{option_copied};
 ghost use Rattle.mig_base.specs.Ranges.{in_range};
-ghost use Rattle.mig_base.specs.declared.TheConstants.{HIGH_PAGE};
-ghost use Rattle.page_table.specs.Bytes.{bytes_of};
+ghost use Rattle.mig_base.specs.declared.TheConstants.{HIGH_PAGE, PAGE_SIZE};
+ghost use Rattle.mig_base.specs.declared.chunk.TheConstants.{CHUNKS};
+ghost use Rattle.page_table.specs.Bytes.{IsWhole, bytes_of};
 ghost use Rattle.page_table.specs.Leaves.{Cell, cell_at, has_place, no_cell, with_protection, written_cell, moved_cell};
 
 use crate::leaf::{Page, Place};
 use crate::place::{
-    place_clear, place_get, place_is_protected, place_make, place_protect, place_put, place_take,
+    place_clear, place_gather, place_get, place_is_protected, place_make, place_protect, place_put, place_take,
     place_write,
 };
 use mig_base::chunk::CHUNK;
 use mig_base::page_set::PageSet;
-use mig_base::{NoMemory, PageNo};
+use mig_base::{NoMemory, PAGE_BYTES, PageNo};
 use std::alloc::Global;
 
 /// The bytes of a page, if it is present.
-pub fn bytes_at(places: &Vec<Place>, page: PageNo) -> Option<&[u8; 4096]>
+pub fn bytes_at(places: &Vec<Place>, page: PageNo) -> Option<&[u8; PAGE_BYTES]>
     ensures { option_copied result ≡ (cell_at places.now.items page).0 }
 {
     let at = (page / CHUNK) as usize;
@@ -54,17 +55,15 @@ pub fn is_protected_at(places: &Vec<Place>, page: PageNo) -> bool
 
 /// Makes the leaf of a page, where there is none.
 pub fn make_place(alloc: Global, places: &mut Vec<Place>, page: PageNo) -> Result<(), NoMemory>
-    requires { (page < HIGH_PAGE) × (length places.old.items ≤ 1024) }
+    requires { (page < HIGH_PAGE) × (length places.old.items ≤ CHUNKS) }
     ensures same { (q : ℕ) → cell_at places.new.items q ≡ cell_at places.old.items q }
-    ensures few { length places.new.items ≤ 1024 }
+    ensures few { length places.new.items ≤ CHUNKS }
     ensures there { OnOk result (has_place places.new.items page ≡ true) }
     ensures stay { (q : ℕ) → has_place places.old.items q ≡ true → has_place places.new.items q ≡ true }
 {
     let at = (page / CHUNK) as usize;
     while places.len() <= at {
-        let Ok(()) = places.push(None) else {
-            return Err(NoMemory);
-        };
+        places.push(None)?;
     }
     place_make(alloc, &mut places[at])
 }
@@ -72,6 +71,7 @@ pub fn make_place(alloc: Global, places: &mut Vec<Place>, page: PageNo) -> Resul
 /// Takes a page out, and tells whether it was protected.
 pub fn take_at(places: &mut Vec<Place>, page: PageNo) -> (Page, bool)
     ensures taken { (bytes_of result.0, result.1) ≡ cell_at places.old.items page }
+    ensures whole { IsWhole result.0 }
     ensures left { (q : ℕ) → cell_at places.new.items q ≡ (if nat_eq q page then no_cell else cell_at places.old.items q) }
     ensures stay { (q : ℕ) → has_place places.new.items q ≡ has_place places.old.items q }
     ensures size { length places.new.items ≡ length places.old.items }
@@ -86,7 +86,8 @@ pub fn take_at(places: &mut Vec<Place>, page: PageNo) -> (Page, bool)
 
 /// Puts a page in, protected or not.
 pub fn put_at(places: &mut Vec<Place>, page: PageNo, bytes: Page, protected: bool)
-    requires { has_place places.old.items page ≡ true }
+    requires whole { IsWhole bytes }
+    requires there { has_place places.old.items page ≡ true }
     ensures put { (q : ℕ) → cell_at places.new.items q ≡ (if nat_eq q page then (bytes_of bytes, protected) else cell_at places.old.items q) }
     ensures stay { (q : ℕ) → has_place places.new.items q ≡ has_place places.old.items q }
     ensures size { length places.new.items ≡ length places.old.items }
@@ -101,7 +102,7 @@ pub fn put_at(places: &mut Vec<Place>, page: PageNo, bytes: Page, protected: boo
 
 /// Writes bytes into a page, where it is present.
 pub fn write_at(places: &mut Vec<Place>, page: PageNo, offset: usize, bytes: &[u8])
-    requires { offset + length bytes.now ≤ 4096 }
+    requires { offset + length bytes.now ≤ PAGE_SIZE }
     ensures written { (q : ℕ) → cell_at places.new.items q ≡ (if nat_eq q page then written_cell (cell_at places.old.items page) offset bytes.now else cell_at places.old.items q) }
     ensures size { length places.new.items ≡ length places.old.items }
 {
@@ -134,12 +135,8 @@ pub fn clear_range(places: &mut Vec<Place>, first: PageNo, count: u32)
     let end = first + count;
     for at in first / CHUNK..(end + (CHUNK - 1)) / CHUNK {
         let start = at * CHUNK;
-        let low = if start < first { first - start } else { 0 };
-        let high = if end - start < CHUNK {
-            end - start
-        } else {
-            CHUNK
-        };
+        let low = first.saturating_sub(start);
+        let high = CHUNK.min(end - start);
         if (at as usize) < places.len() {
             place_clear(&mut places[at as usize], low, high - low);
         }
@@ -153,16 +150,14 @@ pub fn make_places(
     first: PageNo,
     count: u32,
 ) -> Result<(), NoMemory>
-    requires { (first + count ≤ HIGH_PAGE) × (length places.old.items ≤ 1024) }
+    requires { (first + count ≤ HIGH_PAGE) × (length places.old.items ≤ CHUNKS) }
     ensures same { (q : ℕ) → cell_at places.new.items q ≡ cell_at places.old.items q }
-    ensures few { length places.new.items ≤ 1024 }
+    ensures few { length places.new.items ≤ CHUNKS }
     ensures there { OnOk result ((q : ℕ) → first ≤ q → q < first + count → has_place places.new.items q ≡ true) }
 {
     let end = first + count;
     for at in first / CHUNK..(end + (CHUNK - 1)) / CHUNK {
-        let Ok(()) = make_place(alloc, places, at * CHUNK) else {
-            return Err(NoMemory);
-        };
+        make_place(alloc, places, at * CHUNK)?;
     }
     Ok(())
 }
@@ -181,18 +176,14 @@ pub fn move_cells(places: &mut Vec<Place>, from: PageNo, to: PageNo, count: u32)
     }
 }
 
-/// The present pages, as a set.
+/// The present pages, as a set. Only places that have a leaf are walked.
 pub fn present_of(alloc: Global, places: &Vec<Place>) -> Result<PageSet, NoMemory>
-    requires { length places.now.items ≤ 1024 }
+    requires { length places.now.items ≤ CHUNKS }
     ensures { IfOk result (λ pages. (q : ℕ) → contains pages q ≡ is_some (cell_at places.now.items q).0) }
 {
     let mut pages = PageSet::new(alloc);
-    for page in 0..places.len() as u32 * CHUNK {
-        if is_present_at(places, page) {
-            let Ok(()) = pages.insert(page) else {
-                return Err(NoMemory);
-            };
-        }
+    for at in 0..places.len() {
+        place_gather(&places[at], at as u32, &mut pages)?;
     }
     Ok(pages)
 }

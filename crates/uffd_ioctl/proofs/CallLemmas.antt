@@ -25,9 +25,9 @@ use Rattle.mig_base.proofs.RangeLemmas.{none_below_tells, none_below-from}
 use Rattle.mig_base.proofs.SetLemmas.{same_members, member_without, member_below}
 use Rattle.mig_base.proofs.ReplyLemmas.{mmap_inside, mremap_told}
 use Rattle.mig_model.specs.Host.{Host, memory, host_changed, host_dropped, IsSound}
-use Rattle.mig_model.specs.World.{is_access}
-use Rattle.mig_model.specs.Userfault.{Object, Mode, mode_at, is_registered, unregistered, registered_where, moved_modes, event_queued}
-use Rattle.mig_model.specs.Space.{Space, IsSoundSpace, is_watched, told, remap_messages, call_messages, modes_after, protected_after, all_queued, called, queued_by}
+use Rattle.mig_base.specs.Commands.{is_access}
+use Rattle.mig_model.specs.Userfault.{Object, Mode, mode_at, is_registered, unregistered, registered_where, moved_modes, event_queued, is_watched}
+use Rattle.mig_model.specs.Space.{Space, IsSoundSpace, told, remap_messages, call_messages, modes_after, protected_after, all_queued, called, queued_by}
 use Rattle.mig_model.proofs.CommandLemmas.{remapped_place}
 use Rattle.mig_model.proofs.SpaceLemmas.{IsSoundSpace-called}
 use Rattle.page_table.specs.Views.{Pages}

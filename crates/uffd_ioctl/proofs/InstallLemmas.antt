@@ -19,7 +19,8 @@ use Rattle.mig_base.proofs.SetLemmas.{member_inserted}
 use Rattle.mig_base.proofs.RangeLemmas.{none_below-from, none_below-not, least_below-is, least_below-none, least_below_tells}
 use Rattle.mig_model.specs.Userfault.{Object, is_registered}
 use Rattle.mig_model.specs.Space.{Space, IsSoundSpace}
-use Rattle.mig_model.specs.Ioctls.{put_pages, handed, installed, is_every, is_one_area, same_prot, same_bool, missing_run, copy_errors, copy_error, zeropage_errors, zeropage_error, stop_error, wakes, put_answer, put_by, left_by}
+use Rattle.mig_model.specs.Ioctls.{put_pages, handed, installed, is_one_area, same_prot, missing_run, copy_errors, copy_error, zeropage_errors, zeropage_error, stop_error, wakes, put_answer, put_by, left_by}
+use Rattle.mig_base.specs.Tests.{same_bool, is_every}
 use Rattle.mig_model.proofs.IoctlLemmas.{CanPut, IsSoundSpace-installed, get-put_pages, every_page, none_holds, not_false, protect_told, can_put, length-handed}
 use Rattle.page_table.specs.Views.{Pages}
 use Rattle.page_table.specs.declared.page_table.PutFault.{PutFault}

@@ -1,6 +1,7 @@
 // The form of a load or store, and its bytes.
 ghost use Rattle.std.specs.Prelude.{◌≡◌, true, ℕ, ◌+◌, ◌^◌, ◌<◌, ◌≤◌, ◌&&◌, nat_lt, length};
 ghost use Rattle.mig_base.specs.Flat.{is_aligned as is_access, allows_load as permits_load, allows_store as permits_store, is_width};
+ghost use Rattle.mig_base.specs.Commands as commands;
 ghost use Rattle.mig_base.specs.Bytes.{little_endian};
 ghost use Rattle.mig_base.specs.declared.TheConstants.{HIGH_PAGE};
 ghost use Rattle.mig_model.specs.Space as machine;
@@ -63,15 +64,15 @@ pub(crate) fn is_made(reply: Reply) -> bool
 
 /// Whether a command is a store.
 pub(crate) fn is_store(command: Command) -> bool
-    ensures { result ≡ machine.is_store command }
+    ensures { result ≡ commands.is_store command }
 {
     matches!(command, Command::Store { .. })
 }
 
 /// The page of a load or store inside the address space.
 pub(crate) fn page_of(command: Command) -> PageNo
-    requires { machine.page_of command < HIGH_PAGE }
-    ensures { result ≡ machine.page_of command }
+    requires { commands.page_of command < HIGH_PAGE }
+    ensures { result ≡ commands.page_of command }
 {
     match command {
         Command::Load { addr, .. } | Command::Store { addr, .. } => (addr / PAGE_SIZE) as PageNo,

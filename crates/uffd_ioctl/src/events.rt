@@ -3,8 +3,8 @@
 
 ghost use Rattle.std.specs.Prelude.{◌≡◌, ◌+◌, ◌-◌, ◌*◌, ◌<◌, ◌≤◌, IfOk, OnOk, length};
 ghost use Rattle.mig_base.specs.declared.TheConstants.{HIGH_PAGE};
-ghost use Rattle.mig_model.specs.Userfault.{mode_at, unregistered, moved_modes};
-ghost use Rattle.mig_model.specs.Space.{is_watched, told, remap_messages, all_queued};
+ghost use Rattle.mig_model.specs.Userfault.{mode_at, unregistered, moved_modes, is_watched};
+ghost use Rattle.mig_model.specs.Space.{told, remap_messages, all_queued};
 ghost use Rattle.uffd_ioctl.specs.Remaps.{IsRemap, replaced_message, cut_message, moved_message};
 
 use crate::remap::Remap;

@@ -8,7 +8,7 @@ ghost use Rattle.mig_base.specs.Bits.{is_one};
 ghost use Rattle.mig_base.specs.Bytes.{zero_page, contents};
 ghost use Rattle.mig_base.specs.Flat.{reply_of, after, number_at, is_aligned as is_form};
 ghost use Rattle.mig_model.specs.Host.{memory, host_changed, IsSound};
-ghost use Rattle.mig_model.specs.World.{is_access};
+ghost use Rattle.mig_base.specs.Commands.{is_access};
 ghost use Rattle.mig_model.specs.Userfault as object;
 ghost use Rattle.mig_model.specs.Space as machine;
 ghost use Rattle.mig_model.specs.Ioctls as table;

@@ -4,7 +4,7 @@ use Rattle.std.proofs.lemmas.Bool.Decides.{nat_tests}
 use Rattle.mig_base.specs.Ranges.{none_below}
 use Rattle.mig_base.proofs.RangeLemmas.{none_below-from, none_below-not}
 use Rattle.mig_base.proofs.BitLemmas.{below_or_past}
-use Rattle.mig_model.specs.Ioctls.{is_every, same_bool}
+use Rattle.mig_base.specs.Tests.{same_bool, is_every}
 
 is_below : (a b : ℕ) → a < b → nat_le b a ≡ false
 is_below a b h = grind (arith, nat_tests)

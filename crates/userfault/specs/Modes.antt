@@ -1,21 +1,17 @@
 -- The modes of pages, as the crate's code has them.
-use Rattle.std.specs.Prelude.{ℕ, ◌+◌, ◌&&◌, ◌||◌, Bool, not, if◌then◌else◌}
+use Rattle.std.specs.Prelude.{ℕ, ◌&&◌, ◌||◌, Bool, not, if◌then◌else◌}
 use Rattle.std.specs.Ordering.{nat_cmp}
 use Rattle.std.specs.FinSet.{FinSet, contains}
-use Rattle.mig_base.specs.Ranges.{in_range, none_below}
+use Rattle.mig_base.specs.Ranges.{in_range}
 use Rattle.mig_base.specs.Sets.{pages_where}
 use Rattle.mig_model.specs.Userfault as machine
 use Rattle.mig_model.specs.Userfault.{Object, is_registered}
-use Rattle.mig_model.specs.Ioctls.{same_bool}
+use Rattle.mig_base.specs.Tests.{same_bool}
 use Rattle.userfault.specs.declared.modes.Mode.{Mode}
 
 -- the machine's word for a mode
 abbrev pub mode_of : Mode → machine.Mode
 mode_of mode = record { missing = mode.missing; protect = mode.protect }
-
--- whether some page of a range is registered in any mode
-abbrev pub is_any_registered : Object → ℕ → ℕ → Bool
-is_any_registered object first count = not (none_below (λ i. is_registered object (first + i)) count)
 
 -- whether two pages have the same mode
 abbrev pub has_mode_of : Object → ℕ → ℕ → Bool

@@ -5,8 +5,9 @@ ghost use Rattle.std.specs.Option.{option_map};
 ghost use Rattle.mig_base.specs.Ranges.{in_range};
 ghost use Rattle.mig_base.specs.declared.TheConstants.{HIGH_PAGE};
 ghost use Rattle.mig_model.specs.Userfault as machine;
-ghost use Rattle.mig_model.specs.Ioctls.{is_every};
-ghost use Rattle.userfault.specs.Modes.{mode_of, is_any_registered, has_mode_of};
+ghost use Rattle.mig_base.specs.Tests.{is_every};
+ghost use Rattle.userfault.specs.Modes.{mode_of, has_mode_of};
+ghost use Rattle.mig_model.specs.Userfault.{is_watched};
 
 use crate::modes::{Mode, has_all, is_one_run, moved, registered};
 use crate::noted::{Noted, copy_queue, waits};
@@ -130,7 +131,7 @@ impl Userfault {
     /// Whether some of the `count` pages from `first` on is registered.
     pub fn is_any_registered(&self, first: PageNo, count: u32) -> bool
         requires { first + count ≤ HIGH_PAGE }
-        ensures { result ≡ is_any_registered self.now first count }
+        ensures { result ≡ is_watched self.now first count }
     {
         let end = first + count;
         self.missing.next(first, true) < end || self.protect.next(first, true) < end

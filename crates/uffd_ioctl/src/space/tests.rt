@@ -1,7 +1,7 @@
 //! What no clause says: answers by hand, and that a call succeeds once there is memory again.
 
 ghost use Rattle.std.specs.Prelude.{◌≡◌, true, false};
-ghost use Rattle.mig_model.specs.World.{is_access};
+ghost use Rattle.mig_base.specs.Commands.{is_access};
 
 use super::*;
 use std::process::Abort;

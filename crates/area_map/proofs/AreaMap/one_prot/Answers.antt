@@ -9,5 +9,5 @@ returns-clause-some c =
     subst (λ prots. IfSome c.one_prot_of.result (HasOneProt prots c.args.first c.args.count)) (same_prots c.self.inside.areas.items c.deref.result.now c.args.self.now c.deref.ensures.value c.self.view_is) c.one_prot_of.ensures.some
 
 pub returns-clause-none : goal.returns-clause-none
-returns-clause-none c =
+returns-clause-none c = λ some.
     subst (λ prots. IfNone c.one_prot_of.result ((prot : Prot) → HasOneProt prots c.args.first c.args.count prot → ⊥)) (same_prots c.self.inside.areas.items c.deref.result.now c.args.self.now c.deref.ensures.value c.self.view_is) c.one_prot_of.ensures.none

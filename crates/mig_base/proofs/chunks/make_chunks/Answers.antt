@@ -9,6 +9,6 @@ loop-at-preserved c = record {
   few = c.make_chunk.ensures.few;
   there = λ q a b. ⊎_elim
       (λ (below : q < 1024 * c.loop-at.at). c.make_chunk.ensures.stay (q / 1024) (c.loop-at.invariant.there q a below))
-      (λ (past : 1024 * c.loop-at.at ≤ q). let e : q / 1024 ≡ c.loop-at.at = omega arith in ap (λ k. is_chunk (get_or c.make_chunk.new.chunks.items k None)) e ∙ c.in-Ok.ensures.there.1)
+      (λ (past : 1024 * c.loop-at.at ≤ q). let e : q / 1024 ≡ c.loop-at.at = omega arith in ap (λ k. is_chunk (get_or c.make_chunk.new.chunks.items k None)) e ∙ c.in_ok-make_chunk.ensures.there.1)
       (below_or_past q (1024 * c.loop-at.at));
 }

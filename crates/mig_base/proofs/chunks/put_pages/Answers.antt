@@ -1,19 +1,28 @@
-use Rattle.std.proofs.Common.{◌≡◌, ◌∙◌, ◌+◌, ◌/◌, ◌||◌, true, None, get_or, eqb, ap, refl, arith}
-use Rattle.mig_base.specs.PageSets.{has_page, is_chunk}
-use Rattle.mig_base.proofs.PageSetLemmas.{chunk_inside, one_put, none_put}
+use Rattle.std.proofs.Common.{◌≡◌, ◌≤◌, ◌<◌, ◌+◌, ◌-◌, ◌*◌, ◌∙◌, ◌/◌, ◌||◌, ap, arith, min, true, None, get_or, length}
+use Rattle.std.proofs.Math.ListN.{length-set}
+use Rattle.mig_base.specs.Ranges.{in_range}
+use Rattle.mig_base.specs.PageSets.{in_chunk, is_chunk}
+use Rattle.mig_base.proofs.PageSetLemmas.{chunk_inside, chunk_met, chunks_kept, put_more, read_slot}
 use Rattle.mig_base.proofs.chunks.put_pages.Goals as goal
 
-pub put_page-requires : goal.put_page-requires
-put_page-requires c =
-    let there : is_chunk (get_or c.loop-i.chunks.items ((c.args.first + c.loop-i.i) / 1024) None) ≡ true = c.loop-i.invariant.there (c.args.first + c.loop-i.i) (omega arith) (omega arith) in
-    (chunk_inside c.loop-i.chunks.items ((c.args.first + c.loop-i.i) / 1024) there, there)
+pub index_mut-requires : goal.index_mut-requires
+index_mut-requires c = omega (arith, chunk_inside c.loop-at.chunks.items c.loop-at.at (chunk_met c.loop-at.chunks.items c.args.first c.args.count c.loop-at.at (omega arith) (omega arith) (omega arith) c.loop-at.invariant.there))
 
-pub loop-i-init : goal.loop-i-init
-loop-i-init c = record { put = λ q. none_put c.args.first q (has_page c.args.chunks.now.items q); size = refl; there = c.requires.there }
+pub slot_fill-requires-clause-there : goal.slot_fill-requires-clause-there
+slot_fill-requires-clause-there c =
+    let met : is_chunk (get_or c.loop-at.chunks.items c.loop-at.at None) ≡ true = chunk_met c.loop-at.chunks.items c.args.first c.args.count c.loop-at.at (omega arith) (omega arith) (omega arith) c.loop-at.invariant.there in
+    ap is_chunk (read_slot c.loop-at.chunks.items c.loop-at.at c.index_mut.result.now (chunk_inside c.loop-at.chunks.items c.loop-at.at met) c.index_mut.ensures.value) ∙ met
 
-pub loop-i-preserved : goal.loop-i-preserved
-loop-i-preserved c = record {
-  put = λ q. c.put_page.ensures.put q ∙ ap (λ b. eqb q (c.args.first + c.loop-i.i) || b) (c.loop-i.invariant.put q) ∙ one_put c.args.first c.loop-i.i q (has_page c.args.chunks.now.items q);
-  size = c.put_page.ensures.size ∙ c.loop-i.invariant.size;
-  there = λ q a b. c.put_page.ensures.stay (q / 1024) (c.loop-i.invariant.there q a b);
-}
+pub loop-at-preserved : goal.loop-at-preserved
+loop-at-preserved c =
+    let inside : c.loop-at.at < length c.loop-at.chunks.items = chunk_inside c.loop-at.chunks.items c.loop-at.at (chunk_met c.loop-at.chunks.items c.args.first c.args.count c.loop-at.at (omega arith) (omega arith) (omega arith) c.loop-at.invariant.there) in
+    let low : c.saturating_sub-low.result ≡ c.args.first - 1024 * c.loop-at.at = omega (arith, c.saturating_sub-low.ensures) in
+    let high : c.min-high.result ≡ min (c.args.first + c.args.count - 1024 * c.loop-at.at) 1024 = omega (arith, c.min-high.ensures) in
+    let order : c.saturating_sub-low.result ≤ c.min-high.result = omega arith in
+    record {
+      put = put_more c.args.chunks.now.items c.loop-at.chunks.items c.args.first c.args.count c.loop-at.at c.saturating_sub-low.result c.min-high.result c.slot_fill.new.slot inside c.loop-at.invariant.put
+          (λ i. c.slot_fill.ensures.put i ∙ ap (λ o. in_range c.saturating_sub-low.result (c.min-high.result - c.saturating_sub-low.result) i || in_chunk o i) (read_slot c.loop-at.chunks.items c.loop-at.at c.index_mut.result.now inside c.index_mut.ensures.value))
+          low high order;
+      size = length-set c.loop-at.chunks.items c.loop-at.at c.slot_fill.new.slot ∙ c.loop-at.invariant.size;
+      there = λ q a b. chunks_kept c.loop-at.chunks.items c.loop-at.at c.slot_fill.new.slot inside (λ h. c.slot_fill.ensures.stays) (q / 1024) (c.loop-at.invariant.there q a b);
+    }

@@ -6,4 +6,4 @@ pub returns-clause-kept : goal.returns-clause-kept
 returns-clause-kept c world step cpu command reached other waits = waiting_command world step cpu command (kept-reached world reached) other waits
 
 pub returns-clause-retry : goal.returns-clause-retry
-returns-clause-retry c world cpu command free waits = retried_at world cpu command free waits
+returns-clause-retry c world cpu command ok waits = retried_at world cpu command ok waits

@@ -1,4 +1,6 @@
-use Rattle.mig_model.proofs.EveryStep.{kept-reached, complete-after_steps}
+use Rattle.mig_model.specs.Migration.{after_steps}
+use Rattle.mig_model.proofs.EveryStep.{kept-reached, kept-after_steps, complete-after_steps}
+use Rattle.mig_model.proofs.WirePromises.{completes_by, completes_only}
 use Rattle.mig_model.proofs.PromiseLemmas.{is_alone}
 use Rattle.mig_model.proofs.migration.completion.Goals as goal
 
@@ -6,4 +8,13 @@ pub returns-clause-alone : goal.returns-clause-alone
 returns-clause-alone c world reached done = is_alone world (kept-reached world reached) done
 
 pub returns-clause-stays : goal.returns-clause-stays
-returns-clause-stays c world steps reached done = complete-after_steps world steps (kept-reached world reached) done
+returns-clause-stays c world steps reached done =
+    let kept = kept-reached world reached in
+    let still = complete-after_steps world steps kept done in
+    (still, is_alone (after_steps world steps) (kept-after_steps world steps kept) still)
+
+pub returns-clause-taken : goal.returns-clause-taken
+returns-clause-taken c world sent rest ok first last = completes_by world sent rest ok first last
+
+pub returns-clause-only : goal.returns-clause-only
+returns-clause-only c world step not done = completes_only world step not done

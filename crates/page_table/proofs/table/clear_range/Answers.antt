@@ -4,17 +4,17 @@ use Rattle.mig_base.specs.Ranges.{in_range}
 use Rattle.page_table.specs.Leaves.{cell_in, cell_at, has_place, is_place, no_cell}
 use Rattle.page_table.proofs.TableLemmas.{cleared_more, cleared_past, read_place, places_stay}
 use Rattle.page_table.proofs.table.clear_range.Goals as goal
-use Rattle.page_table.proofs.table.clear_range.Goals.{then-start-first, else-start-first, then-end-start-lt-CHUNK, else-end-start-lt-CHUNK, then-at-len, else-at-len}
+use Rattle.page_table.proofs.table.clear_range.Goals.{then-at-len, else-at-len}
 
 pub loop-at-preserved : goal.loop-at-preserved
 loop-at-preserved c =
-    let low : c.if-start-first.low ≡ c.args.first - 1024 * c.loop-at.at = elim c.if-start-first.branch [ then-start-first w ↦ omega arith | else-start-first w ↦ omega arith ] in
-    let high : c.if-end-start-lt-CHUNK.high ≡ min (c.args.first + c.args.count - 1024 * c.loop-at.at) 1024 = elim c.if-end-start-lt-CHUNK.branch [ then-end-start-lt-CHUNK w ↦ omega arith | else-end-start-lt-CHUNK w ↦ omega arith ] in
-    let order : c.if-start-first.low ≤ c.if-end-start-lt-CHUNK.high = omega arith in
+    let low : c.saturating_sub-low.result ≡ c.args.first - 1024 * c.loop-at.at = omega (arith, c.saturating_sub-low.ensures) in
+    let high : c.min-high.result ≡ min (c.args.first + c.args.count - 1024 * c.loop-at.at) 1024 = omega (arith, c.min-high.ensures) in
+    let order : c.saturating_sub-low.result ≤ c.min-high.result = omega arith in
     elim c.if-at-len.branch [
       | then-at-len w ↦ record {
-        cleared = λ q. ap (λ v. cell_at v.items q) w.places-is ∙ cleared_more c.args.places.now.items c.loop-at.places.items c.args.first c.args.count c.loop-at.at c.if-start-first.low c.if-end-start-lt-CHUNK.high w.place_clear.new.place (omega arith) c.loop-at.invariant.cleared
-            (λ i. w.place_clear.ensures.cleared i ∙ ap (λ o. cond (in_range c.if-start-first.low (c.if-end-start-lt-CHUNK.high - c.if-start-first.low) i) no_cell (cell_in o i)) (read_place c.loop-at.places.items c.loop-at.at w.index_mut.result.now (omega arith) w.index_mut.ensures.value))
+        cleared = λ q. ap (λ v. cell_at v.items q) w.places-is ∙ cleared_more c.args.places.now.items c.loop-at.places.items c.args.first c.args.count c.loop-at.at c.saturating_sub-low.result c.min-high.result w.place_clear.new.place (omega arith) c.loop-at.invariant.cleared
+            (λ i. w.place_clear.ensures.cleared i ∙ ap (λ o. cond (in_range c.saturating_sub-low.result (c.min-high.result - c.saturating_sub-low.result) i) no_cell (cell_in o i)) (read_place c.loop-at.places.items c.loop-at.at w.index_mut.result.now (omega arith) w.index_mut.ensures.value))
             low high order q;
         kept = λ q. ap (λ v. has_place v.items q) w.places-is ∙ places_stay c.loop-at.places.items c.loop-at.at w.place_clear.new.place (omega arith) (w.place_clear.ensures.stays ∙ ap is_place (read_place c.loop-at.places.items c.loop-at.at w.index_mut.result.now (omega arith) w.index_mut.ensures.value)) q ∙ c.loop-at.invariant.kept q;
         size = ap (λ v. length v.items) w.places-is ∙ length-set c.loop-at.places.items c.loop-at.at w.place_clear.new.place ∙ c.loop-at.invariant.size;

@@ -6,9 +6,9 @@ use Rattle.page_table.proofs.table.make_place.Goals as goal
 
 pub loop-places-preserved : goal.loop-places-preserved
 loop-places-preserved c = record {
-  same = λ q. ap (λ xs. cell_at xs q) c.in-Ok.ensures.items ∙ cell_at-push c.loop-places.places.items q ∙ c.loop-places.invariant.same q;
-  kept = λ q. ap (λ xs. has_place xs q) c.in-Ok.ensures.items ∙ has_place-push c.loop-places.places.items q ∙ c.loop-places.invariant.kept q;
-  few = rw c.in-Ok.ensures.items (simp length-append (omega arith));
+  same = λ q. ap (λ xs. cell_at xs q) c.in_ok-push.ensures.items ∙ cell_at-push c.loop-places.places.items q ∙ c.loop-places.invariant.same q;
+  kept = λ q. ap (λ xs. has_place xs q) c.in_ok-push.ensures.items ∙ has_place-push c.loop-places.places.items q ∙ c.loop-places.invariant.kept q;
+  few = rw c.in_ok-push.ensures.items (simp length-append (omega arith));
 }
 
 pub returns-clause-same : goal.returns-clause-same

@@ -9,4 +9,4 @@ returns-then-not-ends_inside-clause-one c = λ bytes sound. sym (past_no_prot (h
 pub returns-clause-one : goal.returns-clause-one
 returns-clause-one c = λ bytes sound.
     c.is_some.ensures
-    ∙ one_prot_answer (host_of c.args.areas.now bytes) c.args.addr c.args.len c.page_count-count.result c.one_prot.result c.requires.whole c.requires.some c.page_count-count.ensures c.one_prot.ensures.some c.one_prot.ensures.none
+    ∙ one_prot_answer (host_of c.args.areas.now bytes) c.args.addr c.args.len c.page_count-count.result c.one_prot.result c.requires.whole c.requires.some c.page_count-count.ensures c.one_prot.ensures.some (c.one_prot.ensures.none (omega arith))

@@ -2,7 +2,8 @@ use Rattle.std.proofs.Common.{◌∙◌, ◌++◌, option_to_list, ap}
 use Rattle.mig_base.specs.declared.step.Refusal.TheVariants.{Phase, NothingThere}
 use Rattle.mig_base.specs.declared.step.Step.TheVariants as step
 use Rattle.mig_model.specs.Node.{is_idle}
-use Rattle.mig_model.specs.World.{World, is_empty, delivered}
+use Rattle.mig_model.specs.World.{World, delivered}
+use Rattle.mig_base.specs.Tests.{is_empty}
 use Rattle.mig_model.proofs.Every.{second_test}
 use Rattle.hosts.specs.Frames.{wire_value}
 use Rattle.hosts.specs.Worlds.{world_of}

@@ -1,10 +1,11 @@
 use Rattle.std.proofs.Common.{◌≤◌, ◌∙◌, ap, length, arith}
+use Rattle.mig_base.proofs.PageSetViews.{on_any_err}
 use Rattle.page_table.specs.Leaves.{moved_cell}
 use Rattle.page_table.proofs.ViewLemmas.{same_cells_shown, moved_bytes, moved_flags}
 use Rattle.page_table.proofs.page_table.PageTable.move_range.Goals as goal
 
-pub returns-in_default-clause-err : goal.returns-in_default-clause-err
-returns-in_default-clause-err c = same_cells_shown c.self.inside.places.items c.make_places.new.places.items c.args.self.now c.self.invariant.few c.make_places.ensures.few c.self.view_is c.make_places.ensures.same
+pub returns-in_err-make_places-clause-err : goal.returns-in_err-make_places-clause-err
+returns-in_err-make_places-clause-err c = on_any_err c.from_residual.result (same_cells_shown c.self.inside.places.items c.make_places.new.places.items c.args.self.now c.self.invariant.few c.make_places.ensures.few c.self.view_is c.make_places.ensures.same)
 
 pub returns-clause-bytes : goal.returns-clause-bytes
 returns-clause-bytes c =

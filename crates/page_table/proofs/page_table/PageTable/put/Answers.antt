@@ -1,6 +1,7 @@
 use Rattle.std.proofs.Common.{◌≡◌, ◌≤◌, ◌∙◌, sym, refl, ap, Some, false, is_some, cond, eqb, length, arith}
 use Rattle.std.specs.FinMap as map
 use Rattle.std.proofs.lemmas.Bool.{false≢true}
+use Rattle.std.proofs.lemmas.Option.{same_Some}
 use Rattle.page_table.specs.Leaves.{cell_at}
 use Rattle.page_table.proofs.ViewLemmas.{present_seen, put_bytes, put_flags, same_cells_shown, not_protected}
 use Rattle.page_table.proofs.page_table.PageTable.put.Goals as goal
@@ -32,3 +33,6 @@ returns-clause-protected c =
 
 pub returns-clause-missing : goal.returns-clause-missing
 returns-clause-missing c = let absent : map.contains_key c.args.self.now.bytes c.args.page ≡ false = sym (present_seen c.self.inside.places.items c.args.self.now c.args.page c.self.invariant.few c.self.view_is) ∙ sym c.is_present_at.ensures ∙ c.if-is_present_at.false in absent
+
+pub put_at-requires-clause-whole : goal.put_at-requires-clause-whole
+put_at-requires-clause-whole c = λ bytes e. sym (ap length (same_Some c.args.bytes.value bytes e)) ∙ sym (ap length c.deref.ensures) ∙ c.has_page_size.ensures

@@ -1,7 +1,8 @@
 use Rattle.std.proofs.Common.{◌∙◌, ◌/◌, ◌<◌, ap, sym, subst, arith}
 use Rattle.std.specs.FinMap.{contains_key}
 use Rattle.mig_base.specs.declared.TheConstants.{HIGH_PAGE}
-use Rattle.mig_model.specs.Space.{IsSoundSpace, page_of}
+use Rattle.mig_model.specs.Space.{IsSoundSpace}
+use Rattle.mig_base.specs.Commands.{page_of}
 use Rattle.uffd_ioctl.specs.Spaces.{space_of}
 use Rattle.uffd_ioctl.proofs.AccessLemmas.{made_mapped, made_below, memory_stored}
 use Rattle.uffd_ioctl.proofs.space.Space.access.Goals as goal

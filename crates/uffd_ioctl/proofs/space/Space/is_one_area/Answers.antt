@@ -1,6 +1,7 @@
 use Rattle.std.proofs.Common.{◌≡◌, ◌&&◌, ◌||◌, ap, ◌∙◌}
 use Rattle.std.specs.FinMap as map
-use Rattle.mig_model.specs.Ioctls.{is_one_area, is_every}
+use Rattle.mig_model.specs.Ioctls.{is_one_area}
+use Rattle.mig_base.specs.Tests.{is_every}
 use Rattle.userfault.specs.Modes.{has_mode_of}
 use Rattle.uffd_ioctl.specs.Spaces.{space_of}
 use Rattle.uffd_ioctl.proofs.InstallLemmas.{every_prot, one_area_found, one_area_not}
@@ -18,7 +19,7 @@ returns-then-has_one_mode c =
     let here = watched ∙ ap (λ m. m.missing || m.protect) c.mode_at-mode.ensures in
     c.is_some.ensures
     ∙ one_area_found (space_of c.self.inside.areas c.self.inside.pages c.self.inside.object) first count c.if-mode.value c.if-mode-2.value _ c.requires.some here modes c.if-has_one_mode.true
-    (every_prot (λ page. map.get c.self.inside.areas page) first count c.one_prot.result c.requires.some c.one_prot.ensures.some c.one_prot.ensures.none)
+    (every_prot (λ page. map.get c.self.inside.areas page) first count c.one_prot.result c.requires.some c.one_prot.ensures.some (c.one_prot.ensures.none c.requires.some))
     ∙ ap (λ s. is_one_area s first count) c.self.view_is
 
 pub returns-else-has_one_mode : goal.returns-else-has_one_mode

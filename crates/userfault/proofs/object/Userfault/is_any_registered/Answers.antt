@@ -1,7 +1,7 @@
 use Rattle.std.proofs.Common.{◌∙◌, ◌+◌, ◌<◌, ◌≤◌, inl, inr, ap, ⊎_elim, arith}
 use Rattle.std.specs.FinSet.{contains}
 use Rattle.mig_base.proofs.BitLemmas.{below_or_past}
-use Rattle.userfault.specs.Modes.{is_any_registered}
+use Rattle.mig_model.specs.Userfault.{is_watched}
 use Rattle.userfault.proofs.ModeLemmas.{is_below, is_past, found, not_found}
 use Rattle.userfault.proofs.object.Userfault.is_any_registered.Goals as goal
 
@@ -10,7 +10,7 @@ returns-then-next-end c =
     let end = c.args.first + c.args.count in
     is_below c.next.result end c.if-next-end.true
     ∙ found (contains c.self.inside.missing) (contains c.self.inside.protect) c.args.first c.args.count c.next.result c.next.ensures.range.0 c.if-next-end.true (inl (c.next.ensures.here (omega arith)))
-    ∙ ap (λ o. is_any_registered o c.args.first c.args.count) c.self.view_is
+    ∙ ap (λ o. is_watched o c.args.first c.args.count) c.self.view_is
 
 pub returns-else-next-end : goal.returns-else-next-end
 returns-else-next-end c =
@@ -24,4 +24,4 @@ returns-else-next-end c =
     is_past protect.result end past
     ∙ not_found (contains c.self.inside.missing) (contains c.self.inside.protect) c.args.first c.args.count (λ q a b. c.next.ensures.before q a (omega arith)) (λ q a b. protect.ensures.before q a (omega arith)))
     (below_or_past protect.result end)
-    ∙ ap (λ o. is_any_registered o c.args.first c.args.count) c.self.view_is
+    ∙ ap (λ o. is_watched o c.args.first c.args.count) c.self.view_is

@@ -1,0 +1,279 @@
+-- What deliveries, installs and breaks take from the wires and the arrivals, and by which frames a migration completes.
+use Rattle.std.proofs.Common.{◌≡◌, ◌≢◌, ℕ, ◌*◌, ◌<◌, Bool, true, false, Option, Some, None, List, [], ◌∷◌, refl, sym, ap, ◌∙◌, subst, if◌then◌else◌, IsOk}
+use Rattle.std.specs.Prelude.{Ok}
+use Rattle.std.specs.FinMap.{get}
+use Rattle.std.specs.FinSet.{contains, contains-empty}
+use Rattle.std.specs.Ordering.{nat_cmp}
+use Rattle.std.proofs.lemmas.Bool.{false≢true}
+use Rattle.mig_base.specs.declared.effect.Effect.{Effect}
+use Rattle.mig_base.specs.declared.phase.Received.{Received}
+use Rattle.mig_base.specs.declared.phase.SourcePhase.{SourcePhase}
+use Rattle.mig_base.specs.declared.schedule.Side.{Side}
+use Rattle.mig_base.specs.declared.schedule.Step.{Step}
+use Rattle.mig_model.specs.Wire.{Frame, Sent, Copy, sending_if}
+use Rattle.mig_model.specs.Wire.Frame.{Advise, Page, Zero, Discard, Package, End, Resume, Request, Recv, Done}
+use Rattle.mig_model.specs.Owed.{home, Owed}
+use Rattle.mig_model.specs.Source.{Source, is_released, source_act, source_took}
+use Rattle.mig_model.specs.Destination.{Destination, destination_took, destination_answers, install_by}
+use Rattle.mig_model.specs.Migration.{World, answer, outcome, next, install_effect, with_guest_by, after_deliver, after_deliver_back}
+use Rattle.mig_model.specs.Invariant.{IsSoundWorld}
+use Rattle.mig_model.specs.Parts.{Grows}
+use Rattle.mig_model.specs.Promises.{IsComplete, IsDelivered, IsDeliveredBack, Completes, takes_forward, takes_back, is_break, is_recv, is_last}
+use Rattle.mig_model.proofs.SettledLemmas.{home-is, home_tells}
+use Rattle.mig_model.proofs.StepLemmas.{Leaves, leaves-next, leaves-ok, outcome-ok}
+use Rattle.mig_model.proofs.StepCases.{made-issue, made-retry, made-start, made-round, made-send, made-source_read, made-source_act, made-switch, made-push, made-serve, made-end, made-deliver, made-deliver_back, made-dest_read, made-dest_act, made-install, made-break, made-notice, made-resume}
+use Rattle.mig_model.proofs.StaysComplete.{worked_phase, command_phase}
+use Rattle.mig_model.proofs.PartsChanged.{changes_parts}
+use Rattle.mig_model.specs.Guest.{Guest}
+use Rattle.mig_model.specs.Log.{no_pages, present}
+use Rattle.mig_model.proofs.Stopping.{append-nil}
+
+-- Deliveries
+
+-- the first frame of a wire was delivered, whatever it is called
+abbrev FirstDelivered : World → World → List Sent → Type 0
+FirstDelivered old new [] = ⊥
+FirstDelivered old new (sent ∷ rest) = IsDelivered old new sent rest
+
+first_is : (world : World) (sent : Sent) (rest wire : List Sent) → sent ∷ rest ≡ wire → world.up ≡ true → FirstDelivered world (after_deliver world sent rest) wire
+first_is world sent rest wire same up =
+    subst (FirstDelivered world (after_deliver world sent rest)) same
+    (record {
+      destination = refl;
+      forward = refl;
+      back = ap (λ u. sending_if u world.back (destination_took world.destination sent.epoch sent.frame).epoch (destination_answers world.destination sent.frame)) up;
+    })
+
+pub delivered_first : (world : World) (sent : Sent) (rest : List Sent) → IsOk (outcome world Step.Deliver) → world.forward ≡ sent ∷ rest → IsDelivered world (next world Step.Deliver) sent rest
+delivered_first world sent rest ok first =
+    leaves-ok (λ new. IsDelivered world new sent rest) world Step.Deliver (made-deliver _ world (λ other more is started up free. first_is world other more (sent ∷ rest) (sym is ∙ first) up)) ok
+
+abbrev FirstDeliveredBack : World → World → List Sent → Type 0
+FirstDeliveredBack old new [] = ⊥
+FirstDeliveredBack old new (sent ∷ rest) = IsDeliveredBack old new sent rest
+
+first_back_is : (world : World) (sent : Sent) (rest wire : List Sent) → sent ∷ rest ≡ wire → FirstDeliveredBack world (after_deliver_back world sent rest) wire
+first_back_is world sent rest wire same = subst (FirstDeliveredBack world (after_deliver_back world sent rest)) same (record { source = refl; back = refl; forward = refl })
+
+pub delivered_back_first : (world : World) (sent : Sent) (rest : List Sent) → IsOk (outcome world Step.DeliverBack) → world.back ≡ sent ∷ rest → IsDeliveredBack world (next world Step.DeliverBack) sent rest
+delivered_back_first world sent rest ok first =
+    leaves-ok (λ new. IsDeliveredBack world new sent rest) world Step.DeliverBack (made-deliver_back _ world (λ other more is started up. first_back_is world other more (sent ∷ rest) (sym is ∙ first))) ok
+
+-- The wires
+
+pub wires_broken : (world : World) → IsOk (outcome world Step.Break) → ((next world Step.Break).forward ≡ []) × ((next world Step.Break).back ≡ []) × ((next world Step.Break).up ≡ false)
+wires_broken world ok = leaves-ok (λ new. (new.forward ≡ []) × (new.back ≡ []) × (new.up ≡ false)) world Step.Break (made-break _ world (λ started unreleased up. (refl, refl, refl))) ok
+
+same_wire : (old new : List Sent) → new ≡ old → Grows old old → Grows old new
+same_wire old new same grows = record { more = grows.more; is = same ∙ grows.is }
+
+nothing_more : (wire : List Sent) → Grows wire wire
+nothing_more wire = record { more = []; is = sym (append-nil wire) }
+
+pub forward_grows : (world : World) (step : Step) → takes_forward step ≡ false → Grows world.forward (next world step).forward
+forward_grows world (Step.Issue cpu command) h = same_wire _ _ (changes_parts world (Step.Issue cpu command)).forward (nothing_more world.forward)
+forward_grows world (Step.Retry cpu) h = same_wire _ _ (changes_parts world (Step.Retry cpu)).forward (nothing_more world.forward)
+forward_grows world Step.Start h = (changes_parts world Step.Start).forward
+forward_grows world Step.Round h = (changes_parts world Step.Round).forward
+forward_grows world Step.Send h = (changes_parts world Step.Send).forward
+forward_grows world Step.SourceRead h = (changes_parts world Step.SourceRead).forward
+forward_grows world Step.SourceAct h = (changes_parts world Step.SourceAct).forward
+forward_grows world Step.Switch h = (changes_parts world Step.Switch).forward
+forward_grows world Step.Deliver h = absurd (false≢true (sym h))
+forward_grows world Step.DeliverBack h = (changes_parts world Step.DeliverBack).forward
+forward_grows world Step.DestRead h = same_wire _ _ (changes_parts world Step.DestRead).forward (nothing_more world.forward)
+forward_grows world Step.DestAct h = same_wire _ _ (changes_parts world Step.DestAct).forward (nothing_more world.forward)
+forward_grows world Step.Install h = same_wire _ _ (changes_parts world Step.Install).forward (nothing_more world.forward)
+forward_grows world (Step.Push ticket) h = (changes_parts world (Step.Push ticket)).forward
+forward_grows world Step.Serve h = (changes_parts world Step.Serve).forward
+forward_grows world Step.End h = (changes_parts world Step.End).forward
+forward_grows world Step.Break h = absurd (false≢true (sym h))
+forward_grows world (Step.Notice Side.Source) h = same_wire _ _ (ap (λ w. w.forward) (changes_parts world (Step.Notice Side.Source)).is) (nothing_more world.forward)
+forward_grows world (Step.Notice Side.Destination) h = same_wire _ _ (ap (λ w. w.forward) (changes_parts world (Step.Notice Side.Destination)).is) (nothing_more world.forward)
+forward_grows world Step.Resume h = (changes_parts world Step.Resume).forward
+
+pub back_grows : (world : World) (step : Step) → takes_back step ≡ false → Grows world.back (next world step).back
+back_grows world (Step.Issue cpu command) h = same_wire _ _ (changes_parts world (Step.Issue cpu command)).back (nothing_more world.back)
+back_grows world (Step.Retry cpu) h = same_wire _ _ (changes_parts world (Step.Retry cpu)).back (nothing_more world.back)
+back_grows world Step.Start h = same_wire _ _ (changes_parts world Step.Start).back (nothing_more world.back)
+back_grows world Step.Round h = same_wire _ _ (changes_parts world Step.Round).back (nothing_more world.back)
+back_grows world Step.Send h = same_wire _ _ (changes_parts world Step.Send).back (nothing_more world.back)
+back_grows world Step.SourceRead h = same_wire _ _ (changes_parts world Step.SourceRead).back (nothing_more world.back)
+back_grows world Step.SourceAct h = same_wire _ _ (changes_parts world Step.SourceAct).back (nothing_more world.back)
+back_grows world Step.Switch h = same_wire _ _ (changes_parts world Step.Switch).back (nothing_more world.back)
+back_grows world Step.Deliver h = (changes_parts world Step.Deliver).back
+back_grows world Step.DeliverBack h = absurd (false≢true (sym h))
+back_grows world Step.DestRead h = (changes_parts world Step.DestRead).back
+back_grows world Step.DestAct h = (changes_parts world Step.DestAct).back
+back_grows world Step.Install h = (changes_parts world Step.Install).back
+back_grows world (Step.Push ticket) h = same_wire _ _ (changes_parts world (Step.Push ticket)).back (nothing_more world.back)
+back_grows world Step.Serve h = same_wire _ _ (changes_parts world Step.Serve).back (nothing_more world.back)
+back_grows world Step.End h = same_wire _ _ (changes_parts world Step.End).back (nothing_more world.back)
+back_grows world Step.Break h = absurd (false≢true (sym h))
+back_grows world (Step.Notice Side.Source) h = same_wire _ _ (ap (λ w. w.back) (changes_parts world (Step.Notice Side.Source)).is) (nothing_more world.back)
+back_grows world (Step.Notice Side.Destination) h = same_wire _ _ (ap (λ w. w.back) (changes_parts world (Step.Notice Side.Destination)).is) (nothing_more world.back)
+back_grows world Step.Resume h = same_wire _ _ (changes_parts world Step.Resume).back (nothing_more world.back)
+
+-- the link is up
+abbrev IsUp : World → Type 0
+IsUp world = world.up ≡ true
+
+guest_up : (ran : Bool) (world : World) (guest : Guest) → (with_guest_by ran world guest).up ≡ world.up
+guest_up true world guest = refl
+guest_up false world guest = refl
+
+up_answer : (world : World) (step : Step) → is_break step ≡ false → IsUp world → Leaves IsUp (answer world step)
+up_answer world (Step.Issue cpu command) h up = made-issue _ world cpu command (λ idle may. guest_up world.destination.has_run world _ ∙ up)
+up_answer world (Step.Retry cpu) h up = made-retry _ world cpu (λ command waits woken may. guest_up world.destination.has_run world _ ∙ up)
+up_answer world Step.Start h up = made-start _ world (λ idle. up)
+up_answer world Step.Round h up = made-round _ world (λ precopy quiet. up)
+up_answer world Step.Send h up = made-send _ world (λ page is precopy linked quiet. up)
+up_answer world Step.SourceRead h up = made-source_read _ world (λ noted is started unswitched. up)
+up_answer world Step.SourceAct h up = made-source_act _ world (λ fault rest is started unswitched quiet. up)
+up_answer world Step.Switch h up = made-switch _ world (λ precopy linked quiet. up)
+up_answer world Step.Deliver h up = made-deliver _ world (λ sent rest is started linked free. up)
+up_answer world Step.DeliverBack h up = made-deliver_back _ world (λ sent rest is started linked. up)
+up_answer world Step.DestRead h up = made-dest_read _ world (λ noted is ran. up)
+up_answer world Step.DestAct h up = made-dest_act _ world (λ fault rest is ran quiet. up)
+up_answer world Step.Install h up = made-install _ world (λ copy rest is ran quiet. up)
+up_answer world (Step.Push ticket) h up = made-push _ world ticket (λ stopped linked own present remains. up)
+up_answer world Step.Serve h up = made-serve _ world (λ page pages is stopped linked. up)
+up_answer world Step.End h up = made-end _ world (λ stopped other linked none. up)
+up_answer world Step.Break h up = absurd (false≢true (sym h))
+up_answer world (Step.Notice Side.Source) h up = made-notice _ world Side.Source (λ started unreleased down. up)
+up_answer world (Step.Notice Side.Destination) h up = made-notice _ world Side.Destination (λ started unreleased down. up)
+up_answer world Step.Resume h up = made-resume _ world (λ from to down. refl)
+
+pub stays_up : (world : World) (step : Step) → is_break step ≡ false → world.up ≡ true → (next world step).up ≡ true
+stays_up world step h up = leaves-next IsUp world step up (up_answer world step h up)
+
+-- Installs
+
+arrivals_by : (o : Option ℕ) (node : Destination) (copy : Copy) (rest : List Copy) → (install_by o node copy rest).arrivals ≡ rest
+arrivals_by None node copy rest = refl
+arrivals_by (Some page) node copy rest = refl
+
+first_copy : (copy other : Copy) (rest more : List Copy) → copy ∷ rest ≡ other ∷ more → (copy ≡ other) × (rest ≡ more)
+first_copy copy other rest more same =
+    (ap (λ (l : List Copy). elim l [ [] ↦ copy | first ∷ _ ↦ first ]) same, ap (λ (l : List Copy). elim l [ [] ↦ rest | _ ∷ tail ↦ tail ]) same)
+
+pub arrivals_after : (world : World) (copy : Copy) (rest : List Copy) → IsOk (outcome world Step.Install) → world.destination.arrivals ≡ copy ∷ rest → (next world Step.Install).destination.arrivals ≡ rest
+arrivals_after world copy rest ok first =
+    leaves-ok (λ new. new.destination.arrivals ≡ rest) world Step.Install
+    (made-install _ world (λ other more is ran quiet. arrivals_by (home world.destination.owed other.page) world.destination other more ∙ (first_copy other copy more rest (sym is ∙ first)).1)) ok
+
+pub installed_where : (world : World) (copy : Copy) (rest : List Copy) (page : ℕ) → IsSoundWorld world → IsOk (outcome world Step.Install) → world.destination.arrivals ≡ copy ∷ rest → get world.destination.owed page ≡ Some copy.page →
+    outcome world Step.Install ≡ Ok (Effect.Installed (4096 * page) (4096 * copy.page))
+installed_where world copy rest page kept ok first owes =
+    let found = home-is world.destination.owed copy.page page kept.owing.one_to_one (kept.owing.owed_below page copy.page owes) owes in
+    outcome-ok (Effect.Installed (4096 * page) (4096 * copy.page)) world Step.Install
+    (made-install _ world (λ other more is ran quiet.
+    ap (λ (c : Copy). install_effect (home world.destination.owed c.page) c.page) (first_copy other copy more rest (sym is ∙ first)).0 ∙ ap (λ o. install_effect o copy.page) found)) ok
+
+no_home : (o : Option ℕ) (owed : Owed) (origin : ℕ) → home owed origin ≡ o → ((page : ℕ) → get owed page ≢ Some origin) → o ≡ None
+no_home None owed origin found none = refl
+no_home (Some page) owed origin found none = absurd (none page (home_tells owed origin page found))
+
+pub given_up_where : (world : World) (copy : Copy) (rest : List Copy) → IsOk (outcome world Step.Install) → world.destination.arrivals ≡ copy ∷ rest → ((page : ℕ) → get world.destination.owed page ≢ Some copy.page) →
+    outcome world Step.Install ≡ Ok (Effect.Dropped (4096 * copy.page))
+given_up_where world copy rest ok first none =
+    let lost = no_home (home world.destination.owed copy.page) world.destination.owed copy.page refl none in
+    outcome-ok (Effect.Dropped (4096 * copy.page)) world Step.Install
+    (made-install _ world (λ other more is ran quiet.
+    ap (λ (c : Copy). install_effect (home world.destination.owed c.page) c.page) (first_copy other copy more rest (sym is ∙ first)).0 ∙ ap (λ o. install_effect o copy.page) lost)) ok
+
+-- What remains
+
+rebuilt_remains : (switched : Bool) (a b : Source) (P : Source → Type 0) → P a → P b → P (if switched then a else b)
+rebuilt_remains true a b P one two = one
+rebuilt_remains false a b P one two = two
+
+no_page : {A : Type 0} (q : ℕ) → contains no_pages q ≡ true → A
+no_page q h = absurd (false≢true (sym (contains-empty nat_cmp q) ∙ h))
+
+taken_remains : (frame : Frame) (node : Source) (q : ℕ) → is_recv frame ≡ false → contains (source_took node frame).remaining q ≡ true → contains node.remaining q ≡ true
+taken_remains (Recv state owed) node q h is = absurd (false≢true (sym h))
+taken_remains Done node q h is = no_page q is
+taken_remains (Request page) node q h is = is
+taken_remains Advise node q h is = is
+taken_remains (Page page bytes) node q h is = is
+taken_remains (Zero page) node q h is = is
+taken_remains (Discard pages) node q h is = is
+taken_remains (Package areas owed commands) node q h is = is
+taken_remains End node q h is = is
+taken_remains Resume node q h is = is
+
+first_frame : (sent other : Sent) (rest more : List Sent) → sent ∷ rest ≡ other ∷ more → sent ≡ other
+first_frame sent other rest more same = ap (λ (l : List Sent). elim l [ [] ↦ sent | first ∷ _ ↦ first ]) same
+
+pub remaining_back : (world : World) (sent : Sent) (rest : List Sent) (q : ℕ) → world.back ≡ sent ∷ rest → is_recv sent.frame ≡ false → contains (next world Step.DeliverBack).source.remaining q ≡ true → contains world.source.remaining q ≡ true
+remaining_back world sent rest q first plain =
+    leaves-next (λ new. contains new.source.remaining q ≡ true → contains world.source.remaining q ≡ true) world Step.DeliverBack (λ h. h)
+    (made-deliver_back _ world (λ other more is started up h.
+    taken_remains other.frame world.source q (ap (λ (s : Sent). is_recv s.frame) (first_frame other sent more rest (sym is ∙ first)) ∙ plain) h))
+
+-- Completion
+
+last_releases : (frame : Frame) (node : Source) → is_last frame ≡ true → is_released (source_took node frame).phase ≡ true
+last_releases Done node h = refl
+last_releases (Recv Received.Ended owed) node h = refl
+last_releases (Recv Received.NotRun owed) node h = absurd (false≢true h)
+last_releases (Recv Received.Running owed) node h = absurd (false≢true h)
+last_releases _ node h = absurd (false≢true h)
+
+pub completes_by : (world : World) (sent : Sent) (rest : List Sent) → IsOk (outcome world Step.DeliverBack) → world.back ≡ sent ∷ rest → is_last sent.frame ≡ true → IsComplete (next world Step.DeliverBack)
+completes_by world sent rest ok first last =
+    leaves-ok IsComplete world Step.DeliverBack
+    (made-deliver_back _ world (λ other more is started up. last_releases other.frame world.source (ap (λ (s : Sent). is_last s.frame) (first_frame other sent more rest (sym is ∙ first)) ∙ last))) ok
+
+rebuilt_phase : (switched : Bool) (a b : Source) → is_released a.phase ≡ false → is_released b.phase ≡ false → is_released (if switched then a else b).phase ≡ true → false ≡ true
+rebuilt_phase true a b one two h = sym one ∙ h
+rebuilt_phase false a b one two h = sym two ∙ h
+
+released_by : (frame : Frame) (node : Source) → is_released node.phase ≡ false → is_released (source_took node frame).phase ≡ true → is_last frame ≡ true
+released_by Done node not h = refl
+released_by (Recv Received.Ended owed) node not h = refl
+released_by (Recv Received.NotRun owed) node not h = absurd (false≢true (rebuilt_phase node.switched _ _ refl refl h))
+released_by (Recv Received.Running owed) node not h = absurd (false≢true h)
+released_by (Request page) node not h = absurd (false≢true (sym not ∙ h))
+released_by Advise node not h = absurd (false≢true (sym not ∙ h))
+released_by (Page page bytes) node not h = absurd (false≢true (sym not ∙ h))
+released_by (Zero page) node not h = absurd (false≢true (sym not ∙ h))
+released_by (Discard pages) node not h = absurd (false≢true (sym not ∙ h))
+released_by (Package areas owed commands) node not h = absurd (false≢true (sym not ∙ h))
+released_by End node not h = absurd (false≢true (sym not ∙ h))
+released_by Resume node not h = absurd (false≢true (sym not ∙ h))
+
+-- if the new world is complete, the step has taken such a frame
+abbrev CompletesTo : World → Step → World → Type 0
+CompletesTo world step new = IsComplete new → Completes world step
+
+still_not : {A : Type 0} (old new : SourcePhase) → new ≡ old → is_released old ≡ false → is_released new ≡ true → A
+still_not old new same not h = absurd (false≢true (sym not ∙ sym (ap is_released same) ∙ h))
+
+completes_answer : (world : World) (step : Step) → is_released world.source.phase ≡ false → Leaves (CompletesTo world step) (answer world step)
+completes_answer world (Step.Issue cpu command) not = made-issue _ world cpu command (λ idle may h. still_not world.source.phase _ (command_phase world cpu command) not h)
+completes_answer world (Step.Retry cpu) not = made-retry _ world cpu (λ command waits woken may h. still_not world.source.phase _ (command_phase world cpu command) not h)
+completes_answer world Step.Start not = made-start _ world (λ idle h. absurd (false≢true h))
+completes_answer world Step.Round not = made-round _ world (λ precopy quiet h. absurd (false≢true (sym not ∙ h)))
+completes_answer world Step.Send not = made-send _ world (λ page is precopy up quiet h. absurd (false≢true (sym not ∙ h)))
+completes_answer world Step.SourceRead not = made-source_read _ world (λ noted is started unswitched h. absurd (false≢true (sym not ∙ h)))
+completes_answer world Step.SourceAct not =
+    made-source_act _ world (λ fault rest is started unswitched quiet h. still_not world.source.phase _ (worked_phase (source_act world.source fault) world fault.page) not h)
+completes_answer world Step.Switch not = made-switch _ world (λ precopy up quiet h. absurd (false≢true h))
+completes_answer world Step.Deliver not = made-deliver _ world (λ sent rest is started up free h. absurd (false≢true (sym not ∙ h)))
+completes_answer world Step.DeliverBack not =
+    made-deliver_back _ world (λ one more is started up h. record { step_is = refl; sent = one; rest = more; first = is; last = released_by one.frame world.source not h })
+completes_answer world Step.DestRead not = made-dest_read _ world (λ noted is ran h. absurd (false≢true (sym not ∙ h)))
+completes_answer world Step.DestAct not = made-dest_act _ world (λ fault rest is ran quiet h. absurd (false≢true (sym not ∙ h)))
+completes_answer world Step.Install not = made-install _ world (λ copy rest is ran quiet h. absurd (false≢true (sym not ∙ h)))
+completes_answer world (Step.Push ticket) not = made-push _ world ticket (λ stopped up own present remains h. absurd (false≢true (sym not ∙ h)))
+completes_answer world Step.Serve not = made-serve _ world (λ page pages is stopped up h. absurd (false≢true (sym not ∙ h)))
+completes_answer world Step.End not = made-end _ world (λ stopped other up none h. absurd (false≢true (sym not ∙ h)))
+completes_answer world Step.Break not = made-break _ world (λ started unreleased up h. absurd (false≢true (sym not ∙ h)))
+completes_answer world (Step.Notice Side.Source) not = made-notice _ world Side.Source (λ started unreleased down h. absurd (false≢true h))
+completes_answer world (Step.Notice Side.Destination) not = made-notice _ world Side.Destination (λ started unreleased down h. absurd (false≢true (sym not ∙ h)))
+completes_answer world Step.Resume not = made-resume _ world (λ from to down h. absurd (false≢true (sym not ∙ h)))
+
+pub completes_only : (world : World) (step : Step) → is_released world.source.phase ≡ false → IsComplete (next world step) → Completes world step
+completes_only world step not = leaves-next (CompletesTo world step) world step (λ h. absurd (false≢true (sym not ∙ h))) (completes_answer world step not)

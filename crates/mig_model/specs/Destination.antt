@@ -1,0 +1,205 @@
+-- The destination, in the phases of QEMU's postcopy document (docs/devel/migration/postcopy.rst, "Postcopy states" and "Postcopy
+-- recovery"), and what each of its steps makes of it.
+use Rattle.std.specs.Prelude.{ℕ, zero, suc, ◌+◌, ◌-◌, ◌/◌, ◌==◌, ◌&&◌, ◌||◌, not, Bool, true, false, if◌then◌else◌, Option, Some, None, is_some, List, [], ◌∷◌, ◌++◌, map}
+use Rattle.std.specs.Ordering.{nat_cmp}
+use Rattle.std.specs.FinMap as finmap
+use Rattle.std.specs.FinMap.{FinMap, get, contains_key}
+use Rattle.std.specs.FinSet.{FinSet}
+use Rattle.mig_base.specs.declared.TheConstants.{HIGH_PAGE}
+use Rattle.mig_base.specs.declared.Prot.{Prot}
+use Rattle.mig_base.specs.declared.command.Command.{Command}
+use Rattle.mig_base.specs.declared.phase.DestPhase.{DestPhase}
+use Rattle.mig_base.specs.declared.phase.Received.{Received}
+use Rattle.mig_base.specs.Bytes.{zero_page}
+use Rattle.mig_model.specs.Userfault.{Noted, Mode, fresh_object, enabled_with, registered_where}
+use Rattle.mig_model.specs.Space.{Space, fresh_space}
+use Rattle.mig_model.specs.Ioctls.{event_features, installed as pages_installed}
+use Rattle.mig_model.specs.Cpus.{idle_processors, taken_over}
+use Rattle.mig_model.specs.Guest.{Guest, Fault, Act, fault_count, read_guest, resolved, held_after, rest_held, zero_installed, is_forgotten, is_present}
+use Rattle.mig_model.specs.Guest.Act.{Unprotected, Zeroed, Woke, Forgot, Requested}
+use Rattle.mig_model.specs.Log.{no_pages}
+use Rattle.mig_model.specs.Owed.{Owed, owed_table_after, settled_by, home, origins, own_places, is_requested, requesting, without_request}
+use Rattle.mig_model.specs.Wire.{Frame, Copy, kept_after}
+use Rattle.mig_model.specs.Wire.Frame.{Advise, Page, Zero, Discard, Package, End, Resume, Request, Recv, Done}
+
+-- registered for missing faults
+abbrev pub for_missing : Mode
+for_missing = record { missing = true; protect = false }
+
+pub record Destination : Type 0 where
+  pub phase : DestPhase
+  -- whether it has run processors, and whether it has been told that nothing more is sent
+  pub has_run : Bool
+  pub ended : Bool
+  pub epoch : ℕ
+  -- the newest copies of pages, until it runs
+  pub kept : FinMap nat_cmp (List ℕ)
+  pub guest : Guest
+  -- faults that were read and not resolved yet, in the order in which they were read
+  pub held : List Fault
+  -- each page that it still has to get, where it belongs now, with its page at the source
+  pub owed : Owed
+  -- the source pages that it has asked for, each once, in the order in which they were first asked for
+  pub requests : List ℕ
+  -- the copies that came and were not installed yet
+  pub arrivals : List Copy
+  -- copies installed, copies given up, and fault messages read
+  pub installed : ℕ
+  pub dropped : ℕ
+  pub faults : ℕ
+
+abbrev pub first_destination : ℕ → Destination
+first_destination cpus =
+    record {
+      phase = DestPhase.Idle;
+      has_run = false;
+      ended = false;
+      epoch = 0;
+      kept = finmap.empty;
+      guest = record { space = fresh_space; cpus = idle_processors cpus };
+      held = [];
+      owed = finmap.empty;
+      requests = [];
+      arrivals = [];
+      installed = 0;
+      dropped = 0;
+      faults = 0;
+    }
+
+abbrev pub is_dest_paused : DestPhase → Bool
+is_dest_paused DestPhase.Paused = true
+is_dest_paused _ = false
+
+abbrev pub is_running : DestPhase → Bool
+is_running DestPhase.Running = true
+is_running _ = false
+
+-- the settled owed relation
+abbrev pub settled : Destination → ℕ → Option ℕ
+settled node = settled_by node.guest.space.object.events (get node.owed)
+
+-- Frames at the destination
+
+-- a fresh space of the areas, in which each page is registered for missing faults, with the pages that were kept
+abbrev pub assembled : FinMap nat_cmp Prot → FinMap nat_cmp (List ℕ) → Space
+assembled areas kept =
+    record {
+      host = record { areas = areas; bytes = kept };
+      protected = no_pages;
+      object = registered_where (enabled_with fresh_object event_features) (λ page. contains_key areas page) for_missing;
+    }
+
+-- the destination runs: QEMU's Listen and Run are this one step
+abbrev pub destination_ran : Destination → FinMap nat_cmp Prot → FinSet nat_cmp → List (Option Command) → Destination
+destination_ran node areas owed commands =
+    record node {
+      phase = DestPhase.Running;
+      has_run = true;
+      kept = finmap.empty;
+      owed = own_places owed HIGH_PAGE;
+      guest = record { space = assembled areas node.kept; cpus = map taken_over commands };
+      held = [];
+    }
+
+-- how far it came, which it tells once the channel is up again
+abbrev pub received_by : Bool → Bool → Received
+received_by false ended = Received.NotRun
+received_by true false = Received.Running
+received_by true true = Received.Ended
+
+abbrev pub received_of : Destination → Received
+received_of node = received_by node.has_run node.ended
+
+abbrev pub resumed_by : Received → Destination → Destination
+resumed_by Received.NotRun node = record node { phase = DestPhase.Advised; kept = finmap.empty }
+resumed_by Received.Running node = record node { phase = DestPhase.Running }
+resumed_by Received.Ended node = record node { phase = DestPhase.Ended }
+
+-- the answer to Resume: how far it came, with the source pages that it still needs, and then its requests once more
+abbrev pub recv_by : Received → Destination → List Frame
+recv_by Received.NotRun node = Recv Received.NotRun no_pages ∷ []
+recv_by Received.Running node = Recv Received.Running (origins node.owed) ∷ map Request node.requests
+recv_by Received.Ended node = Recv Received.Ended no_pages ∷ []
+
+abbrev pub arrived : Destination → Copy → Destination
+arrived node copy = record node { arrivals = node.arrivals ++ copy ∷ [] }
+
+-- a copy that comes is kept before the destination runs, and waits to be installed from then on
+abbrev pub copy_came : Bool → Destination → Copy → Destination
+copy_came true node copy = arrived node copy
+copy_came false node copy = record node { kept = finmap.insert node.kept copy.page copy.bytes }
+
+-- the destination after a frame that is in place
+abbrev pub destination_took : Destination → ℕ → Frame → Destination
+destination_took node epoch Advise = record node { phase = DestPhase.Advised; epoch = epoch }
+destination_took node epoch (Page page bytes) = copy_came node.has_run node (record { page = page; bytes = bytes })
+destination_took node epoch (Zero page) = copy_came node.has_run node (record { page = page; bytes = zero_page })
+destination_took node epoch (Discard pages) = record node { phase = DestPhase.Discarding; kept = kept_after node.kept (Discard pages) }
+destination_took node epoch (Package areas owed commands) = destination_ran node areas owed commands
+destination_took node epoch End = record node { phase = DestPhase.Ended; ended = true }
+destination_took node epoch Resume = resumed_by (received_of node) (record node { epoch = epoch })
+destination_took node epoch _ = node
+
+-- what it answers
+abbrev pub destination_answers : Destination → Frame → List Frame
+destination_answers node End = Done ∷ []
+destination_answers node Resume = recv_by (received_of node) node
+destination_answers node _ = []
+
+-- Its handler
+
+-- a message is read: an event is applied to the owed table at once
+abbrev pub destination_read : Destination → Noted → Destination
+destination_read node noted =
+    record node {
+      guest = read_guest node.guest noted.cpu noted.message;
+      held = held_after node.held noted.message;
+      owed = owed_table_after noted.message node.owed;
+      faults = node.faults + fault_count noted.message;
+    }
+
+-- by what the page is now, and by the page at the source that it is owed from
+abbrev pub destination_act_by : Bool → Bool → Option ℕ → Act
+destination_act_by true present owed = Forgot
+destination_act_by false true owed = Woke
+destination_act_by false false (Some origin) = Requested origin
+destination_act_by false false None = Zeroed
+
+abbrev pub destination_act : Destination → Fault → Act
+destination_act node fault = destination_act_by (is_forgotten node.guest.space fault.page) (is_present node.guest.space fault.page) (get node.owed fault.page)
+
+-- the sleepers of a page that is asked for sleep on
+abbrev pub destination_acted_by : Act → Destination → ℕ → Destination
+destination_acted_by Zeroed node page = record node { guest = resolved node.guest page (zero_installed node.guest.space page); held = rest_held node.held }
+destination_acted_by (Requested origin) node page = record node { held = rest_held node.held; requests = requesting node.requests origin }
+destination_acted_by act node page = record node { guest = resolved node.guest page node.guest.space; held = rest_held node.held }
+
+abbrev pub destination_acted : Destination → Fault → Destination
+destination_acted node fault = destination_acted_by (destination_act node fault) node fault.page
+
+-- the frames that it sends then
+abbrev pub act_frames : Act → Destination → List Frame
+act_frames (Requested origin) node = if is_requested node.requests origin || not (is_running node.phase) then [] else Request origin ∷ []
+act_frames act node = []
+
+-- Install
+
+-- the first copy that came is put where its page belongs now: UFFDIO_COPY or UFFDIO_ZEROPAGE. The pair and the request end, and the
+-- sleepers of the page are woken
+abbrev pub installed_at : Destination → Copy → List Copy → ℕ → Destination
+installed_at node copy rest page =
+    record node {
+      guest = resolved node.guest page (pages_installed node.guest.space page 1 (λ i. copy.bytes) false);
+      owed = finmap.remove node.owed page;
+      requests = without_request node.requests copy.page;
+      arrivals = rest;
+      installed = node.installed + 1;
+    }
+
+-- a copy that no page is owed is given up
+abbrev pub copy_dropped : Destination → List Copy → Destination
+copy_dropped node rest = record node { arrivals = rest; dropped = node.dropped + 1 }
+
+abbrev pub install_by : Option ℕ → Destination → Copy → List Copy → Destination
+install_by (Some page) node copy rest = installed_at node copy rest page
+install_by None node copy rest = copy_dropped node rest

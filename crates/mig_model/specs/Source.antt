@@ -1,0 +1,208 @@
+-- The source, in the phases of QEMU's postcopy document (docs/devel/migration/postcopy.rst, "Postcopy states" and "Postcopy
+-- recovery"), and what each of its steps makes of it.
+use Rattle.std.specs.Prelude.{ℕ, zero, suc, ◌+◌, ◌-◌, ◌/◌, ◌==◌, ◌&&◌, ◌||◌, not, Bool, true, false, if◌then◌else◌, Option, Some, None, is_some, List, [], ◌∷◌, ◌++◌, map}
+use Rattle.std.specs.Ordering.{nat_cmp}
+use Rattle.std.specs.FinSet as finset
+use Rattle.std.specs.FinSet.{FinSet, contains}
+use Rattle.mig_base.specs.declared.TheConstants.{HIGH_PAGE}
+use Rattle.mig_base.specs.declared.command.Command.{Command}
+use Rattle.mig_base.specs.declared.phase.Received.{Received}
+use Rattle.mig_base.specs.declared.phase.SourcePhase.{SourcePhase}
+use Rattle.mig_base.specs.Bytes.{contents}
+use Rattle.mig_model.specs.Userfault.{Noted, Mode, fresh_object, enabled_with}
+use Rattle.mig_model.specs.Space.{Space, fresh_space}
+use Rattle.mig_model.specs.Ioctls.{all_features, registered_in, protected_in}
+use Rattle.mig_model.specs.Cpus.{Cpus, idle_processors, outstanding}
+use Rattle.mig_model.specs.Guest.{Guest, Fault, Act, fault_count, read_guest, resolved, zero_installed, is_forgotten, is_present}
+use Rattle.mig_model.specs.Guest.Act.{Unprotected, Zeroed, Woke, Forgot, Requested}
+use Rattle.mig_model.specs.Log.{Log, empty_log, forgotten, dirty, log_sent, log_read, log_resolved, log_written, no_pages, less, present}
+use Rattle.mig_model.specs.Wire.{Frame}
+use Rattle.mig_model.specs.Wire.Frame.{Discard, Package, Request, Recv, Done}
+
+-- registered for missing faults and for those of write protection
+abbrev pub for_both : Mode
+for_both = record { missing = true; protect = true }
+
+pub record Source : Type 0 where
+  pub phase : SourcePhase
+  -- whether it has stopped its processors for good
+  pub switched : Bool
+  pub epoch : ℕ
+  -- the epoch in which End was sent last: no migration has epoch 0
+  pub end_epoch : ℕ
+  pub guest : Guest
+  pub log : Log
+  -- owed pages that were not sent yet in this epoch, and pages that the destination has asked for, in that order
+  pub remaining : FinSet nat_cmp
+  pub asked : List ℕ
+  -- how many pages the last Package owed
+  pub packaged : ℕ
+  -- rounds made, pages sent, and fault messages read
+  pub rounds : ℕ
+  pub pages_sent : ℕ
+  pub faults : ℕ
+
+-- a space on which nothing is mapped, whose object was enabled
+abbrev pub enabled_space : Space
+enabled_space = record fresh_space { object = enabled_with fresh_object all_features }
+
+abbrev pub first_source : ℕ → ℕ → ℕ → Source
+first_source cpus epoch rounds =
+    record {
+      phase = SourcePhase.Idle;
+      switched = false;
+      epoch = epoch;
+      end_epoch = 0;
+      guest = record { space = enabled_space; cpus = idle_processors cpus };
+      log = empty_log;
+      remaining = no_pages;
+      asked = [];
+      packaged = 0;
+      rounds = rounds;
+      pages_sent = 0;
+      faults = 0;
+    }
+
+abbrev pub is_source_idle : SourcePhase → Bool
+is_source_idle SourcePhase.Idle = true
+is_source_idle _ = false
+
+abbrev pub is_precopy : SourcePhase → Bool
+is_precopy SourcePhase.Precopy = true
+is_precopy _ = false
+
+abbrev pub is_stopped : SourcePhase → Bool
+is_stopped SourcePhase.Stopped = true
+is_stopped _ = false
+
+abbrev pub is_source_paused : SourcePhase → Bool
+is_source_paused SourcePhase.Paused = true
+is_source_paused _ = false
+
+abbrev pub is_released : SourcePhase → Bool
+is_released SourcePhase.Released = true
+is_released _ = false
+
+abbrev pub in_space : Source → Space → Source
+in_space node space = record node { guest = record node.guest { space = space } }
+
+-- a node with its guest's space
+abbrev pub space_of : Source → Space
+space_of node = node.guest.space
+
+-- every mapped page is registered
+abbrev pub all_registered : Space → Space
+all_registered space = registered_in space 0 HIGH_PAGE for_both
+
+abbrev pub source_started : Source → Source
+source_started node = record (in_space node (all_registered (space_of node))) { phase = SourcePhase.Precopy; epoch = node.epoch + 1 }
+
+-- the present pages that are not clean
+abbrev pub not_clean : Source → FinSet nat_cmp
+not_clean node = dirty (space_of node) node.log
+
+abbrev pub round_made : Source → Source
+round_made node = record (in_space node (all_registered (space_of node))) { log = record node.log { todo = not_clean node }; rounds = node.rounds + 1 }
+
+-- the bytes of a page of the source
+abbrev pub bytes_of : Source → ℕ → List ℕ
+bytes_of node page = contents (space_of node).host.bytes page
+
+-- a page is protected, then read, and is clean
+abbrev pub page_sent : Source → ℕ → Source
+page_sent node page =
+    record (in_space node (protected_in (space_of node) page 1 true)) { log = log_sent node.log page; pages_sent = node.pages_sent + 1 }
+
+-- a message is read: a fault is held, and an event's pages are neither clean nor to be sent
+abbrev pub source_read : Source → Noted → Source
+source_read node noted =
+    record node {
+      guest = read_guest node.guest noted.cpu noted.message;
+      log = log_read node.log noted.message;
+      faults = node.faults + fault_count noted.message;
+    }
+
+-- at the source, by what the page is now
+abbrev pub source_act_by : Bool → Bool → Bool → Act
+source_act_by true present protected = Forgot
+source_act_by false false protected = Zeroed
+source_act_by false true true = Unprotected
+source_act_by false true false = Woke
+
+abbrev pub source_act : Source → Fault → Act
+source_act node fault =
+    source_act_by (is_forgotten (space_of node) fault.page) (is_present (space_of node) fault.page) (contains (space_of node).protected fault.page && fault.wp)
+
+abbrev pub source_acted_by : Act → Source → ℕ → Source
+source_acted_by Unprotected node page =
+    record node { guest = resolved node.guest page (protected_in (space_of node) page 1 false); log = log_written node.log page }
+source_acted_by Zeroed node page = record node { guest = resolved node.guest page (zero_installed (space_of node) page); log = log_resolved node.log }
+source_acted_by act node page = record node { guest = resolved node.guest page (space_of node); log = log_resolved node.log }
+
+abbrev pub source_acted : Source → Fault → Source
+source_acted node fault = source_acted_by (source_act node fault) node fault.page
+
+-- the outstanding commands of the processors
+abbrev pub commands_of : Cpus → List (Option Command)
+commands_of processors = map outstanding processors
+
+-- the two frames with which a destination can run
+abbrev pub package_frames : Source → FinSet nat_cmp → FinSet nat_cmp → List Frame
+package_frames node discarded owed = Discard discarded ∷ Package (space_of node).host.areas owed (commands_of node.guest.cpus) ∷ []
+
+-- the source stops its processors for good, and gives up its unread and its held faults
+abbrev pub switch_made : Source → Source
+switch_made node =
+    record node {
+      phase = SourcePhase.Stopped;
+      switched = true;
+      remaining = not_clean node;
+      packaged = finset.len (not_clean node);
+      guest = record node.guest { space = record (space_of node) { object = record (space_of node).object { faults = [] } } };
+      log = record node.log { held = [] };
+    }
+
+abbrev pub switch_frames : Source → List Frame
+switch_frames node = package_frames node (less node.log.sent node.log.clean) (not_clean node)
+
+abbrev pub page_pushed : Source → ℕ → Source
+page_pushed node page = record node { remaining = finset.remove node.remaining page; pages_sent = node.pages_sent + 1 }
+
+abbrev pub request_served : Source → List ℕ → Source
+request_served node pages = record node { asked = pages }
+
+-- a source whose migration is complete holds nothing
+abbrev pub released : Source → Source
+released node =
+    record node {
+      phase = SourcePhase.Released;
+      remaining = no_pages;
+      asked = [];
+      guest = record node.guest { space = fresh_space };
+      log = empty_log;
+    }
+
+-- what the destination has received decides what is done after a break
+abbrev pub source_rebuilt : Received → FinSet nat_cmp → Source → Source
+source_rebuilt Received.NotRun owed node =
+    if node.switched
+    then record node { phase = SourcePhase.Stopped; asked = []; remaining = present (space_of node); packaged = finset.len (present (space_of node)) }
+    else record node { phase = SourcePhase.Precopy; asked = []; log = forgotten node.log }
+source_rebuilt Received.Running owed node = record node { phase = SourcePhase.Stopped; asked = []; remaining = owed }
+source_rebuilt Received.Ended owed node = released node
+
+-- what it sends then
+abbrev pub rebuild_frames : Received → Source → List Frame
+rebuild_frames Received.NotRun node = if node.switched then package_frames node no_pages (present (space_of node)) else []
+rebuild_frames Received.Running node = []
+rebuild_frames Received.Ended node = []
+
+abbrev pub source_took : Source → Frame → Source
+source_took node (Request page) = record node { asked = node.asked ++ page ∷ [] }
+source_took node (Recv state owed) = source_rebuilt state owed node
+source_took node Done = released node
+source_took node _ = node
+
+abbrev pub source_answers : Source → Frame → List Frame
+source_answers node (Recv state owed) = rebuild_frames state node
+source_answers node _ = []

@@ -1,7 +1,0 @@
-use Rattle.std.proofs.Common.{arith, None, false}
-use Rattle.std.specs.FinSet.{contains}
-use Rattle.page_table.proofs.LeafLemmas.{put_cell}
-use Rattle.page_table.proofs.place.leaf_take.Goals as goal
-
-pub returns-clause-left : goal.returns-clause-left
-returns-clause-left c = λ j. put_cell c.args.leaf.now.pages.items c.take_page-page.new.pages.items (contains c.args.leaf.now.protected j) (contains c.set_member.new.set j) c.args.i j None false (omega (arith, c.args.leaf.now.whole)) c.take_page-page.ensures.pages (c.set_member.ensures j)
