@@ -1,8 +1,9 @@
 //! The processors of a guest.
 
 ghost use Rattle.std.specs.Prelude.{◌≡◌, ℕ, ◌==◌, ◌<◌, ◌≤◌, ◌↔◌, true, false, map, set, length, OnOk, OnErr, IfOk};
-ghost use Rattle.mig_model.specs.World.{is_access};
-ghost use Rattle.mig_model.specs.Guest.{idle_processors, processor_at, outstanding, taken_over, all_woken, message_less, in_bytes};
+ghost use Rattle.mig_base.specs.Commands.{is_access};
+ghost use Rattle.mig_model.specs.Cpus.{idle_processors, processor_at, outstanding, taken_over, all_woken, message_less};
+ghost use Rattle.mig_model.specs.Guest.{in_bytes};
 ghost use Rattle.vcpu.specs.Processors.{HasMessage};
 ghost use Rattle.vcpu.specs.Answers.{is_count, state_answer, idle_answer, outstanding_answer, woken_answer, message_answer};
 

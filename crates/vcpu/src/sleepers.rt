@@ -1,8 +1,8 @@
 //! Whom a call wakes.
 
 ghost use Rattle.std.specs.Prelude.{◌≡◌};
-ghost use Rattle.mig_model.specs.Space.{page_of};
-ghost use Rattle.mig_model.specs.Guest.{woken_if, all_woken};
+ghost use Rattle.mig_base.specs.Commands.{page_of};
+ghost use Rattle.mig_model.specs.Cpus.{woken_if, all_woken};
 
 use mig_base::cpu_state::CpuState;
 use mig_base::{Addr, Command, PAGE_SIZE, PageNo};
