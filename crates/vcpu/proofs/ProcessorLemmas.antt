@@ -5,8 +5,8 @@ use Rattle.std.proofs.lemmas.List.Elements.{All-map, All-weaker}
 use Rattle.mig_base.specs.declared.TheConstants.{MAX_CPUS}
 use Rattle.mig_base.specs.declared.command.Command.{Command}
 use Rattle.mig_base.specs.declared.cpu_state.CpuState.{CpuState}
-use Rattle.mig_model.specs.Space.{page_of}
-use Rattle.mig_model.specs.Guest.{taken_over, woken_if, all_woken}
+use Rattle.mig_base.specs.Commands.{page_of}
+use Rattle.mig_model.specs.Cpus.{taken_over, woken_if, all_woken}
 use Rattle.vcpu.specs.Processors.{HasMessage, AreProcessors}
 
 -- a call is left alone

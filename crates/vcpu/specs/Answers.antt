@@ -5,7 +5,7 @@ use Rattle.mig_base.specs.declared.command.Command.{Command}
 use Rattle.mig_base.specs.declared.command.Reply.{Reply}
 use Rattle.mig_base.specs.declared.cpu_state.CpuState.{CpuState}
 use Rattle.mig_base.specs.declared.refusal.Refusal.{Refusal}
-use Rattle.mig_model.specs.Guest.{processor_at, outstanding, handed_over}
+use Rattle.mig_model.specs.Cpus.{processor_at, outstanding, handed_over}
 
 -- how many processors a guest may have
 abbrev pub is_count : ℕ → Bool

@@ -1,8 +1,9 @@
 //! The processors of a guest.
 
 ghost use Rattle.std.specs.Prelude.{◌≡◌, ℕ, ◌==◌, ◌<◌, ◌≤◌, ◌↔◌, true, false, map, set, length, OnOk, OnErr, IfOk};
-ghost use Rattle.mig_model.specs.World.{is_access};
-ghost use Rattle.mig_model.specs.Guest.{idle_processors, processor_at, outstanding, taken_over, all_woken, message_less, in_bytes};
+ghost use Rattle.mig_base.specs.Commands.{is_access};
+ghost use Rattle.mig_model.specs.Cpus.{idle_processors, processor_at, outstanding, taken_over, all_woken, message_less};
+ghost use Rattle.mig_model.specs.Guest.{in_bytes};
 ghost use Rattle.vcpu.specs.Processors.{HasMessage};
 ghost use Rattle.vcpu.specs.Answers.{is_count, state_answer, idle_answer, outstanding_answer, woken_answer, message_answer};
 
@@ -176,14 +177,14 @@ impl Cpus {
         Ok(handed_over)
     }
 
-    /// Wakes those that sleep on a page.
+    /// Wakes those that sleep on the page.
     pub fn wake_page(&mut self, page: PageNo)
         ensures { self.new ≡ all_woken (λ q. q == page) self.old }
     {
         self.wake(Sleepers::OnPage(page));
     }
 
-    /// Wakes those that sleep on a page of the bytes from `start` up to, not with, `end`. Both are multiples of the page size.
+    /// Wakes those that sleep on a page from that of address `start` up to, not with, that of address `end`.
     pub fn wake_range(&mut self, start: Addr, end: Addr)
         ensures { self.new ≡ all_woken (in_bytes start end) self.old }
     {
@@ -210,12 +211,14 @@ impl Cpus {
 
     ghost use Rattle.vcpu.specs.Sleepers.{are_woken};
 
+    /// Wakes these.
     fn wake(&mut self, sleepers: Sleepers)
         ensures { self.new ≡ all_woken (are_woken sleepers) self.old }
     {
         sleepers.wake(&mut self.states);
     }
 
+    /// Processor `k` does this from now on.
     fn put(&mut self, k: usize, state: CpuState)
         requires cpu { k < length self.old }
         requires message { HasMessage state }

@@ -7,9 +7,9 @@
 //! The crate deliberately knows no more. It has no memory and no userfault object: its callers say what a command comes to, which
 //! messages were read, and which pages are woken. It executes no command.
 //!
-//! Contracts see the processors as a list of [`mig_base::cpu_state::CpuState`], and each call is one step of the section on
-//! processors in `mig_model`'s `specs/Guest.antt`; `specs/Answers.antt` says what each call answers. The modules follow: `cpus`
-//! (the type that callers see), `fault` (why it could not be made), and `sleepers` (whom a call wakes).
+//! Contracts see the processors as a list of [`mig_base::cpu_state::CpuState`], and each call is one step of
+//! `mig_model`'s `specs/Cpus.antt`; `specs/Answers.antt` says what each call answers. The modules follow: `cpus` (the type that
+//! callers see), `fault` (why it could not be made), and `sleepers` (whom a call wakes).
 #![tactic(auto)]
 
 mod cpus;

@@ -1,8 +1,8 @@
 //! Whom a call wakes.
 
 ghost use Rattle.std.specs.Prelude.{◌≡◌};
-ghost use Rattle.mig_model.specs.Space.{page_of};
-ghost use Rattle.mig_model.specs.Guest.{woken_if, all_woken};
+ghost use Rattle.mig_base.specs.Commands.{page_of};
+ghost use Rattle.mig_model.specs.Cpus.{woken_if, all_woken};
 
 use mig_base::cpu_state::CpuState;
 use mig_base::{Addr, Command, PAGE_SIZE, PageNo};
@@ -12,7 +12,7 @@ use mig_base::{Addr, Command, PAGE_SIZE, PageNo};
 pub enum Sleepers {
     /// On this page.
     OnPage(PageNo),
-    /// On a page of the bytes from `start` up to, not with, `end`. Both are multiples of the page size.
+    /// On a page from that of `start` up to, not with, that of `end`.
     Between { start: Addr, end: Addr },
     /// On any page.
     OnAnyPage,
@@ -52,7 +52,7 @@ impl Sleepers {
     }
 }
 
-/// The page of a load or a store. No processor sleeps in another command.
+/// The page of a load or a store, at any address. 0 for a map call, in which no processor sleeps on a page.
 fn page_of(command: Command) -> u64
     ensures { result ≡ page_of command }
 {

@@ -1,7 +1,7 @@
 //! `Cpus`, call by call.
 
 ghost use Rattle.std.specs.Prelude.{◌≡◌, true};
-ghost use Rattle.mig_model.specs.World.{is_access};
+ghost use Rattle.mig_base.specs.Commands.{is_access};
 
 use mig_base::cpu_state::CpuState;
 use mig_base::refusal::Refusal;

@@ -1,5 +1,5 @@
 use Rattle.std.proofs.Common.{◌≡◌, ◌++◌, map, take, drop}
-use Rattle.mig_model.specs.Guest.{taken_over}
+use Rattle.mig_model.specs.Cpus.{taken_over}
 use Rattle.vcpu.proofs.cpus.Cpus.take_over.Given as goal
 
 abbrev pub invariant-loop-k : goal.invariant-loop-k

@@ -1,6 +1,6 @@
 use Rattle.std.proofs.Common.{◌≡◌, ◌++◌, ◌∙◌, ap, sym, subst, take, drop, length, arith}
 use Rattle.std.proofs.Math.Seq.{take-append_seam}
-use Rattle.mig_model.specs.Guest.{all_woken}
+use Rattle.mig_model.specs.Cpus.{all_woken}
 use Rattle.vcpu.specs.Processors.{AreProcessors}
 use Rattle.vcpu.specs.Sleepers.{are_woken}
 use Rattle.vcpu.proofs.ProcessorLemmas.{AreProcessors-all_woken}

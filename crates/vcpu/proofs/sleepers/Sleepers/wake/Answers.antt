@@ -1,6 +1,6 @@
 use Rattle.std.proofs.Common.{rules}
 use Rattle.std.proofs.lemmas.List.Edits.{map_over_more}
-use Rattle.mig_model.specs.Guest.{woken_if}
+use Rattle.mig_model.specs.Cpus.{woken_if}
 use Rattle.vcpu.specs.Sleepers.{are_woken}
 use Rattle.vcpu.proofs.sleepers.Sleepers.wake.Goals as goal
 

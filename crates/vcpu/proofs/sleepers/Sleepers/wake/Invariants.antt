@@ -1,5 +1,5 @@
 use Rattle.std.proofs.Common.{◌≡◌, ◌++◌, map, take, drop}
-use Rattle.mig_model.specs.Guest.{woken_if}
+use Rattle.mig_model.specs.Cpus.{woken_if}
 use Rattle.vcpu.specs.Sleepers.{are_woken}
 use Rattle.vcpu.proofs.sleepers.Sleepers.wake.Given as goal
 
