@@ -12,9 +12,7 @@ ghost use Rattle.fault_handler.specs.Owed.{home, origins, own_places};
 mod links;
 mod table;
 
-use crate::owed::links::{
-    Links, link_itself, make_room, move_links, no_links, unlink, unlink_range,
-};
+use crate::owed::links::Links;
 use crate::owed::table::{get_number, numbered};
 use mig_base::page_set::PageSet;
 use mig_base::{HIGH_PAGE, NoMemory, PageNo};
@@ -23,7 +21,8 @@ use std::marker::Model;
 
 /// The table of owed pages: which page of the source, the *origin*, is to fill which page of the destination.
 ///
-/// No origin is owed to two pages. Pages and origins lie below `HIGH_PAGE`. A look-up either way is one index and another.
+/// No page of the source is owed at two pages. Pages and origins lie below `HIGH_PAGE`. `home`, `origin` and `settle` take the
+/// same few steps whatever is owed, and the number of pairs is kept.
 #[derive(Drop)]
 pub struct Owed {
     alloc: Global,
@@ -51,18 +50,18 @@ impl Owed {
     {
         Owed {
             alloc,
-            links: no_links(alloc),
+            links: Links::new(alloc),
         }
     }
 
-    /// A table in which each page of the set is owed at its own place.
+    /// A table in which each page of the set is owed at its own place. `NoMemory` is for the room of both directions.
     pub fn new(alloc: Global, pages: &PageSet) -> Result<Self, NoMemory>
         ensures { IfOk result (λ owed. owed ≡ own_places pages.now HIGH_PAGE) }
     {
-        let mut links = no_links(alloc);
+        let mut links = Links::new(alloc);
         let mut page = pages.next(0, true);
         while page < HIGH_PAGE {
-            link_itself(alloc, &mut links, page)?;
+            links.link_itself(alloc, page)?;
             page = pages.next(page + 1, true);
         }
         Ok(Owed { alloc, links })
@@ -108,37 +107,40 @@ impl Owed {
         self.links.count == 0
     }
 
-    /// Ends what is owed of a page of the source, wherever it belongs now. An origin that is not owed changes nothing.
+    /// Ends what is owed of a page of the source, wherever it belongs now. One that is not owed changes nothing. It takes no
+    /// memory.
     pub fn settle(&mut self, origin: PageNo)
         ensures settled { (q : ℕ) → map.get self.old q ≡ Some origin → self.new ≡ map.remove self.old q }
         ensures none { ((q : ℕ) → map.get self.old q ≢ Some origin) → self.new ≡ self.old }
     {
         if let Some(page) = get_number(&self.links.back, origin) {
-            unlink(&mut self.links, page);
+            self.links.unlink(page);
         }
     }
 
-    /// Ends what is owed at the `count` pages from `first` on.
+    /// Ends what is owed at the `count` pages from `first` on. It passes what is owed nowhere by whole leaves, and takes no
+    /// memory.
     pub fn remove_range(&mut self, first: PageNo, count: u32)
         requires { first + count ≤ HIGH_PAGE }
         ensures { self.new ≡ remove_range self.old first count }
     {
-        unlink_range(&mut self.links, first, count);
+        self.links.unlink_range(first, count);
     }
 
     /// Has the `count` pages from `to` on owed what the pages from `from` on were. What was owed at the target ends, and
     /// nothing is owed at the old pages afterwards.
     ///
-    /// On `NoMemory`, for the room of the target, the table is as it was.
+    /// It passes what is owed nowhere by whole leaves, and asks for room only where a page is owed. On `NoMemory`, for the room
+    /// of the target, the table is as it was.
     pub fn move_range(&mut self, from: PageNo, to: PageNo, count: u32) -> Result<(), NoMemory>
         requires inside { (from + count ≤ HIGH_PAGE) × (to + count ≤ HIGH_PAGE) }
         requires apart { (from + count ≤ to) ⊎ (to + count ≤ from) }
         ensures ok { OnOk result (self.new ≡ moved_range self.old from count to count None) }
         ensures err { OnErr result (self.new ≡ self.old) }
     {
-        make_room(self.alloc, &mut self.links, to, count)?;
-        unlink_range(&mut self.links, to, count);
-        move_links(&mut self.links, from, to, count);
+        self.links.make_room(self.alloc, from, to, count)?;
+        self.links.unlink_range(to, count);
+        self.links.move_links(from, to, count);
         Ok(())
     }
 }

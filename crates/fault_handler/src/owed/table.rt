@@ -3,6 +3,7 @@
 ghost use Rattle.std.specs.Prelude.{◌≡◌, ℕ, ◌+◌, ◌/◌, ◌<◌, ◌≤◌, ◌&&◌, true, nat_eq, nat_lt, if◌then◌else◌, None, OnOk, IfOk, is_some, length, slice_index_or};
 ghost use Rattle.std.specs.FinSet.{contains};
 ghost use Rattle.mig_base.specs.declared.TheConstants.{HIGH_PAGE};
+ghost use Rattle.mig_base.specs.declared.chunk.TheConstants.{CHUNK, CHUNKS};
 ghost use Rattle.fault_handler.specs.Tables.{number_in, number_at, is_place, has_place};
 
 use mig_base::chunk::CHUNK;
@@ -11,13 +12,13 @@ use mig_base::{NoMemory, PageNo};
 use std::alloc::Global;
 
 /// The numbers of 1024 pages.
-pub type Leaf = [Option<PageNo>; 1024];
+pub type Leaf = [Option<PageNo>; CHUNK as usize];
 
 /// A place for a leaf: empty until one of its numbers is put.
 pub type Place = Option<Box<Leaf>>;
 
 fn place_get(place: &Place, i: u32) -> Option<PageNo>
-    requires { i < 1024 }
+    requires { i < CHUNK }
     ensures { result ≡ number_in place.now i }
 {
     match place {
@@ -27,7 +28,7 @@ fn place_get(place: &Place, i: u32) -> Option<PageNo>
 }
 
 fn place_put(place: &mut Place, i: u32, number: Option<PageNo>)
-    requires inside { i < 1024 }
+    requires inside { i < CHUNK }
     requires there { is_place place.old ≡ true }
     ensures put { (j : ℕ) → number_in place.new j ≡ (if nat_eq j i then number else number_in place.old j) }
     ensures stays { is_place place.new ≡ true }
@@ -38,7 +39,7 @@ fn place_put(place: &mut Place, i: u32, number: Option<PageNo>)
 }
 
 fn leaf_put(leaf: &mut Leaf, i: u32, number: Option<PageNo>)
-    requires { i < 1024 }
+    requires { i < CHUNK }
     ensures { (j : ℕ) → slice_index_or leaf.new j None ≡ (if nat_eq j i then number else slice_index_or leaf.old j None) }
 {
     leaf[i as usize] = number;
@@ -52,7 +53,7 @@ fn place_make(alloc: Global, place: &mut Place) -> Result<(), NoMemory>
     match place {
         Some(_) => Ok(()),
         None => {
-            let Ok(leaf) = Box::new(alloc, [None; 1024]) else {
+            let Ok(leaf) = Box::new(alloc, [None; CHUNK as usize]) else {
                 return Err(NoMemory);
             };
             *place = Some(leaf);
@@ -97,9 +98,9 @@ pub fn put_number(places: &mut Vec<Place>, page: PageNo, number: Option<PageNo>)
 
 /// Makes the leaf of a page, where there is none.
 pub fn make_leaf(alloc: Global, places: &mut Vec<Place>, page: PageNo) -> Result<(), NoMemory>
-    requires { (page < HIGH_PAGE) × (length places.old.items ≤ 1024) }
+    requires { (page < HIGH_PAGE) × (length places.old.items ≤ CHUNKS) }
     ensures same { (q : ℕ) → number_at places.new.items q ≡ number_at places.old.items q }
-    ensures few { length places.new.items ≤ 1024 }
+    ensures few { length places.new.items ≤ CHUNKS }
     ensures there { OnOk result (has_place places.new.items page ≡ true) }
     ensures stay { (q : ℕ) → has_place places.old.items q ≡ true → has_place places.new.items q ≡ true }
 {
@@ -119,10 +120,11 @@ pub fn make_leaves(
     first: PageNo,
     count: u32,
 ) -> Result<(), NoMemory>
-    requires { (first + count ≤ HIGH_PAGE) × (length places.old.items ≤ 1024) }
+    requires { (first + count ≤ HIGH_PAGE) × (length places.old.items ≤ CHUNKS) }
     ensures same { (q : ℕ) → number_at places.new.items q ≡ number_at places.old.items q }
-    ensures few { length places.new.items ≤ 1024 }
+    ensures few { length places.new.items ≤ CHUNKS }
     ensures there { OnOk result ((q : ℕ) → first ≤ q → q < first + count → has_place places.new.items q ≡ true) }
+    ensures stay { (q : ℕ) → has_place places.old.items q ≡ true → has_place places.new.items q ≡ true }
 {
     let end = first + count;
     for at in first / CHUNK..(end + (CHUNK - 1)) / CHUNK {
@@ -137,7 +139,7 @@ pub fn make_leaves(
 pub fn next_leaf(page: PageNo, end: PageNo) -> PageNo
     requires { (page < end) × (end ≤ HIGH_PAGE) }
     ensures range { (page < result) × (result ≤ end) }
-    ensures same { (q : ℕ) → page ≤ q → q < result → q / 1024 ≡ page / 1024 }
+    ensures same { (q : ℕ) → page ≤ q → q < result → q / CHUNK ≡ page / CHUNK }
 {
     let next = (page / CHUNK + 1) * CHUNK;
     if next < end { next } else { end }
@@ -145,7 +147,7 @@ pub fn next_leaf(page: PageNo, end: PageNo) -> PageNo
 
 /// The pages that have a number, as a set. It goes over each leaf that was ever made, page by page.
 pub fn numbered(alloc: Global, places: &Vec<Place>) -> Result<PageSet, NoMemory>
-    requires { length places.now.items ≤ 1024 }
+    requires { length places.now.items ≤ CHUNKS }
     ensures { IfOk result (λ pages. (q : ℕ) → contains pages q ≡ is_some (number_at places.now.items q)) }
 {
     let mut pages = PageSet::new(alloc);

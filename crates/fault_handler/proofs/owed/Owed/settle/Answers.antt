@@ -8,7 +8,7 @@ pub returns-in-Some-clause-settled : goal.returns-in-Some-clause-settled
 returns-in-Some-clause-settled c = λ q h.
     let there = (c.self.inside.links.kept.agree q c.args.origin).0 (seen c.self.inside.links.forth.items c.args.self.now q c.self.inside.links.kept.few c.self.view_is ∙ h) in
     let same : c.in-Some.page ≡ q = same_some c.in-Some.page q (sym (sym c.get_number.ensures ∙ c.in-Some.is) ∙ there) in
-    removed_shown c.self.inside.links.forth.items c.unlink.new.links.forth.items c.args.self.now c.in-Some.page c.self.inside.links.kept.few c.unlink.new.links.kept.few c.self.view_is c.unlink.ensures.pairs
+    removed_shown c.self.inside.links.forth.items c.unlink.new.self.forth.items c.args.self.now c.in-Some.page c.self.inside.links.kept.few c.unlink.new.self.kept.few c.self.view_is c.unlink.ensures.pairs
     ∙ ap (λ p. map.remove c.args.self.now p) same
 
 pub returns-in-Some-clause-none : goal.returns-in-Some-clause-none
