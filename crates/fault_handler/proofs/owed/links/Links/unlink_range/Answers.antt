@@ -16,3 +16,13 @@ loop-page-preserved c = record {
   from = omega arith;
   up = omega arith;
 }
+
+pub loop-page-preserved-then-has_leaf : goal.loop-page-preserved-then-has_leaf
+loop-page-preserved-then-has_leaf c = record {
+  pairs = λ q. c.unlink_run.ensures.pairs q
+      ∙ ap (λ o. cond (in_range c.loop-page.page (c.next_leaf-next.result - c.loop-page.page) q) None o) (c.loop-page.invariant.pairs q)
+      ∙ range_on c.args.first c.loop-page.page c.next_leaf-next.result q (number_at c.args.self.now.forth.items q) (omega arith) (omega arith);
+  stay = λ q. c.unlink_run.ensures.stay q ∙ c.loop-page.invariant.stay q;
+  from = omega arith;
+  up = omega arith;
+}
