@@ -61,7 +61,7 @@ pub const LOW_PAGE: u32 = 0x10;
 pub const HIGH_PAGE: u32 = 0x10_0000;
 
 /// How many pages may be mapped.
-pub const MAX_PAGES: u32 = 16_384;
+pub const MAX_PAGES: u32 = 262_144;
 
 /// How many processors a guest may have.
 pub const MAX_CPUS: u8 = 16;

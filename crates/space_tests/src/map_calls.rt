@@ -23,7 +23,7 @@ const ENOMEM: Answer = Called(Reply::Refused(Errno::Enomem), 0);
 
 const MOST: [(Call, Answer); 9] = [
     (
-        Mmap(67_108_864, Prot::Read, Place::Anywhere),
+        Mmap(1_073_741_824, Prot::Read, Place::Anywhere),
         Called(Reply::At(0x10000), 0),
     ),
     (Mmap(1, Prot::Read, Place::Anywhere), ENOMEM),

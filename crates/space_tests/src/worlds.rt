@@ -237,7 +237,7 @@ const STORES: [(Call, Answer); 16] = [
         Made(1, Reply::Refused(Errno::Einval)),
     ),
     (
-        Mmap(1, 67_108_864, Prot::Read),
+        Mmap(1, 1_073_741_824, Prot::Read),
         Made(1, Reply::Refused(Errno::Enomem)),
     ),
     (Load(2, 0x10000, 1), Refused(Refusal::NoCpu)),
