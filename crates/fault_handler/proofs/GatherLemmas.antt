@@ -23,7 +23,7 @@ below_or_at q page b h = grind (arith, nat_tests)
 passed : (q page next : ℕ) (b : Bool) → page ≤ next → (page ≤ q → q < next → b ≡ false) → (ltb q page && b) ≡ (ltb q next && b)
 passed q page next b l h = grind (arith, nat_tests)
 
-all_below : (q bound : ℕ) (b : Bool) → (bound ≤ q → b ≡ false) → (ltb q bound && b) ≡ b
+pub all_below : (q bound : ℕ) (b : Bool) → (bound ≤ q → b ≡ false) → (ltb q bound && b) ≡ b
 all_below q bound b h = grind (arith, nat_tests)
 
 pub gathered_more : (places : List Place) (pages : FinSet nat_cmp) (page : ℕ) → IsGathered places pages page → is_some (number_at places page) ≡ true → IsGathered places (insert pages page) (page + 1)

@@ -6,13 +6,16 @@ use Rattle.std.specs.Ordering.{nat_cmp}
 use Rattle.std.specs.Cmp.{nat_cmp_total, unsigned_tied}
 use Rattle.std.specs.FinMap.{FinMap, get, empty, insert, remove, contains_key, len, get-empty, get-insert, get-remove, len-insert, len-remove, len-empty, empty_of_len}
 use Rattle.std.proofs.lemmas.Bool.Decides.{nat_tests}
+use Rattle.std.proofs.lemmas.Bool.{eq-eqb}
+use Rattle.std.proofs.lemmas.Option.{same_Some}
+use Rattle.mig_base.proofs.RangeLemmas.{in_range-true}
 use Rattle.mig_base.specs.declared.TheConstants.{HIGH_PAGE}
 use Rattle.mig_base.specs.Ranges.{in_range, count_below}
 use Rattle.mig_base.proofs.PageLemmas.{same_pages, get-map_below, count_below-contains_key}
 use Rattle.mig_base.proofs.BitLemmas.{below_or_past}
 use Rattle.fault_handler.specs.Tables.{Place, number_at, moved_number}
 use Rattle.fault_handler.specs.Owed.{pairs_of, AreLinks}
-use Rattle.fault_handler.proofs.TableLemmas.{eqb-true, eqb-false, past_places, place_of_number, place_inside}
+use Rattle.fault_handler.proofs.TableLemmas.{eqb-false, past_places, place_of_number, place_inside}
 
 -- The map that the pairs show
 
@@ -62,9 +65,6 @@ linked_map old new page origin few still h = pairs_of-is new (insert (pairs_of o
 
 -- Both directions agree
 
-pub same_some : (a b : ℕ) → Some a ≡ Some b → a ≡ b
-same_some a b h = cc
-
 pub none_some : {A : Type 0} (a : ℕ) → None ≡ Some a → A
 none_some a h = absurd (impossible a h)
   where
@@ -78,17 +78,17 @@ Answers f g = (p s : ℕ) → f p ≡ Some s → g s ≡ Some p
 pub cut_answers : (f g after back : ℕ → Option ℕ) (page origin : ℕ) → ((p : ℕ) → after p ≡ cond (eqb p page) None (f p)) → ((s : ℕ) → back s ≡ cond (eqb s origin) None (g s)) → g origin ≡ Some page → Answers f g → Answers after back
 cut_answers f g after back page origin is_after is_back here answers p s h =
     dite (ℕ_discrete p page)
-    (λ e. none_some s (sym (is_after p ∙ ap (λ b. cond b None (f p)) (eqb-true p page e)) ∙ h))
+    (λ e. none_some s (sym (is_after p ∙ ap (λ b. cond b None (f p)) (eq-eqb p page e)) ∙ h))
     (λ n. let there : g s ≡ Some p = answers p s (sym (is_after p ∙ ap (λ b. cond b None (f p)) (eqb-false p page n)) ∙ h) in
     dite (ℕ_discrete s origin)
-    (λ e. absurd (n (same_some p page (sym there ∙ ap g e ∙ here))))
+    (λ e. absurd (n (same_Some p page (sym there ∙ ap g e ∙ here))))
     (λ m. is_back s ∙ ap (λ b. cond b None (g s)) (eqb-false s origin m) ∙ there))
 
 pub joined_answers : (f g after back : ℕ → Option ℕ) (page origin : ℕ) → ((p : ℕ) → after p ≡ cond (eqb p page) (Some origin) (f p)) → ((s : ℕ) → back s ≡ cond (eqb s origin) (Some page) (g s)) → g origin ≡ None → Answers f g → Answers after back
 joined_answers f g after back page origin is_after is_back free answers p s h =
     dite (ℕ_discrete p page)
-    (λ e. let same : s ≡ origin = sym (same_some origin s (sym (is_after p ∙ ap (λ b. cond b (Some origin) (f p)) (eqb-true p page e)) ∙ h)) in
-    is_back s ∙ ap (λ b. cond b (Some page) (g s)) (eqb-true s origin same) ∙ ap (λ k. Some k) (sym e))
+    (λ e. let same : s ≡ origin = sym (same_Some origin s (sym (is_after p ∙ ap (λ b. cond b (Some origin) (f p)) (eq-eqb p page e)) ∙ h)) in
+    is_back s ∙ ap (λ b. cond b (Some page) (g s)) (eq-eqb s origin same) ∙ ap (λ k. Some k) (sym e))
     (λ n. let there : g s ≡ Some p = answers p s (sym (is_after p ∙ ap (λ b. cond b (Some origin) (f p)) (eqb-false p page n)) ∙ h) in
     dite (ℕ_discrete s origin)
     (λ e. none_some p (sym (ap g e ∙ free) ∙ there))
@@ -209,9 +209,6 @@ range_skipped first count q f none = by_case (in_range first count q) refl
 out_of : (first count q : ℕ) → (q < first) ⊎ (first + count ≤ q) → in_range first count q ≡ false
 out_of first count q h = grind (arith, nat_tests)
 
-inside : (first count q : ℕ) → first ≤ q → q < first + count → in_range first count q ≡ true
-inside first count q a b = grind (arith, nat_tests)
-
 -- what a move leaves at the pages that it has yet to read and to fill
 pub not_read_yet : (f : ℕ → Option ℕ) (from to done count r : ℕ) → (from + count ≤ to) ⊎ (to + count ≤ from) → done ≤ count → from + done ≤ r → r < from + count → moved_number f from to done r ≡ f r
 not_read_yet f from to done count r apart few a b =
@@ -236,7 +233,7 @@ pub moved_one : (f : ℕ → Option ℕ) (from to q : ℕ) (x : Option ℕ) → 
 moved_one f from to q x taken =
     rw (one_in to q, one_in from q)
     (dite (ℕ_discrete q to)
-    (λ e. let at : from ≡ from + (q - to) = omega arith in rw (eqb-true q to e) (taken ∙ ap f at))
+    (λ e. let at : from ≡ from + (q - to) = omega arith in rw (eq-eqb q to e) (taken ∙ ap f at))
     (λ n. rw (eqb-false q to n) refl))
 
 -- pages with no number are moved by doing nothing
@@ -255,7 +252,7 @@ moved_on f now from to done more count apart few is q = by_target (in_range (to 
     by_source true out e =
         let bounds = in_range_bounds (from + done) more q e in
         let other : in_range to (done + more) q ≡ false = out_of to (done + more) q (⊎_elim (λ (x : from + count ≤ to). inl (omega (arith, bounds))) (λ (x : to + count ≤ from). inr (omega (arith, bounds))) apart) in
-        let here : in_range from (done + more) q ≡ true = inside from (done + more) q (omega (arith, bounds)) (omega (arith, bounds)) in
+        let here : in_range from (done + more) q ≡ true = in_range-true from (done + more) q (omega (arith, bounds)) (omega (arith, bounds)) in
         rw (other, here) refl
     by_source false out e =
         let same_target : in_range to (done + more) q ≡ in_range to done q = grown to out in
@@ -269,7 +266,7 @@ moved_on f now from to done more count apart few is q = by_target (in_range (to 
     by_target true e =
         let bounds = in_range_bounds (to + done) more q e in
         let at : from + done + (q - (to + done)) ≡ from + (q - to) = omega (arith, bounds) in
-        let here : in_range to (done + more) q ≡ true = inside to (done + more) q (omega (arith, bounds)) (omega (arith, bounds)) in
+        let here : in_range to (done + more) q ≡ true = in_range-true to (done + more) q (omega (arith, bounds)) (omega (arith, bounds)) in
         rw (at, here) (is (from + (q - to)) ∙ not_read_yet f from to done count (from + (q - to)) apart (omega arith) (omega (arith, bounds)) (omega (arith, bounds)))
     by_target false e = by_source (in_range (from + done) more q) e refl
 

@@ -7,6 +7,9 @@ use Rattle.std.specs.FinMap.{FinMap, get, empty, remove, get-empty, get-remove}
 use Rattle.std.specs.FinSet.{FinSet, contains}
 use Rattle.std.specs.Cmp.{nat_cmp_total, unsigned_tied}
 use Rattle.std.proofs.lemmas.Bool.Decides.{nat_tests}
+use Rattle.std.proofs.lemmas.Bool.{eq-eqb}
+use Rattle.std.proofs.lemmas.Option.{same_Some}
+use Rattle.fault_handler.proofs.GatherLemmas.{all_below}
 use Rattle.mig_base.specs.declared.TheConstants.{HIGH_PAGE}
 use Rattle.mig_base.specs.Ranges.{in_range}
 use Rattle.mig_base.specs.Pages.{map_below, put, remove_range, moved_range}
@@ -15,8 +18,8 @@ use Rattle.mig_base.proofs.RangeLemmas.{least_below-is, least_below-none}
 use Rattle.mig_base.proofs.SetLemmas.{same_members, member_below}
 use Rattle.fault_handler.specs.Tables.{Place, number_at, moved_number}
 use Rattle.fault_handler.specs.Owed.{pairs_of, AreLinks, owes_to, home, origins, own_places}
-use Rattle.fault_handler.proofs.TableLemmas.{eqb-true, eqb-false}
-use Rattle.fault_handler.proofs.LinkLemmas.{get-pairs_of, pairs_of-is, none_past, number_below, same_some, none_some}
+use Rattle.fault_handler.proofs.TableLemmas.{eqb-false}
+use Rattle.fault_handler.proofs.LinkLemmas.{get-pairs_of, pairs_of-is, none_past, number_below, none_some}
 
 pub seen : (forth : List Place) (owed : FinMap nat_cmp ℕ) (q : ℕ) → length forth ≤ 1024 → pairs_of forth ≡ owed → number_at forth q ≡ get owed q
 seen forth owed q few view = sym (get-pairs_of forth q few) ∙ ap (λ m. get m q) view
@@ -38,7 +41,7 @@ on_err (Err e) P h = h
 -- The home of an origin
 
 owes_to-true : (owed : FinMap nat_cmp ℕ) (origin page : ℕ) → get owed page ≡ Some origin → owes_to owed origin page ≡ true
-owes_to-true owed origin page h = ap (λ o. elim o [ None ↦ false | Some s ↦ eqb s origin ]) h ∙ eqb-true origin origin refl
+owes_to-true owed origin page h = ap (λ o. elim o [ None ↦ false | Some s ↦ eqb s origin ]) h ∙ eq-eqb origin origin refl
 
 owes_to-false : (owed : FinMap nat_cmp ℕ) (origin page : ℕ) → get owed page ≢ Some origin → owes_to owed origin page ≡ false
 owes_to-false owed origin page h = by_case (get owed page) refl
@@ -53,7 +56,7 @@ home-is owed origin None there only =
     sym (least_below-none (owes_to owed origin) HIGH_PAGE (λ j l. owes_to-false owed origin j (λ h. none_some j (only j h))))
 home-is owed origin (Some page) there only =
     sym (least_below-is (owes_to owed origin) HIGH_PAGE page (there page refl).1 (owes_to-true owed origin page (there page refl).0)
-    (λ j l. owes_to-false owed origin j (λ h. let same : page ≡ j = same_some page j (only j h) in absurd (omega arith))))
+    (λ j l. owes_to-false owed origin j (λ h. let same : page ≡ j = same_Some page j (only j h) in absurd (omega arith))))
 
 pub home_of : (forth back : List Place) (count : ℕ) (owed : FinMap nat_cmp ℕ) (origin : ℕ) → AreLinks forth back count → pairs_of forth ≡ owed → number_at back origin ≡ home owed origin
 home_of forth back count owed origin links view =
@@ -64,14 +67,11 @@ home_of forth back count owed origin links view =
 
 -- The origins
 
-all_below : (q : ℕ) (b : Bool) → (HIGH_PAGE ≤ q → b ≡ false) → (ltb q HIGH_PAGE && b) ≡ b
-all_below q b h = grind (arith, nat_tests)
-
 pub origins_of : (forth back : List Place) (count : ℕ) (owed : FinMap nat_cmp ℕ) (pages : FinSet nat_cmp) → AreLinks forth back count → pairs_of forth ≡ owed → ((s : ℕ) → contains pages s ≡ is_some (number_at back s)) → pages ≡ origins owed
 origins_of forth back count owed pages links view is =
     same_members pages (origins owed)
     (λ s. is s
-    ∙ sym (all_below s (is_some (number_at back s)) (λ h. ap is_some (none_past back s links.few_back h)))
+    ∙ sym (all_below s HIGH_PAGE (is_some (number_at back s)) (λ h. ap is_some (none_past back s links.few_back h)))
     ∙ ap (λ o. ltb s HIGH_PAGE && is_some o) (home_of forth back count owed s links view)
     ∙ sym (member_below (λ t. is_some (home owed t)) HIGH_PAGE s))
 

@@ -6,12 +6,9 @@ use Rattle.std.proofs.Math.ListN.{get_or-eq_default}
 use Rattle.std.proofs.lemmas.List.{get_or_append_left, get_or-append_right}
 use Rattle.std.proofs.lemmas.Option.{same_Some, slice_get-get_or}
 use Rattle.std.proofs.lemmas.Bool.Decides.{nat_tests}
-use Rattle.std.proofs.lemmas.Bool.{false≢true}
+use Rattle.std.proofs.lemmas.Bool.{false≢true, eq-eqb}
 use Rattle.mig_base.proofs.BitLemmas.{below_or_past}
 use Rattle.fault_handler.specs.Tables.{Place, number_in, number_at, is_place, has_place}
-
-pub eqb-true : (a b : ℕ) → a ≡ b → eqb a b ≡ true
-eqb-true a b h = grind (arith, nat_tests)
 
 pub eqb-false : (a b : ℕ) → a ≢ b → eqb a b ≡ false
 eqb-false a b h = grind (arith, nat_tests)
@@ -53,14 +50,14 @@ pub number_at-set : (places : Places) (at : ℕ) (place : Place) (q : ℕ) → a
 unfolding number_at
 number_at-set places at place q inside =
     dite (ℕ_discrete (q / 1024) at)
-    (λ e. ap (λ k. number_in (get_or (set places at place) k None) (q % 1024)) e ∙ ap (λ o. number_in o (q % 1024)) (get_or-set_same places at place None inside) ∙ sym (ap (λ b. cond b (number_in place (q % 1024)) (number_at places q)) (eqb-true (q / 1024) at e)))
+    (λ e. ap (λ k. number_in (get_or (set places at place) k None) (q % 1024)) e ∙ ap (λ o. number_in o (q % 1024)) (get_or-set_same places at place None inside) ∙ sym (ap (λ b. cond b (number_in place (q % 1024)) (number_at places q)) (eq-eqb (q / 1024) at e)))
     (λ n. ap (λ o. number_in o (q % 1024)) (get_or-set_other places at (q / 1024) place None n) ∙ sym (ap (λ b. cond b (number_in place (q % 1024)) (number_at places q)) (eqb-false (q / 1024) at n)))
 
 pub has_place-set : (places : Places) (at : ℕ) (place : Place) (q : ℕ) → at < length places → has_place (set places at place) q ≡ cond (eqb (q / 1024) at) (is_place place) (has_place places q)
 unfolding has_place
 has_place-set places at place q inside =
     dite (ℕ_discrete (q / 1024) at)
-    (λ e. ap (λ k. is_place (get_or (set places at place) k None)) e ∙ ap is_place (get_or-set_same places at place None inside) ∙ sym (ap (λ b. cond b (is_place place) (has_place places q)) (eqb-true (q / 1024) at e)))
+    (λ e. ap (λ k. is_place (get_or (set places at place) k None)) e ∙ ap is_place (get_or-set_same places at place None inside) ∙ sym (ap (λ b. cond b (is_place place) (has_place places q)) (eq-eqb (q / 1024) at e)))
     (λ n. ap is_place (get_or-set_other places at (q / 1024) place None n) ∙ sym (ap (λ b. cond b (is_place place) (has_place places q)) (eqb-false (q / 1024) at n)))
 
 -- a table stays a table, and none stays none
@@ -69,7 +66,7 @@ unfolding has_place
 places_stay places at place inside h q =
     has_place-set places at place q inside
     ∙ dite (ℕ_discrete (q / 1024) at)
-    (λ e. rw (eqb-true (q / 1024) at e) (h ∙ ap (λ k. is_place (get_or places k None)) (sym e)))
+    (λ e. rw (eq-eqb (q / 1024) at e) (h ∙ ap (λ k. is_place (get_or places k None)) (sym e)))
     (λ n. rw (eqb-false (q / 1024) at n) refl)
 
 -- a table with the same cells
@@ -77,7 +74,7 @@ pub numbers_stay : (places : Places) (at : ℕ) (place : Place) → at < length 
 numbers_stay places at place inside h q =
     number_at-set places at place q inside
     ∙ dite (ℕ_discrete (q / 1024) at)
-    (λ e. rw (eqb-true (q / 1024) at e) (h (q % 1024) ∙ at_place places q at e))
+    (λ e. rw (eq-eqb (q / 1024) at e) (h (q % 1024) ∙ at_place places q at e))
     (λ n. rw (eqb-false (q / 1024) at n) refl)
 
 -- one place more
@@ -111,27 +108,27 @@ pub one_number : (places : Places) (page : ℕ) (place : Place) (number : Option
 one_number places page place number inside h q =
     number_at-set places (page / 1024) place q inside
     ∙ dite (ℕ_discrete (q / 1024) (page / 1024))
-    (λ e. rw (eqb-true (q / 1024) (page / 1024) e) (h (q % 1024) ∙ ap (λ b. cond b number (number_in (get_or places (page / 1024) None) (q % 1024))) (same_spot q page e) ∙ ap (λ o. cond (eqb q page) number o) (at_place places q (page / 1024) e)))
+    (λ e. rw (eq-eqb (q / 1024) (page / 1024) e) (h (q % 1024) ∙ ap (λ b. cond b number (number_in (get_or places (page / 1024) None) (q % 1024))) (same_spot q page e) ∙ ap (λ o. cond (eqb q page) number o) (at_place places q (page / 1024) e)))
     (λ n. rw (eqb-false (q / 1024) (page / 1024) n) (ap (λ b. cond b number (number_at places q)) (sym (elsewhere q page n))))
 
 pub gone_already : (places : Places) (page q : ℕ) → number_at places page ≡ None → number_at places q ≡ cond (eqb q page) None (number_at places q)
 gone_already places page q h =
     dite (ℕ_discrete q page)
-    (λ e. rw (eqb-true q page e) (ap (number_at places) e ∙ h))
+    (λ e. rw (eq-eqb q page e) (ap (number_at places) e ∙ h))
     (λ n. rw (eqb-false q page n) refl)
 
 -- leaves that are made
 
 pub place_of_set : (places : Places) (page : ℕ) (place : Place) → page / 1024 < length places → is_place place ≡ true → has_place (set places (page / 1024) place) page ≡ true
 place_of_set places page place inside h =
-    has_place-set places (page / 1024) place page inside ∙ rw (eqb-true (page / 1024) (page / 1024) refl) h
+    has_place-set places (page / 1024) place page inside ∙ rw (eq-eqb (page / 1024) (page / 1024) refl) h
 
 pub places_kept : (places : Places) (at : ℕ) (place : Place) → at < length places → (is_place (get_or places at None) ≡ true → is_place place ≡ true) → (q : ℕ) → has_place places q ≡ true → has_place (set places at place) q ≡ true
 unfolding has_place
 places_kept places at place inside h q t =
     has_place-set places at place q inside
     ∙ dite (ℕ_discrete (q / 1024) at)
-    (λ e. rw (eqb-true (q / 1024) at e) (h (sym (ap (λ k. is_place (get_or places k None)) e) ∙ t)))
+    (λ e. rw (eq-eqb (q / 1024) at e) (h (sym (ap (λ k. is_place (get_or places k None)) e) ∙ t)))
     (λ n. rw (eqb-false (q / 1024) at n) t)
 
 pub same_table : (places : Places) (p q : ℕ) → q / 1024 ≡ p / 1024 → has_place places p ≡ true → has_place places q ≡ true
@@ -172,7 +169,7 @@ is_some_place (Some leaf) = refl
 pub one_set : (leaf : List (Option ℕ)) (i j : ℕ) (number : Option ℕ) → i < length leaf → get_or (set leaf i number) j None ≡ cond (eqb j i) number (get_or leaf j None)
 one_set leaf i j number inside =
     dite (ℕ_discrete j i)
-    (λ e. rw (eqb-true j i e) (ap (λ k. get_or (set leaf i number) k None) e ∙ get_or-set_same leaf i number None inside))
+    (λ e. rw (eq-eqb j i e) (ap (λ k. get_or (set leaf i number) k None) e ∙ get_or-set_same leaf i number None inside))
     (λ n. rw (eqb-false j i n) (get_or-set_other leaf i j number None n))
 
 -- a leaf with no number

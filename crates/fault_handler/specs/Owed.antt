@@ -5,8 +5,8 @@ use Rattle.std.specs.FinMap.{FinMap, len}
 use Rattle.mig_base.specs.declared.TheConstants.{HIGH_PAGE}
 use Rattle.mig_base.specs.declared.chunk.TheConstants.{CHUNKS}
 use Rattle.mig_base.specs.Pages.{map_below}
-pub use Rattle.mig_model.specs.Nodes.{owes_to, home, origins}
-unfoldable pub use Rattle.mig_model.specs.Nodes.{own_places}
+pub use Rattle.mig_model.specs.Owed.{owes_to, home, origins}
+unfoldable pub use Rattle.mig_model.specs.Owed.{own_places}
 use Rattle.fault_handler.specs.Tables.{Place, number_at}
 
 -- the map from page to origin that a table shows

@@ -118,8 +118,8 @@ impl Owed {
         }
     }
 
-    /// Ends what is owed at the `count` pages from `first` on. It passes what is owed nowhere by whole leaves, and takes no
-    /// memory.
+    /// Ends what is owed at the `count` pages from `first` on. Leaves in which no page was ever owed are passed whole. It takes
+    /// no memory.
     pub fn remove_range(&mut self, first: PageNo, count: u32)
         requires { first + count ≤ HIGH_PAGE }
         ensures { self.new ≡ remove_range self.old first count }
@@ -130,8 +130,8 @@ impl Owed {
     /// Has the `count` pages from `to` on owed what the pages from `from` on were. What was owed at the target ends, and
     /// nothing is owed at the old pages afterwards.
     ///
-    /// It passes what is owed nowhere by whole leaves, and asks for room only where a page is owed. On `NoMemory`, for the room
-    /// of the target, the table is as it was.
+    /// Leaves in which no page was ever owed are passed whole, and need no room at the target. On `NoMemory`, for that room, the
+    /// table is as it was.
     pub fn move_range(&mut self, from: PageNo, to: PageNo, count: u32) -> Result<(), NoMemory>
         requires inside { (from + count ≤ HIGH_PAGE) × (to + count ≤ HIGH_PAGE) }
         requires apart { (from + count ≤ to) ⊎ (to + count ≤ from) }

@@ -15,13 +15,14 @@ use crate::owed::table::{
 use mig_base::{NoMemory, PageNo};
 use std::alloc::Global;
 
-/// The pairs, in both directions, and how many there are.
+/// The pairs, in both directions.
 #[derive(Drop)]
 pub struct Links {
     /// The origin of each page.
     pub forth: Vec<Place>,
     /// The page of each origin.
     pub back: Vec<Place>,
+    /// How many pairs there are.
     pub count: u32,
     pub ghost kept: { AreLinks forth.items back.items count },
 }
