@@ -1,21 +1,20 @@
 -- Map calls of which no page is registered: the object stays as it is, and nothing is queued.
-use Rattle.std.proofs.Common.{◌≡◌, ℕ, ◌+◌, ◌-◌, ◌*◌, ◌/◌, ◌<◌, ◌≤◌, ◌&&◌, ◌||◌, ◌++◌, Bool, true, false, cond, not, ltb, List, [], length, refl, sym, ap, ◌∙◌, arith}
+use Rattle.std.proofs.Common.{◌≡◌, ℕ, ◌+◌, ◌-◌, ◌*◌, ◌<◌, ◌≤◌, ◌&&◌, ◌++◌, Bool, true, false, cond, not, ltb, [], refl, sym, ap, ◌∙◌, arith}
 use Rattle.std.specs.Ordering.{nat_cmp}
 use Rattle.std.specs.FinSet.{FinSet, contains}
 use Rattle.std.proofs.lemmas.Bool.Decides.{nat_tests}
-use Rattle.std.proofs.lemmas.Bool.{false≢true}
 use Rattle.mig_base.specs.declared.TheConstants.{HIGH_PAGE}
 use Rattle.mig_base.specs.declared.message.Message.{Message}
-use Rattle.mig_base.specs.Ranges.{in_range, lesser, none_below}
+use Rattle.mig_base.specs.Ranges.{in_range, lesser}
 use Rattle.mig_base.specs.Sets.{without, moved_set}
 use Rattle.mig_base.proofs.RangeLemmas.{none_below_tells, none_below-from}
 use Rattle.mig_base.proofs.SetLemmas.{same_members, member_without}
 use Rattle.mig_model.specs.Userfault.{Object, mode_at, is_registered, is_watched, unregistered, moved_modes}
-use Rattle.mig_model.specs.Space.{told, remap_messages, all_queued}
+use Rattle.mig_model.specs.Space.{told, remap_messages}
 use Rattle.userfault.proofs.ModeLemmas.{is_pages_where}
 use Rattle.uffd_ioctl.specs.declared.remap.Remap.{Remap}
 use Rattle.uffd_ioctl.specs.Remaps.{IsRemap, replaced_message, cut_message, moved_message}
-use Rattle.uffd_ioctl.proofs.CallLemmas.{three_messages, messages_are}
+use Rattle.uffd_ioctl.proofs.CallLemmas.{messages_are}
 use Rattle.uffd_ioctl.proofs.RegisterLemmas.{AreLow, no_left, no_right}
 
 abbrev Set : Type 0

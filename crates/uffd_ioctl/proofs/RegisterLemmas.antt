@@ -12,7 +12,7 @@ use Rattle.mig_base.specs.declared.Prot.{Prot}
 use Rattle.mig_base.specs.declared.command.Errno.{Errno}
 use Rattle.mig_base.specs.Ranges.{in_range}
 use Rattle.mig_base.specs.Sets.{without}
-use Rattle.mig_base.proofs.SetLemmas.{same_members, member_below, member_without}
+use Rattle.mig_base.proofs.SetLemmas.{same_members, member_below}
 use Rattle.area_map.specs.Areas.{AreRuns, pages_in, prot_in}
 use Rattle.area_map.proofs.AreaLemmas.{no_area, runs_at}
 use Rattle.area_map.proofs.MoveLemmas.{one_more}
@@ -83,22 +83,6 @@ first_fails a b h = rw h refl
 pub second_fails : (a b : Bool) → b ≡ false → (a && b) ≡ false
 second_fails true b h = h
 second_fails false b h = refl
-
-pub second_holds : (a b : Bool) → b ≡ true → (a && b) ≡ a
-second_holds true b h = h
-second_holds false b h = refl
-
--- a page that was not reached has what it had
-pub not_yet : (first page q : ℕ) (value old now : Bool) → q ≡ page → now ≡ cond (in_range first (page - first) q) value old → old ≡ now
-not_yet first page q value old now at h = grind (arith, nat_tests)
-
-pub is_off : (b : Bool) → not b ≡ true → b ≡ false
-is_off true h = sym h
-is_off false h = refl
-
-pub is_on : (b : Bool) → not b ≡ false → b ≡ true
-is_on true h = refl
-is_on false h = sym h
 
 -- Registered pages
 

@@ -6,7 +6,10 @@ ghost use Rattle.mig_base.specs.declared.TheConstants.{HIGH_PAGE};
 ghost use Rattle.mig_model.specs.Ioctls as table;
 ghost use Rattle.userfault.specs.Modes as modes;
 
-use mig_base::flags::{EVENT_REMAP_BIT, EVENT_REMOVE_BIT, EVENT_UNMAP_BIT, PAGEFAULT_FLAG_WP_BIT, REGISTER_MISSING_BIT, REGISTER_WP_BIT};
+use mig_base::flags::{
+    EVENT_REMAP_BIT, EVENT_REMOVE_BIT, EVENT_UNMAP_BIT, PAGEFAULT_FLAG_WP_BIT,
+    REGISTER_MISSING_BIT, REGISTER_WP_BIT,
+};
 use mig_base::{Addr, HIGH_PAGE, LOW, PAGE_SIZE, PageNo};
 use userfault::Mode;
 

@@ -31,8 +31,10 @@ impl From<NoMemory> for IoctlFault {
 /// What an error number of these calls tells their caller.
 fn phrase(errno: Errno) -> &'static str {
     match errno {
-        Errno::Einval => "the object is not enabled for this call, or its range or mode is not valid",
-        Errno::Eagain => "the range is not done: read the waiting events, then go on from the first page left",
+        Errno::Einval =>
+            "the object is not enabled for this call, or its range or mode is not valid",
+        Errno::Eagain =>
+            "the range is not done: read the waiting events, then go on from the first page left",
         Errno::Enoent => "the range is not registered for this call as one area",
         Errno::Eexist => "the first page of the range is already present",
         Errno::Enomem => "out of memory",

@@ -31,7 +31,13 @@ pub(crate) fn put_copies(
     while done < count {
         let start = done as usize * PAGE_BYTES;
         let page = first + done;
-        if let Err(fault) = put_copy(alloc, pages, page, &bytes[start..start + PAGE_BYTES], protect) {
+        if let Err(fault) = put_copy(
+            alloc,
+            pages,
+            page,
+            &bytes[start..start + PAGE_BYTES],
+            protect,
+        ) {
             return (done, Some(fault));
         }
         done += 1;

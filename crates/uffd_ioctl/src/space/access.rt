@@ -43,7 +43,8 @@ impl Space {
             return Ok(Access::Missing);
         }
         if command.is_store() && mode.protect && self.pages.is_protected(page) {
-            self.object.queue_fault(page_address(page), true, true, cpu)?;
+            self.object
+                .queue_fault(page_address(page), true, true, cpu)?;
             return Ok(Access::Protected);
         }
         if let Command::Store { addr, width, value } = command {

@@ -217,7 +217,11 @@ impl Space {
         if let Some(errno) = self.writeprotect_error(start, len, mode) {
             return Err(errno);
         }
-        set_protection(&mut self.pages, whole_pages(start, len), has_bit(mode, WRITEPROTECT_WP_BIT));
+        set_protection(
+            &mut self.pages,
+            whole_pages(start, len),
+            has_bit(mode, WRITEPROTECT_WP_BIT),
+        );
         if mode == 0 {
             Ok(Wake::Range { start, len })
         } else {

@@ -10,7 +10,10 @@ use super::Space;
 use crate::events::{remapped, tell, unmapped};
 use crate::map_calls::{dontneed_reply, is_invalid, mmap_place, mremap_place, page_count};
 use crate::remap::{Remap, apply};
-use mig_base::{Addr, Command, Errno, HIGH, HIGH_PAGE, Message, NoMemory, PAGE_SIZE, PageNo, Place, Prot, Reply, page_address};
+use mig_base::{
+    Addr, Command, Errno, HIGH, HIGH_PAGE, Message, NoMemory, PAGE_SIZE, PageNo, Place, Prot,
+    Reply, page_address,
+};
 
 impl Space {
     /// Makes a map call of a processor, and answers as one flat memory does; with the reply comes how many events the call has

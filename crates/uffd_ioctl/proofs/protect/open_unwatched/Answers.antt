@@ -1,4 +1,4 @@
-use Rattle.std.proofs.Common.{◌∙◌, ◌-◌, ◌+◌, ◌&&◌, not, ap, refl, arith}
+use Rattle.std.proofs.Common.{◌∙◌, ◌-◌, ◌&&◌, not, ap, refl, arith}
 use Rattle.std.specs.FinSet.{contains}
 use Rattle.mig_base.specs.Ranges.{in_range}
 use Rattle.mig_base.proofs.SetLemmas.{member_without}

@@ -1,4 +1,4 @@
-use Rattle.std.proofs.Common.{◌∙◌, ap, sym, subst, arith, take, []}
+use Rattle.std.proofs.Common.{◌∙◌, ap, sym, subst, take, []}
 use Rattle.std.proofs.lemmas.List.{take_all}
 use Rattle.mig_model.specs.Userfault.{registered_where}
 use Rattle.userfault.specs.Modes.{mode_of}
