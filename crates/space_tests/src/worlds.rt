@@ -79,7 +79,7 @@ fn outcome_of(answer: Answer) -> Result<Effect, Refusal> {
 fn world_of(rt: &impl Abort, alloc: Global, cpus: u8) -> World {
     World::new(alloc, cpus)
         .ok()
-        .expect(rt, "the world has no room for so many processors")
+        .expect(rt, "1 to 16 processors are allowed")
 }
 
 /// Plays a table of steps with their answers and the phases that follow. A step that is refused leaves phase and transcript;
@@ -248,8 +248,10 @@ type Outcomes = [Result<Effect, Refusal>; 16];
 fn run_in(world: &mut World, alloc: Global, steps: &[Step]) -> Result<Outcomes, NoMemory> {
     let mut found = [Err(Refusal::NoMemory); 16];
     let outcomes = world.run(alloc, steps)?;
-    for (place, outcome) in found.iter_mut().zip(outcomes.iter()) {
-        *place = *outcome;
+    if outcomes.len() == found.len() {
+        for (place, outcome) in found.iter_mut().zip(outcomes.iter()) {
+            *place = *outcome;
+        }
     }
     Ok(found)
 }
