@@ -1,6 +1,6 @@
 //! Whether the transcript that a reader gives is that of one flat memory.
 
-ghost use Rattle.std.specs.Prelude.{◌≡◌, ◌++◌, [], OnOk, IfOk, IfErr, IfSome, string_bytes};
+ghost use Rattle.std.specs.Prelude.{◌≡◌, [], IfOk, IfErr, IfSome, string_bytes};
 ghost use Rattle.engine.specs.declared.fault.RunFault.TheVariants.{NoMemory};
 ghost use Rattle.engine.specs.Checking.{IsVerdict, Checks, CheckStops};
 ghost use Rattle.engine.specs.Engine.{start_of, nothing_kept};

@@ -1,14 +1,10 @@
 //! Laws about what scripts and transcripts mean. The functions do nothing: their contracts are the laws.
 
-ghost use Rattle.std.specs.Prelude.{◌≡◌, ◌<◌, ℕ, List, [], ◌∷◌, ◌++◌, length};
+ghost use Rattle.std.specs.Prelude.{◌≡◌, ℕ, List};
 ghost use Rattle.mig_base.specs.Flat.{IsFlatRun};
 ghost use Rattle.script.specs.declared.line.Line.{Line};
-ghost use Rattle.script.specs.declared.line.Language.{Language};
 ghost use Rattle.engine.specs.declared.line_runner.Mode.{Mode};
 ghost use Rattle.engine.specs.declared.line_runner.Mode.TheVariants.{Transcript};
-ghost use Rattle.script.specs.Words.{HasNone, words_of};
-ghost use Rattle.script.specs.Spelling.{Spells};
-ghost use Rattle.script.specs.Lines.{Reads, BeginsWrong};
 ghost use Rattle.engine.specs.Script.{entry_lines, Runs};
 ghost use Rattle.engine.specs.WorldState.{WorldState, first_state};
 

@@ -1,6 +1,6 @@
 //! A script or a transcript that is being read: where its lines end, and their numbers.
 
-ghost use Rattle.std.specs.Prelude.{◌≡◌, ◌+◌, ◌<◌, ◌≤◌, ◌^◌, ◌++◌, ℕ, List, [], ◌∷◌, length, OnOk, OnErr, IfErr, IfOk, IfSome, IfNone, vec_len};
+ghost use Rattle.std.specs.Prelude.{◌≡◌, ◌+◌, ◌<◌, ◌≤◌, ◌^◌, ◌++◌, ℕ, List, [], ◌∷◌, length, OnOk, IfErr, IfSome, IfNone, vec_len};
 ghost use Rattle.std.specs.Str.Lines.{strip_carriage_return};
 ghost use Rattle.script.specs.Lines.{HasNoFeed};
 ghost use Rattle.engine.specs.Engine.{Place, coded_place, kept_entries, start_of, Fed, FedUntil, Passes, Halts, Closes, CloseFault};

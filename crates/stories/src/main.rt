@@ -63,7 +63,11 @@ impl Kind {
 }
 
 /// Puts the message of a fault behind what was printed before it.
-fn print_fault(alloc: Global, text: &mut Vec<u8>, fault: Option<RunFault>) -> Result<(), AllocError> {
+fn print_fault(
+    alloc: Global,
+    text: &mut Vec<u8>,
+    fault: Option<RunFault>,
+) -> Result<(), AllocError> {
     if let Some(fault) = fault {
         let line = format!(in alloc; "{fault}\n")?;
         text.extend_from_slice(line.as_bytes())?;
@@ -72,7 +76,12 @@ fn print_fault(alloc: Global, text: &mut Vec<u8>, fault: Option<RunFault>) -> Re
 }
 
 /// Prints what a run of a script prints behind a text, and then its fault.
-fn print_run(alloc: Global, text: &mut Vec<u8>, script: &[u8], mode: Mode) -> Result<(), AllocError> {
+fn print_run(
+    alloc: Global,
+    text: &mut Vec<u8>,
+    script: &[u8],
+    mode: Mode,
+) -> Result<(), AllocError> {
     let mut reader = script;
     let outcome = run_script(alloc, &mut reader, text, CPUS, mode);
     print_fault(alloc, text, outcome.err())
