@@ -48,6 +48,7 @@ pub mod PartsChanged
 pub mod PromiseLemmas
 pub mod StaysComplete
 pub mod WirePromises
+pub mod FlightPromises
 pub mod FrameLemmas
 pub mod WorldLemmas
 pub mod Issuing
