@@ -75,7 +75,7 @@ kept-move_back world n sent rest kept is short =
     }
 
 pub kept-answer : (world : World) (step : Step) → IsSoundWorld world → Leaves IsSoundWorld (answer world step)
-kept-answer world (Step.Issue cpu command) kept = made-issue _ world cpu command (λ idle may. kept-command world cpu command may kept)
+kept-answer world (Step.Issue cpu command) kept = made-issue _ world cpu command (λ there idle may. kept-command world cpu command may kept)
 kept-answer world (Step.Retry cpu) kept = made-retry _ world cpu (λ command waits woken may. kept-command world cpu command may kept)
 kept-answer world Step.Start kept = made-start _ world (λ idle. kept-start world kept idle)
 kept-answer world Step.Round kept = made-round _ world (λ precopy quiet. kept-round world kept precopy)

@@ -113,7 +113,7 @@ moved_back_one world n = record { destination = refl; forward = as_it_was world.
 
 -- what a step that is not refused changes
 made_alone : (world : World) (step : Step) → Leaves (ChangesParts world step) (answer world step)
-made_alone world (Step.Issue cpu command) = made-issue _ world cpu command (λ idle may. guest_alone world cpu command)
+made_alone world (Step.Issue cpu command) = made-issue _ world cpu command (λ there idle may. guest_alone world cpu command)
 made_alone world (Step.Retry cpu) = made-retry _ world cpu (λ command waits woken may. guest_alone world cpu command)
 made_alone world Step.Start = made-start _ world (λ idle. sending_source world (source_started world.source) (Advise ∷ []))
 made_alone world Step.Round = made-round _ world (λ precopy quiet. quiet_source world _)

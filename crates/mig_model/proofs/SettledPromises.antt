@@ -57,7 +57,7 @@ pub settled_call : (world : World) (cpu : ℕ) (command : Command) → IsSoundWo
     IsOk (outcome world (Step.Issue cpu command)) → settled (next world (Step.Issue cpu command)).destination page ≡ owed_changed (settled world.destination) command (reply_of (memory world.destination.guest.space.host) command) page
 settled_call world cpu command kept ran is page ok =
     leaves-ok (λ new. settled new.destination page ≡ owed_changed (settled world.destination) command (reply_of (memory world.destination.guest.space.host) command) page) world (Step.Issue cpu command)
-    (made-issue _ world cpu command (λ idle may. called_by world.destination.has_run (is_access command) world cpu command ran is kept page)) ok
+    (made-issue _ world cpu command (λ there idle may. called_by world.destination.has_run (is_access command) world cpu command ran is kept page)) ok
 
 -- A message that is read
 
@@ -119,7 +119,7 @@ abbrev SettledAs : World → ℕ → World → Type 0
 SettledAs world page new = settled new.destination page ≡ settled world.destination page
 
 pub settled_access : (world : World) (cpu : ℕ) (command : Command) → world.destination.has_run ≡ true → is_access command ≡ true → (page : ℕ) → settled (next world (Step.Issue cpu command)).destination page ≡ settled world.destination page
-settled_access world cpu command ran is page = leaves-next (SettledAs world page) world (Step.Issue cpu command) refl (made-issue _ world cpu command (λ idle may. settled_try world cpu command ran is page))
+settled_access world cpu command ran is page = leaves-next (SettledAs world page) world (Step.Issue cpu command) refl (made-issue _ world cpu command (λ there idle may. settled_try world cpu command ran is page))
 
 -- An install takes away its own pair
 
@@ -212,7 +212,7 @@ same_node : (old new : World) (page : ℕ) → new.destination ≡ old.destinati
 same_node old new page h = ap (λ node. settled node page) h
 
 settled_answer : (world : World) (step : Step) → IsSoundWorld world → AreAccesses world → world.destination.has_run ≡ true → leaves_settled step ≡ true → (page : ℕ) → Leaves (SettledAs world page) (answer world step)
-settled_answer world (Step.Issue cpu command) kept waits ran leaves page = made-issue _ world cpu command (λ idle may. settled_try world cpu command ran leaves page)
+settled_answer world (Step.Issue cpu command) kept waits ran leaves page = made-issue _ world cpu command (λ there idle may. settled_try world cpu command ran leaves page)
 settled_answer world (Step.Retry cpu) kept waits ran leaves page =
     made-retry _ world cpu (λ command is woken may. settled_try world cpu command ran (waits_here world cpu command waits ran is) page)
 settled_answer world Step.Install kept waits ran leaves page = absurd (false≢true leaves)

@@ -86,7 +86,7 @@ nothing_back : (world : World) (sent : Sent) (rest : List Sent) → IsSoundWorld
 nothing_back world sent rest kept done is = false≢true (ap is_empty (sym is) ∙ back_empty_in world.source.phase world done kept)
 
 complete-answer : (world : World) (step : Step) → IsSoundWorld world → IsComplete world → Leaves IsComplete (answer world step)
-complete-answer world (Step.Issue cpu command) kept done = made-issue _ world cpu command (λ idle may. still world.source.phase _ (command_phase world cpu command) done)
+complete-answer world (Step.Issue cpu command) kept done = made-issue _ world cpu command (λ there idle may. still world.source.phase _ (command_phase world cpu command) done)
 complete-answer world (Step.Retry cpu) kept done = made-retry _ world cpu (λ command waits woken may. still world.source.phase _ (command_phase world cpu command) done)
 complete-answer world Step.Start kept done = made-start _ world (λ idle. absurd (not_idle world.source.phase done idle))
 complete-answer world Step.Round kept done = made-round _ world (λ precopy quiet. absurd (not_precopy world.source.phase done precopy))

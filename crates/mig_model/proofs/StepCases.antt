@@ -14,7 +14,7 @@ use Rattle.mig_base.specs.Commands.{is_access}
 use Rattle.mig_model.specs.Userfault.{Noted, next_message}
 use Rattle.mig_model.specs.Guest.{Fault, is_present, took_by}
 use Rattle.mig_model.specs.Wire.{Sent, Copy}
-use Rattle.mig_model.specs.Migration.{World, Made, answer, guest_of, runs, has_started, is_changing, is_end, is_paused_at, try_effect, page_effect, read_effect, act_effect, frame_effect, install_effect, retry_command, send_page, source_read_next, source_act_first, deliver_first, deliver_back_first, destination_read_next, destination_act_first, install_first, serve_first, after_command, after_start, after_round, after_send, after_source_read, after_source_act, after_switch, after_deliver, after_deliver_back, after_dest_read, after_dest_act, after_install, after_push, after_serve, after_end, after_break, after_notice, after_resume, after_move, after_move_back, is_short}
+use Rattle.mig_model.specs.Migration.{World, Made, answer, guest_of, runs, has_started, is_changing, is_end, is_paused_at, try_effect, page_effect, read_effect, act_effect, frame_effect, install_effect, retry_command, send_page, source_read_next, source_act_first, deliver_first, deliver_back_first, destination_read_next, destination_act_first, install_first, serve_first, after_command, after_start, after_round, after_send, after_source_read, after_source_act, after_switch, after_deliver, after_deliver_back, after_dest_read, after_dest_act, after_install, after_push, after_serve, after_end, after_break, after_notice, after_resume, after_move, after_move_back, is_short, has_no_cpu}
 use Rattle.mig_model.proofs.StepLemmas.{Holds, holds-unless, holds-either}
 use Rattle.mig_model.specs.Cpus.{is_idle, is_woken, outstanding, processor_at}
 use Rattle.mig_model.specs.Log.{least_of, less}
@@ -50,9 +50,9 @@ unswitched false true h = absurd (false≢true (sym h))
 -- Commands
 
 pub made-issue : (Q : Made → Type 0) (world : World) (cpu : ℕ) (command : Command) →
-    (is_idle (processor_at (guest_of world).cpus cpu) ≡ true → runs world ≡ true →
+    (has_no_cpu world cpu ≡ false → is_idle (processor_at (guest_of world).cpus cpu) ≡ true → runs world ≡ true →
     Q (record { effect = try_effect cpu (took_by (is_access command) (guest_of world).space command); world = after_command world cpu command })) → Holds Q (answer world (Step.Issue cpu command))
-made-issue Q world cpu command h = holds-unless Q _ _ (λ t. h (not_none _ t.1.0) (not_none _ t.1.1.0))
+made-issue Q world cpu command h = holds-unless Q _ _ (λ t. h t.0 (not_none _ t.1.0) (not_none _ t.1.1.0))
 
 retry_by : (Q : Made → Type 0) (world : World) (cpu : ℕ) (o : Option Command) →
     ((command : Command) → o ≡ Some command → is_woken (processor_at (guest_of world).cpus cpu) ≡ true → runs world ≡ true →

@@ -34,7 +34,7 @@ use Rattle.mig_model.specs.Destination.{destination_act, destination_acted_by}
 pub entered_issue : (world : World) (cpu : ℕ) (command : Command) → IsOk (outcome world (Step.Issue cpu command)) →
     (next world (Step.Issue cpu command)).transcript ≡ world.transcript ++ entries_of cpu command (took_by (is_access command) (guest_of world).space command)
 entered_issue world cpu command ok =
-    leaves-ok (λ new. new.transcript ≡ world.transcript ++ entries_of cpu command (took_by (is_access command) (guest_of world).space command)) world (Step.Issue cpu command) (made-issue _ world cpu command (λ idle may. refl)) ok
+    leaves-ok (λ new. new.transcript ≡ world.transcript ++ entries_of cpu command (took_by (is_access command) (guest_of world).space command)) world (Step.Issue cpu command) (made-issue _ world cpu command (λ there idle may. refl)) ok
 
 some_command : (a b : Command) → Some a ≡ Some b → a ≡ b
 some_command a b h = cc
@@ -115,7 +115,7 @@ abbrev RemainedIn : World → ℕ → World → Type 0
 RemainedIn world q new = contains new.source.remaining q ≡ true → contains world.source.remaining q ≡ true
 
 remaining_answer : (world : World) (step : Step) (q : ℕ) → keeps_remaining step ≡ true → Leaves (RemainedIn world q) (answer world step)
-remaining_answer world (Step.Issue cpu command) q keeps = made-issue _ world cpu command (λ idle may h. sym (tried_remaining world cpu command q) ∙ h)
+remaining_answer world (Step.Issue cpu command) q keeps = made-issue _ world cpu command (λ there idle may h. sym (tried_remaining world cpu command q) ∙ h)
 remaining_answer world (Step.Retry cpu) q keeps = made-retry _ world cpu (λ command waits woken may h. sym (tried_remaining world cpu command q) ∙ h)
 remaining_answer world Step.Start q keeps = made-start _ world (λ idle h. h)
 remaining_answer world Step.Round q keeps = made-round _ world (λ precopy quiet h. h)

@@ -25,7 +25,7 @@ use Rattle.mig_model.specs.Invariant.{IsSoundWorld}
 use Rattle.mig_model.specs.Promises.{IsReached, AllAccess, AreAccesses}
 use Rattle.mig_model.proofs.FirstFrame.{first_in_place}
 use Rattle.mig_model.proofs.FramesTaken.{with_first}
-use Rattle.mig_model.proofs.WaitingCommands.{woken_keeps, taken_keeps, package_told}
+use Rattle.mig_model.proofs.WaitingCommands.{woken_keeps, taken_keeps, package_told, less_same, set_same}
 use Rattle.mig_model.proofs.EveryStep.{kept-next}
 use Rattle.mig_model.proofs.FirstWorld.{kept-first}
 use Rattle.mig_model.proofs.StepLemmas.{Leaves, leaves-next}
@@ -80,14 +80,6 @@ guest_access guest cpu command all = set_access guest.cpus cpu _ (λ other h. tr
 
 -- A message that is read
 
-less_same : (p : CpuState) → outstanding (message_less p) ≡ outstanding p
-less_same CpuState.Idle = refl
-less_same (CpuState.Asleep command) = refl
-less_same (CpuState.Woken command) = refl
-less_same (CpuState.InCall reply zero) = refl
-less_same (CpuState.InCall reply (suc zero)) = refl
-less_same (CpuState.InCall reply (suc (suc left))) = refl
-
 woken_like : (test : ℕ → Bool) (processors : List CpuState) → IsLike processors (all_woken test processors)
 woken_like test processors = record { waits = woken_keeps test processors; many = length-map processors (woken_if test) }
 
@@ -95,14 +87,6 @@ set_many : (processors : List CpuState) (i : ℕ) (new : CpuState) → length (s
 set_many [] i new = refl
 set_many (p ∷ ps) zero new = refl
 set_many (p ∷ ps) (suc i) new = ap suc (set_many ps i new)
-
-set_same : (processors : List CpuState) (i : ℕ) (new : CpuState) → outstanding new ≡ outstanding (processor_at processors i) → (k : ℕ) →
-    outstanding (processor_at (set processors i new) k) ≡ outstanding (processor_at processors k)
-set_same [] i new same k = refl
-set_same (p ∷ ps) zero new same zero = same
-set_same (p ∷ ps) zero new same (suc k) = refl
-set_same (p ∷ ps) (suc i) new same zero = refl
-set_same (p ∷ ps) (suc i) new same (suc k) = set_same ps i new same k
 
 event_like : (guest : Guest) (cpu : ℕ) (message : Message) → IsLike guest.cpus (all_woken (is_left_by message) (set guest.cpus cpu (message_less (processor_at guest.cpus cpu))))
 event_like guest cpu message =
@@ -224,7 +208,7 @@ frame_all (Recv state owed) epoch rest world kept up first all = unmoved world a
 frame_all Done epoch rest world kept up first all = unmoved world all
 
 waits_answer : (world : World) (step : Step) → IsSoundWorld world → Wait world → Leaves Wait (answer world step)
-waits_answer world (Step.Issue cpu command) kept all = made-issue _ world cpu command (λ idle may. tried_all world cpu command all)
+waits_answer world (Step.Issue cpu command) kept all = made-issue _ world cpu command (λ there idle may. tried_all world cpu command all)
 waits_answer world (Step.Retry cpu) kept all = made-retry _ world cpu (λ command waits woken may. tried_all world cpu command all)
 waits_answer world Step.Start kept all = made-start _ world (λ idle. record { source = all.source; destination = all.destination; many = all.many })
 waits_answer world Step.Round kept all = made-round _ world (λ precopy quiet. record { source = all.source; destination = all.destination; many = all.many })

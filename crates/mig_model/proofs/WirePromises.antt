@@ -154,7 +154,7 @@ guest_up true world guest = refl
 guest_up false world guest = refl
 
 up_answer : (world : World) (step : Step) → is_break step ≡ false → IsUp world → Leaves IsUp (answer world step)
-up_answer world (Step.Issue cpu command) h up = made-issue _ world cpu command (λ idle may. guest_up world.destination.has_run world _ ∙ up)
+up_answer world (Step.Issue cpu command) h up = made-issue _ world cpu command (λ there idle may. guest_up world.destination.has_run world _ ∙ up)
 up_answer world (Step.Retry cpu) h up = made-retry _ world cpu (λ command waits woken may. guest_up world.destination.has_run world _ ∙ up)
 up_answer world Step.Start h up = made-start _ world (λ idle. up)
 up_answer world Step.Round h up = made-round _ world (λ precopy quiet. up)
@@ -282,7 +282,7 @@ still_not : {A : Type 0} (old new : SourcePhase) → new ≡ old → is_released
 still_not old new same not h = absurd (false≢true (sym not ∙ sym (ap is_released same) ∙ h))
 
 completes_answer : (world : World) (step : Step) → is_released world.source.phase ≡ false → Leaves (CompletesTo world step) (answer world step)
-completes_answer world (Step.Issue cpu command) not = made-issue _ world cpu command (λ idle may h. still_not world.source.phase _ (command_phase world cpu command) not h)
+completes_answer world (Step.Issue cpu command) not = made-issue _ world cpu command (λ there idle may h. still_not world.source.phase _ (command_phase world cpu command) not h)
 completes_answer world (Step.Retry cpu) not = made-retry _ world cpu (λ command waits woken may h. still_not world.source.phase _ (command_phase world cpu command) not h)
 completes_answer world Step.Start not = made-start _ world (λ idle h. absurd (false≢true h))
 completes_answer world Step.Round not = made-round _ world (λ precopy quiet h. absurd (false≢true (sym not ∙ h)))

@@ -2,7 +2,7 @@
 //! and resumptions, in any order, those that are refused among them. Each law is a function with an empty body, whose contract is
 //! the law.
 
-ghost use Rattle.std.specs.Prelude.{◌≡◌, ◌≢◌, ℕ, ◌*◌, ◌/◌, [], ◌∷◌, ◌++◌, ◌==◌, ◌&&◌, not, true, false, if◌then◌else◌, is_some, Some, Ok, Err, IsOk, List};
+ghost use Rattle.std.specs.Prelude.{◌⊎◌, ◌≡◌, ◌≢◌, ℕ, ◌*◌, ◌/◌, [], ◌∷◌, ◌++◌, ◌==◌, ◌&&◌, not, true, false, if◌then◌else◌, is_some, Some, Ok, Err, IsOk, List};
 ghost use Rattle.std.specs.FinMap.{get};
 ghost use Rattle.std.specs.FinSet.{contains};
 ghost use Rattle.mig_base.specs.declared.effect.Effect.{Effect};
@@ -22,7 +22,7 @@ ghost use Rattle.mig_model.specs.Wire.{Sent, Copy, empty_wire, wire_with};
 ghost use Rattle.mig_model.specs.Migration.{World, guest_of, is_short, after_move, after_move_back, outcome, next, first_world, after_steps};
 ghost use Rattle.mig_model.specs.Invariant.{IsSoundWorld, IsPrecopying, IsSwitching, IsReceiving, current_host, package_in};
 ghost use Rattle.mig_model.specs.Parts.{Grows, ChangesParts};
-ghost use Rattle.mig_model.specs.Promises.{AreAccesses, IsReached, IsComplete, IsAlone, ArePaired, AreUnderWay, IsPut, IsZeroed, IsTaken, keeps_remaining, IsInPlaceBack, owed_changed, leaves_settled, is_retry_of, IsDelivered, IsDeliveredBack, takes_forward, takes_back, is_break, is_recv, is_last, Completes, CanComplete, has_recv};
+ghost use Rattle.mig_model.specs.Promises.{AreAccesses, IsReached, IsComplete, IsAlone, ArePaired, AreUnderWay, IsPut, IsZeroed, IsTaken, keeps_remaining, IsInPlaceBack, owed_changed, leaves_settled, is_retry_of, IsDelivered, IsDeliveredBack, takes_forward, takes_back, is_break, is_recv, is_last, Completes, CanComplete, has_recv, Slept};
 
 /// The commands in the transcript, made in turn on one flat memory, give the replies in it, and what the guest sees is that memory at
 /// the end. Before the destination runs it is the source's; from then on each page is the destination's own, or that of the source
@@ -119,9 +119,14 @@ pub fn no_frame_is_refused()
 {}
 
 /// A command that waits is changed by no step but the Retry of its processor: the processor still has to make it, on whichever node it
-/// then is. A Retry that is accepted tries it: the processor is idle where it took effect, and sleeps with the same command where it
-/// did not.
+/// then is. A command comes to wait only by an Issue of its own processor that slept. A Retry that is accepted tries it: the processor
+/// is idle where it took effect, and sleeps with the same command where it did not. An Issue leaves its processor likewise, or in its
+/// call.
 pub fn a_waiting_command()
+    ensures arises { (world : World) (step : Step) (cpu : ℕ) (command : Command) → IsReached world → outstanding (processor_at (guest_of (next world step)).cpus cpu) ≡ Some command →
+        (outstanding (processor_at (guest_of world).cpus cpu) ≡ Some command) ⊎ Slept world step cpu command }
+    ensures issue { (world : World) (cpu : ℕ) (command : Command) → IsOk (outcome world (Step.Issue cpu command)) →
+        processor_at (guest_of (next world (Step.Issue cpu command))).cpus cpu ≡ processor_after command (took_by (is_access command) (guest_of world).space command) }
     ensures kept { (world : World) (step : Step) (cpu : ℕ) (command : Command) → IsReached world → is_retry_of step cpu ≡ false →
         outstanding (processor_at (guest_of world).cpus cpu) ≡ Some command → outstanding (processor_at (guest_of (next world step)).cpus cpu) ≡ Some command }
     ensures retry { (world : World) (cpu : ℕ) (command : Command) → IsOk (outcome world (Step.Retry cpu)) → outstanding (processor_at (guest_of world).cpus cpu) ≡ Some command →
