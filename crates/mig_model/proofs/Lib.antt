@@ -64,3 +64,4 @@ pub mod SettledPromises
 pub mod Story
 pub mod StepPromises
 pub mod WaitingAccesses
+pub mod Calls

@@ -99,7 +99,7 @@ queued_events : (waits : Bool) (object other : Object) → other.events ≡ obje
 queued_events true object other h = refl
 queued_events false object other h = h
 
-accessed_events : (access : Access) (space : Space) (cpu : ℕ) (command : Command) → (accessed_by access space cpu command).object.events ≡ space.object.events
+pub accessed_events : (access : Access) (space : Space) (cpu : ℕ) (command : Command) → (accessed_by access space cpu command).object.events ≡ space.object.events
 accessed_events (Answered reply) space cpu command = refl
 accessed_events Missing space cpu command = queued_events (waits_fault space.object.faults (4096 * page_of command) false) space.object _ refl
 accessed_events Protected space cpu command = queued_events (waits_fault space.object.faults (4096 * page_of command) true) space.object _ refl

@@ -50,7 +50,7 @@ set_same (p ∷ ps) zero new same (suc k) = refl
 set_same (p ∷ ps) (suc i) new same zero = refl
 set_same (p ∷ ps) (suc i) new same (suc k) = set_same ps i new same k
 
-map_at : (f : CpuState → CpuState) (ps : List CpuState) (k : ℕ) → f CpuState.Idle ≡ CpuState.Idle → processor_at (map f ps) k ≡ f (processor_at ps k)
+pub map_at : (f : CpuState → CpuState) (ps : List CpuState) (k : ℕ) → f CpuState.Idle ≡ CpuState.Idle → processor_at (map f ps) k ≡ f (processor_at ps k)
 map_at f [] k idle = sym idle
 map_at f (p ∷ ps) zero idle = refl
 map_at f (p ∷ ps) (suc k) idle = map_at f ps k idle
@@ -141,7 +141,7 @@ install_waits (Some page) node copy rest k = woken_keeps (λ q. eqb q page) node
 
 -- Steps
 
-same_guest : (ran : Bool) (world : World) (guest : Guest) → guest_by ran (with_guest_by ran world guest).source.guest (with_guest_by ran world guest).destination.guest ≡ guest
+pub same_guest : (ran : Bool) (world : World) (guest : Guest) → guest_by ran (with_guest_by ran world guest).source.guest (with_guest_by ran world guest).destination.guest ≡ guest
 same_guest true world guest = refl
 same_guest false world guest = refl
 
@@ -157,7 +157,7 @@ tried_guest world cpu command =
     ap (λ b. guest_by b (with_guest_by ran world guest).source.guest (with_guest_by ran world guest).destination.guest) (same_ran ran world guest) ∙ same_guest ran world guest
 
 -- another processor has tried a command
-set_other : (processors : List CpuState) (i k : ℕ) (new : CpuState) → (i ≡ k → ⊥) → processor_at (set processors i new) k ≡ processor_at processors k
+pub set_other : (processors : List CpuState) (i k : ℕ) (new : CpuState) → (i ≡ k → ⊥) → processor_at (set processors i new) k ≡ processor_at processors k
 set_other [] i k new other = refl
 set_other (p ∷ ps) zero zero new other = absurd (other refl)
 set_other (p ∷ ps) zero (suc k) new other = refl
@@ -417,7 +417,7 @@ no_place i h = grind (arith, nat_tests)
 fewer : (i n : ℕ) → not (ltb (suc i) (suc n)) ≡ false → not (ltb i n) ≡ false
 fewer i n h = grind (arith, nat_tests)
 
-set_there : (processors : List CpuState) (i : ℕ) (new : CpuState) → not (ltb i (length processors)) ≡ false → processor_at (set processors i new) i ≡ new
+pub set_there : (processors : List CpuState) (i : ℕ) (new : CpuState) → not (ltb i (length processors)) ≡ false → processor_at (set processors i new) i ≡ new
 set_there [] i new h = absurd (no_place i h)
 set_there (p ∷ ps) zero new h = refl
 set_there (p ∷ ps) (suc i) new h = set_there ps i new (fewer i (length ps) h)

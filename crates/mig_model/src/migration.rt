@@ -20,7 +20,7 @@ ghost use Rattle.mig_model.specs.Source.{is_released, switch_frames, space_of, i
 ghost use Rattle.mig_model.specs.Destination.{settled, is_running};
 ghost use Rattle.mig_model.specs.Wire.{Sent, Copy, empty_wire, wire_with};
 ghost use Rattle.mig_model.specs.Migration.{World, guest_of, is_short, after_move, after_move_back, outcome, next, first_world, after_steps};
-ghost use Rattle.mig_model.specs.Invariant.{IsSoundWorld, IsPrecopying, IsSwitching, IsReceiving, current_host, package_in};
+ghost use Rattle.mig_model.specs.Invariant.{IsSoundWorld, AreSoundCalls, IsPrecopying, IsSwitching, IsReceiving, current_host, package_in};
 ghost use Rattle.mig_model.specs.Parts.{Grows, ChangesParts};
 ghost use Rattle.mig_model.specs.Promises.{AreAccesses, IsReached, IsComplete, IsAlone, ArePaired, AreUnderWay, IsPut, IsZeroed, IsTaken, keeps_remaining, IsInPlaceBack, owed_changed, leaves_settled, is_retry_of, IsDelivered, IsDeliveredBack, takes_forward, takes_back, is_break, is_recv, is_last, Completes, CanComplete, has_recv, Slept};
 
@@ -136,6 +136,12 @@ pub fn a_waiting_command()
 /// A command that waits is a load or a store, on either node: a map call waits only for its messages to be read, and has taken effect.
 pub fn waiting_commands_are_accesses()
     ensures { (world : World) → IsReached world → AreAccesses world }
+{}
+
+/// A processor is in a map call exactly as long as it has unread events on its node, and counts them: each event that is read belongs to
+/// a processor in a call. The queues of page faults hold page faults alone.
+pub fn calls_have_unread_events()
+    ensures { (world : World) → IsReached world → AreSoundCalls world }
 {}
 
 /// A command that takes effect is entered with its processor and its reply, at its first try or at a Retry; one that sleeps is not. That
