@@ -1,8 +1,8 @@
 -- A processor is in a call exactly as long as it has unread events there, and counts them: every step keeps it.
-use Rattle.std.proofs.Common.{◌≡◌, ℕ, zero, suc, ◌+◌, ◌<◌, Bool, true, false, cond, not, eqb, ltb, Option, Some, None, List, [], ◌∷◌, ◌++◌, length, refl, sym, ap, ◌∙◌, subst, ◌≢◌, ◌⊎◌, inl, inr, ⊎_elim, arith, if◌then◌else◌}
+use Rattle.std.proofs.Common.{◌≡◌, ℕ, zero, suc, ◌+◌, Bool, true, false, not, eqb, ltb, Option, Some, None, List, [], ◌∷◌, ◌++◌, length, refl, sym, ap, ◌∙◌, subst, ◌≢◌, ⊎_elim, arith, if◌then◌else◌}
 use Rattle.std.specs.Prelude.{set, map}
 use Rattle.std.proofs.lemmas.Bool.Decides.{nat_tests}
-use Rattle.std.proofs.lemmas.Bool.{false≢true}
+use Rattle.std.proofs.lemmas.Bool.{false≢true, cases_eq, ne_eqb}
 use Rattle.mig_base.specs.declared.command.Access.{Access}
 use Rattle.mig_base.specs.declared.command.Access.TheVariants.{Answered, Missing, Protected}
 use Rattle.mig_base.specs.declared.command.Command.{Command}
@@ -24,24 +24,23 @@ use Rattle.mig_model.specs.Wire.{Frame, Copy}
 use Rattle.mig_model.specs.Wire.Frame.{Advise, Page, Zero, Discard, Package, End, Resume, Request, Recv, Done}
 use Rattle.mig_model.specs.Invariant.{IsSoundWorld, AreRight, AreFaults, unread_of, CallFits, HasSoundCalls, AreSoundCalls, SwitchedAt}
 use Rattle.mig_model.proofs.SourceMessages.{noted_all, events_queued}
-use Rattle.mig_model.proofs.SourceEvents.{modes_events}
 use Rattle.mig_model.proofs.SettledPromises.{accessed_events}
 use Rattle.mig_model.proofs.FaultLemmas.{AreFaults-tried}
 use Rattle.mig_model.proofs.WaitingCommands.{map_at, set_there, set_other}
-use Rattle.mig_model.proofs.DestinationRead.{some_is, none_is}
+use Rattle.mig_model.proofs.DestinationRead.{none_is}
 use Rattle.mig_model.proofs.EveryStep.{kept-next}
 use Rattle.mig_model.proofs.FirstWorld.{kept-first}
 use Rattle.mig_model.proofs.FramesTaken.{is_taken_back}
 use Rattle.mig_model.proofs.StepLemmas.{Leaves, leaves-next}
 use Rattle.mig_model.specs.Cpus.{access_took, all_woken, call_took, idle_processors, is_idle, is_woken, message_less, processor_after, processor_at, taken_over, woken_if}
 use Rattle.mig_model.specs.Guest.{Act, Guest, read_guest, resolved, tried, is_left_by}
-use Rattle.mig_model.specs.Log.{present}
 use Rattle.mig_model.specs.Owed.{home}
 use Rattle.mig_model.specs.Source.{Source, is_stopped, released, source_act, source_acted_by, source_took, space_of}
 use Rattle.mig_model.specs.Destination.{Destination, copy_came, destination_act, destination_acted_by, destination_took, install_by, received_of, resumed_by}
 use Rattle.mig_model.specs.Migration.{World, after_command, after_steps, answer, first_world_with, guest_by, guest_of, has_no_cpu, next, start, with_guest_by}
 use Rattle.mig_model.specs.Promises.{IsInPlaceBack, IsReached, is_last}
 use Rattle.mig_model.proofs.StepCases.{made-break, made-deliver, made-deliver_back, made-dest_act, made-dest_read, made-end, made-install, made-issue, made-notice, made-push, made-resume, made-retry, made-round, made-send, made-serve, made-source_act, made-source_read, made-start, made-switch}
+use Rattle.mig_model.proofs.Facts.{eqb-self, some_is, modes_events}
 
 -- Numbers of events
 
@@ -95,12 +94,6 @@ zero_suc n h = omega (arith, h)
 less_one : (a b : ℕ) → suc a ≡ suc b → a ≡ b
 less_one a b h = omega (arith, h)
 
-same_or_other : (a b : ℕ) → (a ≡ b) ⊎ (a ≡ b → ⊥)
-same_or_other zero zero = inl refl
-same_or_other zero (suc b) = inr (λ h. zero_suc b h)
-same_or_other (suc a) zero = inr (λ h. zero_suc a (sym h))
-same_or_other (suc a) (suc b) = ⊎_elim (λ (h : a ≡ b). inl (ap suc h)) (λ (h : a ≡ b → ⊥). inr (λ e. h (less_one a b e))) (same_or_other a b)
-
 -- a processor that is there changes, and the others stay
 fits_set : (cpus : List CpuState) (i : ℕ) (new : CpuState) (before now : ℕ → ℕ) → not (ltb i (length cpus)) ≡ false → ((k : ℕ) → CallFits (processor_at cpus k) (before k)) → ((k : ℕ) → (i ≡ k → ⊥) → now k ≡ before k) → CallFits new (now i) → (k : ℕ) →
     CallFits (processor_at (set cpus i new) k) (now k)
@@ -108,7 +101,7 @@ fits_set cpus i new before now there fits others here k =
     ⊎_elim
     (λ (same : i ≡ k). subst (λ j. CallFits (processor_at (set cpus i new) j) (now j)) same (subst (λ p. CallFits p (now i)) (sym (set_there cpus i new there)) here))
     (λ (other : i ≡ k → ⊥). subst (λ p. CallFits p (now k)) (sym (set_other cpus i k new other)) (subst (λ n. CallFits (processor_at cpus k) n) (sym (others k other)) (fits k)))
-    (same_or_other i k)
+    (cases_eq i k)
 
 -- Commands
 
@@ -121,9 +114,6 @@ called_fits : (reply : Reply) (count : ℕ) (command : Command) (unread : ℕ) �
 called_fits reply zero command unread h = h
 called_fits reply (suc left) command unread h = (sym h, omega arith)
 
-eqb-self : (a : ℕ) → eqb a a ≡ true
-eqb-self a = grind (arith, nat_tests)
-
 eqb_by : (here : Bool) (a b : ℕ) → eqb a b ≡ here → (a ≡ b → ⊥) → here ≡ false
 eqb_by true a b is h = absurd (h (grind (arith, nat_tests)))
 eqb_by false a b is h = refl
@@ -133,9 +123,6 @@ plus_none n = omega arith
 
 none_plus : (n : ℕ) → 0 + n ≡ n
 none_plus n = omega arith
-
-eqb-not : (a b : ℕ) → (a ≡ b → ⊥) → eqb a b ≡ false
-eqb-not a b h = eqb_by (eqb a b) a b refl h
 
 tried_calls : (access : Bool) (guest : Guest) (cpu : ℕ) (command : Command) → not (ltb cpu (length guest.cpus)) ≡ false → unread_of guest.space.object.events cpu ≡ 0 → HasSoundCalls guest → HasSoundCalls (tried access guest cpu command)
 tried_calls true guest cpu command there none calls =
@@ -157,7 +144,7 @@ tried_calls false guest cpu command there none calls =
     record {
       fits = subst (λ e. (k : ℕ) → CallFits (processor_at (set guest.cpus cpu new) k) (unread_of e k)) (sym events)
           (fits_set guest.cpus cpu new (unread_of old) (unread_of (old ++ noted_all messages cpu)) there calls.fits
-          (λ k other. count k ∙ ap (λ b. unread_of old k + (if b then length messages else 0)) (eqb-not cpu k other) ∙ plus_none (unread_of old k))
+          (λ k other. count k ∙ ap (λ b. unread_of old k + (if b then length messages else 0)) (ne_eqb cpu k other) ∙ plus_none (unread_of old k))
           (called_fits reply (length messages) command (unread_of (old ++ noted_all messages cpu) cpu)
           (count cpu ∙ ap (λ b. unread_of old cpu + (if b then length messages else 0)) (eqb-self cpu) ∙ ap (λ n. n + length messages) none ∙ none_plus (length messages))));
       faults = AreFaults-tried false guest.space cpu command calls.faults;
@@ -196,7 +183,7 @@ event_fits cpus first events test fits k =
     let own = subst (λ n. CallFits (processor_at cpus first.cpu) n) (ap (λ b. (if b then 1 else 0) + unread_of events first.cpu) (eqb-self first.cpu)) (fits first.cpu) in
     fits_all test (set cpus first.cpu (message_less (processor_at cpus first.cpu))) k (unread_of events k)
     (fits_set cpus first.cpu (message_less (processor_at cpus first.cpu)) (unread_of (first ∷ events)) (unread_of events) (call_there cpus first.cpu (unread_of events first.cpu) own) fits
-    (λ j other. sym (ap (λ b. (if b then 1 else 0) + unread_of events j) (eqb-not first.cpu j other) ∙ none_plus (unread_of events j)))
+    (λ j other. sym (ap (λ b. (if b then 1 else 0) + unread_of events j) (ne_eqb first.cpu j other) ∙ none_plus (unread_of events j)))
     (less_fits (processor_at cpus first.cpu) (unread_of events first.cpu) own) k)
 
 -- a guest with these queues. Each guest is one with its own

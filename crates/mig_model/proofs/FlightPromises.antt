@@ -1,10 +1,11 @@
 -- What a Package or a Recv that is in flight tells, whatever the phases are; and what a Switch owes.
-use Rattle.std.proofs.Common.{◌≡◌, ℕ, ◌<◌, ◌&&◌, ◌||◌, Bool, true, false, not, cond, ltb, Option, Some, None, is_some, List, [], ◌∷◌, refl, sym, ap, ◌∙◌, subst, arith, IsOk, ◌⊎◌, ⊎_elim, ◌≤◌, if◌then◌else◌}
+use Rattle.std.proofs.Common.{◌≡◌, ℕ, ◌&&◌, Bool, true, false, not, ltb, Option, Some, None, is_some, List, [], ◌∷◌, refl, sym, ap, ◌∙◌, subst, arith, IsOk, ◌⊎◌, ⊎_elim, ◌≤◌, if◌then◌else◌}
 use Rattle.std.specs.Option.{option_and_then}
 use Rattle.std.specs.FinMap.{get}
 use Rattle.std.specs.FinSet.{contains}
 use Rattle.std.proofs.lemmas.Bool.Decides.{nat_tests}
-use Rattle.std.proofs.lemmas.Bool.{false≢true}
+use Rattle.std.proofs.lemmas.Bool.{false≢true, true_from_ne_false, and_parts, or_from}
+use Rattle.std.proofs.lemmas.Option.{none-some}
 use Rattle.mig_base.specs.declared.TheConstants.{HIGH_PAGE}
 use Rattle.mig_base.specs.declared.phase.DestPhase.{DestPhase}
 use Rattle.mig_base.specs.declared.phase.Received.{Received}
@@ -12,18 +13,19 @@ use Rattle.mig_base.specs.declared.phase.SourcePhase.{SourcePhase}
 use Rattle.mig_base.specs.declared.schedule.Step.{Step}
 use Rattle.mig_base.specs.Tests.{is_empty}
 use Rattle.mig_model.specs.Wire.{Frame, Sent, wire_with}
-use Rattle.mig_model.specs.Wire.Frame.{Advise, Page, Zero, Discard, Package, End, Resume, Request, Recv, Done}
+use Rattle.mig_model.specs.Wire.Frame.{Page, Zero, Package, End, Request, Done}
 use Rattle.mig_model.specs.Guest.{is_present}
-use Rattle.mig_model.specs.Source.{space_of, not_clean, switch_frames}
-use Rattle.mig_model.specs.Migration.{World, answer, outcome, next}
-use Rattle.mig_model.specs.Invariant.{IsSoundWorld, IsSwitching, IsReceiving, Flow, flow_next, flow_after, flow_of, package_in, is_package, is_request, is_done, are_requests, are_requests_and_done}
+use Rattle.mig_model.specs.Source.{space_of, switch_frames}
+use Rattle.mig_model.specs.Migration.{World, outcome, next}
+use Rattle.mig_model.specs.Invariant.{IsSoundWorld, IsSwitching, IsReceiving, Flow, flow_next, flow_after, package_in, is_package, is_request, is_done, are_requests, are_requests_and_done}
 use Rattle.mig_model.specs.Invariant.Flow.{BeforeAdvise, Copies, BeforePackage, Pushed, AfterEnd}
 use Rattle.mig_model.specs.Promises.{has_recv, is_running_recv}
-use Rattle.mig_model.proofs.FirstFrame.{none_some, stays_late}
+use Rattle.mig_model.proofs.FirstFrame.{stays_late}
 use Rattle.mig_model.proofs.Stopping.{in_phases}
-use Rattle.mig_model.proofs.StepLemmas.{Leaves, leaves-ok}
+use Rattle.mig_model.proofs.StepLemmas.{leaves-ok}
 use Rattle.mig_model.proofs.StepCases.{made-switch}
 use Rattle.mig_model.proofs.SwitchMade.{member_not_clean}
+use Rattle.mig_model.proofs.Facts.{either, and_false}
 
 -- A Package in flight
 
@@ -40,8 +42,8 @@ past_next BeforePackage next frame past h = absurd (false≢true past)
 past_next Pushed next (Page page bytes) past h = (ap (λ o. elim o [ None ↦ true | Some flow ↦ is_past flow ]) (sym h), refl)
 past_next Pushed next (Zero page) past h = (ap (λ o. elim o [ None ↦ true | Some flow ↦ is_past flow ]) (sym h), refl)
 past_next Pushed next End past h = (ap (λ o. elim o [ None ↦ true | Some flow ↦ is_past flow ]) (sym h), refl)
-past_next Pushed next _ past h = absurd (none_some next h)
-past_next AfterEnd next frame past h = absurd (none_some next h)
+past_next Pushed next _ past h = absurd (none-some next h)
+past_next AfterEnd next frame past h = absurd (none-some next h)
 
 not_here : (here : Bool) (frame : Frame) (rest : Option Frame) → here ≡ false → is_some (if here then Some frame else rest) ≡ true → is_some rest ≡ true
 not_here true frame rest h there = absurd (false≢true (sym h))
@@ -52,7 +54,7 @@ pub none_past : (flow end : Flow) (wire : List Sent) → is_past flow ≡ true �
 none_past flow end [] past h there = false≢true there
 none_past flow end (sent ∷ rest) past h there =
     elim (flow_next flow sent.frame) as (λ o. flow_next flow sent.frame ≡ o → option_and_then (λ next. flow_after next rest) o ≡ Some end → ⊥) [
-      | None ↦ λ e g. none_some end g
+      | None ↦ λ e g. none-some end g
       | Some next ↦ λ e g.
           let told = past_next flow next sent.frame past e in
           none_past next end rest told.0 g (not_here (is_package sent.frame) sent.frame (package_in rest) told.1 there)
@@ -61,10 +63,10 @@ none_past flow end (sent ∷ rest) past h there =
 -- a Package goes to a later place, from which the wire does not come back
 package_next : (flow next : Flow) (frame : Frame) → is_package frame ≡ true → flow_next flow frame ≡ Some next → next ≡ Pushed
 package_next BeforePackage next (Package areas owed commands) is h = sym (ap (λ o. elim o [ None ↦ Pushed | Some flow ↦ flow ]) h)
-package_next BeforeAdvise next (Package areas owed commands) is h = absurd (none_some next h)
-package_next Copies next (Package areas owed commands) is h = absurd (none_some next h)
-package_next Pushed next (Package areas owed commands) is h = absurd (none_some next h)
-package_next AfterEnd next (Package areas owed commands) is h = absurd (none_some next h)
+package_next BeforeAdvise next (Package areas owed commands) is h = absurd (none-some next h)
+package_next Copies next (Package areas owed commands) is h = absurd (none-some next h)
+package_next Pushed next (Package areas owed commands) is h = absurd (none-some next h)
+package_next AfterEnd next (Package areas owed commands) is h = absurd (none-some next h)
 package_next flow next _ is h = absurd (false≢true is)
 
 here_or_later : {A : Type 0} (here : Bool) (frame : Frame) (rest : Option Frame) → is_some (if here then Some frame else rest) ≡ true → (here ≡ true → A) → (is_some rest ≡ true → A) → A
@@ -75,7 +77,7 @@ pub none_precopy : (flow : Flow) (wire : List Sent) → flow_after flow wire ≡
 none_precopy flow [] h there = false≢true there
 none_precopy flow (sent ∷ rest) h there =
     elim (flow_next flow sent.frame) as (λ o. flow_next flow sent.frame ≡ o → option_and_then (λ next. flow_after next rest) o ≡ Some Copies → ⊥) [
-      | None ↦ λ e g. none_some Copies g
+      | None ↦ λ e g. none-some Copies g
       | Some next ↦ λ e g.
           here_or_later (is_package sent.frame) sent.frame (package_in rest) there
           (λ is. stays_late Pushed rest refl (subst (λ f. flow_after f rest ≡ Some Copies) (package_next flow next sent.frame is e) g))
@@ -108,14 +110,9 @@ package_in_phases SourcePhase.Paused DestPhase.Paused world up kept there = absu
 package_in_phases SourcePhase.Paused DestPhase.Ended world up kept there = absurd (no_package world.forward.frames (kept.flight.wires up).0 there)
 package_in_phases SourcePhase.Released to world up kept there = absurd (no_package world.forward.frames (kept.flight.wires up).1 there)
 
--- whatever is in flight, the link is up
-linked : (up : Bool) → (up ≡ false → ⊥) → up ≡ true
-linked true h = refl
-linked false h = absurd (h refl)
-
 pub package_tells : (world : World) → IsSoundWorld world → is_some (package_in world.forward.frames) ≡ true → IsSwitching world.source world.destination.kept world.forward.frames
 package_tells world kept there =
-    package_in_phases world.source.phase world.destination.phase world (linked world.up (λ down. no_package world.forward.frames (kept.flight.down down).0 there)) kept there
+    package_in_phases world.source.phase world.destination.phase world (true_from_ne_false world.up (λ down. no_package world.forward.frames (kept.flight.down down).0 there)) kept there
 
 -- A Recv in flight
 
@@ -127,23 +124,11 @@ done_not : (frame : Frame) → is_done frame ≡ true → is_running_recv frame 
 done_not Done h = refl
 done_not _ h = absurd (false≢true h)
 
-and_two : (a b : Bool) → (a && b) ≡ true → (a ≡ true) × (b ≡ true)
-and_two true b h = (refl, h)
-and_two false b h = absurd (false≢true h)
-
-or_two : (a b : Bool) → a ≡ false → b ≡ false → (a || b) ≡ false
-or_two true b h k = absurd (false≢true (sym h))
-or_two false b h k = k
-
 requests_no_recv : (wire : List Sent) → are_requests wire ≡ true → has_recv wire ≡ false
 requests_no_recv [] h = refl
 requests_no_recv (sent ∷ rest) h =
-    let both = and_two (is_request sent.frame) (are_requests rest) h in
-    or_two (is_running_recv sent.frame) (has_recv rest) (request_not sent.frame both.0) (requests_no_recv rest both.1)
-
-either : {A : Type 0} (a b : Bool) → (a || b) ≡ true → (a ≡ true → A) → (b ≡ true → A) → A
-either true b h one two = one refl
-either false b h one two = two h
+    let both = and_parts (is_request sent.frame) (are_requests rest) h in
+    or_from (is_running_recv sent.frame) (has_recv rest) (request_not sent.frame both.0) (requests_no_recv rest both.1)
 
 empty_no_recv : (wire : List Sent) → is_empty wire ≡ true → has_recv wire ≡ false
 empty_no_recv [] h = refl
@@ -153,8 +138,8 @@ ended_no_recv : (wire : List Sent) → are_requests_and_done wire ≡ true → h
 ended_no_recv [] h = absurd (false≢true h)
 ended_no_recv (sent ∷ rest) h =
     either (is_request sent.frame && are_requests_and_done rest) (is_done sent.frame && is_empty rest) h
-    (λ one. let both = and_two (is_request sent.frame) (are_requests_and_done rest) one in or_two (is_running_recv sent.frame) (has_recv rest) (request_not sent.frame both.0) (ended_no_recv rest both.1))
-    (λ two. let both = and_two (is_done sent.frame) (is_empty rest) two in or_two (is_running_recv sent.frame) (has_recv rest) (done_not sent.frame both.0) (empty_no_recv rest both.1))
+    (λ one. let both = and_parts (is_request sent.frame) (are_requests_and_done rest) one in or_from (is_running_recv sent.frame) (has_recv rest) (request_not sent.frame both.0) (ended_no_recv rest both.1))
+    (λ two. let both = and_parts (is_done sent.frame) (is_empty rest) two in or_from (is_running_recv sent.frame) (has_recv rest) (done_not sent.frame both.0) (empty_no_recv rest both.1))
 
 no_recv : {A : Type 0} (wire : List Sent) → has_recv wire ≡ false → has_recv wire ≡ true → A
 no_recv wire none there = absurd (false≢true (sym none ∙ there))
@@ -186,7 +171,7 @@ recv_in_phases SourcePhase.Released to world up kept there = no_recv world.back.
 
 pub recv_tells : (world : World) → IsSoundWorld world → has_recv world.back.frames ≡ true → IsReceiving world.source world.destination Received.Running world.back.frames
 recv_tells world kept there =
-    recv_in_phases world.source.phase world.destination.phase world (linked world.up (λ down. no_recv world.back.frames (ap has_recv (kept.flight.down down).1) there)) kept there
+    recv_in_phases world.source.phase world.destination.phase world (true_from_ne_false world.up (λ down. no_recv world.back.frames (ap has_recv (kept.flight.down down).1) there)) kept there
 
 -- Switch
 
@@ -195,10 +180,6 @@ none_is_some o none some = false≢true (ap is_some (sym none) ∙ some)
 
 below_or_not : (page : ℕ) → (ltb page HIGH_PAGE ≡ true) ⊎ (HIGH_PAGE ≤ page)
 below_or_not page = grind (arith, nat_tests)
-
-and_false : (b : Bool) → (b && false) ≡ false
-and_false true = refl
-and_false false = refl
 
 present_low : (world : World) (page : ℕ) → IsSoundWorld world → (ltb page HIGH_PAGE && is_present (space_of world.source) page) ≡ is_present (space_of world.source) page
 present_low world page kept =

@@ -1,3 +1,4 @@
+pub mod Facts
 pub mod NumberLemmas
 pub mod HostLemmas
 pub mod CommandLemmas

@@ -1,6 +1,7 @@
 -- A command that waits is a load or a store.
 use Rattle.std.proofs.Common.{◌≡◌, ℕ, zero, suc, Bool, true, false, eqb, Option, Some, None, List, [], ◌∷◌, refl, sym, ap, ◌∙◌, subst, if◌then◌else◌}
 use Rattle.std.specs.Prelude.{map, set, length}
+use Rattle.std.proofs.lemmas.Option.{same_Some, none-some}
 use lib.ListN.{length-map}
 use Rattle.mig_base.specs.declared.cpu_state.CpuState.{CpuState}
 use Rattle.mig_base.specs.declared.phase.Received.{Received}
@@ -31,7 +32,6 @@ use Rattle.mig_model.proofs.FirstWorld.{kept-first}
 use Rattle.mig_model.proofs.StepLemmas.{Leaves, leaves-next}
 use Rattle.mig_model.proofs.StepCases.{made-break, made-deliver, made-deliver_back, made-dest_act, made-dest_read, made-end, made-install, made-issue, made-notice, made-push, made-resume, made-retry, made-round, made-send, made-serve, made-source_act, made-source_read, made-start, made-switch}
 use Rattle.mig_model.specs.Cpus.{access_took, all_woken, call_took, idle_processors, message_less, outstanding, processor_after, processor_at, taken_over, woken_if}
-use Rattle.mig_model.specs.Log.{less, present}
 use Rattle.mig_model.specs.Owed.{home}
 use Rattle.mig_model.specs.Source.{Source, commands_of, source_act, source_acted_by, source_took}
 use Rattle.mig_model.specs.Destination.{Destination, copy_came, destination_act, destination_acted_by, destination_took, install_by, received_of, resumed_by}
@@ -47,22 +47,16 @@ all_like old new like all k command h = all k command (sym (like.waits k) ∙ h)
 unchanged : (processors : List CpuState) → IsLike processors processors
 unchanged processors = record { waits = λ k. refl; many = refl }
 
-none_some : {A : Type 0} (x : A) → None ≡ Some x → ⊥
-none_some x h = cc
-
-same_some : {A : Type 0} (x y : A) → Some x ≡ Some y → x ≡ y
-same_some x y h = cc
-
 -- A command that is tried
 
 answered_waits : (access : Access) (command other : Command) → outstanding (processor_after command (access_took access)) ≡ Some other → command ≡ other
-answered_waits (Answered reply) command other h = absurd (none_some other h)
-answered_waits Missing command other h = same_some command other h
-answered_waits Protected command other h = same_some command other h
+answered_waits (Answered reply) command other h = absurd (none-some other h)
+answered_waits Missing command other h = same_Some command other h
+answered_waits Protected command other h = same_Some command other h
 
 called_waits : (reply : Reply) (left : ℕ) (command other : Command) → outstanding (processor_after command (call_took reply left)) ≡ Some other → ⊥
-called_waits reply zero command other h = none_some other h
-called_waits reply (suc left) command other h = none_some other h
+called_waits reply zero command other h = none-some other h
+called_waits reply (suc left) command other h = none-some other h
 
 tried_access : (access : Bool) (space : Space) (command other : Command) → access ≡ is_access command → outstanding (processor_after command (took_by access space command)) ≡ Some other → is_access other ≡ true
 tried_access true space command other is h = ap is_access (sym (answered_waits (access_of space command) command other h)) ∙ sym is
@@ -244,8 +238,8 @@ waits_answer world (Step.Notice Side.Destination) kept all = made-notice _ world
 waits_answer world Step.Resume kept all = made-resume _ world (λ from to down. record { source = all.source; destination = all.destination; many = all.many })
 
 idle_all : (count : ℕ) → AllAccess (idle_processors count)
-idle_all zero k command h = absurd (none_some command h)
-idle_all (suc count) zero command h = absurd (none_some command h)
+idle_all zero k command h = absurd (none-some command h)
+idle_all (suc count) zero command h = absurd (none-some command h)
 idle_all (suc count) (suc k) command h = idle_all count k command h
 
 next_all : (world : World) (step : Step) → IsSoundWorld world → Wait world → Wait (next world step)

@@ -5,12 +5,12 @@ use Rattle.std.specs.Ordering.{nat_cmp}
 use Rattle.std.specs.FinMap.{FinMap}
 use Rattle.std.specs.FinSet.{FinSet}
 use Rattle.std.proofs.lemmas.Bool.Decides.{nat_tests}
-use Rattle.std.proofs.lemmas.Bool.{false≢true}
+use Rattle.std.proofs.lemmas.Bool.{false≢true, eq-eqb}
+use Rattle.std.proofs.lemmas.Option.{none-some}
 use Rattle.mig_base.specs.declared.cpu_state.CpuState.{CpuState}
 use Rattle.mig_base.specs.declared.phase.DestPhase.{DestPhase}
 use Rattle.mig_base.specs.declared.phase.Received.{Received}
 use Rattle.mig_base.specs.declared.phase.SourcePhase.{SourcePhase}
-use Rattle.mig_base.specs.declared.refusal.Refusal.{Refusal}
 use Rattle.mig_base.specs.declared.schedule.Side.{Side}
 use Rattle.mig_base.specs.declared.schedule.Step.{Step}
 use Rattle.mig_base.specs.declared.Prot.{Prot}
@@ -31,10 +31,10 @@ use Rattle.mig_model.proofs.FramesTaken.{with_first, commands_in}
 use Rattle.mig_model.proofs.StepLemmas.{Leaves, leaves-next, leaves-ok}
 use Rattle.mig_model.proofs.StepCases.{made-break, made-deliver, made-deliver_back, made-dest_act, made-dest_read, made-end, made-install, made-issue, made-notice, made-push, made-resume, made-retry, made-round, made-send, made-serve, made-source_act, made-source_read, made-start, made-switch}
 use Rattle.mig_model.specs.Cpus.{all_woken, is_idle, message_less, outstanding, processor_after, processor_at, taken_over, woken_if, Took}
-use Rattle.mig_model.specs.Log.{present}
 use Rattle.mig_model.specs.Owed.{home}
 use Rattle.mig_model.specs.Source.{Source, commands_of, source_act, source_acted_by, source_took}
 use Rattle.mig_model.specs.Destination.{Destination, copy_came, destination_act, destination_acted, destination_acted_by, destination_read, destination_took, install_by, received_of, resumed_by}
+use Rattle.mig_model.proofs.Facts.{some_command}
 
 -- Processors
 
@@ -68,9 +68,6 @@ woken_outstanding test (CpuState.InCall reply left) = refl
 -- waking leaves what waits
 pub woken_keeps : (test : ℕ → Bool) (ps : List CpuState) (k : ℕ) → outstanding (processor_at (all_woken test ps) k) ≡ outstanding (processor_at ps k)
 woken_keeps test ps k = ap outstanding (map_at (woken_if test) ps k refl) ∙ woken_outstanding test (processor_at ps k)
-
-none_some : {A : Type 0} (x : A) → None ≡ Some x → ⊥
-none_some x h = cc
 
 pub less_same : (p : CpuState) → outstanding (message_less p) ≡ outstanding p
 less_same CpuState.Idle = refl
@@ -170,13 +167,10 @@ tried_other world cpu tries k other =
     ∙ ap outstanding (set_other (guest_of world).cpus cpu k (processor_after tries (took_by (is_access tries) (guest_of world).space tries)) other)
 
 idle_none : (p : CpuState) (command : Command) → is_idle p ≡ true → outstanding p ≡ Some command → ⊥
-idle_none CpuState.Idle command h e = none_some command e
+idle_none CpuState.Idle command h e = none-some command e
 idle_none (CpuState.Asleep other) command h e = false≢true h
 idle_none (CpuState.Woken other) command h e = false≢true h
 idle_none (CpuState.InCall reply left) command h e = false≢true h
-
-eqb-is : (a b : ℕ) → a ≡ b → eqb a b ≡ true
-eqb-is a b h = grind (arith, nat_tests)
 
 acted_ran : (act : Act) (node : Destination) (page : ℕ) → (destination_acted_by act node page).has_run ≡ node.has_run
 acted_ran Unprotected node page = refl
@@ -336,18 +330,15 @@ waiting_command world (Step.Issue cpu tries) k command kept other h =
     (made-issue _ world cpu tries (λ there idle may.
     tried_other world cpu tries k (λ e. idle_none (processor_at (guest_of world).cpus cpu) command idle (ap (λ i. outstanding (processor_at (guest_of world).cpus i)) e ∙ h)) ∙ h))
 waiting_command world (Step.Retry cpu) k command kept other h =
-    leaves-next (WaitsIn k command) world (Step.Retry cpu) h (made-retry _ world cpu (λ tries is woken may. tried_other world cpu tries k (λ e. false≢true (sym other ∙ eqb-is cpu k e)) ∙ h))
+    leaves-next (WaitsIn k command) world (Step.Retry cpu) h (made-retry _ world cpu (λ tries is woken may. tried_other world cpu tries k (λ e. false≢true (sym other ∙ eq-eqb cpu k e)) ∙ h))
 waiting_command world step k command kept other h = same_waits world step kept refl k ∙ h
 
 -- Who comes to wait
 
-same_some : (a b : Command) → Some a ≡ Some b → a ≡ b
-same_some a b h = cc
-
 sleeps_by : (took : Took) (tries command : Command) → outstanding (processor_after tries took) ≡ Some command → (tries ≡ command) × (took ≡ Sleep)
-sleeps_by (Took.Answer reply) tries command h = absurd (none_some command h)
-sleeps_by Sleep tries command h = (same_some tries command h, refl)
-sleeps_by (Call reply left) tries command h = absurd (none_some command h)
+sleeps_by (Took.Answer reply) tries command h = absurd (none-some command h)
+sleeps_by Sleep tries command h = (some_command tries command h, refl)
+sleeps_by (Call reply left) tries command h = absurd (none-some command h)
 
 -- what stands at a place of a list where one was set
 set_at : (processors : List CpuState) (i k : ℕ) (new : CpuState) (command : Command) → outstanding (processor_at (set processors i new) k) ≡ Some command →
@@ -394,12 +385,9 @@ waits_arise world step k command kept = λ h. inl (sym (same_waits world step ke
 -- What a try makes of its processor
 
 set_here : (processors : List CpuState) (i : ℕ) (new : CpuState) (command : Command) → outstanding (processor_at processors i) ≡ Some command → processor_at (set processors i new) i ≡ new
-set_here [] i new command h = absurd (none_some command h)
+set_here [] i new command h = absurd (none-some command h)
 set_here (p ∷ ps) zero new command h = refl
 set_here (p ∷ ps) (suc i) new command h = set_here ps i new command h
-
-some_command : (a b : Command) → Some a ≡ Some b → a ≡ b
-some_command a b h = cc
 
 pub retried_at : (world : World) (cpu : ℕ) (command : Command) → IsOk (outcome world (Step.Retry cpu)) → outstanding (processor_at (guest_of world).cpus cpu) ≡ Some command →
     processor_at (guest_of (next world (Step.Retry cpu))).cpus cpu ≡ processor_after command (took_by (is_access command) (guest_of world).space command)

@@ -26,10 +26,10 @@ use Rattle.mig_model.specs.Wire.Frame.{Advise, Page, Zero, Discard, Package, End
 use Rattle.mig_model.specs.Migration.{World}
 use Rattle.mig_model.specs.Cpus.{processor_at}
 use Rattle.mig_model.specs.Guest.{Guest, is_changed_by, is_present}
-use Rattle.mig_model.specs.Log.{no_pages, present}
+use Rattle.mig_model.specs.Log.{no_pages}
 use Rattle.mig_model.specs.Owed.{Owed, settled_by}
-use Rattle.mig_model.specs.Source.{Source, commands_of, released, space_of}
-use Rattle.mig_model.specs.Destination.{Destination, arrived, settled}
+use Rattle.mig_model.specs.Source.{Source, commands_of, space_of}
+use Rattle.mig_model.specs.Destination.{Destination, settled}
 
 -- The memory that the guest sees
 
