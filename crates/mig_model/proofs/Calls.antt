@@ -41,6 +41,7 @@ use Rattle.mig_model.specs.Migration.{World, after_command, after_steps, answer,
 use Rattle.mig_model.specs.Promises.{IsInPlaceBack, IsReached, is_last}
 use Rattle.mig_model.proofs.StepCases.{made-break, made-deliver, made-deliver_back, made-dest_act, made-dest_read, made-end, made-install, made-issue, made-notice, made-push, made-resume, made-retry, made-round, made-send, made-serve, made-source_act, made-source_read, made-start, made-switch}
 use Rattle.mig_model.proofs.Facts.{eqb-self, some_is, modes_events}
+use Rattle.mig_model.specs.Log.{present}
 
 -- Numbers of events
 
@@ -304,7 +305,7 @@ by_guest false world cpu command there none all = record { source = tried_calls 
 command_calls : (world : World) (cpu : ℕ) (command : Command) → has_no_cpu world cpu ≡ false → (HasSoundCalls (guest_of world) → unread_of (guest_of world).space.object.events cpu ≡ 0) → AreSoundCalls world → AreSoundCalls (after_command world cpu command)
 command_calls world cpu command there none all = let new = by_guest world.destination.has_run world cpu command there none all in record { source = new.source; destination = new.destination }
 
-stopped_switched : (phase : SourcePhase) (switched : Bool) → is_stopped phase ≡ true → SwitchedAt phase switched → switched ≡ true
+pub stopped_switched : (phase : SourcePhase) (switched : Bool) → is_stopped phase ≡ true → SwitchedAt phase switched → switched ≡ true
 stopped_switched SourcePhase.Stopped switched h at = at
 stopped_switched SourcePhase.Idle switched h at = absurd (false≢true h)
 stopped_switched SourcePhase.Precopy switched h at = absurd (false≢true h)

@@ -66,3 +66,4 @@ pub mod Story
 pub mod StepPromises
 pub mod WaitingAccesses
 pub mod Calls
+pub mod PushOrder

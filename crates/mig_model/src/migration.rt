@@ -153,11 +153,17 @@ pub fn what_is_entered()
         (next world (Step.Retry cpu)).transcript ≡ world.transcript ++ entries_of cpu command (took_by (is_access command) (guest_of world).space command) }
 {}
 
-/// A page that is pushed remains no longer, and no page comes to remain but by Switch and by the taking of a Recv.
+/// A page that is pushed remains no longer, and no page comes to remain but by Switch and by the taking of a Recv. Neither comes behind
+/// a Push in its epoch: as long as the epoch is that of the Push no Switch is accepted, and no Recv is the next frame of the wire back.
 pub fn pages_that_remain()
     ensures push { (world : World) (ticket : Ticket) (q : ℕ) → IsOk (outcome world (Step.Push ticket)) →
         contains (next world (Step.Push ticket)).source.remaining q ≡ (not (q == ticket.page) && contains world.source.remaining q) }
     ensures shrinks { (world : World) (step : Step) (q : ℕ) → keeps_remaining step ≡ true → contains (next world step).source.remaining q ≡ true → contains world.source.remaining q ≡ true }
+    ensures no_switch { (world : World) (ticket : Ticket) (steps : List Step) → IsReached world → IsOk (outcome world (Step.Push ticket)) →
+        (after_steps (next world (Step.Push ticket)) steps).source.epoch ≡ world.source.epoch → IsOk (outcome (after_steps (next world (Step.Push ticket)) steps) Step.Switch) → ⊥ }
+    ensures no_recv { (world : World) (ticket : Ticket) (steps : List Step) (sent : Sent) (rest : List Sent) → IsReached world → IsOk (outcome world (Step.Push ticket)) →
+        (after_steps (next world (Step.Push ticket)) steps).source.epoch ≡ world.source.epoch → (after_steps (next world (Step.Push ticket)) steps).up ≡ true →
+        (after_steps (next world (Step.Push ticket)) steps).back.frames ≡ sent ∷ rest → is_recv sent.frame ≡ true → ⊥ }
     ensures back { (world : World) (n : ℕ) (sent : Sent) (rest : List Sent) (q : ℕ) → world.back.frames ≡ sent ∷ rest → is_recv sent.frame ≡ false →
         contains (next world (Step.DeliverBack n)).source.remaining q ≡ true → contains world.source.remaining q ≡ true }
 {}
