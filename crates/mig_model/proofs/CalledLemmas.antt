@@ -3,7 +3,6 @@
 use Rattle.std.proofs.Common.{◌≡◌, ℕ, ◌+◌, ◌-◌, ◌*◌, ◌/◌, ◌%◌, ◌<◌, ◌≤◌, ◌&&◌, Bool, true, false, cond, not, eqb, ltb, leb, Option, Some, None, ◌++◌, refl, sym, ap, ◌∙◌, subst, ◌⊎◌, ⊎_elim, inl, inr, arith, is_some, add-zero}
 use Rattle.std.specs.FinMap.{contains_key}
 use Rattle.std.proofs.lemmas.Bool.Decides.{nat_tests}
-use Rattle.std.proofs.lemmas.Bool.{false≢true}
 use Rattle.mig_base.specs.declared.TheConstants.{LOW, HIGH}
 use Rattle.mig_base.specs.declared.message.Message.TheVariants.{Remap, Unmap}
 use Rattle.mig_base.specs.Ranges.{in_range, lesser, none_below, pages_of, rounded}
@@ -18,10 +17,7 @@ use Rattle.mig_model.proofs.HostLemmas.{is_mapped-memory}
 use Rattle.mig_model.proofs.CommandLemmas.{one_prot_some, remapped_place}
 use Rattle.mig_model.proofs.SeenLemmas.{AreMapped, owed_none}
 use Rattle.mig_model.proofs.SettledCalls.{AreInside, settled_messages, settled-append, gone_if, shifted_if, moved_owed, told_gone, told_shifted, unmap_right, cut_right, remap_right}
-use Rattle.mig_model.specs.Log.{less}
-
-none_absurd : {A : Type 0} → false ≡ true → A
-none_absurd h = absurd (false≢true h)
+use Rattle.mig_model.proofs.Facts.{none_absurd, and_left, eqb-self, lesser_right}
 
 -- The two ranges of an mremap
 
@@ -81,10 +77,6 @@ some_pages len h = omega arith
 overlap_not : (a b c d : ℕ) → overlaps c d a b ≡ false → (a + b ≤ c) ⊎ (c + d ≤ a)
 overlap_not a b c d h = grind (arith, nat_tests)
 
-and_left : (a b : Bool) → (a && b) ≡ true → a ≡ true
-and_left true b h = refl
-and_left false b h = h
-
 some_size : (len : ℕ) → 0 < len → 0 < rounded len
 some_size len h = omega arith
 
@@ -122,9 +114,6 @@ inside_gone object owed b first count inside page origin h = kept_one b (in_rang
 in_range-is : (first count page : ℕ) → first ≤ page → page < first + count → in_range first count page ≡ true
 in_range-is first count page a b = grind (arith, nat_tests)
 
-pub lesser_right : (a b : ℕ) → lesser a b ≤ b
-lesser_right a b = grind (arith, nat_tests)
-
 -- the pages of a target that was cleared first
 cleared : (b c : Bool) (x y : Option ℕ) → b ≡ true → c ≡ true → cond b (cond c None x) y ≡ None
 cleared true true x y b c = refl
@@ -161,9 +150,6 @@ goes_all : (away : Bool) (owed : ℕ → Option ℕ) (from count to new_count : 
 goes_all false owed from count to new_count is apart = none_absurd is
 goes_all true owed from count to new_count is apart =
     λ i page. (goes_one from count to new_count page (owed page) (owed (from + (page - to))) apart) i
-
-eqb-self : (n : ℕ) → eqb n n ≡ true
-eqb-self n = grind (arith, nat_tests)
 
 all_three : (owed : ℕ → Option ℕ) (here : Host) (from count to new_count : ℕ) → AreMapped here owed → IsLaid here from count to new_count →
     shifted_if (not (eqb to from)) (gone_if (ltb new_count count) (gone_if (not (eqb to from)) owed to new_count) (from + new_count) (count - new_count)) from to (lesser count new_count) ≡ moved_owed owed from count to new_count

@@ -1,7 +1,6 @@
 -- The host that the guest sees changes as a command says, and each page that is still owed stays registered and missing.
 use Rattle.std.proofs.Common.{◌≡◌, ℕ, ◌+◌, ◌-◌, ◌/◌, ◌%◌, Bool, true, false, cond, eqb, ltb, Option, Some, None, List, refl, sym, ap, ◌∙◌, unwrap_or}
 use Rattle.std.specs.FinMap.{get, insert}
-use Rattle.std.proofs.lemmas.Bool.{false≢true}
 use Rattle.mig_base.specs.declared.Prot.{Prot}
 use Rattle.mig_base.specs.declared.command.Errno.TheVariants.{Enomem}
 use Rattle.mig_base.specs.declared.command.Command.{Command}
@@ -20,9 +19,7 @@ use Rattle.mig_model.proofs.HostLemmas.{get-put}
 use Rattle.mig_model.proofs.SeenLemmas.{PageMap, AreMapped, overlay, get-seen}
 use Rattle.mig_model.specs.Promises.{gone, moved_owed, owed_changed}
 use Rattle.mig_model.specs.Migration.{start}
-
-none_absurd : {A : Type 0} → false ≡ true → A
-none_absurd h = absurd (false≢true h)
+use Rattle.mig_model.proofs.Facts.{none_absurd}
 
 -- The seen host
 

@@ -1,9 +1,9 @@
 -- A command changes the pages of a host as it changes the flat memory that they mean.
-use Rattle.std.proofs.Common.{◌≡◌, ℕ, ◌+◌, ◌-◌, ◌*◌, ◌/◌, ◌%◌, ◌^◌, ◌<◌, ◌≤◌, ◌&&◌, Bool, true, false, cond, not, ltb, leb, Option, Some, None, List, [], refl, sym, ap, ◌∙◌, arith, length, is_some, unwrap_or, zero-add}
+use Rattle.std.proofs.Common.{◌≡◌, ℕ, ◌+◌, ◌-◌, ◌*◌, ◌/◌, ◌%◌, ◌^◌, ◌<◌, ◌≤◌, ◌&&◌, Bool, true, false, cond, not, ltb, Option, Some, None, List, [], refl, sym, ap, ◌∙◌, arith, length, is_some, unwrap_or, zero-add}
 use Rattle.std.specs.Int.{bytes_low_first}
 use Rattle.std.specs.FinMap.{get, contains_key}
 use Rattle.std.proofs.lemmas.Bool.Decides.{nat_tests}
-use Rattle.std.proofs.lemmas.Bool.{false≢true}
+use Rattle.std.proofs.lemmas.Bool.{false≢true, not-false, leb-true}
 use Rattle.std.proofs.lemmas.List.{get_or-take, length-take}
 use Rattle.mig_base.specs.declared.TheConstants.{HIGH, HIGH_PAGE}
 use Rattle.mig_base.specs.declared.Prot.{Prot}
@@ -23,12 +23,9 @@ use Rattle.mig_base.proofs.ByteLemmas.{get_or-zero_page, length-zero_page, lengt
 use Rattle.mig_model.specs.Host.{Host, memory, host_changed, host_moved, host_dropped, IsSound}
 use Rattle.mig_model.proofs.NumberLemmas.{aligned_inside, get_or-bytes_low_first}
 use Rattle.mig_model.proofs.HostLemmas.{AreDigits, ReadsAs, is_mapped-memory, memory-none, memory-write, memory-map, memory-unmap, memory-dropped, memory-moved, IsSound-put, IsSound-map, IsSound-unmap, IsSound-dropped, IsSound-moved}
+use Rattle.mig_model.proofs.Facts.{and_second, and_left}
 
 -- A store
-
-and_left : (a b : Bool) → (a && b) ≡ true → a ≡ true
-and_left true b h = refl
-and_left false b h = h
 
 done_form : (a : Bool) (reply : Reply) → Done ≡ cond a reply BadAccess → a ≡ true
 done_form true reply h = refl
@@ -123,26 +120,15 @@ same_prot_some (Some a) (Some b) h e = cc
 same_prot_some (Some a) None h e = false≢true h
 same_prot_some None b h e = false≢true h
 
-not_false : (b : Bool) → not b ≡ false → b ≡ true
-not_false true h = refl
-not_false false h = absurd (false≢true (sym h))
-
 pub one_prot_some : (m : Memory) (start size i : ℕ) → has_one_prot m start size ≡ true → i < size → m (start + i) ≡ None → ⊥
 one_prot_some m start size i one l none =
-    same_prot_some (m start) (m (start + i)) (not_false _ (none_below_tells (λ k. not (same_prot (m start) (m (start + k)))) size i one l)) none
+    same_prot_some (m start) (m (start + i)) (not-false _ (none_below_tells (λ k. not (same_prot (m start) (m (start + k)))) size i one l)) none
 
 below_or : {addr : ℕ} → (HIGH ≤ addr → ⊥) → addr < HIGH
 below_or h = grind (arith, nat_tests, h)
 
 past_none : (host : Host) (addr : ℕ) → IsSound host → HIGH ≤ addr → memory host addr ≡ None
 past_none host addr sound l = memory-none host addr (sound.bound (addr / 4096) (omega arith))
-
-leb_true : (a b : ℕ) → leb a b ≡ true → a ≤ b
-leb_true a b h = grind (arith, nat_tests)
-
-and_second : (a b : Bool) → (a && b) ≡ true → b ≡ true
-and_second true b h = h
-and_second false b h = absurd (false≢true h)
 
 -- the new range of an mremap begins with a page, and ends in the address space
 pub record IsPlaced (target size : ℕ) : Type 0 where
@@ -157,7 +143,7 @@ remapped_place host addr old_len new_len target sound told =
       | Shrunk same shorter ↦
           let last = below_or (λ past. one_prot_some (memory host) addr (rounded old_len) (rounded new_len - 1) told.one_prot (omega (arith, shorter, some)) (past_none host (addr + (rounded new_len - 1)) sound past)) in
           rw same (record { whole = whole; high = omega (arith, last, some) })
-      | Grew same can ↦ rw same (record { whole = whole; high = leb_true (addr + rounded new_len) HIGH (and_second _ _ can) })
+      | Grew same can ↦ rw same (record { whole = whole; high = leb-true (addr + rounded new_len) HIGH (and_second _ _ can) })
       | Moved found ↦ let inside = found_inside (is_mapped (memory host)) (rounded new_len) target found in record { whole = inside.whole; high = inside.high }
       | Told at ↦ record { whole = at.inside.whole; high = at.inside.high }
     ]

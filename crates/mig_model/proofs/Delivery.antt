@@ -5,10 +5,9 @@ use Rattle.std.specs.FinMap as finmap
 use Rattle.std.specs.FinMap.{FinMap, get, insert, get-retain_keys, nat_cmp-IsAntisymmetric}
 use Rattle.std.specs.FinSet.{FinSet, contains}
 use Rattle.std.proofs.lemmas.Bool.{false≢true}
+use Rattle.std.proofs.lemmas.Option.{none-some}
 use Rattle.mig_base.specs.declared.phase.DestPhase.{DestPhase}
 use Rattle.mig_base.specs.declared.phase.SourcePhase.{SourcePhase}
-use Rattle.mig_base.specs.declared.refusal.Refusal.{Refusal}
-use Rattle.mig_base.specs.declared.schedule.Step.{Step}
 use Rattle.mig_base.specs.Bytes.{zero_page}
 use Rattle.mig_base.specs.Tests.{is_empty}
 use Rattle.mig_model.specs.Space.{fresh_space}
@@ -18,17 +17,15 @@ use Rattle.mig_model.specs.Migration.{World, is_end, after_deliver}
 use Rattle.mig_model.specs.Invariant.{Wires, IsSoundWorld, AreOf, AreWhole, AreFaithful, copies_of, has_copy, flow_of, EpochAt, AreSoundWires}
 use Rattle.mig_model.specs.Invariant.Flow.{Copies}
 use Rattle.mig_model.proofs.HostLemmas.{get-put}
-use Rattle.mig_model.proofs.WireLemmas.{has_copy-append, AreFaithful-append}
-use Rattle.mig_model.proofs.FirstFrame.{at_state, first_in_place, ends_late, none_some, delivered}
+use Rattle.mig_model.proofs.WireLemmas.{has_copy-append}
+use Rattle.mig_model.proofs.FirstFrame.{at_state, first_in_place, ends_late, delivered}
 use Rattle.mig_model.proofs.PackageTaken.{package_taken}
 use Rattle.mig_model.proofs.EndTaken.{end_taken}
 use Rattle.mig_model.proofs.ResumeTaken.{resume_taken}
 use Rattle.mig_model.specs.Source.{Source}
 use Rattle.mig_model.specs.Destination.{Destination}
 use Rattle.mig_model.proofs.HeldLemmas.{fits-none}
-
-not_up : true ≡ false → ⊥
-not_up h = false≢true (sym h)
+use Rattle.mig_model.proofs.Facts.{not_up, put_whole, AreFaithful-append}
 
 -- Advise: the wires are what they were
 advise_taken : (from : SourcePhase) (ran : Bool) (epoch : ℕ) (rest : List Sent) (world : World) →
@@ -48,13 +45,6 @@ advise_taken from ran epoch rest world kept on_wires =
     assumption
 
 -- A copy while the destination does not run
-
-same_some : {A : Type 0} (x y : A) → Some x ≡ Some y → x ≡ y
-same_some x y h = cc
-
-put_whole : (here : Bool) (put held : List ℕ) (o : Option (List ℕ)) → length put ≡ 4096 → (o ≡ Some held → length held ≡ 4096) → cond here (Some put) o ≡ Some held → length held ≡ 4096
-put_whole true put held o n rest h = ap length (sym (same_some put held h)) ∙ n
-put_whole false put held o n rest h = rest h
 
 -- the pages kept stay whole
 whole_put : (kept : FinMap nat_cmp (List ℕ)) (page : ℕ) (bytes : List ℕ) → length bytes ≡ 4096 → ((q : ℕ) (held : List ℕ) → get kept q ≡ Some held → length held ≡ 4096) →
@@ -84,7 +74,7 @@ copy_kept from epoch page bytes rest world kept on_wires =
 
 kept_whole_if : (test : Bool) (o : Option (List ℕ)) (held : List ℕ) → (o ≡ Some held → length held ≡ 4096) → cond test o None ≡ Some held → length held ≡ 4096
 kept_whole_if true o held whole h = whole h
-kept_whole_if false o held whole h = absurd (none_some held h)
+kept_whole_if false o held whole h = absurd (none-some held h)
 
 whole_discarded : (kept : FinMap nat_cmp (List ℕ)) (pages : FinSet nat_cmp) → ((q : ℕ) (held : List ℕ) → get kept q ≡ Some held → length held ≡ 4096) →
     (q : ℕ) (held : List ℕ) → get (kept_after kept (Discard pages)) q ≡ Some held → length held ≡ 4096
@@ -186,7 +176,7 @@ precopy_unadvised : (ran : Bool) (epoch : ℕ) (frame : Frame) (rest : List Sent
 precopy_unadvised ran epoch Advise rest world kept =
     let w = kept.flight.wires refl in
     advise_taken SourcePhase.Precopy ran epoch rest world kept (w.0, w.1, record { clean_copy = w.2.clean_copy; copies_sent = w.2.copies_sent })
-precopy_unadvised ran epoch _ rest world kept = absurd (none_some Copies (kept.flight.wires refl).0)
+precopy_unadvised ran epoch _ rest world kept = absurd (none-some Copies (kept.flight.wires refl).0)
 
 stopped_unadvised : (ran : Bool) (epoch : ℕ) (frame : Frame) (rest : List Sent) (world : World) →
     let old : World = at_state SourcePhase.Stopped DestPhase.Idle ran true (record { epoch = epoch; frame = frame } ∷ rest) world in
@@ -195,7 +185,7 @@ stopped_unadvised ran epoch Advise rest world kept =
     let w = kept.flight.wires refl in
     advise_taken SourcePhase.Stopped ran epoch rest world kept
     (w.0, w.1, record { owed = w.2.owed; plan = w.2.plan; owed_present = w.2.owed_present; kept_rest = w.2.kept_rest; whereabouts = w.2.whereabouts; faithful = w.2.faithful })
-stopped_unadvised ran epoch _ rest world kept = absurd (none_some (flow_of (record world.source { phase = SourcePhase.Stopped })) (kept.flight.wires refl).0)
+stopped_unadvised ran epoch _ rest world kept = absurd (none-some (flow_of (record world.source { phase = SourcePhase.Stopped })) (kept.flight.wires refl).0)
 
 precopy_copy : (epoch page : ℕ) (bytes : List ℕ) (rest : List Sent) (world : World) →
     let old : World = at_state SourcePhase.Precopy DestPhase.Advised false true (record { epoch = epoch; frame = Page page bytes } ∷ rest) world in
@@ -218,7 +208,7 @@ precopy_advised : (epoch : ℕ) (frame : Frame) (rest : List Sent) (world : Worl
 precopy_advised epoch (Page page bytes) rest world kept = precopy_copy epoch page bytes rest world kept
 precopy_advised epoch (Zero page) rest world kept = precopy_copy epoch page zero_page rest world (as_page SourcePhase.Precopy DestPhase.Advised false epoch page rest world kept)
 precopy_advised epoch (Discard pages) rest world kept = absurd (ends_late rest (kept.flight.wires refl).0)
-precopy_advised epoch _ rest world kept = absurd (none_some Copies (kept.flight.wires refl).0)
+precopy_advised epoch _ rest world kept = absurd (none-some Copies (kept.flight.wires refl).0)
 
 stopped_advised : (epoch : ℕ) (frame : Frame) (rest : List Sent) (world : World) →
     let old : World = at_state SourcePhase.Stopped DestPhase.Advised false true (record { epoch = epoch; frame = frame } ∷ rest) world in
@@ -226,13 +216,13 @@ stopped_advised : (epoch : ℕ) (frame : Frame) (rest : List Sent) (world : Worl
 stopped_advised epoch (Page page bytes) rest world kept = stopped_copy epoch page bytes rest world kept
 stopped_advised epoch (Zero page) rest world kept = stopped_copy epoch page zero_page rest world (as_page SourcePhase.Stopped DestPhase.Advised false epoch page rest world kept)
 stopped_advised epoch (Discard pages) rest world kept = discard_taken epoch pages rest world kept
-stopped_advised epoch _ rest world kept = absurd (none_some (flow_of (record world.source { phase = SourcePhase.Stopped })) (kept.flight.wires refl).0)
+stopped_advised epoch _ rest world kept = absurd (none-some (flow_of (record world.source { phase = SourcePhase.Stopped })) (kept.flight.wires refl).0)
 
 stopped_discarding : (epoch : ℕ) (frame : Frame) (rest : List Sent) (world : World) →
     let old : World = at_state SourcePhase.Stopped DestPhase.Discarding false true (record { epoch = epoch; frame = frame } ∷ rest) world in
     IsSoundWorld old → IsSoundWorld (delivered old old.forward.frames)
 stopped_discarding epoch (Package areas owed commands) rest world kept = package_taken epoch areas owed commands rest world kept
-stopped_discarding epoch _ rest world kept = absurd (none_some (flow_of (record world.source { phase = SourcePhase.Stopped })) (kept.flight.wires refl).0)
+stopped_discarding epoch _ rest world kept = absurd (none-some (flow_of (record world.source { phase = SourcePhase.Stopped })) (kept.flight.wires refl).0)
 
 -- whether the frame is one before which all that came has to be installed
 abbrev IsFree : Frame → World → Type 0
@@ -248,7 +238,7 @@ stopped_running : (epoch : ℕ) (frame : Frame) (rest : List Sent) (world : Worl
 stopped_running epoch (Page page bytes) rest world free kept = copy_arrives epoch page bytes rest world kept
 stopped_running epoch (Zero page) rest world free kept = copy_arrives epoch page zero_page rest world (as_page SourcePhase.Stopped DestPhase.Running true epoch page rest world kept)
 stopped_running epoch End rest world free kept = end_taken epoch rest world (none_waits world.destination.arrivals free) kept
-stopped_running epoch _ rest world free kept = absurd (none_some (flow_of (record world.source { phase = SourcePhase.Stopped })) (kept.flight.wires refl).0)
+stopped_running epoch _ rest world free kept = absurd (none-some (flow_of (record world.source { phase = SourcePhase.Stopped })) (kept.flight.wires refl).0)
 
 is_resume_first : (frame : Frame) (epoch source_epoch : ℕ) (rest : List Sent) → record { epoch = epoch; frame = frame } ∷ rest ≡ record { epoch = source_epoch; frame = Resume } ∷ [] → frame ≡ Resume
 is_resume_first frame epoch source_epoch rest h = ap (λ (wire : List Sent). elim wire [ [] ↦ frame | sent ∷ _ ↦ sent.frame ]) h

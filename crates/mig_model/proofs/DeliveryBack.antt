@@ -1,21 +1,20 @@
 -- The source takes a frame of the wire back: a request, a Recv, Done.
-use Rattle.std.proofs.Common.{◌≡◌, ℕ, ◌||◌, Bool, true, false, not, None, List, [], ◌∷◌, refl, sym, subst}
+use Rattle.std.proofs.Common.{◌≡◌, ℕ, ◌||◌, Bool, true, false, List, [], ◌∷◌, refl, sym, subst}
 use Rattle.std.specs.Ordering.{nat_cmp}
 use Rattle.std.specs.FinSet.{FinSet}
 use Rattle.std.proofs.lemmas.Bool.{false≢true}
 use Rattle.mig_base.specs.declared.phase.DestPhase.{DestPhase}
 use Rattle.mig_base.specs.declared.phase.Received.{Received}
 use Rattle.mig_base.specs.declared.phase.SourcePhase.{SourcePhase}
-use Rattle.mig_base.specs.declared.refusal.Refusal.{Refusal}
-use Rattle.mig_base.specs.declared.schedule.Step.{Step}
 use Rattle.mig_base.specs.Tests.{is_empty}
 use Rattle.mig_model.specs.Wire.{Frame, Sent}
 use Rattle.mig_model.specs.Wire.Frame.{Request, Recv, Done}
 use Rattle.mig_model.specs.Migration.{World, after_deliver_back}
 use Rattle.mig_model.specs.Invariant.{IsSoundWorld, IsReceiving, are_requests_and_done}
 use Rattle.mig_model.proofs.FirstFrame.{empty_not, delivered_back}
-use Rattle.mig_model.proofs.FramesBack.{at_back, not_up, request_taken, released_kept, recv_precopy, recv_switched, recv_running}
+use Rattle.mig_model.proofs.FramesBack.{at_back, request_taken, released_kept, recv_precopy, recv_switched, recv_running}
 use Rattle.mig_model.specs.Log.{no_pages}
+use Rattle.mig_model.proofs.Facts.{not_up}
 
 -- The frames in their phases
 

@@ -3,11 +3,11 @@ use Rattle.std.proofs.Common.{◌≡◌, ℕ, ◌/◌, ◌%◌, ◌&&◌, ◌||�
 use Rattle.std.specs.Option.{option_map, option_and_then}
 use Rattle.std.specs.Ordering.{nat_cmp}
 use Rattle.std.specs.FinMap.{FinMap, get, contains_key}
+use Rattle.std.proofs.lemmas.Bool.{eqb-true}
+use Rattle.std.proofs.lemmas.Option.{none-some}
 use Rattle.mig_base.specs.declared.cpu_state.CpuState.{CpuState}
 use Rattle.mig_base.specs.declared.phase.DestPhase.{DestPhase}
 use Rattle.mig_base.specs.declared.phase.SourcePhase.{SourcePhase}
-use Rattle.mig_base.specs.declared.refusal.Refusal.{Refusal}
-use Rattle.mig_base.specs.declared.schedule.Step.{Step}
 use Rattle.mig_base.specs.declared.TheConstants.{HIGH_PAGE}
 use Rattle.mig_base.specs.declared.Prot.{Prot}
 use Rattle.mig_base.specs.Bytes.{zero_page}
@@ -25,15 +25,15 @@ use Rattle.mig_model.specs.Guest.Act.{Zeroed, Woke, Forgot, Requested}
 use Rattle.mig_model.specs.Migration.{World, destination_sends, after_dest_act, is_changing, runs}
 use Rattle.mig_model.specs.Invariant.{IsSoundWorld, Wires, AreOf, EpochAt, are_requests, is_request, seen_host, seen_bytes, HeldFits}
 use Rattle.mig_model.proofs.HostLemmas.{memory-at, same_memory}
-use Rattle.mig_model.proofs.SettledLemmas.{none_some, none_absurd, eqb_true}
 use Rattle.mig_model.proofs.DestinationRead.{kept-handled}
-use Rattle.mig_model.proofs.Installing.{missing_none, seen_by, get-put_one, put-unprotected, put-sound, put-missing, none_changing}
+use Rattle.mig_model.proofs.Installing.{seen_by, get-put_one, put-unprotected, put-sound, put-missing, none_changing}
 use Rattle.mig_model.specs.Cpus.{all_woken}
-use Rattle.mig_model.specs.Log.{forgotten, present}
+use Rattle.mig_model.specs.Log.{present}
 use Rattle.mig_model.specs.Owed.{is_requested, requesting}
 use Rattle.mig_model.specs.Source.{Source, space_of}
 use Rattle.mig_model.specs.Destination.{Destination, act_frames, destination_act_by, destination_acted_by, is_running}
 use Rattle.mig_model.proofs.HeldLemmas.{fits-append}
+use Rattle.mig_model.proofs.Facts.{none_absurd, up_not_down, missing_none}
 
 -- A page of zeros
 
@@ -67,8 +67,8 @@ memory-zero here there owed page none nothing =
     ∙ below_reads (ltb q HIGH_PAGE) (seen_bytes zeroed there owed q) (seen_bytes here there owed q) i
     (ap (λ o. byte_of (seen_by o (option_and_then (get there.bytes) (owed q))) i) (get-put_one here.bytes page q zero_page)
     ∙ zero_reads (eqb q page) (get here.bytes q) (option_and_then (get there.bytes) (owed q)) i
-    (λ e. ap (get here.bytes) (eqb_true q page e) ∙ none)
-    (λ e. ap (λ k. option_and_then (get there.bytes) (owed k)) (eqb_true q page e) ∙ ap (option_and_then (get there.bytes)) nothing))
+    (λ e. ap (get here.bytes) (eqb-true q page e) ∙ none)
+    (λ e. ap (λ k. option_and_then (get there.bytes) (owed k)) (eqb-true q page e) ∙ ap (option_and_then (get there.bytes)) nothing))
     ∙ sym (ap (λ o. byte_of o i) (get-map_below (seen_bytes here there owed) HIGH_PAGE q)))
 
 -- A request
@@ -125,9 +125,6 @@ running_epoch DestPhase.Advised epoch source_epoch runs at = none_absurd runs
 running_epoch DestPhase.Discarding epoch source_epoch runs at = none_absurd runs
 running_epoch DestPhase.Paused epoch source_epoch runs at = none_absurd runs
 running_epoch DestPhase.Ended epoch source_epoch runs at = none_absurd runs
-
-up_not_down : {A : Type 0} (up : Bool) → up ≡ true → up ≡ false → A
-up_not_down up h k = none_absurd (sym k ∙ h)
 
 -- only the wire back has changed
 pub kept-back : (world : World) (back : List Sent) → world.up ≡ true → AreOf world.source.epoch back → Wires world.source world.destination world.forward.frames back → HeldFits back world.back.held → IsSoundWorld world → IsSoundWorld (record world { back = record world.back { frames = back } })
@@ -206,7 +203,7 @@ only_woken world processors held requests kept runs =
     })
 
 other_page : (here : Bool) (o : Option ℕ) (origin : ℕ) → (here ≡ true → o ≡ None) → o ≡ Some origin → here ≡ false
-other_page true o origin none h = absurd (none_some origin (sym (none refl) ∙ h))
+other_page true o origin none h = absurd (none-some origin (sym (none refl) ∙ h))
 other_page false o origin none h = refl
 
 -- a page of zeros is put at a missing page that is owed from nowhere
@@ -232,7 +229,7 @@ zeros_put fault rest world kept runs mapped missing nothing =
       copies = λ q origin h k. k;
       missing = λ q origin h.
           let alone = kept.owing.pairs_missing q origin h in
-          (alone.0, put-missing space page q zero_page (other_page (eqb q page) (get owed q) origin (λ e. ap (get owed) (eqb_true q page e) ∙ nothing) h) alone.1);
+          (alone.0, put-missing space page q zero_page (other_page (eqb q page) (get owed q) origin (λ e. ap (get owed) (eqb-true q page e) ∙ nothing) h) alone.1);
       faithful = kept.owing.arrivals_faithful runs;
       ended = kept.owing.ended_empty;
     })

@@ -1,5 +1,5 @@
 -- What a step of the destination's handler has to show, and that a message that is read keeps what every world keeps.
-use Rattle.std.proofs.Common.{◌≡◌, set, ℕ, ◌+◌, ◌/◌, ◌<◌, ◌||◌, Bool, true, false, not, Option, Some, None, List, [], ◌∷◌, ◌++◌, refl, sym, ap, ◌∙◌, if◌then◌else◌, subst}
+use Rattle.std.proofs.Common.{◌≡◌, set, ℕ, ◌+◌, ◌/◌, ◌<◌, ◌||◌, Bool, true, false, Some, None, List, [], ◌∷◌, ◌++◌, refl, sym, ap, ◌∙◌, subst}
 use Rattle.std.specs.Ordering.{nat_cmp}
 use Rattle.std.specs.FinMap as finmap
 use Rattle.std.specs.FinMap.{FinMap, get, get-empty}
@@ -9,8 +9,6 @@ use Rattle.mig_base.specs.declared.cpu_state.CpuState.{CpuState}
 use Rattle.mig_base.specs.declared.phase.DestPhase.{DestPhase}
 use Rattle.mig_base.specs.declared.phase.Received.{Received}
 use Rattle.mig_base.specs.declared.phase.SourcePhase.{SourcePhase}
-use Rattle.mig_base.specs.declared.refusal.Refusal.{Refusal}
-use Rattle.mig_base.specs.declared.schedule.Step.{Step}
 use Rattle.mig_base.specs.declared.TheConstants.{HIGH_PAGE}
 use Rattle.mig_base.specs.declared.message.Message.{Message}
 use Rattle.mig_base.specs.declared.message.Message.TheVariants.{PageFault, Remap, Remove, Unmap}
@@ -20,7 +18,7 @@ use Rattle.mig_model.specs.Userfault.{Noted, next_message, next_of}
 use Rattle.mig_model.specs.Space.{IsSoundSpace}
 use Rattle.mig_model.specs.Guest.{Guest, Fault, is_left_by, is_present}
 use Rattle.mig_model.specs.Wire.{Sent, Copy}
-use Rattle.mig_model.specs.Migration.{World, after_dest_read, next, runs, start}
+use Rattle.mig_model.specs.Migration.{World, after_dest_read, runs, start}
 use Rattle.mig_model.specs.Invariant.{IsSoundWorld, Wires, IsReceiving, IsFlowing, AreRight, AreFaults, AreFaithful, has_copy, copies_of, seen_host, current_host}
 use Rattle.mig_model.proofs.IoctlLemmas.{IsSoundSpace-read}
 use Rattle.mig_model.proofs.SettledLemmas.{get-owed_table_after, settled_by-applied, values-after, none-after, IsOneToOne-after, owed_below-after}
@@ -28,6 +26,7 @@ use Rattle.mig_model.specs.Cpus.{all_woken, message_less, processor_at}
 use Rattle.mig_model.specs.Owed.{owed_table_after, settled_by}
 use Rattle.mig_model.specs.Source.{Source, space_of}
 use Rattle.mig_model.specs.Destination.{Destination}
+use Rattle.mig_model.proofs.Facts.{up_not_down, some_is}
 
 -- a destination whose guest, owed table, requests, arrivals and counts are others
 abbrev pub handled : Destination → Guest → List Fault → FinMap nat_cmp ℕ → List ℕ → List Copy → ℕ → ℕ → ℕ → Destination
@@ -118,9 +117,6 @@ wires_handled SourcePhase.Paused DestPhase.Ended source node forward back guest 
 
 -- The invariant
 
-ran_already : {A : Type 0} (b : Bool) → b ≡ true → b ≡ false → A
-ran_already b h k = absurd (false≢true (sym k ∙ h))
-
 runs_memory : (runs : Bool) (world : World) → runs ≡ true → memory (current_host (record world { destination = record world.destination { has_run = runs } })) ≡ memory (seen_host world.destination.guest.space.host (space_of world.source).host (settled_by world.destination.guest.space.object.events (get world.destination.owed)))
 runs_memory true world h = refl
 runs_memory false world h = absurd (false≢true h)
@@ -150,7 +146,7 @@ kept-handled world guest held owed requests arrivals installed dropped faults ke
       pushing = kept.pushing;
       copies = kept.copies;
       owing = record {
-        not_run = λ h. ran_already world.destination.has_run runs h;
+        not_run = λ h. up_not_down world.destination.has_run runs h;
         one_to_one = new.one_to_one;
         owed_below = new.below;
         origins_present = λ page origin h. let was = new.values page origin h in kept.owing.origins_present was.0 origin was.1;
@@ -253,9 +249,6 @@ fault_in (PageFault addr write wp) cpu faults events world kept runs =
 fault_in (Remap from to len) cpu faults events world kept runs = absurd kept.spaces.destination_faults.0
 fault_in (Remove start end) cpu faults events world kept runs = absurd kept.spaces.destination_faults.0
 fault_in (Unmap start end) cpu faults events world kept runs = absurd kept.spaces.destination_faults.0
-
-pub some_is : (a b : Noted) → Some a ≡ Some b → a ≡ b
-some_is a b h = cc
 
 pub none_is : (b : Noted) → None ≡ Some b → ⊥
 none_is b h = cc

@@ -1,11 +1,10 @@
 -- The destination takes End: nothing is owed, and Done goes back.
-use Rattle.std.proofs.Common.{◌≡◌, ◌≢◌, ℕ, ◌||◌, Bool, true, false, cond, eqb, Option, Some, None, List, [], ◌∷◌, refl, sym, ap, ◌∙◌, arith}
+use Rattle.std.proofs.Common.{◌≡◌, ◌≢◌, ℕ, ◌||◌, Bool, true, false, cond, eqb, Option, Some, None, List, [], ◌∷◌, refl, sym, ap, ◌∙◌}
 use Rattle.std.specs.Ordering.{nat_cmp}
 use Rattle.std.specs.FinMap as finmap
 use Rattle.std.specs.FinMap.{get, get-empty}
 use Rattle.std.specs.FinSet.{FinSet, contains, contains-empty}
-use Rattle.std.proofs.lemmas.Bool.{false≢true}
-use Rattle.std.proofs.lemmas.Bool.Decides.{nat_tests}
+use Rattle.std.proofs.lemmas.Bool.{false≢true, eqb-true}
 use Rattle.mig_base.specs.declared.phase.DestPhase.{DestPhase}
 use Rattle.mig_base.specs.declared.phase.SourcePhase.{SourcePhase}
 use Rattle.mig_base.proofs.PageLemmas.{same_pages}
@@ -20,16 +19,13 @@ use Rattle.mig_model.specs.Log.{no_pages}
 use Rattle.mig_model.specs.Source.{Source}
 use Rattle.mig_model.proofs.HeldLemmas.{fits-append, fits-none}
 
-eqb_true : (a b : ℕ) → eqb a b ≡ true → a ≡ b
-eqb_true a b h = grind (arith, nat_tests)
-
 ends_by : (test : Bool) → cond test AfterEnd Pushed ≡ AfterEnd → test ≡ true
 ends_by true h = refl
 ends_by false h = absurd (let e : Pushed ≡ AfterEnd = h in cc)
 
 -- a wire that gets past End is that of a source that has sent it in this epoch
 pub ended_now : (source : Source) → flow_of source ≡ AfterEnd → source.end_epoch ≡ source.epoch
-ended_now source h = eqb_true source.end_epoch source.epoch (ends_by (eqb source.end_epoch source.epoch) h)
+ended_now source h = eqb-true source.end_epoch source.epoch (ends_by (eqb source.end_epoch source.epoch) h)
 
 -- no page remains, none is in flight and none waits
 pub nowhere : (remaining : FinSet nat_cmp) (rest : List Sent) (arrivals : List Copy) (origin : ℕ) → remaining ≡ no_pages → rest ≡ [] → arrivals ≡ [] →

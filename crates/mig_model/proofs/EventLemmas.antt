@@ -3,7 +3,7 @@ use Rattle.std.proofs.Common.{◌≡◌, ℕ, ◌+◌, ◌-◌, ◌*◌, ◌/◌
 use Rattle.std.specs.FinMap.{contains_key}
 use Rattle.std.specs.FinSet.{contains}
 use Rattle.std.proofs.lemmas.Bool.Decides.{nat_tests}
-use Rattle.std.proofs.lemmas.Bool.{false≢true}
+use Rattle.std.proofs.lemmas.Bool.{or_left, cases_lt}
 use Rattle.mig_base.specs.declared.TheConstants.{HIGH, HIGH_PAGE}
 use Rattle.mig_base.specs.declared.command.Errno.TheVariants.{Enomem}
 use Rattle.mig_base.specs.declared.command.Command.{Command}
@@ -18,18 +18,15 @@ use Rattle.mig_model.specs.Host.{Host, memory, IsSound}
 use Rattle.mig_model.specs.Space.{Space, IsSoundSpace, call_messages}
 use Rattle.mig_model.specs.Userfault.{is_watched}
 use Rattle.mig_model.proofs.CommandLemmas.{remapped_place}
-use Rattle.mig_model.proofs.SeenLemmas.{either_true, AreMapped, AreWatched, owed_none, watched_mapped}
+use Rattle.mig_model.proofs.SeenLemmas.{AreMapped, AreWatched, owed_none, watched_mapped}
 use Rattle.mig_model.proofs.SettledCalls.{AreInside, AllRight, settled_messages, right-append, right-told, gone, owed_changed, told_gone, unmap_right, remove_right}
-use Rattle.mig_model.proofs.CalledLemmas.{IsLaid, remapped_laid, settled_remapped, lesser_right}
+use Rattle.mig_model.proofs.CalledLemmas.{IsLaid, remapped_laid, settled_remapped}
 use Rattle.mig_model.proofs.CalledLemmas.IsLaid.{Stays, Goes}
-use Rattle.mig_model.specs.Log.{less}
 use Rattle.mig_model.specs.Owed.{owed_after}
-
-none_absurd : {A : Type 0} → false ≡ true → A
-none_absurd h = absurd (false≢true h)
+use Rattle.mig_model.proofs.Facts.{none_absurd, lesser_right, whole_page, lesser_left}
 
 inside_of : (space : Space) (owed : ℕ → Option ℕ) → AreWatched space owed → AreInside space.object owed
-inside_of space owed watched page origin h = either_true (contains space.object.missing page) (contains space.object.protect page) (watched page origin h)
+inside_of space owed watched page origin h = or_left (contains space.object.missing page) (contains space.object.protect page) (watched page origin h)
 
 -- the owed relation
 
@@ -42,9 +39,6 @@ cond_none true false x h = sym h
 cond_none false true x h = h
 cond_none false false x h = refl
 
-below_or_past : (a b : ℕ) → (a < b) ⊎ (b ≤ a)
-below_or_past a b = grind (arith, nat_tests)
-
 -- a range that reaches past the address space is cut at its end, behind which nothing is owed
 hole_right : (here : Host) (owed : ℕ → Option ℕ) (addr len page : ℕ) → IsSound here → AreMapped here owed → owed_after (Remove addr (lesser (addr + rounded len) HIGH)) owed page ≡ gone owed (addr / 4096) (pages_of len) page
 hole_right here owed addr len page sound mapped =
@@ -53,7 +47,7 @@ hole_right here owed addr len page sound mapped =
     (λ (high : HIGH_PAGE ≤ page).
     cond_none (in_range (addr / 4096) (lesser (addr + rounded len) HIGH / 4096 - addr / 4096) page) (in_range (addr / 4096) (pages_of len) page) (owed page)
     (owed_none owed (λ q. contains_key here.areas q) page mapped (ap is_some (sound.bound page high))))
-    (below_or_past page HIGH_PAGE)
+    (cases_lt page HIGH_PAGE)
 
 pub settled_called : (space : Space) (owed : ℕ → Option ℕ) (command : Command) (reply : Reply) → IsSoundSpace space → AreWatched space owed → reply ≡ reply_of (memory space.host) command →
     settled_messages (call_messages space.object command reply) owed ≡ owed_changed owed command reply
@@ -86,18 +80,12 @@ whole_lesser a b h g = lesser_one (leb a b) a b h g
 whole_times : (n : ℕ) → (4096 * n) % 4096 ≡ 0
 whole_times n = omega arith
 
-whole_page : (addr n : ℕ) → addr % 4096 ≡ 0 → (addr + 4096 * n) % 4096 ≡ 0
-whole_page addr n h = omega arith
-
 away_not : (b w : Bool) → (not b && w) ≡ true → b ≡ false
 away_not true w h = none_absurd h
 away_not false w h = refl
 
 same_not : (a b : ℕ) → a ≡ b → eqb a b ≡ false → ⊥
 same_not a b e h = grind (arith, nat_tests, e, h)
-
-lesser_left : (a b : ℕ) → lesser a b ≤ a
-lesser_left a b = grind (arith, nat_tests)
 
 fewer_apart : (here : Host) (from count to new_count n : ℕ) → IsLaid here from count to new_count → eqb to from ≡ false → n ≡ lesser count new_count → (from + n ≤ to) ⊎ (to + n ≤ from)
 fewer_apart here from count to new_count n (Stays same free) other is = absurd (same_not to from same other)

@@ -1,6 +1,5 @@
 -- What every world of the whole migration keeps is kept by every step, and by every list of them.
-use Rattle.std.proofs.Common.{◌≡◌, ℕ, ◌||◌, Bool, true, false, not, Option, Some, None, List, [], ◌∷◌, refl, sym, subst, is_some}
-use Rattle.mig_base.specs.declared.refusal.Refusal.{Refusal}
+use Rattle.std.proofs.Common.{◌≡◌, ℕ, ◌||◌, Bool, true, false, not, List, [], ◌∷◌, refl, sym, subst}
 use Rattle.mig_base.specs.declared.schedule.Side.{Side}
 use Rattle.mig_base.specs.declared.schedule.Step.{Step}
 use Rattle.mig_base.specs.declared.command.Command.{Command}
@@ -8,7 +7,7 @@ use Rattle.mig_model.specs.Migration.{World, first_world_with, next, after_steps
 use Rattle.mig_model.specs.Invariant.{IsSoundWorld}
 use Rattle.mig_model.specs.Promises.{IsReached, IsComplete}
 use Rattle.mig_model.proofs.Breaking.{kept-break, kept-notice_source, kept-notice_destination, kept-resume}
-use Rattle.mig_model.proofs.Stopping.{none_absurd, kept-push, kept-serve, kept-end}
+use Rattle.mig_model.proofs.Stopping.{kept-push, kept-serve, kept-end}
 use Rattle.mig_model.proofs.SwitchMade.{kept-switch}
 use Rattle.mig_model.proofs.FirstWorld.{kept-first}
 use Rattle.mig_model.proofs.DestinationCommands.{kept-command_at_destination}
@@ -24,9 +23,9 @@ use Rattle.mig_model.proofs.Installing.{kept-install}
 use Rattle.mig_model.proofs.StaysComplete.{complete-next}
 use Rattle.mig_model.proofs.StepLemmas.{Leaves, leaves-next}
 use Rattle.mig_model.proofs.StepCases.{made-break, made-deliver, made-deliver_back, made-dest_act, made-dest_read, made-end, made-install, made-issue, made-notice, made-push, made-resume, made-retry, made-round, made-send, made-serve, made-source_act, made-source_read, made-start, made-switch}
-use Rattle.mig_model.specs.Log.{present}
 use Rattle.mig_model.specs.Wire.{Sent}
 use Rattle.mig_model.proofs.HeldLemmas.{fits-moved}
+use Rattle.mig_model.proofs.Facts.{none_absurd}
 
 -- Commands: the node that runs the guest makes them
 
@@ -75,7 +74,7 @@ kept-move_back world n sent rest kept is short =
     }
 
 pub kept-answer : (world : World) (step : Step) → IsSoundWorld world → Leaves IsSoundWorld (answer world step)
-kept-answer world (Step.Issue cpu command) kept = made-issue _ world cpu command (λ idle may. kept-command world cpu command may kept)
+kept-answer world (Step.Issue cpu command) kept = made-issue _ world cpu command (λ there idle may. kept-command world cpu command may kept)
 kept-answer world (Step.Retry cpu) kept = made-retry _ world cpu (λ command waits woken may. kept-command world cpu command may kept)
 kept-answer world Step.Start kept = made-start _ world (λ idle. kept-start world kept idle)
 kept-answer world Step.Round kept = made-round _ world (λ precopy quiet. kept-round world kept precopy)

@@ -1,5 +1,5 @@
 -- The messages of page faults that wait are of page faults alone, and stay so.
-use Rattle.std.proofs.Common.{◌≡◌, ℕ, Bool, true, false, Option, Some, None, List, [], ◌∷◌, ◌++◌, refl, sym, ◌∙◌, subst, if◌then◌else◌}
+use Rattle.std.proofs.Common.{◌≡◌, ℕ, Bool, true, false, List, [], ◌∷◌, ◌++◌, refl, sym, ◌∙◌, subst, if◌then◌else◌}
 use Rattle.mig_base.specs.declared.command.Access.{Access}
 use Rattle.mig_base.specs.declared.command.Access.TheVariants.{Answered, Missing, Protected}
 use Rattle.mig_base.specs.declared.command.Command.{Command}
@@ -73,7 +73,7 @@ read_faults (fault ∷ faults) object are is = are.1
 pub AreFaults-message_read : (object : Object) → AreFaults object.faults → AreFaults (message_read object).faults
 AreFaults-message_read object are = read_faults object.faults object are refl
 
-guest_read : (guest : Guest) (cpu : ℕ) (message : Message) → AreFaults guest.space.object.faults → AreFaults (read_guest guest cpu message).space.object.faults
+pub guest_read : (guest : Guest) (cpu : ℕ) (message : Message) → AreFaults guest.space.object.faults → AreFaults (read_guest guest cpu message).space.object.faults
 guest_read guest cpu (PageFault addr write wp) are = AreFaults-message_read guest.space.object are
 guest_read guest cpu (Remap from to len) are = AreFaults-message_read guest.space.object are
 guest_read guest cpu (Remove start end) are = AreFaults-message_read guest.space.object are

@@ -1,10 +1,10 @@
 -- Which frame can be the first of the wire to the destination: one that is in place.
-use Rattle.std.proofs.Common.{◌≡◌, ℕ, Bool, true, false, cond, Option, Some, None, is_some, List, [], ◌∷◌, refl, sym, ap, ◌∙◌}
+use Rattle.std.proofs.Common.{◌≡◌, ℕ, Bool, true, false, Option, Some, None, is_some, List, [], ◌∷◌, refl, sym, ap, ◌∙◌}
 use Rattle.std.specs.Option.{option_and_then}
 use Rattle.std.proofs.lemmas.Bool.{false≢true}
+use Rattle.std.proofs.lemmas.Option.{none-some}
 use Rattle.mig_base.specs.declared.phase.DestPhase.{DestPhase}
 use Rattle.mig_base.specs.declared.phase.SourcePhase.{SourcePhase}
-use Rattle.mig_base.specs.declared.refusal.Refusal.{Refusal}
 use Rattle.mig_model.specs.Wire.{Frame, Sent, copy_in}
 use Rattle.mig_model.specs.Wire.Frame.{Page, Zero, Discard, Package, End, Resume}
 use Rattle.mig_model.specs.Migration.{World, after_deliver, after_deliver_back, next}
@@ -29,14 +29,11 @@ delivered_back world (sent ∷ rest) = after_deliver_back world sent rest
 
 -- Flows
 
-pub none_some : {A : Type 0} (x : A) → None ≡ Some x → ⊥
-none_some x h = cc
-
 pub empty_not : {A : Type 0} (x : A) (xs : List A) → x ∷ xs ≡ [] → ⊥
 empty_not x xs h = cc
 
 some_first : (o : Option Flow) (rest : List Sent) (flow : Flow) → option_and_then (λ next. flow_after next rest) o ≡ Some flow → is_some o ≡ true
-some_first None rest flow h = absurd (none_some flow h)
+some_first None rest flow h = absurd (none-some flow h)
 some_first (Some next) rest flow h = refl
 
 -- the first frame of a wire that is in order may come there
@@ -53,19 +50,19 @@ late_next : (flow next : Flow) (frame : Frame) → is_late flow ≡ true → flo
 late_next BeforeAdvise next frame late h = absurd (false≢true late)
 late_next Copies next frame late h = absurd (false≢true late)
 late_next BeforePackage next (Package areas owed commands) late h = ap (λ o. elim o [ None ↦ true | Some flow ↦ is_late flow ]) (sym h)
-late_next BeforePackage next _ late h = absurd (none_some next h)
+late_next BeforePackage next _ late h = absurd (none-some next h)
 late_next Pushed next (Page page bytes) late h = ap (λ o. elim o [ None ↦ true | Some flow ↦ is_late flow ]) (sym h)
 late_next Pushed next (Zero page) late h = ap (λ o. elim o [ None ↦ true | Some flow ↦ is_late flow ]) (sym h)
 late_next Pushed next End late h = ap (λ o. elim o [ None ↦ true | Some flow ↦ is_late flow ]) (sym h)
-late_next Pushed next _ late h = absurd (none_some next h)
-late_next AfterEnd next frame late h = absurd (none_some next h)
+late_next Pushed next _ late h = absurd (none-some next h)
+late_next AfterEnd next frame late h = absurd (none-some next h)
 
 -- behind a Discard the wire does not come back to copies that are kept
 pub stays_late : (flow : Flow) (wire : List Sent) → is_late flow ≡ true → flow_after flow wire ≡ Some Copies → ⊥
 stays_late flow [] late h = false≢true (ap (λ o. elim o [ None ↦ false | Some f ↦ is_late f ]) (sym h) ∙ late)
 stays_late flow (sent ∷ wire) late h =
     elim (flow_next flow sent.frame) as (λ o. flow_next flow sent.frame ≡ o → option_and_then (λ next. flow_after next wire) o ≡ Some Copies → ⊥) [
-      | None ↦ λ e g. none_some Copies g
+      | None ↦ λ e g. none-some Copies g
       | Some next ↦ λ e g. stays_late next wire (late_next flow next sent.frame late e) g
     ] refl h
 
@@ -75,7 +72,7 @@ ends_late wire h = stays_late BeforePackage wire refl h
 -- behind End nothing comes
 pub nothing_behind : (wire : List Sent) (flow : Flow) → flow_after AfterEnd wire ≡ Some flow → (wire ≡ []) × (flow ≡ AfterEnd)
 nothing_behind [] flow h = (refl, ap (λ o. elim o [ None ↦ AfterEnd | Some f ↦ f ]) (sym h))
-nothing_behind (sent ∷ wire) flow h = absurd (none_some flow h)
+nothing_behind (sent ∷ wire) flow h = absurd (none-some flow h)
 
 -- The first frame
 
@@ -94,7 +91,7 @@ copy_first : (frame : Frame) (rest : List Sent) → option_and_then (λ next. fl
 copy_first (Page page bytes) rest h = refl
 copy_first (Zero page) rest h = refl
 copy_first (Discard pages) rest h = absurd (ends_late rest h)
-copy_first _ rest h = absurd (none_some Copies h)
+copy_first _ rest h = absurd (none-some Copies h)
 
 resume_first : (sent : Sent) (rest : List Sent) (epoch : ℕ) → sent ∷ rest ≡ record { epoch = epoch; frame = Resume } ∷ [] → comes SourcePhase.Paused DestPhase.Paused sent.frame ≡ true
 resume_first sent rest epoch h = ap (λ (wire : List Sent). elim wire [ [] ↦ false | s ∷ _ ↦ comes SourcePhase.Paused DestPhase.Paused s.frame ]) h

@@ -1,9 +1,9 @@
 -- A world in which nothing has happened keeps what every world of the whole migration keeps.
-use Rattle.std.proofs.Common.{◌≡◌, ◌≢◌, ℕ, true, Some, None, refl, sym, ◌∙◌, inr, arith}
+use Rattle.std.proofs.Common.{◌≡◌, ◌≢◌, ℕ, Some, refl, sym, ◌∙◌, inr, arith}
 use Rattle.std.specs.Ordering.{nat_cmp}
 use Rattle.std.specs.FinMap.{get, empty, get-empty}
-use Rattle.std.specs.FinSet.{contains}
 use Rattle.std.proofs.lemmas.Bool.{false≢true}
+use Rattle.std.proofs.lemmas.Option.{none-some}
 use Rattle.mig_base.specs.declared.phase.SourcePhase.{SourcePhase}
 use Rattle.mig_model.specs.Space.{fresh_space}
 use Rattle.mig_model.specs.Ioctls.{all_features}
@@ -13,16 +13,10 @@ use Rattle.mig_model.proofs.HostLemmas.{memory-empty}
 use Rattle.mig_model.proofs.SpaceLemmas.{IsSoundSpace-fresh}
 use Rattle.mig_model.proofs.IoctlLemmas.{IsSoundSpace-enabled}
 use Rattle.mig_model.proofs.Stopping.{no_member}
-use Rattle.mig_model.specs.Log.{no_pages}
-
-none_is_some : {A : Type 0} (x : A) → None ≡ Some x → ⊥
-none_is_some x h = cc
+use Rattle.mig_model.proofs.Facts.{no_page}
 
 no_pair : {X : Type 0} {A : Type 0} (page : ℕ) (x : X) → get {R = nat_cmp} empty page ≡ Some x → A
-no_pair page x h = absurd (none_is_some x (sym (get-empty nat_cmp page) ∙ h))
-
-no_page : {A : Type 0} (page : ℕ) → contains no_pages page ≡ true → A
-no_page page h = absurd (false≢true (sym (no_member page) ∙ h))
+no_pair page x h = absurd (none-some x (sym (get-empty nat_cmp page) ∙ h))
 
 idle_not_paused : SourcePhase.Idle ≢ SourcePhase.Paused
 idle_not_paused h = cc

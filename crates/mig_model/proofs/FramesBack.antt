@@ -1,11 +1,11 @@
 -- What the source does with each frame of the wire back keeps the invariant: a request, a Recv, and Done, with which it is released.
-use Rattle.std.proofs.Common.{◌≡◌, ◌≢◌, ℕ, ◌/◌, ◌≤◌, ◌&&◌, ◌||◌, Bool, true, false, cond, eqb, ltb, Option, Some, None, is_some, List, [], ◌∷◌, refl, sym, ap, ◌∙◌, ◌⊎◌, inl, subst, arith}
+use Rattle.std.proofs.Common.{◌≡◌, ◌≢◌, ℕ, ◌/◌, ◌&&◌, ◌||◌, Bool, true, false, cond, ltb, Option, Some, None, is_some, List, [], ◌∷◌, refl, sym, ap, ◌∙◌, ◌⊎◌, inl, subst}
 use Rattle.std.specs.Ordering.{nat_cmp}
 use Rattle.std.specs.FinMap as finmap
 use Rattle.std.specs.FinMap.{FinMap, get, contains_key, get-empty}
-use Rattle.std.specs.FinSet.{FinSet, contains, contains-empty}
-use Rattle.std.proofs.lemmas.Bool.{false≢true}
-use Rattle.std.proofs.lemmas.Bool.Decides.{nat_tests}
+use Rattle.std.specs.FinSet.{FinSet, contains}
+use Rattle.std.proofs.lemmas.Bool.{false≢true, ltb-false}
+use Rattle.std.proofs.lemmas.Option.{none-some}
 use Rattle.mig_base.specs.declared.phase.DestPhase.{DestPhase}
 use Rattle.mig_base.specs.declared.phase.Received.{Received}
 use Rattle.mig_base.specs.declared.phase.SourcePhase.{SourcePhase}
@@ -26,23 +26,18 @@ use Rattle.mig_model.specs.Invariant.{Wires, IsSoundWorld, IsPrecopying, IsSwitc
 use Rattle.mig_model.specs.Invariant.Flow.{AfterEnd, Pushed}
 use Rattle.mig_model.proofs.FrameLemmas.{discard_none}
 use Rattle.mig_model.proofs.SpaceLemmas.{IsSoundSpace-fresh}
-use Rattle.mig_model.proofs.FirstFrame.{none_some, delivered_back}
+use Rattle.mig_model.proofs.FirstFrame.{delivered_back}
 use Rattle.mig_model.specs.Log.{no_pages, present}
 use Rattle.mig_model.specs.Owed.{owed_after, settled_by}
 use Rattle.mig_model.specs.Source.{Source, released, space_of, rebuild_frames}
 use Rattle.mig_model.specs.Destination.{settled}
 use Rattle.mig_model.proofs.HeldLemmas.{fits-more, fits-none}
+use Rattle.mig_model.proofs.Facts.{and_second, not_up, no_page, eqb_other}
 
 -- a world with these phases and this wire back, whose link is up
 abbrev pub at_back : SourcePhase → DestPhase → (ran switched : Bool) → (forward back : List Sent) → World → World
 at_back from to ran switched forward back world =
     record world { source = record world.source { phase = from; switched = switched }; destination = record world.destination { phase = to; has_run = ran }; forward = record world.forward { frames = forward }; back = record world.back { frames = back }; up = true }
-
-pub not_up : true ≡ false → ⊥
-not_up h = false≢true (sym h)
-
-none_in : {A : Type 0} (page : ℕ) → contains no_pages page ≡ true → A
-none_in page h = absurd (false≢true (sym (contains-empty nat_cmp page) ∙ h))
 
 -- A request
 
@@ -102,14 +97,14 @@ released_kept from forward back rest world kept none last =
     let source_quiet : new.source.switched ≡ true → (space_of new.source).object.events ≡ [] = λ h. refl in
     let before_switch : new.source.switched ≡ false → (new.source.remaining ≡ no_pages) × (new.source.end_epoch ≢ new.source.epoch ⊎ (new.source.phase ≡ SourcePhase.Idle)) = λ h. absurd (not_up h) in
     let end_sent : new.source.end_epoch ≡ new.source.epoch → new.source.remaining ≡ no_pages = λ h. refl in
-    let remaining_present : (page : ℕ) → contains new.source.remaining page ≡ true → is_present (space_of new.source) page ≡ true = λ page h. none_in page h in
+    let remaining_present : (page : ℕ) → contains new.source.remaining page ≡ true → is_present (space_of new.source) page ≡ true = λ page h. no_page page h in
     let paused_fresh : new.up ≡ true → new.source.phase ≡ SourcePhase.Paused → new.source.end_epoch ≢ new.source.epoch = λ u h. absurd (let e : SourcePhase.Released ≡ SourcePhase.Paused = h in cc) in
     let idle_source : new.source.phase ≡ SourcePhase.Idle → (new.source.log.clean ≡ no_pages) × (new.source.log.todo ≡ no_pages) × (new.source.log.sent ≡ no_pages) × ((space_of new.source).object.events ≡ []) × ((page : ℕ) → contains (space_of new.source).object.missing page ≡ false) =
     λ h. absurd (let e : SourcePhase.Released ≡ SourcePhase.Idle = h in cc) in
     let clean_protected : new.source.switched ≡ false → (page : ℕ) → contains new.source.log.clean page ≡ true → is_unread (space_of new.source).object.events page ≡ false → contains (space_of new.source).protected page ≡ true = λ h. absurd (not_up h) in
     let todo_sendable : new.source.switched ≡ false → (page : ℕ) → contains new.source.log.todo page ≡ true → is_unread (space_of new.source).object.events page ≡ false → (is_present (space_of new.source) page ≡ true) × (contains (space_of new.source).object.protect page ≡ true) = λ h. absurd (not_up h) in
     let origins_present : (page origin : ℕ) → get new.destination.owed page ≡ Some origin → is_present (space_of new.source) origin ≡ true =
-    λ page origin h. absurd (none_some origin (sym (get-empty nat_cmp page) ∙ sym (ap (λ o. get o page) bare.0) ∙ h)) in
+    λ page origin h. absurd (none-some origin (sym (get-empty nat_cmp page) ∙ sym (ap (λ o. get o page) bare.0) ∙ h)) in
     let arrivals_faithful : new.destination.has_run ≡ true → AreFaithful (space_of new.source).host.bytes new.destination.arrivals = λ h. subst (AreFaithful fresh_space.host.bytes) (sym bare.1) tt in
     let flight_faithful : new.destination.has_run ≡ true → AreFaithful (space_of new.source).host.bytes (copies_of new.forward.frames) = λ h. subst (λ wire. AreFaithful fresh_space.host.bytes (copies_of wire)) (sym none) tt in
     let released_empty : new.source.phase ≡ SourcePhase.Released → (space_of new.source ≡ fresh_space) × (new.source.remaining ≡ no_pages) = λ h. (refl, refl) in
@@ -138,12 +133,12 @@ recv_precopy owed epoch rest world kept last =
     let paused_fresh : new.up ≡ true → new.source.phase ≡ SourcePhase.Paused → new.source.end_epoch ≢ new.source.epoch = λ u h. kept.pushing.paused_fresh refl refl in
     let idle_source : new.source.phase ≡ SourcePhase.Idle → (new.source.log.clean ≡ no_pages) × (new.source.log.todo ≡ no_pages) × (new.source.log.sent ≡ no_pages) × ((space_of new.source).object.events ≡ []) × ((page : ℕ) → contains (space_of new.source).object.missing page ≡ false) =
     λ h. absurd (let e : SourcePhase.Precopy ≡ SourcePhase.Idle = h in cc) in
-    let clean_protected : new.source.switched ≡ false → (page : ℕ) → contains new.source.log.clean page ≡ true → is_unread (space_of new.source).object.events page ≡ false → contains (space_of new.source).protected page ≡ true = λ s page h. none_in page h in
-    let todo_sendable : new.source.switched ≡ false → (page : ℕ) → contains new.source.log.todo page ≡ true → is_unread (space_of new.source).object.events page ≡ false → (is_present (space_of new.source) page ≡ true) × (contains (space_of new.source).object.protect page ≡ true) = λ s page h. none_in page h in
+    let clean_protected : new.source.switched ≡ false → (page : ℕ) → contains new.source.log.clean page ≡ true → is_unread (space_of new.source).object.events page ≡ false → contains (space_of new.source).protected page ≡ true = λ s page h. no_page page h in
+    let todo_sendable : new.source.switched ≡ false → (page : ℕ) → contains new.source.log.todo page ≡ true → is_unread (space_of new.source).object.events page ≡ false → (is_present (space_of new.source) page ≡ true) × (contains (space_of new.source).object.protect page ≡ true) = λ s page h. no_page page h in
     let released_empty : new.source.phase ≡ SourcePhase.Released → (space_of new.source ≡ fresh_space) × (new.source.remaining ≡ no_pages) = λ h. absurd (let e : SourcePhase.Precopy ≡ SourcePhase.Released = h in cc) in
     let precopying : IsPrecopying new.source new.destination.kept new.forward.frames =
     record {
-      clean_copy = λ page h unread. none_in page h;
+      clean_copy = λ page h unread. no_page page h;
       copies_sent = λ page h. absurd (false≢true (sym (no_copy page world.destination.kept w.2) ∙ h));
     } in
     let wires : new.up ≡ true → Wires new.source new.destination new.forward.frames new.back.frames = λ u. (refl, last, precopying) in
@@ -152,17 +147,9 @@ recv_precopy owed epoch rest world kept last =
     let held : AreSoundWires new.forward new.back = record { forward_held = kept.held.forward_held; back_held = fits-none rest } in
     assumption
 
-eqb_other : (a b : ℕ) → a ≢ b → eqb a b ≡ false
-eqb_other a b h = grind (arith, nat_tests)
-
 -- where End was not sent in this epoch
 flow_pushed : (source : Source) → source.end_epoch ≢ source.epoch → Some Pushed ≡ Some (flow_of source)
 flow_pushed source h = sym (ap (λ t. Some (cond t AfterEnd Pushed)) (eqb_other source.end_epoch source.epoch h))
-
--- what is present, and what is not
-present_tells : (low some : Bool) → (low && some) ≡ true → some ≡ true
-present_tells true some h = h
-present_tells false some h = absurd (false≢true h)
 
 either_way : (b : Bool) (o : Option (List ℕ)) → o ≡ cond b o o
 either_way true o = refl
@@ -172,9 +159,6 @@ all_owed : (low : Bool) (o : Option (List ℕ)) → (low ≡ false → o ≡ Non
 all_owed low None none = either_way (low && false) None
 all_owed true (Some bytes) none = refl
 all_owed false (Some bytes) none = sym (none refl)
-
-not_below : (q bound : ℕ) → ltb q bound ≡ false → bound ≤ q
-not_below q bound h = grind (arith, nat_tests)
 
 nothing_kept : (kept : FinMap nat_cmp (List ℕ)) (page : ℕ) → kept ≡ finmap.empty → get (kept_after kept (Discard no_pages)) page ≡ None
 nothing_kept kept page h =
@@ -198,7 +182,7 @@ recv_switched owed epoch rest world kept last =
     let idle_source : new.source.phase ≡ SourcePhase.Idle → (new.source.log.clean ≡ no_pages) × (new.source.log.todo ≡ no_pages) × (new.source.log.sent ≡ no_pages) × ((space_of new.source).object.events ≡ []) × ((page : ℕ) → contains (space_of new.source).object.missing page ≡ false) =
     λ h. absurd (let e : SourcePhase.Stopped ≡ SourcePhase.Idle = h in cc) in
     let released_empty : new.source.phase ≡ SourcePhase.Released → (space_of new.source ≡ fresh_space) × (new.source.remaining ≡ no_pages) = λ h. absurd (let e : SourcePhase.Stopped ≡ SourcePhase.Released = h in cc) in
-    let remaining_present : (page : ℕ) → contains new.source.remaining page ≡ true → is_present (space_of new.source) page ≡ true = λ page h. present_tells (ltb page HIGH_PAGE) (is_present world.source.guest.space page) (sym (here page) ∙ h) in
+    let remaining_present : (page : ℕ) → contains new.source.remaining page ≡ true → is_present (space_of new.source) page ≡ true = λ page h. and_second (ltb page HIGH_PAGE) (is_present world.source.guest.space page) (sym (here page) ∙ h) in
     let switching : IsSwitching new.source new.destination.kept new.forward.frames =
     record {
       owed = present world.source.guest.space;
@@ -206,7 +190,7 @@ recv_switched owed epoch rest world kept last =
       owed_present = remaining_present;
       kept_rest = λ page.
           nothing_kept world.destination.kept page w.2
-          ∙ all_owed (ltb page HIGH_PAGE) (get world.source.guest.space.host.bytes page) (λ l. sound.mapped page (sound.bound page (not_below page HIGH_PAGE l)))
+          ∙ all_owed (ltb page HIGH_PAGE) (get world.source.guest.space.host.bytes page) (λ l. sound.mapped page (sound.bound page (ltb-false page HIGH_PAGE l)))
           ∙ sym (ap (λ b. cond b None (get world.source.guest.space.host.bytes page)) (here page));
       whereabouts = λ page h. ap (λ b. b || false) h;
       faithful = tt;

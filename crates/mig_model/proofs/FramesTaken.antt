@@ -14,6 +14,7 @@ use Rattle.mig_base.proofs.PageLemmas.{same_pages}
 use Rattle.mig_base.specs.Tests.{is_empty}
 use Rattle.mig_model.specs.Host.{IsSound}
 use Rattle.std.specs.Prelude.{length}
+use Rattle.std.proofs.lemmas.Option.{same_Some}
 use lib.ListN.{length-map}
 use Rattle.mig_model.specs.Guest.{is_present}
 use Rattle.mig_model.specs.Space.{Space}
@@ -22,13 +23,14 @@ use Rattle.mig_model.specs.Wire.Frame.{Advise, Page, Zero, Discard, Package, End
 use Rattle.mig_model.specs.Migration.{World}
 use Rattle.mig_model.specs.Invariant.{IsSoundWorld, IsSwitching, IsFlowing, IsReceiving, EpochAt, AreOf, flow_of, is_request, is_done, are_requests, are_requests_and_done}
 use Rattle.mig_model.specs.Promises.{is_in_place, IsOwnEpoch, IsGood, IsTaken, IsInPlaceBack}
-use Rattle.mig_model.proofs.Stopping.{none_absurd, no_member}
+use Rattle.mig_model.proofs.Stopping.{no_member}
 use Rattle.mig_model.proofs.FirstFrame.{comes, first_in_place, nothing_behind}
 use Rattle.mig_model.proofs.EndTaken.{ended_now, nowhere, none_owed}
 use Rattle.mig_model.specs.Cpus.{outstanding}
 use Rattle.mig_model.specs.Log.{no_pages, present}
 use Rattle.mig_model.specs.Source.{Source, commands_of, is_source_paused, is_stopped, space_of}
 use Rattle.mig_model.specs.Destination.{Destination}
+use Rattle.mig_model.proofs.Facts.{none_absurd, and_left}
 
 -- In place
 
@@ -63,9 +65,6 @@ epoch_of _ node epoch source_epoch _ h e at = none_absurd h
 
 -- Right
 
-same_some : {A : Type 0} (x y : A) → Some x ≡ Some y → x ≡ y
-same_some x y h = cc
-
 areas_in : Frame → FinMap nat_cmp Prot → FinMap nat_cmp Prot
 areas_in (Package areas owed commands) other = areas
 areas_in frame other = other
@@ -93,7 +92,7 @@ package_good : (source : Source) (node : Destination) (epoch : ℕ) (areas : Fin
     IsSwitching source node.kept (record { epoch = epoch; frame = Package areas owed commands } ∷ rest) → length node.guest.cpus ≡ length source.guest.cpus → IsGood node (Package areas owed commands)
 unfolding areas_in owed_in commands_in
 package_good source node epoch areas owed commands rest sound told many =
-    let plan = same_some (Package areas owed commands) (Package (space_of source).host.areas told.owed (commands_of source.guest.cpus)) told.plan in
+    let plan = same_Some (Package areas owed commands) (Package (space_of source).host.areas told.owed (commands_of source.guest.cpus)) told.plan in
     let same_areas : areas ≡ (space_of source).host.areas = ap (λ f. areas_in f areas) plan in
     let same_owed : owed ≡ told.owed = ap (λ f. owed_in f owed) plan in
     let among = λ (page : ℕ) (h : contains owed page ≡ true). ap (λ s. contains s page) (sym same_owed) ∙ h in (
@@ -161,10 +160,6 @@ empty_first sent rest h = cc
 first_is : (sent other : Sent) (rest more : List Sent) → sent ∷ rest ≡ other ∷ more → sent.frame ≡ other.frame
 first_is sent other rest more h = ap (λ (wire : List Sent). elim wire [ [] ↦ sent.frame | s ∷ _ ↦ s.frame ]) h
 
-and_first : (a b : Bool) → (a && b) ≡ true → a ≡ true
-and_first true b h = refl
-and_first false b h = none_absurd h
-
 request_place : (frame : Frame) (node : Source) → is_stopped node.phase ≡ true → is_request frame ≡ true → IsInPlaceBack node frame
 request_place (Request page) node stopped h = stopped
 request_place _ node stopped h = none_absurd h
@@ -183,7 +178,7 @@ abbrev with_back : SourcePhase → DestPhase → Sent → List Sent → World �
 with_back from to sent rest world = record world { source = record world.source { phase = from }; destination = record world.destination { phase = to }; back = record world.back { frames = sent ∷ rest } }
 
 back_in : (from : SourcePhase) (to : DestPhase) (sent : Sent) (rest : List Sent) (world : World) → world.up ≡ true → IsSoundWorld (with_back from to sent rest world) → IsInPlaceBack (with_back from to sent rest world).source sent.frame
-back_in SourcePhase.Stopped DestPhase.Running sent rest world up kept = request_place sent.frame (with_back SourcePhase.Stopped DestPhase.Running sent rest world).source refl (and_first (is_request sent.frame) (are_requests rest) (kept.flight.wires up).1)
+back_in SourcePhase.Stopped DestPhase.Running sent rest world up kept = request_place sent.frame (with_back SourcePhase.Stopped DestPhase.Running sent rest world).source refl (and_left (is_request sent.frame) (are_requests rest) (kept.flight.wires up).1)
 back_in SourcePhase.Stopped DestPhase.Ended sent rest world up kept = done_place sent.frame (with_back SourcePhase.Stopped DestPhase.Ended sent rest world).source (are_requests_and_done rest) (is_empty rest) refl (kept.flight.wires up).2 (kept.flight.wires up).1
 back_in SourcePhase.Stopped DestPhase.Idle sent rest world up kept = absurd (empty_first sent rest (kept.flight.wires up).1)
 back_in SourcePhase.Stopped DestPhase.Advised sent rest world up kept = absurd (empty_first sent rest (kept.flight.wires up).1)

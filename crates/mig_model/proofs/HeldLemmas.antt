@@ -1,5 +1,5 @@
 -- How many bytes of its first frame a wire holds, as frames come and go.
-use Rattle.std.proofs.Common.{◌≡◌, ℕ, ◌+◌, ◌<◌, Bool, true, false, List, [], ◌∷◌, ◌++◌, refl, subst, sym, arith, ltb, ◌-◌}
+use Rattle.std.proofs.Common.{◌≡◌, ℕ, ◌+◌, ◌<◌, true, List, [], ◌∷◌, ◌++◌, refl, subst, sym, arith, ltb, ◌-◌}
 use Rattle.std.proofs.lemmas.Bool.Decides.{nat_tests}
 use Rattle.mig_model.specs.Texts.{text_len}
 use Rattle.mig_model.specs.Wire.{Frame, Sent, Wire, sending}

@@ -5,7 +5,8 @@ use Rattle.std.specs.Ordering.{nat_cmp}
 use Rattle.std.specs.Cmp.{nat_cmp_total, unsigned_tied}
 use Rattle.std.specs.FinMap.{FinMap, get, insert, empty, len, contains_key, get-insert, get-empty}
 use Rattle.std.proofs.lemmas.Bool.Decides.{nat_tests}
-use Rattle.std.proofs.lemmas.Bool.{false≢true}
+use Rattle.std.proofs.lemmas.Bool.{false≢true, eqb-true, eq-eqb}
+use Rattle.std.proofs.lemmas.Option.{none-some}
 use Rattle.mig_base.specs.declared.TheConstants.{HIGH, HIGH_PAGE}
 use Rattle.mig_base.specs.declared.Prot.{Prot}
 use Rattle.mig_base.specs.Ranges.{in_range, count_below}
@@ -16,13 +17,7 @@ use Rattle.mig_base.proofs.RangeLemmas.{count_below-blocks, in_range_tells, in_r
 use Rattle.mig_base.proofs.PageLemmas.{get-set_range, get-remove_range, get-moved_range, count_below-contains_key}
 use Rattle.mig_base.proofs.ByteLemmas.{get_or-overwrite_below, get_or-overwrite_in, get_or-overwrite_above}
 use Rattle.mig_model.specs.Host.{Host, byte_in, memory, host_moved, host_dropped, IsSound}
-use Rattle.mig_model.specs.Promises.{gone}
-
-none_some : {A : Type 0} (x : A) → None ≡ Some x → ⊥
-none_some x h = cc
-
-same_some : {A : Type 0} (x y : A) → Some x ≡ Some y → x ≡ y
-same_some x y h = cc
+use Rattle.mig_model.proofs.Facts.{in_range_first, eqb_other, put_whole, none_or}
 
 -- two memories that hold the same at each address are one
 pub same_memory : (a b : Memory) → ((addr : ℕ) → a addr ≡ b addr) → a ≡ b
@@ -50,7 +45,7 @@ IsSound-empty =
     record {
       bound = λ page l. get-empty nat_cmp page;
       mapped = λ page h. get-empty nat_cmp page;
-      whole = λ page bytes h. absurd (none_some bytes (sym (get-empty nat_cmp page) ∙ h));
+      whole = λ page bytes h. absurd (none-some bytes (sym (get-empty nat_cmp page) ∙ h));
     }
 
 is_some-cell : (bytes : FinMap nat_cmp (List ℕ)) (addr : ℕ) (o : Option Prot) → is_some (cell_at bytes addr o) ≡ is_some o
@@ -80,17 +75,10 @@ same_cells a b areas bytes = same_memory (memory a) (memory b) (λ addr.
 pub get-put : (bytes : FinMap nat_cmp (List ℕ)) (page q : ℕ) (held : List ℕ) → get (insert bytes page held) q ≡ cond (eqb q page) (Some held) (get bytes q)
 get-put bytes page q held = get-insert nat_cmp_total bytes page held q ∙ ap (λ b. cond b (Some held) (get bytes q)) (unsigned_tied q page)
 
-eqb_tells_same : (q page : ℕ) → eqb q page ≡ true → q ≡ page
-eqb_tells_same q page h = grind (arith, nat_tests)
-
 -- a mapped page is put or written
 mapped_put : (b : Bool) (q page : ℕ) (held : List ℕ) (areas : Option Prot) (o : Option (List ℕ)) → b ≡ eqb q page → (b ≡ true → areas ≡ None → ⊥) → (areas ≡ None → o ≡ None) → areas ≡ None → cond b (Some held) o ≡ None
 mapped_put true q page held areas o e some rest none = absurd (some refl none)
 mapped_put false q page held areas o e some rest none = rest none
-
-whole_put : (b : Bool) (held bytes : List ℕ) (o : Option (List ℕ)) → length held ≡ 4096 → (o ≡ Some bytes → length bytes ≡ 4096) → cond b (Some held) o ≡ Some bytes → length bytes ≡ 4096
-whole_put true held bytes o n rest h = ap length (sym (same_some held bytes h)) ∙ n
-whole_put false held bytes o n rest h = rest h
 
 has_not_none : (areas : FinMap nat_cmp Prot) (page : ℕ) → contains_key areas page ≡ true → get areas page ≡ None → ⊥
 has_not_none areas page has none = false≢true (sym (ap is_some none) ∙ has)
@@ -99,28 +87,22 @@ pub IsSound-put : (host : Host) (page : ℕ) (held : List ℕ) → IsSound host 
 IsSound-put host page held sound has n =
     record {
       bound = sound.bound;
-      mapped = λ q none. get-put host.bytes page q held ∙ mapped_put (eqb q page) q page held (get host.areas q) (get host.bytes q) refl (λ e gone. has_not_none host.areas page has (ap (get host.areas) (sym (eqb_tells_same q page e)) ∙ gone)) (sound.mapped q) none;
-      whole = λ q bytes h. whole_put (eqb q page) held bytes (get host.bytes q) n (sound.whole q bytes) (sym (get-put host.bytes page q held) ∙ h);
+      mapped = λ q none. get-put host.bytes page q held ∙ mapped_put (eqb q page) q page held (get host.areas q) (get host.bytes q) refl (λ e gone. has_not_none host.areas page has (ap (get host.areas) (sym (eqb-true q page e)) ∙ gone)) (sound.mapped q) none;
+      whole = λ q bytes h. put_whole (eqb q page) held bytes (get host.bytes q) n (sound.whole q bytes) (sym (get-put host.bytes page q held) ∙ h);
     }
 
 -- A write
-
-eqb-other : (a b : ℕ) → a ≢ b → eqb a b ≡ false
-eqb-other a b h = grind (arith, nat_tests)
-
-eqb-same : (a b : ℕ) → a ≡ b → eqb a b ≡ true
-eqb-same a b h = grind (arith, nat_tests)
 
 same_or_other : (a b : ℕ) → (a ≡ b) ⊎ (a ≢ b)
 same_or_other a b = grind (arith, nat_tests)
 
 outside_page : (bytes : FinMap nat_cmp (List ℕ)) (page addr : ℕ) (held : List ℕ) → addr / 4096 ≢ page → byte_in (insert bytes page held) addr ≡ byte_in bytes addr
 outside_page bytes page addr held other =
-    ap (λ o. get_or (unwrap_or o []) (addr % 4096) 0) (get-put bytes page (addr / 4096) held ∙ ap (λ b. cond b (Some held) (get bytes (addr / 4096))) (eqb-other (addr / 4096) page other))
+    ap (λ o. get_or (unwrap_or o []) (addr % 4096) 0) (get-put bytes page (addr / 4096) held ∙ ap (λ b. cond b (Some held) (get bytes (addr / 4096))) (eqb_other (addr / 4096) page other))
 
 inside_page : (bytes : FinMap nat_cmp (List ℕ)) (page addr : ℕ) (held : List ℕ) → addr / 4096 ≡ page → byte_in (insert bytes page held) addr ≡ get_or held (addr % 4096) 0
 inside_page bytes page addr held here =
-    ap (λ o. get_or (unwrap_or o []) (addr % 4096) 0) (get-put bytes page (addr / 4096) held ∙ ap (λ b. cond b (Some held) (get bytes (addr / 4096))) (eqb-same (addr / 4096) page here))
+    ap (λ o. get_or (unwrap_or o []) (addr % 4096) 0) (get-put bytes page (addr / 4096) held ∙ ap (λ b. cond b (Some held) (get bytes (addr / 4096))) (eq-eqb (addr / 4096) page here))
 
 -- the digits of a number
 pub record AreDigits (digits : List ℕ) (width value : ℕ) : Type 0 where
@@ -197,9 +179,6 @@ in_range-pages first count q =
     t.1))
     (in_range_tells first count (q / 4096))
 
-in_range_first : (first count q : ℕ) → in_range first count q ≡ true → (first ≤ q) × (q < first + count)
-in_range_first first count q h = grind (arith, nat_tests)
-
 no_byte : (b : Bool) (o : Option (List ℕ)) (i : ℕ) → get_or (unwrap_or (cond b None o) []) i 0 ≡ cond b 0 (get_or (unwrap_or o []) i 0)
 no_byte true o i = refl
 no_byte false o i = refl
@@ -232,7 +211,7 @@ some_or_none true prot o p h rest = refl
 some_or_none false prot o p h rest = rest h
 
 some_kept : (b : Bool) (bytes : List ℕ) (p : Option (List ℕ)) → cond b None p ≡ Some bytes → p ≡ Some bytes
-some_kept true bytes p h = absurd (none_some bytes h)
+some_kept true bytes p h = absurd (none-some bytes h)
 some_kept false bytes p h = h
 
 pub IsSound-map : (host : Host) (first count : ℕ) (prot : Prot) → IsSound host → first + count ≤ HIGH_PAGE → IsSound (record { areas = set_range host.areas first count prot; bytes = remove_range host.bytes first count })
@@ -291,10 +270,6 @@ memory-dropped host first count =
     ∙ zeroes (in_range first count (q / 4096)) (byte_in host.bytes q) (get host.areas (q / 4096))
     ∙ ap (λ b. cond b (written (cell_at host.bytes q (get host.areas (q / 4096))) 0) (cell_at host.bytes q (get host.areas (q / 4096)))) (in_range-pages first count q)
     ∙ ap (λ c. cond (in_range (first * 4096) (4096 * count) q) (written c 0) c) (sym (memory-at host q)))
-
-none_or : (b : Bool) (p : Option (List ℕ)) → p ≡ None → cond b None p ≡ None
-none_or true p h = refl
-none_or false p h = h
 
 pub IsSound-dropped : (host : Host) (first count : ℕ) → IsSound host → IsSound (host_dropped host first count)
 IsSound-dropped host first count sound =
@@ -373,8 +348,8 @@ moved_mapped false old false area growth here held own a b h = b h
 moved_whole : (new old from : Bool) (held own : Option (List ℕ)) (bytes : List ℕ) → (held ≡ Some bytes → length bytes ≡ 4096) → (own ≡ Some bytes → length bytes ≡ 4096) →
     cond new (cond old held None) (cond from None own) ≡ Some bytes → length bytes ≡ 4096
 moved_whole true true from held own bytes a b h = a h
-moved_whole true false from held own bytes a b h = absurd (none_some bytes h)
-moved_whole false old true held own bytes a b h = absurd (none_some bytes h)
+moved_whole true false from held own bytes a b h = absurd (none-some bytes h)
+moved_whole false old true held own bytes a b h = absurd (none-some bytes h)
 moved_whole false old false held own bytes a b h = b h
 
 pub IsSound-moved : (host : Host) (from count to new_count : ℕ) → IsSound host → to + new_count ≤ HIGH_PAGE → IsSound (host_moved host from count to new_count)

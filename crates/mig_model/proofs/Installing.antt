@@ -1,5 +1,5 @@
 -- Install keeps what every world keeps: a copy is put where its page belongs now, which was missing just before, or is given up.
-use Rattle.std.proofs.Common.{◌≡◌, ℕ, suc, ◌+◌, ◌*◌, ◌/◌, ◌&&◌, ◌||◌, Bool, true, false, cond, not, eqb, ltb, Option, Some, None, List, [], ◌∷◌, refl, sym, ap, ◌∙◌, subst, arith, Ok, is_some, length}
+use Rattle.std.proofs.Common.{◌≡◌, ℕ, suc, ◌+◌, ◌*◌, ◌/◌, ◌&&◌, ◌||◌, Bool, true, false, cond, eqb, ltb, Option, Some, None, List, [], ◌∷◌, refl, sym, ap, ◌∙◌, subst, arith, Ok, is_some, length}
 use Rattle.std.specs.Option.{option_and_then}
 use Rattle.std.specs.Ordering.{nat_cmp}
 use Rattle.std.specs.Cmp.{nat_cmp_total, unsigned_tied}
@@ -7,12 +7,11 @@ use Rattle.std.specs.FinMap as finmap
 use Rattle.std.specs.FinMap.{FinMap, get, contains_key, get-remove}
 use Rattle.std.specs.FinSet.{contains}
 use Rattle.std.proofs.lemmas.Bool.Decides.{nat_tests}
-use Rattle.std.proofs.lemmas.Bool.{false≢true}
+use Rattle.std.proofs.lemmas.Bool.{false≢true, eqb-true, or_left}
+use Rattle.std.proofs.lemmas.Option.{none-some}
 use Rattle.mig_base.specs.declared.effect.Effect.{Effect}
-use Rattle.mig_base.specs.declared.refusal.Refusal.{Refusal}
 use Rattle.mig_base.specs.declared.schedule.Step.{Step}
 use Rattle.mig_base.specs.declared.TheConstants.{HIGH_PAGE}
-use Rattle.mig_base.specs.Ranges.{in_range}
 use Rattle.mig_base.specs.Pages.{map_below}
 use Rattle.mig_base.proofs.SetLemmas.{member_below}
 use Rattle.mig_model.specs.Host.{Host, memory}
@@ -26,20 +25,17 @@ use Rattle.mig_model.specs.Migration.{World, outcome, next, after_install, insta
 use Rattle.mig_model.specs.Invariant.{IsSoundWorld, AreFaithful, has_copy, seen_host, seen_bytes}
 use Rattle.mig_model.specs.Promises.{IsPut}
 use Rattle.mig_model.proofs.IoctlLemmas.{IsSoundSpace-installed, get-put_pages}
-use Rattle.mig_model.proofs.SettledLemmas.{none_some, none_absurd, eqb_true, eqb-refl, home_tells, home-none}
+use Rattle.mig_model.proofs.SettledLemmas.{home_tells, home-none}
 use Rattle.mig_model.proofs.DestinationRead.{kept-handled}
 use Rattle.mig_model.proofs.StepLemmas.{holds-effect}
 use Rattle.mig_model.proofs.StepCases.{made-install}
 use Rattle.mig_model.specs.Cpus.{all_woken}
-use Rattle.mig_model.specs.Log.{present}
 use Rattle.mig_model.specs.Owed.{home, without_request}
 use Rattle.mig_model.specs.Source.{space_of}
 use Rattle.mig_model.specs.Destination.{install_by}
+use Rattle.mig_model.proofs.Facts.{none_absurd, eqb-self, only_one, missing_none, dropped_not}
 
 -- One page put
-
-only_one : (page q : ℕ) → in_range page 1 q ≡ eqb q page
-only_one page q = grind (arith, nat_tests)
 
 pub get-put_one : (pages : FinMap nat_cmp (List ℕ)) (page q : ℕ) (bytes : List ℕ) → get (put_pages pages page 1 (λ i. bytes)) q ≡ cond (eqb q page) (Some bytes) (get pages q)
 get-put_one pages page q bytes = get-put_pages pages page 1 q (λ i. bytes) ∙ ap (λ b. cond b (Some bytes) (get pages q)) (only_one page q)
@@ -60,7 +56,7 @@ pub put-sound : (space : Space) (page : ℕ) (bytes : List ℕ) → contains_key
 put-sound space page bytes mapped whole sound =
     IsSoundSpace-installed space page 1 (λ i. bytes) false
     (record {
-      mapped = λ q h. ap (contains_key space.host.areas) (eqb_true q page (sym (only_one page q) ∙ h)) ∙ mapped;
+      mapped = λ q h. ap (contains_key space.host.areas) (eqb-true q page (sym (only_one page q) ∙ h)) ∙ mapped;
       whole = λ i l. whole;
       watched = λ h q e. none_absurd h;
     }) sound
@@ -90,8 +86,8 @@ seen-put here there owed page origin q bytes none pair same =
     ap (λ o. seen_by o (option_and_then (get there.bytes) (get (finmap.remove owed page) q))) (get-put_one here.bytes page q bytes)
     ∙ ap (λ o. seen_by (cond (eqb q page) (Some bytes) (get here.bytes q)) (option_and_then (get there.bytes) o)) (get-without owed page q)
     ∙ seen_there (eqb q page) bytes (get here.bytes q) (get owed q) (get there.bytes)
-    (λ e. ap (get here.bytes) (eqb_true q page e) ∙ none)
-    (λ e. ap (λ k. option_and_then (get there.bytes) (get owed k)) (eqb_true q page e) ∙ ap (option_and_then (get there.bytes)) pair ∙ same)
+    (λ e. ap (get here.bytes) (eqb-true q page e) ∙ none)
+    (λ e. ap (λ k. option_and_then (get there.bytes) (get owed k)) (eqb-true q page e) ∙ ap (option_and_then (get there.bytes)) pair ∙ same)
 
 memory-put : (here there : Host) (owed : FinMap nat_cmp ℕ) (page origin : ℕ) (bytes : List ℕ) → get here.bytes page ≡ None → get owed page ≡ Some origin → get there.bytes origin ≡ Some bytes →
     memory (seen_host (record here { bytes = put_pages here.bytes page 1 (λ i. bytes) }) there (get (finmap.remove owed page))) ≡ memory (seen_host here there (get owed))
@@ -102,7 +98,7 @@ memory-put here there owed page origin bytes none pair same =
 -- The pairs that are left
 
 left_pair : (here : Bool) (o : Option ℕ) (origin : ℕ) → cond here None o ≡ Some origin → (here ≡ false) × (o ≡ Some origin)
-left_pair true o origin h = absurd (none_some origin h)
+left_pair true o origin h = absurd (none-some origin h)
 left_pair false o origin h = (refl, h)
 
 left : (owed : FinMap nat_cmp ℕ) (page q origin : ℕ) → get (finmap.remove owed page) q ≡ Some origin → (eqb q page ≡ false) × (get owed q ≡ Some origin)
@@ -126,14 +122,6 @@ at_copies events arrivals world =
 
 some_first : (copy : Copy) (rest : List Copy) → copy ∷ rest ≡ [] → ⊥
 some_first copy rest h = cc
-
-pub missing_none : (o : Option (List ℕ)) → is_some o ≡ false → o ≡ None
-missing_none None h = refl
-missing_none (Some bytes) h = absurd (false≢true (sym h))
-
-or_first : (a b : Bool) → a ≡ true → (a || b) ≡ true
-or_first true b h = refl
-or_first false b h = none_absurd h
 
 -- what is known where a copy has a page: the page is owed from it, is registered and is missing, and the copy is the source's page
 record HasHome (world : World) (copy : Copy) (page : ℕ) : Type 0 where
@@ -161,7 +149,7 @@ put_there copy rest world page kept runs found =
     let faithful : AreFaithful (space_of world.source).host.bytes (copy ∷ rest) = kept.owing.arrivals_faithful runs in
     kept-handled old guest world.destination.held (finmap.remove owed page) (without_request world.destination.requests copy.page) rest (world.destination.installed + 1) world.destination.dropped world.destination.faults kept runs
     (record {
-      space = put-sound space page copy.bytes (kept.spaces.destination_space.mapped page (or_first (contains space.object.missing page) (contains space.object.protect page) there.registered)) (kept.spaces.source_space.host.whole copy.page copy.bytes there.same) kept.spaces.destination_space;
+      space = put-sound space page copy.bytes (kept.spaces.destination_space.mapped page (or_left (contains space.object.missing page) (contains space.object.protect page) there.registered)) (kept.spaces.source_space.host.whole copy.page copy.bytes there.same) kept.spaces.destination_space;
       unprotected = put-unprotected space page copy.bytes kept.spaces.unprotected;
       only_missing = kept.spaces.only_missing;
       events = tt;
@@ -174,9 +162,9 @@ put_there copy rest world page kept runs found =
           let was = left owed page q origin h in
           behind_first (eqb copy.page origin) (has_copy rest origin)
           (λ e.
-          let here : get owed page ≡ Some origin = there.pair ∙ ap Some (eqb_true copy.page origin e) in
+          let here : get owed page ≡ Some origin = there.pair ∙ ap Some (eqb-true copy.page origin e) in
           let one = kept.owing.one_to_one q page origin was.1 here in
-          false≢true (sym was.0 ∙ ap (λ n. eqb n page) one ∙ eqb-refl page)) k;
+          false≢true (sym was.0 ∙ ap (λ n. eqb n page) one ∙ eqb-self page)) k;
       missing = λ q origin h.
           let was = left owed page q origin h in
           let alone = kept.owing.pairs_missing q origin was.1 in
@@ -203,7 +191,7 @@ given_up copy rest world kept runs lost =
       below = kept.owing.owed_below;
       copies = λ q origin h k.
           behind_first (eqb copy.page origin) (has_copy rest origin)
-          (λ e. home-none world.destination.owed copy.page q lost (kept.owing.owed_below q origin h) (h ∙ ap Some (sym (eqb_true copy.page origin e)))) k;
+          (λ e. home-none world.destination.owed copy.page q lost (kept.owing.owed_below q origin h) (h ∙ ap Some (sym (eqb-true copy.page origin e)))) k;
       missing = kept.owing.pairs_missing;
       faithful = faithful.1;
       ended = λ h. absurd (some_first copy rest (kept.owing.ended_empty h).1);
@@ -232,9 +220,6 @@ kept-install world copy rest kept first runs quiet =
 same_effect : (a b c d : ℕ) → Effect.Installed a b ≡ Effect.Installed c d → (a ≡ c) × (b ≡ d)
 same_effect a b c d h = (cc, cc)
 
-dropped_not : (a c d : ℕ) → Effect.Dropped a ≡ Effect.Installed c d → ⊥
-dropped_not a c d h = cc
-
 page_again : (addr page : ℕ) → 4096 * page ≡ addr → page ≡ addr / 4096
 page_again addr page h = omega arith
 
@@ -249,11 +234,11 @@ put_at (Some page) copy rest world addr source kept runs found same =
     let there = has_home copy rest world page kept runs found in
     let both = same_effect (4096 * page) (4096 * copy.page) addr source same in
     let now : get (put_pages space.host.bytes page 1 (λ i. copy.bytes)) page ≡ Some copy.bytes =
-    get-put_one space.host.bytes page page copy.bytes ∙ ap (λ b. cond b (Some copy.bytes) (get space.host.bytes page)) (eqb-refl page) in
+    get-put_one space.host.bytes page page copy.bytes ∙ ap (λ b. cond b (Some copy.bytes) (get space.host.bytes page)) (eqb-self page) in
     let put : IsPut old new page copy.page =
     record {
       missing = there.missing;
-      mapped = kept.spaces.destination_space.mapped page (or_first (contains space.object.missing page) (contains space.object.protect page) there.registered);
+      mapped = kept.spaces.destination_space.mapped page (or_left (contains space.object.missing page) (contains space.object.protect page) there.registered);
       registered = there.registered;
       owed = there.pair;
       source = there.same ∙ sym now;

@@ -4,8 +4,9 @@ use Rattle.std.specs.Ordering.{nat_cmp}
 use Rattle.std.specs.FinMap.{FinMap, get, contains_key}
 use Rattle.std.specs.FinSet.{contains}
 use Rattle.std.proofs.lemmas.Bool.Decides.{nat_tests}
-use Rattle.std.proofs.lemmas.Bool.{false≢true}
+use Rattle.std.proofs.lemmas.Bool.{false≢true, not-false, or_left, or_cases, or_right}
 use Rattle.std.proofs.lemmas.List.{length-take, length-drop}
+use Rattle.std.proofs.lemmas.Option.{same_Some}
 use Rattle.mig_base.specs.declared.TheConstants.{HIGH_PAGE}
 use Rattle.mig_base.specs.declared.command.Errno.{Errno}
 use Rattle.mig_base.specs.Bits.{is_one}
@@ -21,15 +22,9 @@ use Rattle.mig_model.specs.Ioctls.{left_by, mode_of, is_mapped_in, registered_in
 use Rattle.mig_base.specs.Tests.{first_holding, same_bool, is_every}
 use Rattle.mig_model.proofs.HostLemmas.{get-put}
 use Rattle.mig_model.specs.Log.{present}
-
-none_absurd : {A : Type 0} → false ≡ true → A
-none_absurd h = absurd (false≢true h)
+use Rattle.mig_model.proofs.Facts.{none_absurd, and_second, and_left, eqb-self, in_range_first, same_or_other}
 
 -- Registered pages
-
-either_true : (a b : Bool) → (a || b) ≡ true → (a ≡ true) ⊎ (b ≡ true)
-either_true true b h = inl refl
-either_true false b h = inr h
 
 -- a page that has a mode afterwards had it, or is one of those that were asked for
 registered_one : (low test has mode old : Bool) → (low && cond (test && not has) mode old) ≡ true → (test ≡ true) ⊎ (old ≡ true)
@@ -37,22 +32,6 @@ registered_one false test has mode old h = none_absurd h
 registered_one true true true mode old h = inr h
 registered_one true true false mode old h = inl refl
 registered_one true false has mode old h = inr h
-
-left_mapped : (a b : Bool) → (a && b) ≡ true → b ≡ true
-left_mapped true b h = h
-left_mapped false b h = none_absurd h
-
-left_own : (a b : Bool) → (a && b) ≡ true → a ≡ true
-left_own true b h = refl
-left_own false b h = none_absurd h
-
-or_first : (a b : Bool) → a ≡ true → (a || b) ≡ true
-or_first true b h = refl
-or_first false b h = none_absurd h
-
-or_second : (a b : Bool) → b ≡ true → (a || b) ≡ true
-or_second true b h = refl
-or_second false b h = h
 
 refl_or : (a : Bool) → cond (not (a && true)) true true ≡ true
 refl_or true = refl
@@ -89,24 +68,24 @@ IsSoundSpace-registered space first count mode sound =
       mapped = λ page h.
           ⊎_elim
           (λ one. ⊎_elim
-          (λ asked. left_mapped (in_range first count page) (contains_key space.host.areas page) asked)
-          (λ old. sound.mapped page (or_first (contains object.missing page) (contains object.protect page) old))
+          (λ asked. and_second (in_range first count page) (contains_key space.host.areas page) asked)
+          (λ old. sound.mapped page (or_left (contains object.missing page) (contains object.protect page) old))
           (registered_one (ltb page HIGH_PAGE) (mapped page) (has_modes object page mode) mode.missing (contains object.missing page) (sym (member_below _ HIGH_PAGE page) ∙ one)))
           (λ one. ⊎_elim
-          (λ asked. left_mapped (in_range first count page) (contains_key space.host.areas page) asked)
-          (λ old. sound.mapped page (or_second (contains object.missing page) (contains object.protect page) old))
+          (λ asked. and_second (in_range first count page) (contains_key space.host.areas page) asked)
+          (λ old. sound.mapped page (or_right (contains object.missing page) (contains object.protect page) old))
           (registered_one (ltb page HIGH_PAGE) (mapped page) (has_modes object page mode) mode.protect (contains object.protect page) (sym (member_below _ HIGH_PAGE page) ∙ one)))
-          (either_true (contains (registered_where object mapped mode).missing page) (contains (registered_where object mapped mode).protect page) h);
+          (or_cases (contains (registered_where object mapped mode).missing page) (contains (registered_where object mapped mode).protect page) h);
       present = λ page h.
-          sound.present page (left_own (contains space.protected page) _ (left_mapped (ltb page HIGH_PAGE) _ (sym (member_below _ HIGH_PAGE page) ∙ h)));
+          sound.present page (and_left (contains space.protected page) _ (and_second (ltb page HIGH_PAGE) _ (sym (member_below _ HIGH_PAGE page) ∙ h)));
       watched = λ page h.
-          let told = left_mapped (ltb page HIGH_PAGE) _ (sym (member_below _ HIGH_PAGE page) ∙ h) in
-          let was = left_own (contains space.protected page) _ told in
+          let told = and_second (ltb page HIGH_PAGE) _ (sym (member_below _ HIGH_PAGE page) ∙ h) in
+          let was = and_left (contains space.protected page) _ told in
           let watched = sound.watched page was in
           member_below _ HIGH_PAGE page
           ∙ still_watched (ltb page HIGH_PAGE) (mapped page) true (contains object.missing page) mode.missing mode.protect (contains object.protect page)
-          (below_high space page sound (sound.mapped page (or_second (contains object.missing page) (contains object.protect page) watched))) watched
-          (left_mapped (contains space.protected page) _ told);
+          (below_high space page sound (sound.mapped page (or_right (contains object.missing page) (contains object.protect page) watched))) watched
+          (and_second (contains space.protected page) _ told);
     }
 
 -- A range that is registered no longer
@@ -118,24 +97,18 @@ IsSoundSpace-unregistered space first count sound =
       host = sound.host;
       mapped = λ page h.
           ⊎_elim
-          (λ one. sound.mapped page (or_first (contains object.missing page) (contains object.protect page) (left_own (contains object.missing page) _ (sym (member_without object.missing first count page) ∙ one))))
-          (λ one. sound.mapped page (or_second (contains object.missing page) (contains object.protect page) (left_own (contains object.protect page) _ (sym (member_without object.protect first count page) ∙ one))))
-          (either_true (contains (without object.missing first count) page) (contains (without object.protect first count) page) h);
-      present = λ page h. sound.present page (left_own (contains space.protected page) _ (sym (member_without space.protected first count page) ∙ h));
+          (λ one. sound.mapped page (or_left (contains object.missing page) (contains object.protect page) (and_left (contains object.missing page) _ (sym (member_without object.missing first count page) ∙ one))))
+          (λ one. sound.mapped page (or_right (contains object.missing page) (contains object.protect page) (and_left (contains object.protect page) _ (sym (member_without object.protect first count page) ∙ one))))
+          (or_cases (contains (without object.missing first count) page) (contains (without object.protect first count) page) h);
+      present = λ page h. sound.present page (and_left (contains space.protected page) _ (sym (member_without space.protected first count page) ∙ h));
       watched = λ page h.
           let told = sym (member_without space.protected first count page) ∙ h in
           member_without object.protect first count page
-          ∙ ap (λ b. b && not (in_range first count page)) (sound.watched page (left_own (contains space.protected page) _ told))
-          ∙ left_mapped (contains space.protected page) (not (in_range first count page)) told;
+          ∙ ap (λ b. b && not (in_range first count page)) (sound.watched page (and_left (contains space.protected page) _ told))
+          ∙ and_second (contains space.protected page) (not (in_range first count page)) told;
     }
 
 -- Pages put
-
-same_or_other : (a b : ℕ) → (a ≡ b) ⊎ (eqb a b ≡ false)
-same_or_other a b = grind (arith, nat_tests)
-
-eqb-refl : (n : ℕ) → eqb n n ≡ true
-eqb-refl n = grind (arith, nat_tests)
 
 nothing_in : (first n : ℕ) → in_range first 0 n ≡ false
 nothing_in first n = grind (arith, nat_tests)
@@ -146,14 +119,11 @@ last_of first count = grind (arith, nat_tests)
 but_the_last : (first count q : ℕ) → eqb q (first + count) ≡ false → in_range first count q ≡ in_range first (suc count) q
 but_the_last first count q h = grind (arith, nat_tests)
 
-same_some : {A : Type 0} (x y : A) → Some x ≡ Some y → x ≡ y
-same_some x y h = cc
-
 one_more : {A : Type 0} (first count q : ℕ) (f : ℕ → A) (old : A) → cond (eqb q (first + count)) (f count) (cond (in_range first count q) (f (q - first)) old) ≡ cond (in_range first (suc count) q) (f (q - first)) old
 one_more first count q f old = ⊎_elim
     (λ (e : q ≡ first + count).
     let away : first + count - first ≡ count = omega arith in
-    rw (e, eqb-refl (first + count), last_of first count, away) refl)
+    rw (e, eqb-self (first + count), last_of first count, away) refl)
     (λ (other : eqb q (first + count) ≡ false). rw (other, but_the_last first count q other) refl)
     (same_or_other q (first + count))
 
@@ -174,15 +144,12 @@ put_here true bytes o h = refl
 put_here false bytes o h = none_absurd h
 
 put_whole : (here : Bool) (put held : List ℕ) (o : Option (List ℕ)) → (here ≡ true → length put ≡ 4096) → (o ≡ Some held → length held ≡ 4096) → cond here (Some put) o ≡ Some held → length held ≡ 4096
-put_whole true put held o n rest h = ap length (sym (same_some put held h)) ∙ n refl
+put_whole true put held o n rest h = ap length (sym (same_Some put held h)) ∙ n refl
 put_whole false put held o n rest h = rest h
 
 put_mapped : (here : Bool) (put : List ℕ) (o : Option (List ℕ)) → (here ≡ true → ⊥) → o ≡ None → cond here (Some put) o ≡ None
 put_mapped true put o away h = absurd (away refl)
 put_mapped false put o away h = h
-
-in_range_inside : (first count q : ℕ) → in_range first count q ≡ true → (first ≤ q) × (q < first + count)
-in_range_inside first count q h = grind (arith, nat_tests)
 
 -- pages are put where each is mapped, and registered for write-protect faults if they are to be protected
 pub record CanPut (space : Space) (first count : ℕ) (bytes : ℕ → List ℕ) (protect : Bool) : Type 0 where
@@ -194,7 +161,7 @@ pub IsSoundSpace-installed : (space : Space) (first count : ℕ) (bytes : ℕ �
 IsSoundSpace-installed space first count bytes protect can sound =
     let put = put_pages space.host.bytes first count bytes in
     let told = λ (page : ℕ) (h : contains (pages_where (λ q. contains space.protected q || (protect && in_range first count q))) page ≡ true).
-    either_true (contains space.protected page) (protect && in_range first count page) (left_mapped (ltb page HIGH_PAGE) _ (sym (member_below _ HIGH_PAGE page) ∙ h)) in
+    or_cases (contains space.protected page) (protect && in_range first count page) (and_second (ltb page HIGH_PAGE) _ (sym (member_below _ HIGH_PAGE page) ∙ h)) in
     record {
       host = record {
         bound = sound.host.bound;
@@ -202,19 +169,19 @@ IsSoundSpace-installed space first count bytes protect can sound =
             get-put_pages space.host.bytes first count page bytes
             ∙ put_mapped (in_range first count page) (bytes (page - first)) (get space.host.bytes page) (λ e. false≢true (sym (ap is_some none) ∙ can.mapped page e)) (sound.host.mapped page none);
         whole = λ page held h.
-            put_whole (in_range first count page) (bytes (page - first)) held (get space.host.bytes page) (λ e. let inside = in_range_inside first count page e in can.whole (page - first) (omega (arith, inside))) (sound.host.whole page held) (sym (get-put_pages space.host.bytes first count page bytes) ∙ h);
+            put_whole (in_range first count page) (bytes (page - first)) held (get space.host.bytes page) (λ e. let inside = in_range_first first count page e in can.whole (page - first) (omega (arith, inside))) (sound.host.whole page held) (sym (get-put_pages space.host.bytes first count page bytes) ∙ h);
       };
       mapped = sound.mapped;
       present = λ page h.
           ap is_some (get-put_pages space.host.bytes first count page bytes)
           ∙ ⊎_elim
           (λ was. put_or_was (in_range first count page) (bytes (page - first)) (get space.host.bytes page) (sound.present page was))
-          (λ new. put_here (in_range first count page) (bytes (page - first)) (get space.host.bytes page) (left_mapped protect (in_range first count page) new))
+          (λ new. put_here (in_range first count page) (bytes (page - first)) (get space.host.bytes page) (and_second protect (in_range first count page) new))
           (told page h);
       watched = λ page h.
           ⊎_elim
           (λ was. sound.watched page was)
-          (λ new. can.watched (left_own protect (in_range first count page) new) page (left_mapped protect (in_range first count page) new))
+          (λ new. can.watched (and_left protect (in_range first count page) new) page (and_second protect (in_range first count page) new))
           (told page h);
     }
 
@@ -283,18 +250,14 @@ left_sound : (error : Option Errno) (old new : Space) → IsSoundSpace old → (
 left_sound None old new sound h = h refl
 left_sound (Some errno) old new sound h = sound
 
-pub not_false : (b : Bool) → not b ≡ false → b ≡ true
-not_false true h = refl
-not_false false h = none_absurd (sym h)
-
 pub every_page : (test : ℕ → Bool) (first count page : ℕ) → is_every test first count ≡ true → first ≤ page → page < first + count → test page ≡ true
 every_page test first count page h low high =
     let at : first + (page - first) ≡ page = omega arith in
-    ap test (sym at) ∙ not_false (test (first + (page - first))) (none_below_tells (λ i. not (test (first + i))) count (page - first) h (omega arith))
+    ap test (sym at) ∙ not-false (test (first + (page - first))) (none_below_tells (λ i. not (test (first + i))) count (page - first) h (omega arith))
 
 found_bound : (o : Option ℕ) (here : Bool) (bound k : ℕ) → (o ≡ Some k → k < bound) → (elim o [ Some least ↦ Some least | None ↦ cond here (Some bound) None ]) ≡ Some k → k < suc bound
 found_bound (Some least) here bound k h e = let l = h e in omega (arith, l)
-found_bound None true bound k h e = let same = same_some bound k e in omega (arith, same)
+found_bound None true bound k h e = let same = same_Some bound k e in omega (arith, same)
 found_bound None false bound k h e = absurd (cc)
 
 least_bound : (test : ℕ → Bool) (bound k : ℕ) → least_below test bound ≡ Some k → k < bound
@@ -327,9 +290,9 @@ IsSoundSpace-write_protected space start len bits sound =
     let count = len / 4096 in
     left_sound (writeprotect_error space start len bits) space _ sound (λ e.
     let told = none_holds (writeprotect_errors space start len bits) e in
-    let every = not_false (is_every (λ page. contains space.object.protect page) first count) told.1.1.1.1.0 in
+    let every = not-false (is_every (λ page. contains space.object.protect page) first count) told.1.1.1.1.0 in
     IsSoundSpace-protected space first count (is_one bits 0) (λ page h.
-    let inside = in_range_inside first count page h in
+    let inside = in_range_first first count page h in
     every_page (λ q. contains space.object.protect q) first count page every inside.0 inside.1) sound)
 
 pub IsSoundSpace-read_space : (space : Space) → IsSoundSpace space → IsSoundSpace (read_space space)
@@ -345,19 +308,19 @@ pub can_put : (space : Space) (first count : ℕ) (bytes : ℕ → List ℕ) (pr
 can_put space first count bytes protect sound area whole watched =
     let few = missing_run-few space first count in
     let each = λ (page : ℕ) (h : in_range first (missing_run space first count) page ≡ true).
-    let inside = in_range_inside first (missing_run space first count) page h in
+    let inside = in_range_first first (missing_run space first count) page h in
     every_page (λ q. is_registered space.object q && same_area space first q) first count page area inside.0 (omega (arith, inside, few)) in
     record {
-      mapped = λ page h. sound.mapped page (left_own (is_registered space.object page) (same_area space first page) (each page h));
+      mapped = λ page h. sound.mapped page (and_left (is_registered space.object page) (same_area space first page) (each page h));
       whole = λ i l. whole i (omega (arith, l, few));
       watched = λ e page h.
-          let same = left_mapped (is_registered space.object page) (same_area space first page) (each page h) in
-          same_bool_true (contains space.object.protect first) (contains space.object.protect page) (watched e) (left_mapped _ (same_bool (contains space.object.protect first) (contains space.object.protect page)) same);
+          let same = and_second (is_registered space.object page) (same_area space first page) (each page h) in
+          same_bool_true (contains space.object.protect first) (contains space.object.protect page) (watched e) (and_second _ (same_bool (contains space.object.protect first) (contains space.object.protect page)) same);
     }
 
 -- either not asked for, or registered
 pub protect_told : (asked has : Bool) → (asked && not has) ≡ false → asked ≡ true → has ≡ true
-protect_told true has h e = not_false has h
+protect_told true has h e = not-false has h
 protect_told false has h e = none_absurd e
 
 pub length-handed : (bytes : List ℕ) (i : ℕ) → i < length bytes / 4096 → length (handed bytes i) ≡ 4096
@@ -370,7 +333,7 @@ IsSoundSpace-copied space start bytes bits sound =
     left_sound (copy_error space start (length bytes) bits) space _ sound (λ e.
     let told = none_holds (copy_errors space start (length bytes) bits) e in
     IsSoundSpace-installed space first (missing_run space first count) (handed bytes) (is_one bits 1)
-    (can_put space first count (handed bytes) (is_one bits 1) sound (not_false (is_one_area space first count) told.1.1.1.1.0) (λ i l. length-handed bytes i l)
+    (can_put space first count (handed bytes) (is_one bits 1) sound (not-false (is_one_area space first count) told.1.1.1.1.0) (λ i l. length-handed bytes i l)
     (protect_told (is_one bits 1) (contains space.object.protect first) told.1.1.1.1.1.0)) sound)
 
 pub IsSoundSpace-zeropaged : (space : Space) (start len bits : ℕ) → IsSoundSpace space → IsSoundSpace (zeropaged space start len bits)
@@ -380,4 +343,4 @@ IsSoundSpace-zeropaged space start len bits sound =
     left_sound (zeropage_error space start len bits) space _ sound (λ e.
     let told = none_holds (zeropage_errors space start len bits) e in
     IsSoundSpace-installed space first (missing_run space first count) (λ i. zero_page) false
-    (can_put space first count (λ i. zero_page) false sound (not_false (is_one_area space first count) told.1.1.1.1.0) (λ i l. length-zero_page) (λ e. none_absurd e)) sound)
+    (can_put space first count (λ i. zero_page) false sound (not-false (is_one_area space first count) told.1.1.1.1.0) (λ i l. length-zero_page) (λ e. none_absurd e)) sound)

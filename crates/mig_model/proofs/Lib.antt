@@ -1,3 +1,4 @@
+pub mod Facts
 pub mod NumberLemmas
 pub mod HostLemmas
 pub mod CommandLemmas
@@ -48,6 +49,7 @@ pub mod PartsChanged
 pub mod PromiseLemmas
 pub mod StaysComplete
 pub mod WirePromises
+pub mod FlightPromises
 pub mod FrameLemmas
 pub mod WorldLemmas
 pub mod Issuing
@@ -63,3 +65,5 @@ pub mod SettledPromises
 pub mod Story
 pub mod StepPromises
 pub mod WaitingAccesses
+pub mod Calls
+pub mod PushOrder

@@ -1,10 +1,10 @@
 -- Little-endian numbers in memory, and the place of an access in its page.
-use Rattle.std.proofs.Common.{◌≡◌, ℕ, zero, suc, ◌+◌, ◌/◌, ◌%◌, ◌^◌, ◌<◌, ◌≤◌, ◌&&◌, ◌||◌, Bool, true, false, eqb, List, [], ◌∷◌, refl, sym, ap, ◌∙◌, subst, inl, inr, ◌⊎◌, ⊎_elim, arith, length, get_or}
+use Rattle.std.proofs.Common.{◌≡◌, ℕ, zero, suc, ◌+◌, ◌/◌, ◌%◌, ◌^◌, ◌<◌, ◌≤◌, ◌||◌, true, eqb, List, [], ◌∷◌, refl, sym, ap, ◌∙◌, subst, inl, inr, ◌⊎◌, ⊎_elim, arith, length, get_or}
 use Rattle.std.specs.Int.{bytes_low_first, byte_at}
-use Rattle.std.proofs.lemmas.Bool.Decides.{nat_tests}
-use Rattle.std.proofs.lemmas.Bool.{false≢true}
+use Rattle.std.proofs.lemmas.Bool.{eqb-true, or_cases}
 use Rattle.mig_base.specs.Flat.{Memory, byte_of, number_at, is_width, is_aligned}
 use Rattle.mig_base.specs.Bytes.{little_endian}
+use Rattle.mig_model.proofs.Facts.{and_second, and_left}
 
 -- a number read byte by byte
 pub number_at-bytes : (memory : Memory) (addr : ℕ) (xs : List ℕ) → ((i : ℕ) → i < length xs → byte_of (memory (addr + i)) ≡ get_or xs i 0) → number_at memory addr (length xs) ≡ little_endian xs
@@ -37,21 +37,6 @@ pub record IsInside (addr width : ℕ) : Type 0 where
   pub few : width ≤ 8
   pub inside : addr % 4096 + width ≤ 4096
 
-or_cases : (a b : Bool) → (a || b) ≡ true → (a ≡ true) ⊎ (b ≡ true)
-or_cases true b h = inl refl
-or_cases false b h = inr h
-
-and_left : (a b : Bool) → (a && b) ≡ true → a ≡ true
-and_left true b h = refl
-and_left false b h = h
-
-and_right : (a b : Bool) → (a && b) ≡ true → b ≡ true
-and_right true b h = h
-and_right false b h = absurd (false≢true h)
-
-eqb_true : (a b : ℕ) → eqb a b ≡ true → a ≡ b
-eqb_true a b h = grind (arith, nat_tests)
-
 abbrev IsWidth : ℕ → Type 0
 IsWidth width = (width ≡ 1) ⊎ ((width ≡ 2) ⊎ ((width ≡ 4) ⊎ (width ≡ 8)))
 
@@ -60,12 +45,12 @@ width_cases width h =
     ⊎_elim
     (λ (abc : (eqb width 1 || eqb width 2 || eqb width 4) ≡ true). ⊎_elim
     (λ (ab : (eqb width 1 || eqb width 2) ≡ true). ⊎_elim
-    (λ (a : eqb width 1 ≡ true). inl (eqb_true width 1 a))
-    (λ (b : eqb width 2 ≡ true). inr (inl (eqb_true width 2 b)))
+    (λ (a : eqb width 1 ≡ true). inl (eqb-true width 1 a))
+    (λ (b : eqb width 2 ≡ true). inr (inl (eqb-true width 2 b)))
     (or_cases (eqb width 1) (eqb width 2) ab))
-    (λ (c : eqb width 4 ≡ true). inr (inr (inl (eqb_true width 4 c))))
+    (λ (c : eqb width 4 ≡ true). inr (inr (inl (eqb-true width 4 c))))
     (or_cases (eqb width 1 || eqb width 2) (eqb width 4) abc))
-    (λ (d : eqb width 8 ≡ true). inr (inr (inr (eqb_true width 8 d))))
+    (λ (d : eqb width 8 ≡ true). inr (inr (inr (eqb-true width 8 d))))
     (or_cases (eqb width 1 || eqb width 2 || eqb width 4) (eqb width 8) h)
 
 inside_from : (addr width : ℕ) → addr % width ≡ 0 → IsWidth width → IsInside addr width
@@ -83,7 +68,7 @@ inside_from addr width whole h =
 
 pub aligned_inside : (addr width : ℕ) → is_aligned addr width ≡ true → IsInside addr width
 aligned_inside addr width h =
-    inside_from addr width (eqb_true (addr % width) 0 (and_right (is_width width) (eqb (addr % width) 0) h)) (width_cases width (and_left (is_width width) (eqb (addr % width) 0) h))
+    inside_from addr width (eqb-true (addr % width) 0 (and_second (is_width width) (eqb (addr % width) 0) h)) (width_cases width (and_left (is_width width) (eqb (addr % width) 0) h))
 
 pub aligned_width : (addr width : ℕ) → true ≡ is_aligned addr width → is_width width ≡ true
 aligned_width addr width h = and_left (is_width width) (eqb (addr % width) 0) (sym h)

@@ -1,12 +1,13 @@
 -- The destination takes the Package, and runs: what it then has, with what it is owed, is the memory of the source.
-use Rattle.std.proofs.Common.{◌≡◌, ◌≢◌, ℕ, zero, suc, ◌<◌, ◌≤◌, ◌&&◌, ◌||◌, Bool, true, false, cond, not, eqb, ltb, Option, Some, None, is_some, List, [], ◌∷◌, refl, sym, ap, ◌∙◌, subst, arith, length, if◌then◌else◌}
+use Rattle.std.proofs.Common.{◌≡◌, ◌≢◌, ℕ, zero, suc, ◌<◌, ◌&&◌, ◌||◌, Bool, true, false, cond, not, eqb, ltb, Option, Some, None, is_some, List, [], ◌∷◌, refl, sym, ap, ◌∙◌, subst, arith, length, if◌then◌else◌}
 use Rattle.std.specs.Option.{option_and_then}
 use Rattle.std.specs.Ordering.{nat_cmp}
 use Rattle.std.specs.FinMap as finmap
 use Rattle.std.specs.FinMap.{FinMap, get, contains_key, get-empty}
 use Rattle.std.specs.FinSet.{FinSet, contains, contains-empty}
-use Rattle.std.proofs.lemmas.Bool.{false≢true}
+use Rattle.std.proofs.lemmas.Bool.{false≢true, false_from_ne_true, lt-ltb, and_from, ltb-false, ltb-true}
 use Rattle.std.proofs.lemmas.Bool.Decides.{nat_tests}
+use Rattle.std.proofs.lemmas.Option.{same_Some, none-some}
 use Rattle.mig_base.specs.declared.phase.DestPhase.{DestPhase}
 use Rattle.mig_base.specs.declared.phase.SourcePhase.{SourcePhase}
 use Rattle.mig_base.specs.declared.TheConstants.{HIGH_PAGE}
@@ -23,12 +24,13 @@ use Rattle.mig_model.specs.Wire.{Sent}
 use Rattle.mig_model.specs.Wire.Frame.{Package}
 use Rattle.mig_model.specs.Migration.{World}
 use Rattle.mig_model.specs.Invariant.{Wires, IsSoundWorld, IsSwitching, AreOf, AreRight, AreFaults, AreFaithful, copies_of, has_copy, RanAt, are_requests, seen_host, seen_bytes, current_host, AreSoundWires}
-use Rattle.mig_model.proofs.FirstFrame.{at_state, none_some, delivered}
-use Rattle.mig_model.specs.Log.{no_pages, present}
+use Rattle.mig_model.proofs.FirstFrame.{at_state, delivered}
+use Rattle.mig_model.specs.Log.{no_pages}
 use Rattle.mig_model.specs.Owed.{own_places}
 use Rattle.mig_model.specs.Source.{Source, commands_of, space_of}
 use Rattle.mig_model.specs.Destination.{assembled, settled}
 use Rattle.mig_model.proofs.HeldLemmas.{fits-none}
+use Rattle.mig_model.proofs.Facts.{none_or}
 
 -- Owed pages at their own places
 
@@ -46,22 +48,16 @@ get-own_places owed (suc bound) q =
     ∙ ap (λ o. cond (eqb q bound) (cond (contains owed bound) (Some bound) None) o) (get-own_places owed bound q)
     ∙ placed owed bound q
 
-same_some : {A : Type 0} (x y : A) → Some x ≡ Some y → x ≡ y
-same_some x y h = cc
-
 own_tells : (low owed : Bool) (q origin : ℕ) → cond (low && owed) (Some q) None ≡ Some origin → (low ≡ true) × (owed ≡ true) × (origin ≡ q)
-own_tells true true q origin h = (refl, refl, sym (same_some q origin h))
-own_tells true false q origin h = absurd (none_some origin h)
-own_tells false owed q origin h = absurd (none_some origin h)
-
-below : (q bound : ℕ) → ltb q bound ≡ true → q < bound
-below q bound h = grind (arith, nat_tests)
+own_tells true true q origin h = (refl, refl, sym (same_Some q origin h))
+own_tells true false q origin h = absurd (none-some origin h)
+own_tells false owed q origin h = absurd (none-some origin h)
 
 -- what a pair of the table tells
 pub own_place : (owed : FinSet nat_cmp) (page origin : ℕ) → get (own_places owed HIGH_PAGE) page ≡ Some origin → (page < HIGH_PAGE) × (contains owed page ≡ true) × (origin ≡ page)
 own_place owed page origin h =
     let told = own_tells (ltb page HIGH_PAGE) (contains owed page) page origin (sym (get-own_places owed HIGH_PAGE page) ∙ h) in
-    (below page HIGH_PAGE told.0, told.1, told.2)
+    (ltb-true page HIGH_PAGE told.0, told.1, told.2)
 
 -- The space that is put together
 
@@ -103,17 +99,13 @@ IsSoundSpace-assembled areas kept sound =
 abbrev IsRest : Host → FinSet nat_cmp → FinMap nat_cmp (List ℕ) → Type 0
 IsRest host owed kept = (page : ℕ) → get kept page ≡ (if contains owed page then None else get host.bytes page)
 
-none_left : (owed : Bool) (o : Option (List ℕ)) → o ≡ None → cond owed None o ≡ None
-none_left true o h = refl
-none_left false o h = h
-
 -- a host of the source's areas with these pages is sound
 sound_rest : (host : Host) (owed : FinSet nat_cmp) (areas : FinMap nat_cmp Prot) (kept : FinMap nat_cmp (List ℕ)) → areas ≡ host.areas → IsRest host owed kept → IsSound host →
     ((page : ℕ) (bytes : List ℕ) → get kept page ≡ Some bytes → length bytes ≡ 4096) → IsSound (record { areas = areas; bytes = kept })
 sound_rest host owed areas kept same rest sound whole =
     record {
       bound = λ page l. ap (λ a. get a page) same ∙ sound.bound page l;
-      mapped = λ page h. rest page ∙ none_left (contains owed page) (get host.bytes page) (sound.mapped page (sym (ap (λ a. get a page) same) ∙ h));
+      mapped = λ page h. rest page ∙ none_or (contains owed page) (get host.bytes page) (sound.mapped page (sym (ap (λ a. get a page) same) ∙ h));
       whole = whole;
     }
 
@@ -126,9 +118,6 @@ seen_rest true false q pages here own kept place none =
     (λ i. elim (kept i) [ Some bytes ↦ Some bytes | None ↦ option_and_then (get pages) (place i) ])
     ∙ elim (get pages q) as (λ o. elim o [ Some bytes ↦ Some bytes | None ↦ None ] ≡ o) [ None ↦ refl | Some bytes ↦ refl ]
 
-not_below : (q bound : ℕ) → ltb q bound ≡ false → bound ≤ q
-not_below q bound h = grind (arith, nat_tests)
-
 -- with what is owed it is the memory of the source
 pub seen_source : (host : Host) (owed : FinSet nat_cmp) (areas : FinMap nat_cmp Prot) (kept : FinMap nat_cmp (List ℕ)) → areas ≡ host.areas → IsRest host owed kept → IsSound host →
     seen_host (record { areas = areas; bytes = kept }) host (get (own_places owed HIGH_PAGE)) ≡ host
@@ -139,14 +128,10 @@ seen_source host owed areas kept same rest sound =
     same_pages (map_below (seen_bytes here host own) HIGH_PAGE) host.bytes (λ q.
     get-map_below (seen_bytes here host own) HIGH_PAGE q
     ∙ seen_rest (ltb q HIGH_PAGE) (contains owed q) q host.bytes (get kept q) (own q) (rest q) (get-own_places owed HIGH_PAGE q)
-    (λ l. sound.mapped q (sound.bound q (not_below q HIGH_PAGE l)))) in
+    (λ l. sound.mapped q (sound.bound q (ltb-false q HIGH_PAGE l)))) in
     λ i. record { areas = same i; bytes = bytes i }
 
 -- The step
-
-not_true : (b : Bool) → (b ≡ true → ⊥) → b ≡ false
-not_true true h = absurd (h refl)
-not_true false h = refl
 
 or_more : (a b c : Bool) → (a || b) ≡ true → (a || b || c) ≡ true
 or_more true b c h = refl
@@ -162,13 +147,6 @@ has_areas host page sound h =
       | None ↦ λ e. absurd (false≢true (sym (ap is_some (sound.mapped page e)) ∙ h))
       | Some prot ↦ λ e. refl
     ] refl
-
-is_below : (q bound : ℕ) → q < bound → ltb q bound ≡ true
-is_below q bound h = grind (arith, nat_tests)
-
-and_true : (a b : Bool) → a ≡ true → b ≡ true → (a && b) ≡ true
-and_true true b x y = y
-and_true false b x y = absurd (false≢true x)
 
 -- what the Package says, where it is the first frame
 record IsPlan (source : Source) (kept : FinMap nat_cmp (List ℕ)) (rest : List Sent) (areas : FinMap nat_cmp Prot) (owed : FinSet nat_cmp) : Type 0 where
@@ -202,7 +180,7 @@ package_taken epoch areas owed commands rest world kept =
     let w = kept.flight.wires refl in
     let sound : IsSound host = kept.spaces.source_space.host in
     let plan : IsPlan old.source pages rest areas owed = plan_of old.source pages rest epoch areas owed commands w.2 in
-    let not_ended : world.destination.ended ≡ false = not_true world.destination.ended (λ e. false≢true (kept.phases.ended_after_run e)) in
+    let not_ended : world.destination.ended ≡ false = false_from_ne_true world.destination.ended (λ e. false≢true (kept.phases.ended_after_run e)) in
     let holds : memory (current_host new) ≡ memory_of new.transcript = ap memory (seen_source host owed areas pages plan.same plan.kept_rest sound) ∙ kept.memory.holds in
     let destination_space : IsSoundSpace new.destination.guest.space = IsSoundSpace-assembled areas pages (sound_rest host owed areas pages plan.same plan.kept_rest sound kept.copies.kept_whole) in
     let unprotected : (page : ℕ) → contains new.destination.guest.space.protected page ≡ false = λ page. contains-empty nat_cmp page in
@@ -215,7 +193,7 @@ package_taken epoch areas owed commands rest world kept =
     let not_run : new.destination.has_run ≡ false → (new.destination.owed ≡ finmap.empty) × (new.destination.guest.space ≡ fresh_space) × (new.destination.arrivals ≡ []) = λ h. absurd (false≢true (sym h)) in
     let kept_none : new.destination.has_run ≡ true → new.destination.kept ≡ finmap.empty = λ h. refl in
     let kept_advised : new.destination.phase ≡ DestPhase.Idle → new.destination.kept ≡ finmap.empty = λ h. refl in
-    let kept_whole : (page : ℕ) (bytes : List ℕ) → get new.destination.kept page ≡ Some bytes → length bytes ≡ 4096 = λ page bytes h. absurd (none_some bytes (sym (get-empty nat_cmp page) ∙ h)) in
+    let kept_whole : (page : ℕ) (bytes : List ℕ) → get new.destination.kept page ≡ Some bytes → length bytes ≡ 4096 = λ page bytes h. absurd (none-some bytes (sym (get-empty nat_cmp page) ∙ h)) in
     let one_to_one : (page other origin : ℕ) → get new.destination.owed page ≡ Some origin → get new.destination.owed other ≡ Some origin → page ≡ other =
     λ page other origin h g. sym (own_place owed page origin h).2 ∙ (own_place owed other origin g).2 in
     let owed_below : (page origin : ℕ) → get new.destination.owed page ≡ Some origin → page < HIGH_PAGE = λ page origin h. (own_place owed page origin h).0 in
@@ -225,7 +203,7 @@ package_taken epoch areas owed commands rest world kept =
     λ page origin h.
     let own = own_place owed page origin h in (
       assembled_missing areas pages page
-          ∙ and_true (ltb page HIGH_PAGE) (contains_key areas page) (is_below page HIGH_PAGE own.0) (ap (λ a. contains_key a page) plan.same ∙ has_areas host page sound (plan.owed_present page own.1)),
+          ∙ and_from (ltb page HIGH_PAGE) (contains_key areas page) (lt-ltb page HIGH_PAGE own.0) (ap (λ a. contains_key a page) plan.same ∙ has_areas host page sound (plan.owed_present page own.1)),
       ap is_some (plan.kept_rest page ∙ owed_none (contains owed page) (get host.bytes page) own.1),
     ) in
     let arrivals_faithful : new.destination.has_run ≡ true → AreFaithful new.source.guest.space.host.bytes new.destination.arrivals =

@@ -1,11 +1,10 @@
 -- After a map call each page that is still owed is registered and missing, and where no page was protected or registered for
 -- write-protect faults, none is.
-use Rattle.std.proofs.Common.{◌≡◌, ℕ, ◌+◌, ◌-◌, ◌/◌, ◌<◌, ◌≤◌, ◌&&◌, Bool, true, false, cond, not, ltb, Option, Some, None, refl, sym, ap, ◌∙◌, ◌⊎◌, ⊎_elim, arith, is_some}
+use Rattle.std.proofs.Common.{◌≡◌, ℕ, ◌+◌, ◌-◌, ◌/◌, ◌<◌, ◌≤◌, ◌&&◌, Bool, true, false, cond, not, ltb, Option, Some, None, refl, sym, ap, ◌∙◌, ⊎_elim, arith, is_some}
 use Rattle.std.specs.Ordering.{nat_cmp}
 use Rattle.std.specs.FinMap.{get, contains_key}
 use Rattle.std.specs.FinSet.{FinSet, contains}
-use Rattle.std.proofs.lemmas.Bool.Decides.{nat_tests}
-use Rattle.std.proofs.lemmas.Bool.{false≢true}
+use Rattle.std.proofs.lemmas.Bool.{cases_lt, lt-ltb}
 use Rattle.mig_base.specs.declared.TheConstants.{HIGH, HIGH_PAGE}
 use Rattle.mig_base.specs.declared.command.Errno.TheVariants.{Enomem}
 use Rattle.mig_base.specs.declared.command.Command.{Command}
@@ -26,11 +25,8 @@ use Rattle.mig_model.specs.Guest.{is_present}
 use Rattle.mig_model.specs.Space.{Space, IsSoundSpace, modes_after, protected_after}
 use Rattle.mig_model.proofs.CommandLemmas.{remapped_place}
 use Rattle.mig_model.proofs.SeenLemmas.{AreWatched, watched_mapped}
-use Rattle.mig_model.proofs.SettledCalls.{in_range_is}
 use Rattle.mig_model.specs.Promises.{owed_changed}
-
-none_absurd : {A : Type 0} → false ≡ true → A
-none_absurd h = absurd (false≢true h)
+use Rattle.mig_model.proofs.Facts.{none_absurd, in_range_first}
 
 abbrev Set : Type 0
 Set = FinSet nat_cmp
@@ -63,18 +59,12 @@ moved_pair false true old from m1 m2 mg x y b1 b2 origin high low one two h = no
 moved_pair false false old true m1 m2 mg x y b1 b2 origin high low one two h = absurd (cc)
 moved_pair false false old false m1 m2 mg x y b1 b2 origin high low one two h = none_absurd (low h)
 
-below-true : (a b : ℕ) → a < b → ltb a b ≡ true
-below-true a b h = grind (arith, nat_tests)
-
-below_or_past : (a b : ℕ) → (a < b) ⊎ (b ≤ a)
-below_or_past a b = grind (arith, nat_tests)
-
 mapped_below : (here : Host) (page : ℕ) → IsSound here → contains_key here.areas page ≡ true → ltb page HIGH_PAGE ≡ true
 mapped_below here page sound h =
-    ⊎_elim (λ (low : page < HIGH_PAGE). below-true page HIGH_PAGE low) (λ (high : HIGH_PAGE ≤ page). none_absurd (sym (ap is_some (sound.bound page high)) ∙ h)) (below_or_past page HIGH_PAGE)
+    ⊎_elim (λ (low : page < HIGH_PAGE). lt-ltb page HIGH_PAGE low) (λ (high : HIGH_PAGE ≤ page). none_absurd (sym (ap is_some (sound.bound page high)) ∙ h)) (cases_lt page HIGH_PAGE)
 
 in_new : (to target new_len page : ℕ) → to ≡ target / 4096 → target + rounded new_len ≤ HIGH → in_range to (pages_of new_len) page ≡ true → ltb page HIGH_PAGE ≡ true
-in_new to target new_len page is high h = let r = in_range_is to (pages_of new_len) page h in let a = r.1 in below-true page HIGH_PAGE (omega (arith, is, high, a))
+in_new to target new_len page is high h = let r = in_range_first to (pages_of new_len) page h in let a = r.1 in lt-ltb page HIGH_PAGE (omega (arith, is, high, a))
 
 gone_pairs : (space : Space) (owed : ℕ → Option ℕ) (first count page origin : ℕ) → ArePairs space owed → cond (in_range first count page) None (owed page) ≡ Some origin →
     (contains (without space.object.missing first count) page ≡ true) × (contains space.object.missing page ≡ true) × (contains_key (remove_range space.host.bytes first count) page ≡ false)

@@ -1,10 +1,9 @@
 -- Each step of the whole migration changes only its parts.
-use Rattle.std.proofs.Common.{◌≡◌, ℕ, ◌+◌, Bool, true, false, Option, Some, None, List, [], ◌∷◌, ◌++◌, refl, sym, ◌∙◌, ap}
+use Rattle.std.proofs.Common.{◌≡◌, ℕ, ◌+◌, Bool, true, false, List, [], ◌∷◌, ◌++◌, refl, sym, ◌∙◌, ap}
 use Rattle.std.proofs.lemmas.Bool.{false≢true}
 use Rattle.std.proofs.lemmas.List.{append_assoc}
 use Rattle.mig_base.specs.declared.phase.DestPhase.{DestPhase}
 use Rattle.mig_base.specs.declared.phase.SourcePhase.{SourcePhase}
-use Rattle.mig_base.specs.declared.refusal.Refusal.{Refusal}
 use Rattle.mig_base.specs.declared.schedule.Side.{Side}
 use Rattle.mig_base.specs.declared.schedule.Step.{Step}
 use Rattle.mig_base.specs.declared.command.Command.{Command}
@@ -17,12 +16,9 @@ use Rattle.mig_model.specs.Parts.{Grows, Shrinks, GuestAlone, SourceAlone, Desti
 use Rattle.mig_model.proofs.Stopping.{append-nil}
 use Rattle.mig_model.proofs.StepLemmas.{Leaves, leaves-next}
 use Rattle.mig_model.proofs.StepCases.{made-break, made-deliver, made-deliver_back, made-dest_act, made-dest_read, made-end, made-install, made-issue, made-notice, made-push, made-resume, made-retry, made-round, made-send, made-serve, made-source_act, made-source_read, made-start, made-switch}
-use Rattle.mig_model.specs.Log.{present}
 use Rattle.mig_model.specs.Source.{Source, bytes_of, page_pushed, page_sent, source_answers, source_started, source_took, switch_frames, switch_made}
 use Rattle.mig_model.specs.Destination.{Destination}
-
-as_it_was : (wire : Wire) → Grows wire wire
-as_it_was wire = record { more = []; is = ap (λ f. record wire { frames = f }) (sym (append-nil wire.frames)) }
+use Rattle.mig_model.proofs.Facts.{as_it_was, tried_up}
 
 none_taken : (wire : Wire) → Shrinks wire wire
 none_taken wire = record { taken = []; is = refl }
@@ -55,10 +51,6 @@ tried_forward false world guest = refl
 tried_back : (ran : Bool) (world : World) (guest : Guest) → (with_guest_by ran world guest).back ≡ world.back
 tried_back true world guest = refl
 tried_back false world guest = refl
-
-tried_up : (ran : Bool) (world : World) (guest : Guest) → (with_guest_by ran world guest).up ≡ world.up
-tried_up true world guest = refl
-tried_up false world guest = refl
 
 tried_source : (ran : Bool) (world : World) (guest : Guest) → ran ≡ true → (with_guest_by ran world guest).source ≡ world.source
 tried_source true world guest h = refl
@@ -113,7 +105,7 @@ moved_back_one world n = record { destination = refl; forward = as_it_was world.
 
 -- what a step that is not refused changes
 made_alone : (world : World) (step : Step) → Leaves (ChangesParts world step) (answer world step)
-made_alone world (Step.Issue cpu command) = made-issue _ world cpu command (λ idle may. guest_alone world cpu command)
+made_alone world (Step.Issue cpu command) = made-issue _ world cpu command (λ there idle may. guest_alone world cpu command)
 made_alone world (Step.Retry cpu) = made-retry _ world cpu (λ command waits woken may. guest_alone world cpu command)
 made_alone world Step.Start = made-start _ world (λ idle. sending_source world (source_started world.source) (Advise ∷ []))
 made_alone world Step.Round = made-round _ world (λ precopy quiet. quiet_source world _)

@@ -5,7 +5,8 @@ use Rattle.std.specs.Ordering.{nat_cmp}
 use Rattle.std.specs.FinMap.{FinMap, get, get-empty}
 use Rattle.std.specs.FinSet.{contains}
 use Rattle.std.proofs.lemmas.Bool.Decides.{nat_tests}
-use Rattle.std.proofs.lemmas.Bool.{false≢true}
+use Rattle.std.proofs.lemmas.Bool.{false≢true, or_left, true_from_ne_false}
+use Rattle.std.proofs.lemmas.Option.{none-some}
 use Rattle.mig_base.specs.declared.phase.DestPhase.{DestPhase}
 use Rattle.mig_base.specs.declared.phase.Received.{Received}
 use Rattle.mig_base.specs.declared.phase.SourcePhase.{SourcePhase}
@@ -21,12 +22,13 @@ use Rattle.mig_model.specs.Guest.Act.{Zeroed}
 use Rattle.mig_model.specs.Migration.{World, runs, start}
 use Rattle.mig_model.specs.Invariant.{IsSoundWorld, IsPrecopying, IsSwitching, IsReceiving, RanAt, seen_bytes, seen_host, current_by, copies_of, has_copy}
 use Rattle.mig_model.specs.Promises.{IsComplete, IsAlone, ArePaired, AreUnderWay}
-use Rattle.mig_model.proofs.Stopping.{in_phases, none_absurd}
+use Rattle.mig_model.proofs.Stopping.{in_phases}
 use Rattle.mig_model.proofs.SettledLemmas.{IsOneToOne-settled, values-settled}
-use Rattle.mig_model.specs.Log.{forgotten, present}
+use Rattle.mig_model.specs.Log.{present}
 use Rattle.mig_model.specs.Owed.{owed_after, settled_by}
 use Rattle.mig_model.specs.Source.{is_precopy, is_released, is_source_paused, is_stopped, released, source_act, source_act_by, space_of}
-use Rattle.mig_model.specs.Destination.{arrived, destination_act, destination_act_by, is_running, settled}
+use Rattle.mig_model.specs.Destination.{destination_act, destination_act_by, is_running, settled}
+use Rattle.mig_model.proofs.Facts.{none_absurd}
 
 -- A table without pairs
 
@@ -70,16 +72,12 @@ seen_own here there owed sound none =
 
 -- Completion
 
-up_or_down : (up : Bool) → (up ≡ false → ⊥) → up ≡ true
-up_or_down true h = refl
-up_or_down false h = absurd (h refl)
-
 ended_told : (phase : DestPhase) (ran ended : Bool) → phase ≡ DestPhase.Ended → RanAt phase ran ended → ended ≡ true
 ended_told phase ran ended is told = subst (λ p. RanAt p ran ended) is told
 
 complete_in : (from : SourcePhase) (world : World) → is_released from ≡ true → IsSoundWorld (in_phases from world.destination.phase world) → IsAlone (in_phases from world.destination.phase world)
 complete_in SourcePhase.Released world released kept =
-    let up = up_or_down world.up (λ h. (kept.flight.down h).3 refl) in
+    let up = true_from_ne_false world.up (λ h. (kept.flight.down h).3 refl) in
     let wires = kept.flight.wires up in
     let ended = ended_told world.destination.phase world.destination.has_run world.destination.ended wires.0 kept.phases.destination_phase in
     let ran = kept.phases.ended_after_run ended in
@@ -108,10 +106,6 @@ is_alone world kept complete = complete_in world.source.phase world complete kep
 
 -- Pairs
 
-either_one : (a b : Bool) → a ≡ true → (a || b) ≡ true
-either_one true b h = refl
-either_one false b h = none_absurd h
-
 pub are_paired : (world : World) → IsSoundWorld world → ArePaired world
 are_paired world kept =
     record {
@@ -120,17 +114,13 @@ are_paired world kept =
       settled_one_to_one = λ page other origin h k. IsOneToOne-settled world.destination.guest.space.object.events (get world.destination.owed) kept.owing.one_to_one page other origin h k;
       settled_present = λ page origin h. let pair = values-settled world.destination.guest.space.object.events (get world.destination.owed) page origin h in kept.owing.origins_present pair.0 origin pair.1;
       mapped = λ page origin h.
-          kept.spaces.destination_space.mapped page (either_one (contains world.destination.guest.space.object.missing page) (contains world.destination.guest.space.object.protect page) (kept.owing.pairs_missing page origin h).0);
+          kept.spaces.destination_space.mapped page (or_left (contains world.destination.guest.space.object.missing page) (contains world.destination.guest.space.object.protect page) (kept.owing.pairs_missing page origin h).0);
       registered = λ page origin h. (kept.owing.pairs_missing page origin h).0;
       missing = λ page origin h. (kept.owing.pairs_missing page origin h).1;
       ended = kept.owing.ended_empty;
     }
 
 -- Whereabouts
-
--- a destination that has run and has not ended runs, while the source is stopped and the link is up
-none_some : {A : Type 0} (x : A) → None ≡ Some x → ⊥
-none_some x h = cc
 
 whereabouts_in : (from : SourcePhase) (to : DestPhase) (world : World) → is_stopped from ≡ true → world.destination.has_run ≡ true → world.up ≡ true → IsSoundWorld (in_phases from to world) → (page origin : ℕ) → get world.destination.owed page ≡ Some origin →
     (contains world.source.remaining origin || has_copy (copies_of world.forward.frames) origin || has_copy world.destination.arrivals origin) ≡ true
@@ -139,7 +129,7 @@ whereabouts_in SourcePhase.Stopped DestPhase.Idle world stopped ran up kept page
 whereabouts_in SourcePhase.Stopped DestPhase.Advised world stopped ran up kept page origin owed = absurd (false≢true (sym kept.phases.destination_phase ∙ ran))
 whereabouts_in SourcePhase.Stopped DestPhase.Discarding world stopped ran up kept page origin owed = absurd (false≢true (sym kept.phases.destination_phase ∙ ran))
 whereabouts_in SourcePhase.Stopped DestPhase.Paused world stopped ran up kept page origin owed = absurd (kept.flight.wires up)
-whereabouts_in SourcePhase.Stopped DestPhase.Ended world stopped ran up kept page origin owed = absurd (none_some origin (sym (ap (λ m. get m page) (kept.owing.ended_empty kept.phases.destination_phase).0 ∙ get-empty nat_cmp page) ∙ owed))
+whereabouts_in SourcePhase.Stopped DestPhase.Ended world stopped ran up kept page origin owed = absurd (none-some origin (sym (ap (λ m. get m page) (kept.owing.ended_empty kept.phases.destination_phase).0 ∙ get-empty nat_cmp page) ∙ owed))
 whereabouts_in SourcePhase.Idle to world stopped ran up kept page origin owed = none_absurd stopped
 whereabouts_in SourcePhase.Precopy to world stopped ran up kept page origin owed = none_absurd stopped
 whereabouts_in SourcePhase.Paused to world stopped ran up kept page origin owed = none_absurd stopped

@@ -1,11 +1,12 @@
 -- The destination takes Resume: it goes on where it was, and tells how far that is.
-use Rattle.std.proofs.Common.{◌≡◌, ◌≢◌, ℕ, zero, suc, ◌<◌, ◌≤◌, ◌&&◌, Bool, true, false, cond, eqb, ltb, Option, Some, None, is_some, List, [], ◌∷◌, map, refl, sym, ap, ◌∙◌, ◌⊎◌, inl, inr, ⊎_elim, subst, arith, length}
+use Rattle.std.proofs.Common.{◌≡◌, ◌≢◌, ℕ, zero, suc, ◌<◌, ◌≤◌, Bool, true, false, cond, eqb, ltb, Option, Some, None, is_some, List, [], ◌∷◌, map, refl, sym, ap, ◌∙◌, ◌⊎◌, inl, inr, ⊎_elim, subst, arith, length}
 use Rattle.std.specs.Ordering.{nat_cmp}
 use Rattle.std.specs.FinMap as finmap
 use Rattle.std.specs.FinMap.{FinMap, get, contains_key, get-empty}
 use Rattle.std.specs.FinSet.{contains, contains-empty}
-use Rattle.std.proofs.lemmas.Bool.{false≢true}
+use Rattle.std.proofs.lemmas.Bool.{false≢true, eqb-true, and_from}
 use Rattle.std.proofs.lemmas.Bool.Decides.{nat_tests}
+use Rattle.std.proofs.lemmas.Option.{none-some}
 use Rattle.mig_base.specs.declared.phase.DestPhase.{DestPhase}
 use Rattle.mig_base.specs.declared.phase.Received.{Received}
 use Rattle.mig_base.specs.declared.phase.SourcePhase.{SourcePhase}
@@ -19,10 +20,11 @@ use Rattle.mig_model.specs.Wire.Frame.{Resume, Request, Recv}
 use Rattle.mig_model.specs.Migration.{World}
 use Rattle.mig_model.specs.Invariant.{Wires, IsSoundWorld, IsReceiving, AreOf, RanAt, EpochAt, AreSoundWires}
 use Rattle.mig_model.proofs.WireLemmas.{sending-behind, AreOf-sending, are_requests-sending}
-use Rattle.mig_model.proofs.FirstFrame.{at_state, none_some, delivered}
+use Rattle.mig_model.proofs.FirstFrame.{at_state, delivered}
 use Rattle.mig_model.specs.Log.{no_pages}
 use Rattle.mig_model.specs.Owed.{home, origins, owes_to}
 use Rattle.mig_model.proofs.HeldLemmas.{fits-more, fits-none}
+use Rattle.mig_model.proofs.Facts.{and_second, eqb-self}
 
 -- The pages that are still needed
 
@@ -42,32 +44,18 @@ least_below-some test (suc bound) k l h =
     least_or (least_below test bound) (test bound) bound
     (⊎_elim (λ (e : k ≡ bound). inl (ap test (sym e) ∙ h)) (λ (m : k < bound). inr (least_below-some test bound k m h)) (at_or_below k bound l))
 
-eqb-refl : (n : ℕ) → eqb n n ≡ true
-eqb-refl n = grind (arith, nat_tests)
-
-eqb_true : (a b : ℕ) → eqb a b ≡ true → a ≡ b
-eqb_true a b h = grind (arith, nat_tests)
-
 pub owes_to-pair : (owed : FinMap nat_cmp ℕ) (page origin : ℕ) → get owed page ≡ Some origin → owes_to owed origin page ≡ true
-owes_to-pair owed page origin h = ap (λ o. elim o [ None ↦ false | Some x ↦ eqb x origin ]) h ∙ eqb-refl origin
+owes_to-pair owed page origin h = ap (λ o. elim o [ None ↦ false | Some x ↦ eqb x origin ]) h ∙ eqb-self origin
 
 pair_by : (o : Option ℕ) (origin : ℕ) → elim o [ None ↦ false | Some x ↦ eqb x origin ] ≡ true → o ≡ Some origin
 pair_by None origin h = absurd (false≢true h)
-pair_by (Some x) origin h = ap (λ n. Some n) (eqb_true x origin h)
+pair_by (Some x) origin h = ap (λ n. Some n) (eqb-true x origin h)
 
 pub pair-owes_to : (owed : FinMap nat_cmp ℕ) (page origin : ℕ) → owes_to owed origin page ≡ true → get owed page ≡ Some origin
 pair-owes_to owed page origin h = pair_by (get owed page) origin h
 
 pub home_tells : (owed : FinMap nat_cmp ℕ) (page origin : ℕ) → home owed origin ≡ Some page → get owed page ≡ Some origin
 home_tells owed page origin h = pair-owes_to owed page origin (least_below_tells (owes_to owed origin) HIGH_PAGE page h)
-
-and_both : (a b : Bool) → a ≡ true → b ≡ true → (a && b) ≡ true
-and_both true b x y = y
-and_both false b x y = absurd (false≢true x)
-
-and_second : (a b : Bool) → (a && b) ≡ true → b ≡ true
-and_second true b h = h
-and_second false b h = absurd (false≢true h)
 
 low_or : (page : ℕ) → (HIGH_PAGE ≤ page → ⊥) → ltb page HIGH_PAGE ≡ true
 low_or page h = grind (arith, nat_tests, h)
@@ -78,7 +66,7 @@ present_low host page sound h = low_or page (λ l. false≢true (sym (ap is_some
 -- each origin of the table is among them
 pub origins-pair : (owed : FinMap nat_cmp ℕ) (page origin : ℕ) → get owed page ≡ Some origin → page < HIGH_PAGE → ltb origin HIGH_PAGE ≡ true → contains (origins owed) origin ≡ true
 origins-pair owed page origin h low high =
-    member_below _ HIGH_PAGE origin ∙ and_both (ltb origin HIGH_PAGE) (is_some (home owed origin)) high (least_below-some (owes_to owed origin) HIGH_PAGE page low (owes_to-pair owed page origin h))
+    member_below _ HIGH_PAGE origin ∙ and_from (ltb origin HIGH_PAGE) (is_some (home owed origin)) high (least_below-some (owes_to owed origin) HIGH_PAGE page low (owes_to-pair owed page origin h))
 
 -- and each of them is an origin of the table
 pub pair-origins : (owed : FinMap nat_cmp ℕ) (origin : ℕ) → contains (origins owed) origin ≡ true → (page : ℕ) × (get owed page ≡ Some origin)
@@ -109,7 +97,7 @@ resume_waiting epoch rest world kept =
     let destination_phase : RanAt new.destination.phase new.destination.has_run new.destination.ended = refl in
     let kept_none : new.destination.has_run ≡ true → new.destination.kept ≡ finmap.empty = λ h. refl in
     let kept_advised : new.destination.phase ≡ DestPhase.Idle → new.destination.kept ≡ finmap.empty = λ h. refl in
-    let kept_whole : (page : ℕ) (bytes : List ℕ) → get new.destination.kept page ≡ Some bytes → length bytes ≡ 4096 = λ page bytes h. absurd (none_some bytes (sym (get-empty nat_cmp page) ∙ h)) in
+    let kept_whole : (page : ℕ) (bytes : List ℕ) → get new.destination.kept page ≡ Some bytes → length bytes ≡ 4096 = λ page bytes h. absurd (none-some bytes (sym (get-empty nat_cmp page) ∙ h)) in
     let answered : new.back.frames ≡ record { epoch = world.source.epoch; frame = Recv Received.NotRun no_pages } ∷ [] =
     answer_first world.back.frames epoch (Recv Received.NotRun no_pages) [] w.1 ∙ ap (λ e. record { epoch = e; frame = Recv Received.NotRun no_pages } ∷ []) same in
     let wires : new.up ≡ true → Wires new.source new.destination new.forward.frames new.back.frames = λ u. (resume_alone epoch world.source.epoch rest w.0, answered, refl, refl) in
@@ -175,7 +163,7 @@ resume_ended epoch rest world kept =
       requests = refl;
       alone = λ h. refl;
       none_listed = λ h. refl;
-      needed = λ page origin h. absurd (none_some origin (sym (get-empty nat_cmp page) ∙ sym (ap (λ o. get o page) (kept.owing.ended_empty refl).0) ∙ h));
+      needed = λ page origin h. absurd (none-some origin (sym (get-empty nat_cmp page) ∙ sym (ap (λ o. get o page) (kept.owing.ended_empty refl).0) ∙ h));
       owed_present = λ page h. absurd (false≢true (sym (contains-empty nat_cmp page) ∙ h));
     } in
     let wires : new.up ≡ true → Wires new.source new.destination new.forward.frames new.back.frames = λ u. (resume_alone epoch world.source.epoch rest w.0, receiving) in

@@ -1,12 +1,12 @@
 -- The host that the guest sees at the destination: what it has, and what it answers.
-use Rattle.std.proofs.Common.{◌≡◌, ℕ, ◌/◌, ◌%◌, ◌≤◌, ◌&&◌, ◌||◌, Bool, true, false, cond, not, ltb, Option, Some, None, List, [], refl, sym, ap, ◌∙◌, ◌⊎◌, ⊎_elim, inl, inr, arith, is_some, unwrap_or, length}
+use Rattle.std.proofs.Common.{◌≡◌, ℕ, ◌/◌, ◌%◌, ◌≤◌, ◌&&◌, Bool, true, false, cond, not, ltb, Option, Some, None, List, [], refl, sym, ap, ◌∙◌, ◌⊎◌, ⊎_elim, inl, inr, arith, is_some, unwrap_or, length}
 use Rattle.std.specs.Prelude.{slice_index}
 use Rattle.std.specs.Option.{option_map, option_and_then}
 use Rattle.std.specs.Ordering.{nat_cmp}
 use Rattle.std.specs.FinMap.{FinMap, get, contains_key}
 use Rattle.std.specs.FinSet.{contains}
 use Rattle.std.proofs.lemmas.Bool.Decides.{nat_tests}
-use Rattle.std.proofs.lemmas.Bool.{false≢true}
+use Rattle.std.proofs.lemmas.Bool.{or_left, le-ltb}
 use Rattle.mig_base.specs.declared.TheConstants.{HIGH_PAGE}
 use Rattle.mig_base.specs.declared.Prot.{Prot}
 use Rattle.mig_base.specs.declared.command.Command.{Command}
@@ -23,9 +23,7 @@ use Rattle.mig_model.proofs.ReplyOfLemmas.{prots, reply_of-prots, reply_of-page,
 use Rattle.mig_model.specs.Log.{present}
 use Rattle.mig_model.specs.Promises.{gone}
 use Rattle.mig_model.specs.Migration.{made}
-
-none_absurd : {A : Type 0} → false ≡ true → A
-none_absurd h = absurd (false≢true h)
+use Rattle.mig_model.proofs.Facts.{none_absurd, answered_as}
 
 abbrev pub PageMap : Type 0 → Type 0
 PageMap X = FinMap nat_cmp X
@@ -52,9 +50,6 @@ overlay_none there o origin a b = ap (λ p. overlay there p origin) a ∙ ap (λ
 pub below_or_not : (page bound : ℕ) → (ltb page bound ≡ true) ⊎ (bound ≤ page)
 below_or_not page bound = grind (arith, nat_tests)
 
-past_not : (page bound : ℕ) → bound ≤ page → ltb page bound ≡ false
-past_not page bound l = grind (arith, nat_tests)
-
 pub unmapped_none : (here there : Host) (owed : ℕ → Option ℕ) (page : ℕ) → IsSound here → AreMapped here owed → get here.areas page ≡ None → seen_bytes here there owed page ≡ None
 unmapped_none here there owed page sound mapped h =
     overlay_none there.bytes (get here.bytes page) (owed page) (sound.mapped page h) (owed_none owed (λ q. contains_key here.areas q) page mapped (ap is_some h))
@@ -66,7 +61,7 @@ get-seen here there owed page sound mapped =
     ∙ ⊎_elim
     (λ (low : ltb page HIGH_PAGE ≡ true). ap (λ b. cond b (seen_bytes here there owed page) None) low)
     (λ (high : HIGH_PAGE ≤ page).
-    ap (λ b. cond b (seen_bytes here there owed page) None) (past_not page HIGH_PAGE high)
+    ap (λ b. cond b (seen_bytes here there owed page) None) (le-ltb page HIGH_PAGE high)
     ∙ sym (unmapped_none here there owed page sound mapped (sound.bound page high)))
     (below_or_not page HIGH_PAGE)
 
@@ -118,9 +113,6 @@ overlay_own there None origin (inr h) = ap (λ g. overlay there None g) h
 pub seen_own : (here there : Host) (owed : ℕ → Option ℕ) (page : ℕ) → IsSound here → AreMapped here owed → (contains_key here.bytes page ≡ true) ⊎ (owed page ≡ None) → get (seen_host here there owed).bytes page ≡ get here.bytes page
 seen_own here there owed page sound mapped h = get-seen here there owed page sound mapped ∙ overlay_own there.bytes (get here.bytes page) (owed page) h
 
-answered_as : (reply other : Reply) → Answered reply ≡ Answered other → other ≡ reply
-answered_as reply other h = cc
-
 answered_how : (made gone protect : Bool) (reply other : Reply) → cond (not made) (Answered reply) (cond gone Missing (cond protect Protected (Answered reply))) ≡ Answered other → (other ≡ reply) × ((made ≡ false) ⊎ (gone ≡ false))
 answered_how false gone protect reply other h = (answered_as reply other h, inl refl)
 answered_how true true protect reply other h = absurd (cc)
@@ -135,12 +127,8 @@ here_or_none false missing h = inr h
 abbrev pub AreWatched : Space → (ℕ → Option ℕ) → Type 0
 AreWatched space owed = (page origin : ℕ) → owed page ≡ Some origin → contains space.object.missing page ≡ true
 
-pub either_true : (a b : Bool) → a ≡ true → (a || b) ≡ true
-either_true true b h = refl
-either_true false b h = none_absurd h
-
 pub watched_mapped : (space : Space) (owed : ℕ → Option ℕ) → IsSoundSpace space → AreWatched space owed → AreMapped space.host owed
-watched_mapped space owed sound watched page origin h = sound.mapped page (either_true (contains space.object.missing page) (contains space.object.protect page) (watched page origin h))
+watched_mapped space owed sound watched page origin h = sound.mapped page (or_left (contains space.object.missing page) (contains space.object.protect page) (watched page origin h))
 
 -- an access that is answered is answered alike; and if it is made, its page is seen as it is
 pub record IsAnswered (space : Space) (there : Host) (owed : ℕ → Option ℕ) (command : Command) (reply : Reply) : Type 0 where

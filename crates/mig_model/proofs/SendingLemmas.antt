@@ -5,10 +5,11 @@ use Rattle.std.specs.List.{list_all}
 use Rattle.std.specs.Ordering.{nat_cmp}
 use Rattle.std.specs.FinMap.{FinMap}
 use Rattle.std.proofs.lemmas.Bool.{false≢true}
+use Rattle.std.proofs.lemmas.Option.{same_Some, none-some}
 use Rattle.mig_base.specs.Bytes.{zero_page}
 use Rattle.mig_model.specs.Wire.{Frame, Sent, Copy, page_frame, copy_in, kept_after}
 use Rattle.mig_model.specs.Wire.Frame.{Advise, Page, Zero, Discard, Package, End}
-use Rattle.mig_model.specs.Invariant.{Flow, flow_next, flow_after, copies_of, has_copy, AreFaithful, AreWhole, AreOf, is_package, kept_by, behind, package_in}
+use Rattle.mig_model.specs.Invariant.{Flow, flow_next, flow_after, copies_of, has_copy, is_package, kept_by, behind, package_in}
 use Rattle.mig_model.specs.Invariant.Flow.{BeforeAdvise, Copies, BeforePackage, Pushed, AfterEnd}
 use Rattle.mig_model.proofs.FrameLemmas.{zero_bytes}
 use Rattle.mig_model.specs.Migration.{next}
@@ -42,22 +43,6 @@ copies_by-append (Some copy) a b = refl
 copies_step : (sent : Sent) (rest : List Sent) → copies_of (sent ∷ rest) ≡ copies_by (copy_in sent.frame) (copies_of rest)
 copies_step sent rest = elim (copy_in sent.frame) as (λ o. (elim o [ None ↦ copies_of rest | Some copy ↦ copy ∷ copies_of rest ]) ≡ copies_by o (copies_of rest)) [ None ↦ refl | Some copy ↦ refl ]
 
-pub copies_of-append : (a b : List Sent) → copies_of (a ++ b) ≡ copies_of a ++ copies_of b
-copies_of-append [] b = refl
-copies_of-append (sent ∷ a) b =
-    copies_step sent (a ++ b)
-    ∙ ap (copies_by (copy_in sent.frame)) (copies_of-append a b)
-    ∙ copies_by-append (copy_in sent.frame) (copies_of a) (copies_of b)
-    ∙ ap (λ c. c ++ copies_of b) (sym (copies_step sent a))
-
-pub AreWhole-append : (a b : List Copy) → AreWhole a → AreWhole b → AreWhole (a ++ b)
-AreWhole-append [] b x y = y
-AreWhole-append (copy ∷ a) b x y = (x.0, AreWhole-append a b x.1 y)
-
-pub AreFaithful-append : (bytes : FinMap nat_cmp (List ℕ)) (a b : List Copy) → AreFaithful bytes a → AreFaithful bytes b → AreFaithful bytes (a ++ b)
-AreFaithful-append bytes [] b x y = y
-AreFaithful-append bytes (copy ∷ a) b x y = (x.0, AreFaithful-append bytes a b x.1 y)
-
 or_assoc : (a b c : Bool) → (a || b || c) ≡ (a || (b || c))
 or_assoc true b c = refl
 or_assoc false b c = refl
@@ -65,10 +50,6 @@ or_assoc false b c = refl
 pub has_copy-append : (a b : List Copy) (page : ℕ) → has_copy (a ++ b) page ≡ (has_copy a page || has_copy b page)
 has_copy-append [] b page = refl
 has_copy-append (copy ∷ a) b page = ap (λ t. eqb copy.page page || t) (has_copy-append a b page) ∙ sym (or_assoc (eqb copy.page page) (has_copy a page) (has_copy b page))
-
-pub AreOf-one : (epoch : ℕ) (wire : List Sent) (frame : Frame) → AreOf epoch wire → AreOf epoch (wire ++ record { epoch = epoch; frame = frame } ∷ [])
-AreOf-one epoch [] frame h = (refl, tt)
-AreOf-one epoch (sent ∷ wire) frame h = (h.0, AreOf-one epoch wire frame h.1)
 
 -- Behind a Package
 
@@ -118,27 +99,21 @@ pub record HasNoPackage (kept : FinMap nat_cmp (List ℕ)) (wire more : List Sen
   pub kept_then : kept_by kept (wire ++ more) ≡ kept_by (kept_by kept wire) more
   pub behind_then : behind (wire ++ more) ≡ behind more
 
-none_some : {A : Type 0} (x : A) → None ≡ Some x → ⊥
-none_some x h = cc
-
-same_some : {A : Type 0} (x y : A) → Some x ≡ Some y → x ≡ y
-same_some x y h = cc
-
 -- past its Discard a wire stays past it
 late_next : (flow : Flow) (frame : Frame) (next : Flow) → is_early flow ≡ false → flow_next flow frame ≡ Some next → is_early next ≡ false
 late_next BeforeAdvise frame next late h = absurd (false≢true (sym late))
 late_next Copies frame next late h = absurd (false≢true (sym late))
-late_next BeforePackage (Package areas owed commands) next late h = ap is_early (sym (same_some Pushed next h))
-late_next Pushed (Page page bytes) next late h = ap is_early (sym (same_some Pushed next h))
-late_next Pushed (Zero page) next late h = ap is_early (sym (same_some Pushed next h))
-late_next Pushed End next late h = ap is_early (sym (same_some AfterEnd next h))
-late_next _ _ next late h = absurd (none_some next h)
+late_next BeforePackage (Package areas owed commands) next late h = ap is_early (sym (same_Some Pushed next h))
+late_next Pushed (Page page bytes) next late h = ap is_early (sym (same_Some Pushed next h))
+late_next Pushed (Zero page) next late h = ap is_early (sym (same_Some Pushed next h))
+late_next Pushed End next late h = ap is_early (sym (same_Some AfterEnd next h))
+late_next _ _ next late h = absurd (none-some next h)
 
 late_not_copies : (flow : Flow) → is_early flow ≡ false → Some flow ≡ Some Copies → ⊥
-late_not_copies flow late h = false≢true (sym late ∙ ap is_early (same_some flow Copies h))
+late_not_copies flow late h = false≢true (sym late ∙ ap is_early (same_Some flow Copies h))
 
 not_back_by : (o : Option Flow) (wire : List Sent) → ((next : Flow) → is_early next ≡ false → flow_after next wire ≡ Some Copies → ⊥) → ((next : Flow) → o ≡ Some next → is_early next ≡ false) → option_and_then (λ next. flow_after next wire) o ≡ Some Copies → ⊥
-not_back_by None wire rest late h = none_some Copies h
+not_back_by None wire rest late h = none-some Copies h
 not_back_by (Some next) wire rest late h = rest next (late next refl) h
 
 not_back : (flow : Flow) (wire : List Sent) → is_early flow ≡ false → flow_after flow wire ≡ Some Copies → ⊥
@@ -165,7 +140,7 @@ no_package_first BeforePackage kept epoch (Package areas owed commands) wire mor
 no_package_first Pushed kept epoch (Page page bytes) wire more rest h = absurd (not_back Pushed wire refl h)
 no_package_first Pushed kept epoch (Zero page) wire more rest h = absurd (not_back Pushed wire refl h)
 no_package_first Pushed kept epoch End wire more rest h = absurd (not_back AfterEnd wire refl h)
-no_package_first _ kept epoch _ wire more rest h = absurd (none_some Copies h)
+no_package_first _ kept epoch _ wire more rest h = absurd (none-some Copies h)
 
 -- a wire of copies alone, or of Advise and copies, has no Package
 pub has_no_package : (flow : Flow) (kept : FinMap nat_cmp (List ℕ)) (wire more : List Sent) → flow_after flow wire ≡ Some Copies → HasNoPackage kept wire more

@@ -1,7 +1,6 @@
 -- The settled owed relation once a map call has queued its events: it changes as the pages do.
-use Rattle.std.proofs.Common.{◌≡◌, ℕ, ◌+◌, ◌-◌, ◌*◌, ◌/◌, ◌<◌, ◌≤◌, ◌&&◌, Bool, true, false, cond, not, Option, Some, None, List, [], ◌∷◌, ◌++◌, refl, sym, ap, ◌∙◌, subst, arith, if◌then◌else◌}
-use Rattle.std.proofs.lemmas.Bool.Decides.{nat_tests}
-use Rattle.std.proofs.lemmas.Bool.{false≢true}
+use Rattle.std.proofs.Common.{◌≡◌, ℕ, ◌+◌, ◌-◌, ◌*◌, ◌/◌, ◌<◌, ◌≤◌, ◌&&◌, Bool, true, false, cond, Option, Some, None, List, [], ◌∷◌, ◌++◌, refl, sym, ap, ◌∙◌, subst, arith, if◌then◌else◌}
+use Rattle.std.proofs.lemmas.Bool.{not-false}
 use Rattle.mig_base.specs.declared.message.Message.{Message}
 use Rattle.mig_base.specs.declared.message.Message.TheVariants.{Remap, Remove, Unmap}
 use Rattle.mig_base.specs.Ranges.{in_range}
@@ -13,10 +12,8 @@ use Rattle.mig_model.proofs.SeenLemmas.{owed_none}
 use Rattle.mig_model.specs.Owed.{owed_after, settled_by}
 use Rattle.mig_model.specs.Promises.{gone}
 use Rattle.mig_model.specs.Migration.{start}
+use Rattle.mig_model.proofs.Facts.{in_range_first, settled-push}
 pub use Rattle.mig_model.specs.Promises.{gone, moved_owed, owed_changed}
-
-none_absurd : {A : Type 0} → false ≡ true → A
-none_absurd h = absurd (false≢true h)
 
 -- Events queued
 
@@ -24,10 +21,6 @@ none_absurd h = absurd (false≢true h)
 abbrev pub settled_messages : List Message → (ℕ → Option ℕ) → ℕ → Option ℕ
 settled_messages [] owed = owed
 settled_messages (message ∷ messages) owed = settled_messages messages (owed_after message owed)
-
-pub settled-push : (events : List Noted) (noted : Noted) (owed : ℕ → Option ℕ) → settled_by (events ++ noted ∷ []) owed ≡ owed_after noted.message (settled_by events owed)
-settled-push [] noted owed = refl
-settled-push (first ∷ events) noted owed = settled-push events noted (owed_after first.message owed)
 
 pub settled-queued : (object : Object) (messages : List Message) (cpu : ℕ) (owed : ℕ → Option ℕ) → settled_by (all_queued object messages cpu).events owed ≡ settled_messages messages (settled_by object.events owed)
 settled-queued object [] cpu owed = refl
@@ -77,18 +70,11 @@ shifted_if b owed from to count = λ page. if b then shifted owed from to count 
 abbrev pub AreInside : Object → (ℕ → Option ℕ) → Type 0
 AreInside object owed = (page origin : ℕ) → owed page ≡ Some origin → is_registered object page ≡ true
 
-pub in_range_is : (first count page : ℕ) → in_range first count page ≡ true → (first ≤ page) × (page < first + count)
-in_range_is first count page h = grind (arith, nat_tests)
-
-not_false : (b : Bool) → not b ≡ false → b ≡ true
-not_false true h = refl
-not_false false h = none_absurd (sym h)
-
 -- in a range of which no page is registered none is owed
 unwatched : (object : Object) (owed : ℕ → Option ℕ) (first count page : ℕ) → AreInside object owed → is_watched object first count ≡ false → first ≤ page → page < first + count → owed page ≡ None
 unwatched object owed first count page inside un low high =
     let at : first + (page - first) ≡ page = omega arith in
-    let free : is_registered object (first + (page - first)) ≡ false = none_below_tells (λ i. is_registered object (first + i)) count (page - first) (not_false _ un) (omega arith) in
+    let free : is_registered object (first + (page - first)) ≡ false = none_below_tells (λ i. is_registered object (first + i)) count (page - first) (not-false _ un) (omega arith) in
     owed_none owed (is_registered object) page inside (subst (λ q. is_registered object q ≡ false) at free)
 
 gone_none : (b : Bool) (o : Option ℕ) → (b ≡ true → o ≡ None) → o ≡ cond b None o
@@ -102,7 +88,7 @@ told_gone false w object owed first count message is inside right = refl
 told_gone true true object owed first count message is inside right = λ i page. right page i
 told_gone true false object owed first count message is inside right =
     λ i page.
-    (gone_none (in_range first count page) (owed page) (λ h. let r = in_range_is first count page h in unwatched object owed first count page inside (sym is) r.0 r.1)) i
+    (gone_none (in_range first count page) (owed page) (λ h. let r = in_range_first first count page h in unwatched object owed first count page inside (sym is) r.0 r.1)) i
 
 shifted_none : (b c : Bool) (o p : Option ℕ) → (b ≡ true → (o ≡ None) × (p ≡ None)) → (c ≡ true → o ≡ None) → o ≡ cond b p (cond c None o)
 shifted_none true c o p h g = let both = h refl in both.0 ∙ sym both.1
@@ -118,8 +104,8 @@ told_shifted true true object owed from to count message is inside free right = 
 told_shifted true false object owed from to count message is inside free right =
     λ i page.
     (shifted_none (in_range to count page) (in_range from count page) (owed page) (owed (from + (page - to)))
-    (λ h. let r = in_range_is to count page h in (free refl page r.0 r.1, unwatched object owed from count (from + (page - to)) inside (sym is) (omega arith) (let a = r.0 in let b = r.1 in omega (arith, a, b))))
-    (λ h. let r = in_range_is from count page h in unwatched object owed from count page inside (sym is) r.0 r.1)) i
+    (λ h. let r = in_range_first to count page h in (free refl page r.0 r.1, unwatched object owed from count (from + (page - to)) inside (sym is) (omega arith) (let a = r.0 in let b = r.1 in omega (arith, a, b))))
+    (λ h. let r = in_range_first from count page h in unwatched object owed from count page inside (sym is) r.0 r.1)) i
 
 -- What each message does
 

@@ -1,9 +1,10 @@
 -- The owed table and its look-up once events are applied, and the page to which a page of the source is owed.
-use Rattle.std.proofs.Common.{◌≡◌, ℕ, zero, suc, ◌+◌, ◌-◌, ◌/◌, ◌<◌, ◌≤◌, Bool, true, false, cond, eqb, ltb, Option, Some, None, List, [], ◌∷◌, ◌++◌, refl, sym, ap, ◌∙◌, ◌⊎◌, ⊎_elim, arith, is_some, if◌then◌else◌}
+use Rattle.std.proofs.Common.{◌≡◌, ℕ, zero, suc, ◌+◌, ◌-◌, ◌/◌, ◌<◌, ◌≤◌, Bool, true, false, cond, eqb, ltb, Option, Some, None, List, [], ◌∷◌, refl, sym, ap, ◌∙◌, ◌⊎◌, ⊎_elim, arith, is_some, if◌then◌else◌}
 use Rattle.std.specs.Ordering.{nat_cmp}
 use Rattle.std.specs.FinMap.{FinMap, get}
 use Rattle.std.proofs.lemmas.Bool.Decides.{nat_tests}
-use Rattle.std.proofs.lemmas.Bool.{false≢true}
+use Rattle.std.proofs.lemmas.Bool.{false≢true, eqb-true, false_from_ne_true}
+use Rattle.std.proofs.lemmas.Option.{same_Some, none-some}
 use Rattle.mig_base.specs.declared.TheConstants.{HIGH_PAGE}
 use Rattle.mig_base.specs.declared.message.Message.{Message}
 use Rattle.mig_base.specs.declared.message.Message.TheVariants.{PageFault, Remap, Remove, Unmap}
@@ -13,17 +14,8 @@ use Rattle.mig_base.proofs.PageLemmas.{get-remove_range, get-moved_range}
 use Rattle.mig_model.specs.Userfault.{Noted}
 use Rattle.mig_model.specs.Invariant.{IsRight}
 use Rattle.mig_model.specs.Owed.{home, owed_after, owed_table_after, owes_to, settled_by}
-use Rattle.mig_model.specs.Promises.{gone}
 use Rattle.mig_model.specs.Migration.{start}
-
-pub none_some : {A : Type 0} (x : A) → None ≡ Some x → ⊥
-none_some x h = cc
-
-pub same_some : {A : Type 0} (x y : A) → Some x ≡ Some y → x ≡ y
-same_some x y h = cc
-
-pub none_absurd : {A : Type 0} → false ≡ true → A
-none_absurd h = absurd (false≢true h)
+use Rattle.mig_model.proofs.Facts.{none_absurd, eqb-self, below_or_at}
 
 -- no source page has two pages
 abbrev pub IsOneToOne : (ℕ → Option ℕ) → Type 0
@@ -51,21 +43,16 @@ owed_table_after-applied message owed = λ i page. get-owed_table_after message 
 pub settled_by-applied : (noted : Noted) (events : List Noted) (owed : FinMap nat_cmp ℕ) → settled_by events (get (owed_table_after noted.message owed)) ≡ settled_by (noted ∷ events) (get owed)
 settled_by-applied noted events owed = ap (settled_by events) (owed_table_after-applied noted.message owed)
 
--- one more event at the end
-pub settled_by-push : (events : List Noted) (noted : Noted) (owed : ℕ → Option ℕ) → settled_by (events ++ noted ∷ []) owed ≡ owed_after noted.message (settled_by events owed)
-settled_by-push [] noted owed = refl
-settled_by-push (first ∷ events) noted owed = settled_by-push events noted (owed_after first.message owed)
-
 -- What an event leaves
 
 -- pages that are gone
 gone_value : (gone : Bool) (o : Option ℕ) (origin : ℕ) → (if gone then None else o) ≡ Some origin → o ≡ Some origin
-gone_value true o origin h = absurd (none_some origin h)
+gone_value true o origin h = absurd (none-some origin h)
 gone_value false o origin h = h
 
 moved_value : (to from : Bool) (there here : ℕ) (a o : Option ℕ) (owed : ℕ → Option ℕ) (origin : ℕ) → owed there ≡ a → owed here ≡ o → (if to then a else if from then None else o) ≡ Some origin → (other : ℕ) × (owed other ≡ Some origin)
 moved_value true from there here a o owed origin p q h = (there, p ∙ h)
-moved_value false true there here a o owed origin p q h = absurd (none_some origin h)
+moved_value false true there here a o owed origin p q h = absurd (none-some origin h)
 moved_value false false there here a o owed origin p q h = (here, q ∙ h)
 
 -- each source page that is owed after an event was owed before
@@ -86,7 +73,7 @@ pub none-after : (message : Message) (owed : ℕ → Option ℕ) → ((page : �
 none-after message owed none page =
     elim (owed_after message owed page) as (λ o. owed_after message owed page ≡ o → o ≡ None) [
       | None ↦ λ e. refl
-      | Some origin ↦ λ e. let value = values-after message owed page origin e in absurd (none_some origin (sym (none value.0) ∙ value.1))
+      | Some origin ↦ λ e. let value = values-after message owed page origin e in absurd (none-some origin (sym (none value.0) ∙ value.1))
     ] refl
 
 pub none-settled : (events : List Noted) (owed : ℕ → Option ℕ) → ((page : ℕ) → owed page ≡ None) → (page : ℕ) → settled_by events owed page ≡ None
@@ -161,25 +148,16 @@ owed_below-after (PageFault addr write wp) owed right below page origin h = absu
 
 -- The page to which a source page is owed
 
-pub eqb_true : (a b : ℕ) → eqb a b ≡ true → a ≡ b
-eqb_true a b h = grind (arith, nat_tests)
-
-pub eqb-refl : (n : ℕ) → eqb n n ≡ true
-eqb-refl n = grind (arith, nat_tests)
-
 owes_told : (o : Option ℕ) (source : ℕ) → (elim o [ None ↦ false | Some origin ↦ eqb origin source ]) ≡ true → o ≡ Some source
 owes_told None source h = none_absurd h
-owes_told (Some origin) source h = ap Some (eqb_true origin source h)
+owes_told (Some origin) source h = ap Some (eqb-true origin source h)
 
 owes_so : (o : Option ℕ) (source : ℕ) → o ≡ Some source → (elim o [ None ↦ false | Some origin ↦ eqb origin source ]) ≡ true
-owes_so None source h = absurd (none_some source h)
-owes_so (Some origin) source h = ap (λ n. eqb n source) (same_some origin source h) ∙ eqb-refl source
+owes_so None source h = absurd (none-some source h)
+owes_so (Some origin) source h = ap (λ n. eqb n source) (same_Some origin source h) ∙ eqb-self source
 
 pub home_tells : (owed : FinMap nat_cmp ℕ) (source page : ℕ) → home owed source ≡ Some page → get owed page ≡ Some source
 home_tells owed source page h = owes_told (get owed page) source (least_below_tells (owes_to owed source) HIGH_PAGE page h)
-
-below_or_at : (i n : ℕ) → i < suc n → (i < n) ⊎ (i ≡ n)
-below_or_at i n h = grind (arith, nat_tests)
 
 some_left : (o : Option ℕ) (here : Bool) (bound : ℕ) → is_some o ≡ true → is_some (elim o [ Some least ↦ Some least | None ↦ cond here (Some bound) None ]) ≡ true
 some_left (Some least) here bound h = refl
@@ -207,12 +185,8 @@ home-some owed source page l h = least_below-some (owes_to owed source) HIGH_PAG
 pub home-none : (owed : FinMap nat_cmp ℕ) (source page : ℕ) → home owed source ≡ None → page < HIGH_PAGE → get owed page ≡ Some source → ⊥
 home-none owed source page none l h = false≢true (sym (ap is_some none) ∙ home-some owed source page l h)
 
-not_true : (b : Bool) → (b ≡ true → ⊥) → b ≡ false
-not_true true h = absurd (h refl)
-not_true false h = refl
-
 -- with one to one it is that page
 pub home-is : (owed : FinMap nat_cmp ℕ) (source page : ℕ) → IsOneToOne (get owed) → page < HIGH_PAGE → get owed page ≡ Some source → home owed source ≡ Some page
 home-is owed source page one l h =
     least_below-is (owes_to owed source) HIGH_PAGE page l (owes_so (get owed page) source h)
-    (λ j below. not_true (owes_to owed source j) (λ passes. let same = one j page source (owes_told (get owed j) source passes) h in absurd (omega arith)))
+    (λ j below. false_from_ne_true (owes_to owed source j) (λ passes. let same = one j page source (owes_told (get owed j) source passes) h in absurd (omega arith)))

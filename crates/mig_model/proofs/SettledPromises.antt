@@ -1,6 +1,6 @@
 -- What each step does to the settled relation: a map call changes it as it changes the pages, an install takes away its own pair, and
 -- no other step changes it.
-use Rattle.std.proofs.Common.{◌≡◌, ℕ, ◌/◌, ◌*◌, Bool, true, false, cond, eqb, Option, Some, None, List, [], ◌∷◌, refl, sym, ap, ◌∙◌, subst, arith, if◌then◌else◌, IsOk}
+use Rattle.std.proofs.Common.{◌≡◌, ℕ, ◌/◌, ◌*◌, Bool, true, false, cond, eqb, Option, Some, None, List, [], ◌∷◌, refl, sym, ap, ◌∙◌, subst, if◌then◌else◌, IsOk}
 use Rattle.std.specs.Prelude.{Ok}
 use Rattle.std.specs.Ordering.{nat_cmp}
 use Rattle.std.specs.Cmp.{nat_cmp_total, unsigned_tied}
@@ -9,7 +9,6 @@ use Rattle.std.specs.FinMap.{FinMap, get}
 use Rattle.std.proofs.lemmas.Bool.{false≢true}
 use Rattle.mig_base.specs.declared.effect.Effect.{Effect}
 use Rattle.mig_base.specs.declared.phase.Received.{Received}
-use Rattle.mig_base.specs.declared.refusal.Refusal.{Refusal}
 use Rattle.mig_base.specs.declared.schedule.Side.{Side}
 use Rattle.mig_base.specs.declared.schedule.Step.{Step}
 use Rattle.mig_base.specs.declared.command.Command.{Command}
@@ -29,7 +28,6 @@ use Rattle.mig_model.specs.Guest.Act.{Unprotected, Zeroed, Woke, Forgot, Request
 use Rattle.mig_model.specs.Migration.{World, with_guest_by, guest_by, next, outcome, install_effect, after_command, after_dest_read, answer, guest_of, runs, start}
 use Rattle.mig_model.specs.Invariant.{IsSoundWorld, AreFaults, AreRight, is_package}
 use Rattle.mig_model.specs.Promises.{owed_changed, leaves_settled, AreAccesses}
-use Rattle.mig_model.proofs.SwitchMade.{no_events}
 use Rattle.mig_model.proofs.SettledLemmas.{settled_by-applied}
 use Rattle.mig_model.proofs.TriedLemmas.{settled_then}
 use Rattle.mig_model.proofs.DestinationCommands.{ready_of}
@@ -38,11 +36,11 @@ use Rattle.mig_model.proofs.FramesTaken.{with_first}
 use Rattle.mig_model.proofs.WaitingCommands.{package_told}
 use Rattle.mig_model.proofs.StepLemmas.{Leaves, holds-effect, leaves-next, leaves-ok}
 use Rattle.mig_model.proofs.StepCases.{made-break, made-deliver, made-deliver_back, made-dest_act, made-dest_read, made-end, made-install, made-issue, made-notice, made-push, made-resume, made-retry, made-round, made-send, made-serve, made-source_act, made-source_read, made-start, made-switch}
-use Rattle.mig_model.proofs.DestinationRead.{none_is, some_is}
+use Rattle.mig_model.proofs.DestinationRead.{none_is}
 use Rattle.mig_model.specs.Cpus.{outstanding, processor_at}
-use Rattle.mig_model.specs.Log.{present}
 use Rattle.mig_model.specs.Owed.{home, settled_by}
 use Rattle.mig_model.specs.Destination.{Destination, copy_came, destination_act, destination_acted_by, destination_took, install_by, received_of, resumed_by, settled}
+use Rattle.mig_model.proofs.Facts.{some_is, dropped_not, page_again, no_event}
 
 -- A map call at the destination
 
@@ -57,7 +55,7 @@ pub settled_call : (world : World) (cpu : ℕ) (command : Command) → IsSoundWo
     IsOk (outcome world (Step.Issue cpu command)) → settled (next world (Step.Issue cpu command)).destination page ≡ owed_changed (settled world.destination) command (reply_of (memory world.destination.guest.space.host) command) page
 settled_call world cpu command kept ran is page ok =
     leaves-ok (λ new. settled new.destination page ≡ owed_changed (settled world.destination) command (reply_of (memory world.destination.guest.space.host) command) page) world (Step.Issue cpu command)
-    (made-issue _ world cpu command (λ idle may. called_by world.destination.has_run (is_access command) world cpu command ran is kept page)) ok
+    (made-issue _ world cpu command (λ there idle may. called_by world.destination.has_run (is_access command) world cpu command ran is kept page)) ok
 
 -- A message that is read
 
@@ -99,7 +97,7 @@ queued_events : (waits : Bool) (object other : Object) → other.events ≡ obje
 queued_events true object other h = refl
 queued_events false object other h = h
 
-accessed_events : (access : Access) (space : Space) (cpu : ℕ) (command : Command) → (accessed_by access space cpu command).object.events ≡ space.object.events
+pub accessed_events : (access : Access) (space : Space) (cpu : ℕ) (command : Command) → (accessed_by access space cpu command).object.events ≡ space.object.events
 accessed_events (Answered reply) space cpu command = refl
 accessed_events Missing space cpu command = queued_events (waits_fault space.object.faults (4096 * page_of command) false) space.object _ refl
 accessed_events Protected space cpu command = queued_events (waits_fault space.object.faults (4096 * page_of command) true) space.object _ refl
@@ -119,25 +117,19 @@ abbrev SettledAs : World → ℕ → World → Type 0
 SettledAs world page new = settled new.destination page ≡ settled world.destination page
 
 pub settled_access : (world : World) (cpu : ℕ) (command : Command) → world.destination.has_run ≡ true → is_access command ≡ true → (page : ℕ) → settled (next world (Step.Issue cpu command)).destination page ≡ settled world.destination page
-settled_access world cpu command ran is page = leaves-next (SettledAs world page) world (Step.Issue cpu command) refl (made-issue _ world cpu command (λ idle may. settled_try world cpu command ran is page))
+settled_access world cpu command ran is page = leaves-next (SettledAs world page) world (Step.Issue cpu command) refl (made-issue _ world cpu command (λ there idle may. settled_try world cpu command ran is page))
 
 -- An install takes away its own pair
 
 same_installed : (a b c d : ℕ) → Effect.Installed a b ≡ Effect.Installed c d → a ≡ c
 same_installed a b c d h = cc
 
-not_installed : (a c d : ℕ) → Effect.Dropped a ≡ Effect.Installed c d → ⊥
-not_installed a c d h = cc
-
-page_again : (page addr : ℕ) → 4096 * page ≡ addr → page ≡ addr / 4096
-page_again page addr h = omega (arith, h)
-
 without_pair : (owed : FinMap nat_cmp ℕ) (page q : ℕ) → get (finmap.remove owed page) q ≡ (if eqb q page then None else get owed q)
 without_pair owed page q = finmap.get-remove nat_cmp_total owed page q ∙ ap (λ b. cond b None (get owed q)) (unsigned_tied q page)
 
 installed_by : (o : Option ℕ) (copy : Copy) (rest : List Copy) (world : World) (addr source : ℕ) → world.destination.guest.space.object.events ≡ [] → install_effect o copy.page ≡ Effect.Installed addr source → (page : ℕ) →
     settled (install_by o world.destination copy rest) page ≡ (if eqb page (addr / 4096) then None else settled world.destination page)
-installed_by None copy rest world addr source quiet same page = absurd (not_installed (4096 * copy.page) addr source same)
+installed_by None copy rest world addr source quiet same page = absurd (dropped_not (4096 * copy.page) addr source same)
 installed_by (Some here) copy rest world addr source quiet same page =
     let at = page_again here addr (same_installed (4096 * here) (4096 * copy.page) addr source same) in
     ap (λ events. settled_by events (get (finmap.remove world.destination.owed here)) page) quiet
@@ -150,7 +142,7 @@ pub settled_install : (world : World) (addr source : ℕ) → outcome world Step
 settled_install world addr source answered page =
     holds-effect (λ effect new. effect ≡ Effect.Installed addr source → settled new.destination page ≡ (if eqb page (addr / 4096) then None else settled world.destination page)) world Step.Install (Effect.Installed addr source)
     (made-install _ world (λ copy rest first ran quiet same.
-    installed_by (home world.destination.owed copy.page) copy rest world addr source (no_events world.destination.guest.space.object.events quiet) same page)) answered refl
+    installed_by (home world.destination.owed copy.page) copy rest world addr source (no_event world.destination.guest.space.object.events quiet) same page)) answered refl
 
 -- Any other step
 
@@ -212,7 +204,7 @@ same_node : (old new : World) (page : ℕ) → new.destination ≡ old.destinati
 same_node old new page h = ap (λ node. settled node page) h
 
 settled_answer : (world : World) (step : Step) → IsSoundWorld world → AreAccesses world → world.destination.has_run ≡ true → leaves_settled step ≡ true → (page : ℕ) → Leaves (SettledAs world page) (answer world step)
-settled_answer world (Step.Issue cpu command) kept waits ran leaves page = made-issue _ world cpu command (λ idle may. settled_try world cpu command ran leaves page)
+settled_answer world (Step.Issue cpu command) kept waits ran leaves page = made-issue _ world cpu command (λ there idle may. settled_try world cpu command ran leaves page)
 settled_answer world (Step.Retry cpu) kept waits ran leaves page =
     made-retry _ world cpu (λ command is woken may. settled_try world cpu command ran (waits_here world cpu command waits ran is) page)
 settled_answer world Step.Install kept waits ran leaves page = absurd (false≢true leaves)

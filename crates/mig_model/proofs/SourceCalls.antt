@@ -4,7 +4,7 @@ use Rattle.std.specs.Ordering.{nat_cmp}
 use Rattle.std.specs.FinMap.{FinMap, get, contains_key}
 use Rattle.std.specs.FinSet.{FinSet, contains}
 use Rattle.std.proofs.lemmas.Bool.Decides.{nat_tests}
-use Rattle.std.proofs.lemmas.Bool.{false≢true}
+use Rattle.std.proofs.lemmas.Bool.{false≢true, or_left, and_parts, false_from_ne_true, cases_lt, lt-ltb, or_parts}
 use Rattle.mig_base.specs.declared.TheConstants.{LOW, HIGH, HIGH_PAGE}
 use Rattle.mig_base.specs.declared.command.Errno.TheVariants.{Enomem}
 use Rattle.mig_base.specs.declared.command.Command.{Command}
@@ -29,7 +29,7 @@ use Rattle.mig_model.specs.Space.{Space, IsSoundSpace, told, remap_messages, cal
 use Rattle.mig_model.proofs.HostLemmas.{is_mapped-memory, memory-none}
 use Rattle.mig_model.proofs.CommandLemmas.{one_prot_some}
 use Rattle.mig_model.proofs.SourceMessages.{tells, tells-append, unmapped_outside, removed_outside, dropped_outside, outside_told, in_bytes-pages, Stays, stays_there, moved_away}
-use Rattle.mig_model.proofs.SourceTests.{none_absurd, never_true, and_parts, and_true, or_first, or_none, ltb_true, less_or_not, in_range_inside}
+use Rattle.mig_model.proofs.Facts.{none_absurd, in_range_first, same_or_other, low_or, and_true}
 
 -- what the invariant says of a registered page is as before
 pub record IsUntouched (space : Space) (host : Host) (pages : FinSet nat_cmp) (object : Object) (page : ℕ) : Type 0 where
@@ -93,8 +93,8 @@ growth_outside space addr old_len new_len target page sound remapped same regist
     let whole = remapped.whole in
     let old_some = remapped.old_some in
     let new_some = remapped.new_some in
-    never_true (in_range (addr / 4096 + pages_of old_len) (pages_of new_len - pages_of old_len) page) (λ inside.
-    let l = in_range_inside (addr / 4096 + pages_of old_len) (pages_of new_len - pages_of old_len) page inside in
+    false_from_ne_true (in_range (addr / 4096 + pages_of old_len) (pages_of new_len - pages_of old_len) page) (λ inside.
+    let l = in_range_first (addr / 4096 + pages_of old_len) (pages_of new_len - pages_of old_len) page inside in
     elim remapped.place [
       | Shrunk at shorter ↦ absurd (omega (arith, l, shorter))
       | Grew at can ↦ not_both (contains_key space.host.areas page) mapped
@@ -123,11 +123,11 @@ free_apart host addr target count new_count moved old new one none few fewer =
     (mapped_page host addr (4096 * count) (target / 4096) one (omega arith) (omega arith)) (unmapped_page host target (4096 * new_count) (target / 4096) none (omega arith) (omega arith))))
     (λ (higher : target / 4096 ≤ addr / 4096). absurd (not_both (contains_key host.areas (addr / 4096))
     (mapped_page host addr (4096 * count) (addr / 4096) one (omega arith) (omega arith)) (unmapped_page host target (4096 * new_count) (addr / 4096) none (omega arith) (omega arith))))
-    (less_or_not (addr / 4096) (target / 4096)))
+    (cases_lt (addr / 4096) (target / 4096)))
     (λ (far : target / 4096 + moved ≤ addr / 4096). inr far)
-    (less_or_not (addr / 4096) (target / 4096 + moved)))
+    (cases_lt (addr / 4096) (target / 4096 + moved)))
     (λ (far : addr / 4096 + moved ≤ target / 4096). inl far)
-    (less_or_not (target / 4096) (addr / 4096 + moved))
+    (cases_lt (target / 4096) (addr / 4096 + moved))
 
 -- a range that moves lies apart from its target
 pub moved_apart : (host : Host) (addr old_len new_len target moved : ℕ) → IsRemapped (memory host) addr old_len new_len target → (target / 4096 ≡ addr / 4096 → ⊥) → moved ≤ pages_of old_len → moved ≤ pages_of new_len →
@@ -151,9 +151,6 @@ moved_apart host addr old_len new_len target moved remapped other few fewer =
 
 -- A registered page of which nothing is told
 
-low_or : {page : ℕ} → (HIGH_PAGE ≤ page → ⊥) → page < HIGH_PAGE
-low_or h = grind (arith, nat_tests, h)
-
 pub registered_below : (space : Space) (page : ℕ) → IsSoundSpace space → is_registered space.object page ≡ true → page < HIGH_PAGE
 registered_below space page sound registered = low_or (λ h. false≢true (sym (ap is_some (sound.host.bound page h)) ∙ sound.mapped page registered))
 
@@ -169,9 +166,6 @@ taken_out space first count page host pages object out bytes protected protect =
 dropped : (space : Space) (first count page : ℕ) → in_range first count page ≡ false → IsUntouched space (record space.host { bytes = remove_range space.host.bytes first count }) (without space.protected first count) space.object page
 dropped space first count page out = record { bytes = bytes_stay space.host.bytes first count page out; protected = member_stays space.protected first count page out; protect = refl }
 
-not_equal : (a b : ℕ) → (a ≡ b) ⊎ (eqb a b ≡ false)
-not_equal a b = grind (arith, nat_tests)
-
 -- of the three messages that an mremap may send
 record AreSilent (object : Object) (addr count target new_count page : ℕ) : Type 0 where
   replaced : tells (told (not (eqb (target / 4096) (addr / 4096)) && is_watched object (target / 4096) new_count) (Unmap target (target + 4096 * new_count))) page ≡ false
@@ -183,8 +177,8 @@ are_silent object addr count target new_count page h =
     let one = told (not (eqb (target / 4096) (addr / 4096)) && is_watched object (target / 4096) new_count) (Unmap target (target + 4096 * new_count)) in
     let two = told (ltb new_count count && is_watched object (addr / 4096 + new_count) (count - new_count)) (Unmap (addr + 4096 * new_count) (addr + 4096 * count)) in
     let three = told (not (eqb (target / 4096) (addr / 4096)) && is_watched object (addr / 4096) (lesser count new_count)) (Remap addr target (4096 * lesser count new_count)) in
-    let rest = or_none (tells (one ++ two) page) (tells three page) (sym (tells-append (one ++ two) three page) ∙ h) in
-    let first = or_none (tells one page) (tells two page) (sym (tells-append one two page) ∙ rest.0) in
+    let rest = or_parts (tells (one ++ two) page) (tells three page) (sym (tells-append (one ++ two) three page) ∙ h) in
+    let first = or_parts (tells one page) (tells two page) (sym (tells-append one two page) ∙ rest.0) in
     record { replaced = first.0; cut = first.1; moved = rest.1 }
 
 tail_bytes : (addr count new_count page : ℕ) → new_count < count → in_range (addr / 4096 + new_count) (count - new_count) page ≡ true → in_bytes (addr + 4096 * new_count) (addr + 4096 * count) page ≡ true
@@ -196,7 +190,7 @@ tail_bytes addr count new_count page shorter inside =
 tail_outside : (object : Object) (addr count target new_count page : ℕ) → AreSilent object addr count target new_count page → is_registered object page ≡ true → new_count < count → in_range (addr / 4096 + new_count) (count - new_count) page ≡ false
 tail_outside object addr count target new_count page silent registered shorter =
     outside_told (ltb new_count count) (Unmap (addr + 4096 * new_count) (addr + 4096 * count)) object (addr / 4096 + new_count) (count - new_count) page
-    (tail_bytes addr count new_count page shorter) (ltb_true new_count count shorter) registered silent.cut
+    (tail_bytes addr count new_count page shorter) (lt-ltb new_count count shorter) registered silent.cut
 
 remap_stays : (space : Space) (addr old_len new_len target page : ℕ) → IsSoundSpace space → IsRemapped (memory space.host) addr old_len new_len target → is_registered space.object page ≡ true →
     AreSilent space.object addr (pages_of old_len) target (pages_of new_len) page → Stays (addr / 4096) (pages_of old_len) (target / 4096) (pages_of new_len) page
@@ -211,9 +205,9 @@ remap_stays space addr old_len new_len target page sound remapped registered sil
     let out = outside_told (not (eqb (target / 4096) (addr / 4096))) (Unmap target (target + 4096 * new_count)) space.object (target / 4096) new_count page
     (λ inside. in_bytes-pages target new_count page ∙ inside) (ap not other) registered silent.replaced in
     let head = outside_told (not (eqb (target / 4096) (addr / 4096))) (Remap addr target (4096 * lesser count new_count)) space.object (addr / 4096) (lesser count new_count) page
-    (λ inside. or_first _ _ (in_bytes-pages addr (lesser count new_count) page ∙ inside)) (ap not other) registered silent.moved in
+    (λ inside. or_left _ _ (in_bytes-pages addr (lesser count new_count) page ∙ inside)) (ap not other) registered silent.moved in
     inr (out, moved_away (addr / 4096) count (target / 4096) new_count page out tail head))
-    (not_equal (target / 4096) (addr / 4096))
+    (same_or_other (target / 4096) (addr / 4096))
 
 pub untouched : (space : Space) (command : Command) (reply : Reply) (page : ℕ) → IsSoundSpace space → is_access command ≡ false → reply ≡ reply_of (memory space.host) command → is_registered space.object page ≡ true →
     tells (call_messages space.object command reply) page ≡ false → IsUntouched space (host_changed space.host command reply) (protected_after space.protected command reply) (modes_after space.object command reply) page
@@ -226,7 +220,7 @@ untouched space (Munmap addr len) Done page sound call is registered silent =
 untouched space (Mremap addr old_len new_len may_move fixed) (At target) page sound call is registered silent =
     let count = pages_of old_len in
     let new_count = pages_of new_len in
-    let low = ltb_true page HIGH_PAGE (registered_below space page sound registered) in
+    let low = lt-ltb page HIGH_PAGE (registered_below space page sound registered) in
     let stays = remap_stays space addr old_len new_len target page sound (mremap_told (memory space.host) addr old_len new_len may_move fixed target is) registered (are_silent space.object addr count target new_count page silent) in
     record {
       bytes = get-moved_range space.host.bytes (addr / 4096) count (target / 4096) new_count page None ∙ moved_stays (get space.host.bytes) (addr / 4096) count (target / 4096) new_count page None None stays;

@@ -1,11 +1,10 @@
 -- A command that is tried at the source, before it has stopped, keeps what every world keeps.
-use Rattle.std.proofs.Common.{◌≡◌, ℕ, zero, suc, ◌/◌, ◌&&◌, ◌||◌, Bool, true, false, cond, not, eqb, if◌then◌else◌, Option, Some, None, List, [], ◌∷◌, ◌++◌, refl, sym, ap, ◌∙◌, subst, is_some}
+use Rattle.std.proofs.Common.{◌≡◌, ℕ, ◌/◌, ◌&&◌, ◌||◌, Bool, true, false, cond, not, eqb, if◌then◌else◌, Some, List, [], ◌∷◌, ◌++◌, refl, sym, ap, ◌∙◌, subst, is_some}
 use Rattle.std.specs.Ordering.{nat_cmp}
 use Rattle.std.specs.FinMap.{FinMap, get, insert, contains_key}
 use Rattle.std.specs.FinSet.{contains}
-use Rattle.std.proofs.lemmas.Bool.{false≢true}
+use Rattle.std.proofs.lemmas.Bool.{false≢true, eqb-true, false_from_ne_true, and_from, or_right, or_parts}
 use Rattle.mig_base.specs.declared.cpu_state.CpuState.{CpuState}
-use Rattle.mig_base.specs.declared.schedule.Step.{Step}
 use Rattle.mig_base.specs.declared.command.Entry.{Entry}
 use Rattle.mig_base.specs.declared.command.Command.{Command}
 use Rattle.mig_base.specs.declared.command.Command.TheVariants.{Load, Store, Mmap, Munmap, Mremap, DontNeed}
@@ -21,7 +20,7 @@ use Rattle.mig_base.specs.Commands.{is_access}
 use Rattle.mig_model.specs.Userfault.{Object, fault_queued, waits_fault}
 use Rattle.mig_model.specs.Space.{Space, IsSoundSpace, is_made, access_of, accessed_by, called, queued_by, call_messages, modes_after}
 use Rattle.mig_model.specs.Guest.{took_by, tried}
-use Rattle.mig_model.specs.Migration.{World, after_command, answer, made}
+use Rattle.mig_model.specs.Migration.{World, after_command}
 use Rattle.mig_model.specs.Invariant.{IsSoundWorld, AreRight, is_unread}
 use Rattle.mig_model.proofs.HostLemmas.{get-put}
 use Rattle.mig_model.proofs.CommandLemmas.{memory-changed}
@@ -29,10 +28,11 @@ use Rattle.mig_model.proofs.SpaceLemmas.{IsSoundSpace-accessed, IsSoundSpace-cal
 use Rattle.mig_model.proofs.SourceKept.{source_holds, IsChanged, changed}
 use Rattle.mig_model.proofs.SourceMessages.{noted_all, events_queued, tells, is_unread-append, AreRight-append}
 use Rattle.mig_model.proofs.SourceCalls.{untouched}
-use Rattle.mig_model.proofs.SourceEvents.{IsUnregistered, right_messages, no_messages, modes_same, none_missing, modes_events, queued_missing, queued_protect}
-use Rattle.mig_model.proofs.SourceTests.{none_absurd, never_true, and_both, or_second, or_none, some_either, append_nil, eqb_tells}
+use Rattle.mig_model.proofs.SourceEvents.{IsUnregistered, right_messages, no_messages, modes_same, none_missing}
+use Rattle.mig_model.proofs.SourceTests.{append_nil}
 use Rattle.mig_model.specs.Cpus.{access_took, call_took, entries_of}
 use Rattle.mig_model.specs.Source.{space_of}
+use Rattle.mig_model.proofs.Facts.{none_absurd, queued_missing, queued_protect, entered_once, modes_events, some_either}
 
 -- The transcript
 
@@ -79,10 +79,10 @@ stored_elsewhere : (space : Space) (addr width value page : ℕ) (made other : R
     contains space.object.protect page ≡ true → contains space.protected page ≡ true → get (host_changed space.host (Store addr width value) made).bytes page ≡ get space.host.bytes page
 stored_elsewhere space addr width value page Done other is answered watched protected =
     let there : eqb page (addr / 4096) ≡ false =
-    never_true (eqb page (addr / 4096)) (λ e.
-    let here = eqb_tells page (addr / 4096) e in
+    false_from_ne_true (eqb page (addr / 4096)) (λ e.
+    let here = eqb-true page (addr / 4096) e in
     never_answered (not (contains_key space.host.bytes (addr / 4096)) && contains space.object.missing (addr / 4096)) (contains space.object.protect (addr / 4096) && contains space.protected (addr / 4096)) Done other
-    (and_both _ _ (ap (contains space.object.protect) (sym here) ∙ watched) (ap (contains space.protected) (sym here) ∙ protected))
+    (and_from _ _ (ap (contains space.object.protect) (sym here) ∙ watched) (ap (contains space.protected) (sym here) ∙ protected))
     (subst (λ r. answer_by space (addr / 4096) r ≡ Answered other) (sym is) answered)) in
     other_page space.host.bytes (addr / 4096) page _ there
 stored_elsewhere space addr width value page _ other is answered watched protected = refl
@@ -170,10 +170,6 @@ access_changed world cpu command processors Protected kept bare unswitched acces
 
 -- Map calls
 
-entered_once : (cpu : ℕ) (command : Command) (reply : Reply) (count : ℕ) → entries_of cpu command (call_took reply count) ≡ record { cpu = cpu; command = command; reply = reply } ∷ []
-entered_once cpu command reply zero = refl
-entered_once cpu command reply (suc count) = refl
-
 call_changed : (world : World) (cpu : ℕ) (command : Command) (processors : List CpuState) → IsSoundWorld world → world.destination.has_run ≡ false → world.source.switched ≡ false → is_access command ≡ false →
     IsChanged world.source (record world.source.guest { space = called (space_of world.source) cpu command; cpus = processors }) world.source.log.clean world.source.log.todo
     (world.transcript ++ entries_of cpu command (call_took (reply_of (memory (space_of world.source).host) command) (queued_by (space_of world.source) command)))
@@ -191,8 +187,8 @@ call_changed world cpu command processors kept bare unswitched call =
     let events : new.object.events ≡ space.object.events ++ noted_all messages cpu = events_queued modes messages cpu ∙ ap (λ e. e ++ noted_all messages cpu) (modes_events space.object command reply) in
     let both : space.object.missing ≡ space.object.protect = same_members space.object.missing space.object.protect kept.spaces.both_modes in
     -- an unread event that tells nothing of the page leaves what was known of it
-    let unread = λ (page : ℕ) (u : is_unread new.object.events page ≡ false). or_none (is_unread space.object.events page) (tells messages page) (sym (is_unread-append space.object.events messages cpu page) ∙ ap (λ e. is_unread e page) (sym events) ∙ u) in
-    let registered = λ (page : ℕ) (h : contains space.object.protect page ≡ true). or_second (contains space.object.missing page) (contains space.object.protect page) h in
+    let unread = λ (page : ℕ) (u : is_unread new.object.events page ≡ false). or_parts (is_unread space.object.events page) (tells messages page) (sym (is_unread-append space.object.events messages cpu page) ∙ ap (λ e. is_unread e page) (sym events) ∙ u) in
+    let registered = λ (page : ℕ) (h : contains space.object.protect page ≡ true). or_right (contains space.object.missing page) (contains space.object.protect page) h in
     let same = λ (page : ℕ) (h : contains space.object.protect page ≡ true) (u : is_unread new.object.events page ≡ false). untouched space command reply page sound call refl (registered page h) (unread page u).1 in
     record {
       flat = subst IsFlatRun entered (flat_entered space.host world.transcript cpu command holds kept.memory.flat);

@@ -1,8 +1,9 @@
 -- The messages of a map call are right, there are none where nothing is registered, and both modes of a page stay alike.
-use Rattle.std.proofs.Common.{◌≡◌, ℕ, ◌+◌, ◌-◌, ◌*◌, ◌/◌, ◌%◌, ◌≤◌, ◌&&◌, Bool, true, false, cond, not, eqb, ltb, List, [], ◌∷◌, ◌++◌, refl, sym, ap, ◌∙◌, subst, ◌⊎◌, ⊎_elim, arith}
+use Rattle.std.proofs.Common.{◌≡◌, ℕ, ◌+◌, ◌-◌, ◌*◌, ◌/◌, ◌%◌, ◌≤◌, ◌&&◌, Bool, true, false, cond, not, eqb, ltb, List, [], ◌++◌, refl, sym, ap, ◌∙◌, subst, ◌⊎◌, ⊎_elim, arith}
 use Rattle.std.specs.Ordering.{nat_cmp}
 use Rattle.std.specs.FinSet.{FinSet, contains}
 use Rattle.std.proofs.lemmas.Bool.Decides.{nat_tests}
+use Rattle.std.proofs.lemmas.Bool.{and_right}
 use Rattle.mig_base.specs.declared.TheConstants.{HIGH, HIGH_PAGE}
 use Rattle.mig_base.specs.declared.command.Errno.TheVariants.{Enomem}
 use Rattle.mig_base.specs.declared.command.Command.{Command}
@@ -18,29 +19,21 @@ use Rattle.mig_base.proofs.RangeLemmas.{none_below-from}
 use Rattle.mig_base.proofs.SetLemmas.{member_without, member_below}
 use Rattle.mig_base.proofs.ReplyLemmas.{mmap_inside, munmap_whole, dontneed_done, dontneed_hole, mremap_told}
 use Rattle.mig_model.specs.Host.{Host, IsSound, memory}
-use Rattle.mig_model.specs.Userfault.{Object, is_registered, event_queued, is_watched}
-use Rattle.mig_model.specs.Space.{told, remap_messages, call_messages, modes_after, all_queued}
+use Rattle.mig_model.specs.Userfault.{Object, is_registered, is_watched}
+use Rattle.mig_model.specs.Space.{told, remap_messages, call_messages, modes_after}
 use Rattle.mig_model.proofs.CommandLemmas.{remapped_place}
 use Rattle.mig_model.proofs.SourceMessages.{AllRight, AllRight-append, told_right}
 use Rattle.mig_model.proofs.SourceCalls.{moved_apart}
-use Rattle.mig_model.proofs.SourceTests.{none_absurd, lesser_is}
+use Rattle.mig_model.proofs.SourceTests.{lesser_is}
+use Rattle.mig_model.proofs.Facts.{none_absurd, lesser_right, whole_page, lesser_left}
 
 -- Right messages
-
-whole_end : (start count : ℕ) → start % 4096 ≡ 0 → (start + 4096 * count) % 4096 ≡ 0
-whole_end start count h = omega arith
 
 whole_times : (count : ℕ) → 4096 * count % 4096 ≡ 0
 whole_times count = omega arith
 
 whole_lesser : (start count : ℕ) → start % 4096 ≡ 0 → lesser (start + 4096 * count) HIGH % 4096 ≡ 0
-whole_lesser start count h = ⊎_elim (λ e. ap (λ n. n % 4096) e ∙ whole_end start count h) (λ e. ap (λ n. n % 4096) e) (lesser_is (start + 4096 * count) HIGH)
-
-lesser_first : (a b : ℕ) → lesser a b ≤ a
-lesser_first a b = grind (arith, nat_tests)
-
-lesser_second : (a b : ℕ) → lesser a b ≤ b
-lesser_second a b = grind (arith, nat_tests)
+whole_lesser start count h = ⊎_elim (λ e. ap (λ n. n % 4096) e ∙ whole_page start count h) (λ e. ap (λ n. n % 4096) e) (lesser_is (start + 4096 * count) HIGH)
 
 not_same : (a b : ℕ) (rest : Bool) → (not (eqb a b) && rest) ≡ true → a ≡ b → ⊥
 not_same a b rest h e = grind (arith, nat_tests)
@@ -55,7 +48,7 @@ right_remap host object addr old_len new_len target may_move fixed sound is =
     let placed = remapped_place host addr old_len new_len target sound remapped in
     let start = placed.whole in
     let high = placed.high in
-    let fewer = lesser_second count new_count in
+    let fewer = lesser_right count new_count in
     let length : 4096 * lesser count new_count / 4096 ≡ lesser count new_count = omega arith in
     let inside : target / 4096 + lesser count new_count ≤ HIGH_PAGE = omega (arith, high, fewer) in
     AllRight-append
@@ -65,22 +58,22 @@ right_remap host object addr old_len new_len target may_move fixed sound is =
     (AllRight-append
     (told (not (eqb (target / 4096) (addr / 4096)) && is_watched object (target / 4096) new_count) (Unmap target (target + 4096 * new_count)))
     (told (ltb new_count count && is_watched object (addr / 4096 + new_count) (count - new_count)) (Unmap (addr + 4096 * new_count) (addr + 4096 * count)))
-    (told_right _ _ (λ h. (start, whole_end target new_count start)))
-    (told_right _ _ (λ h. (whole_end addr new_count whole, whole_end addr count whole))))
+    (told_right _ _ (λ h. (start, whole_page target new_count start)))
+    (told_right _ _ (λ h. (whole_page addr new_count whole, whole_page addr count whole))))
     (told_right _ _ (λ h. (
       whole,
       start,
       whole_times (lesser count new_count),
       subst (λ n. target / 4096 + n ≤ HIGH_PAGE) (sym length) inside,
       subst (λ n. (addr / 4096 + n ≤ target / 4096) ⊎ (target / 4096 + n ≤ addr / 4096)) (sym length)
-          (moved_apart host addr old_len new_len target (lesser count new_count) remapped (not_same (target / 4096) (addr / 4096) _ h) (lesser_first count new_count) fewer),
+          (moved_apart host addr old_len new_len target (lesser count new_count) remapped (not_same (target / 4096) (addr / 4096) _ h) (lesser_left count new_count) fewer),
     )))
 
 pub right_messages : (host : Host) (object : Object) (command : Command) (reply : Reply) → IsSound host → reply ≡ reply_of (memory host) command → AllRight (call_messages object command reply)
-right_messages host object (Mmap len prot place) (At start) sound is = told_right _ _ (λ h. let inside = mmap_inside (memory host) len prot place start is in (inside.whole, whole_end start (pages_of len) inside.whole))
-right_messages host object (Munmap addr len) Done sound is = told_right _ _ (λ h. let whole = munmap_whole addr len is in (whole, whole_end addr (pages_of len) whole))
+right_messages host object (Mmap len prot place) (At start) sound is = told_right _ _ (λ h. let inside = mmap_inside (memory host) len prot place start is in (inside.whole, whole_page start (pages_of len) inside.whole))
+right_messages host object (Munmap addr len) Done sound is = told_right _ _ (λ h. let whole = munmap_whole addr len is in (whole, whole_page addr (pages_of len) whole))
 right_messages host object (Mremap addr old_len new_len may_move fixed) (At target) sound is = right_remap host object addr old_len new_len target may_move fixed sound is
-right_messages host object (DontNeed addr len) Done sound is = told_right _ _ (λ h. let whole = dontneed_done (memory host) addr len is in (whole, whole_end addr (pages_of len) whole))
+right_messages host object (DontNeed addr len) Done sound is = told_right _ _ (λ h. let whole = dontneed_done (memory host) addr len is in (whole, whole_page addr (pages_of len) whole))
 right_messages host object (DontNeed addr len) (Refused Enomem) sound is = told_right _ _ (λ h. let whole = dontneed_hole (memory host) addr len is in (whole, whole_lesser addr (pages_of len) whole))
 right_messages host object _ _ sound is = tt
 
@@ -96,10 +89,6 @@ untold : (reason : Bool) (message : Message) → reason ≡ false → told reaso
 untold true message h = none_absurd (sym h)
 untold false message h = refl
 
-and_false : (a b : Bool) → b ≡ false → (a && b) ≡ false
-and_false true b h = h
-and_false false b h = refl
-
 joined_none : (a b : List Message) → a ≡ [] → b ≡ [] → a ++ b ≡ []
 joined_none a b x y = rw (x, y) refl
 
@@ -111,9 +100,9 @@ no_messages object (Mremap addr old_len new_len may_move fixed) (At target) none
     let new_count = pages_of new_len in
     joined_none _ _
     (joined_none _ _
-    (untold _ _ (and_false (not (eqb (target / 4096) (addr / 4096))) _ (unwatched object (target / 4096) new_count none)))
-    (untold _ _ (and_false (ltb new_count count) _ (unwatched object (addr / 4096 + new_count) (count - new_count) none))))
-    (untold _ _ (and_false (not (eqb (target / 4096) (addr / 4096))) _ (unwatched object (addr / 4096) (lesser count new_count) none)))
+    (untold _ _ (and_right (not (eqb (target / 4096) (addr / 4096))) _ (unwatched object (target / 4096) new_count none)))
+    (untold _ _ (and_right (ltb new_count count) _ (unwatched object (addr / 4096 + new_count) (count - new_count) none))))
+    (untold _ _ (and_right (not (eqb (target / 4096) (addr / 4096))) _ (unwatched object (addr / 4096) (lesser count new_count) none)))
 no_messages object (DontNeed addr len) Done none = untold _ _ (unwatched object (addr / 4096) (pages_of len) none)
 no_messages object (DontNeed addr len) (Refused Enomem) none = untold _ _ (unwatched object (addr / 4096) (pages_of len) none)
 no_messages object _ _ none = refl
@@ -145,17 +134,3 @@ none_missing object (Mremap addr old_len new_len may_move fixed) (At target) non
 none_missing object _ _ none page = none page
 
 -- A call changes modes and queues messages, and neither changes the other
-
-pub modes_events : (object : Object) (command : Command) (reply : Reply) → (modes_after object command reply).events ≡ object.events
-modes_events object (Mmap len prot place) (At start) = refl
-modes_events object (Munmap addr len) Done = refl
-modes_events object (Mremap addr old_len new_len may_move fixed) (At target) = refl
-modes_events object _ _ = refl
-
-pub queued_missing : (object : Object) (messages : List Message) (cpu : ℕ) → (all_queued object messages cpu).missing ≡ object.missing
-queued_missing object [] cpu = refl
-queued_missing object (message ∷ messages) cpu = queued_missing (event_queued object message cpu) messages cpu
-
-pub queued_protect : (object : Object) (messages : List Message) (cpu : ℕ) → (all_queued object messages cpu).protect ≡ object.protect
-queued_protect object [] cpu = refl
-queued_protect object (message ∷ messages) cpu = queued_protect (event_queued object message cpu) messages cpu

@@ -1,7 +1,6 @@
 -- A wire with one more frame behind those that are in flight, and the copy that the frame of a page carries.
 use Rattle.std.proofs.Common.{◌≡◌, ℕ, Bool, true, false, cond, eqb, if◌then◌else◌, Option, Some, None, List, [], ◌∷◌, ◌++◌, refl, sym, ap, ◌∙◌, length}
 use Rattle.std.specs.Option.{option_and_then}
-use Rattle.std.specs.Prelude.{replicate}
 use Rattle.std.specs.List.{list_all}
 use Rattle.std.specs.Ordering.{nat_cmp}
 use Rattle.std.specs.FinMap.{FinMap, get, insert}
@@ -9,23 +8,13 @@ use Rattle.std.proofs.lemmas.Bool.{false≢true}
 use Rattle.mig_base.specs.Bytes.{zero_page}
 use Rattle.mig_model.specs.Wire.{Frame, Sent, Copy, page_frame, copy_in, kept_after}
 use Rattle.mig_model.specs.Wire.Frame.{Page, Zero, Package, End}
-use Rattle.mig_model.specs.Invariant.{Flow, flow_next, flow_after, copies_of, AreWhole, AreOf, is_package, kept_by}
+use Rattle.mig_model.specs.Invariant.{Flow, flow_next, flow_after, copies_of, AreWhole, is_package, kept_by}
 use Rattle.mig_model.specs.Invariant.Flow.{BeforeAdvise, Copies, BeforePackage, Pushed, AfterEnd}
 use Rattle.mig_model.proofs.HostLemmas.{get-put}
-use Rattle.mig_model.proofs.SourceTests.{none_absurd, and_parts, eqb_tells}
 use Rattle.mig_model.specs.Migration.{next}
+use Rattle.mig_model.proofs.Facts.{none_absurd, zero_bytes, kept_page}
 
 -- The frame of a page
-
-all_zero : (bytes : List ℕ) → list_all (λ byte. eqb byte 0) bytes ≡ true → bytes ≡ replicate (length bytes) 0
-all_zero [] h = refl
-all_zero (byte ∷ bytes) h =
-    let tests = and_parts (eqb byte 0) (list_all (λ x. eqb x 0) bytes) h in
-    ap (λ x. x ∷ bytes) (eqb_tells byte 0 tests.0) ∙ ap (λ xs. 0 ∷ xs) (all_zero bytes tests.1)
-
-zero_bytes : (bytes : List ℕ) → length bytes ≡ 4096 → list_all (λ byte. eqb byte 0) bytes ≡ true → bytes ≡ zero_page
-unfolding zero_page
-zero_bytes bytes n h = all_zero bytes h ∙ ap (λ k. replicate {A = ℕ} k 0) n
 
 copy_by : (b : Bool) (page : ℕ) (bytes : List ℕ) → (b ≡ true → bytes ≡ zero_page) → copy_in (if b then Zero page else Page page bytes) ≡ Some (record { page = page; bytes = bytes })
 copy_by true page bytes h = ap (λ x. Some (record { page = page; bytes = x })) (sym (h refl))
@@ -34,10 +23,6 @@ copy_by false page bytes h = refl
 -- it carries the page's bytes
 pub copy_in-page_frame : (page : ℕ) (bytes : List ℕ) → length bytes ≡ 4096 → copy_in (page_frame page bytes) ≡ Some (record { page = page; bytes = bytes })
 copy_in-page_frame page bytes n = copy_by (list_all (λ byte. eqb byte 0) bytes) page bytes (zero_bytes bytes n)
-
-kept_page : (b : Bool) (kept : FinMap nat_cmp (List ℕ)) (page : ℕ) (bytes : List ℕ) → (b ≡ true → bytes ≡ zero_page) → kept_after kept (if b then Zero page else Page page bytes) ≡ insert kept page bytes
-kept_page true kept page bytes h = ap (insert kept page) (sym (h refl))
-kept_page false kept page bytes h = refl
 
 -- and is kept as such
 pub kept_after-page_frame : (kept : FinMap nat_cmp (List ℕ)) (page : ℕ) (bytes : List ℕ) → length bytes ≡ 4096 → kept_after kept (page_frame page bytes) ≡ insert kept page bytes
@@ -69,10 +54,6 @@ last_flow (Some flow) = refl
 pub flow_after-push : (flow : Flow) (wire : List Sent) (sent : Sent) → flow_after flow (wire ++ sent ∷ []) ≡ option_and_then (λ next. flow_next next sent.frame) (flow_after flow wire)
 flow_after-push flow [] sent = last_flow (flow_next flow sent.frame)
 flow_after-push flow (first ∷ rest) sent = push_by (flow_next flow first.frame) rest sent (λ next. flow_after-push next rest sent)
-
-pub AreOf-push : (epoch : ℕ) (wire : List Sent) (frame : Frame) → AreOf epoch wire → AreOf epoch (wire ++ record { epoch = epoch; frame = frame } ∷ [])
-AreOf-push epoch [] frame are = (refl, tt)
-AreOf-push epoch (first ∷ rest) frame are = (are.0, AreOf-push epoch rest frame are.1)
 
 whole_one : (o : Option Copy) (copy : Copy) → o ≡ Some copy → length copy.bytes ≡ 4096 → AreWhole (elim o [ None ↦ [] | Some c ↦ c ∷ [] ])
 whole_one None copy is n = absurd (cc)

@@ -1,13 +1,12 @@
 -- The source's handler reads a message, or works a fault, and keeps what every world keeps.
-use Rattle.std.proofs.Common.{◌≡◌, ℕ, ◌&&◌, ◌||◌, Bool, true, false, not, eqb, ltb, Option, Some, None, List, [], ◌∷◌, refl, sym, ap, ◌∙◌, arith}
+use Rattle.std.proofs.Common.{◌≡◌, ℕ, ◌&&◌, ◌||◌, Bool, true, false, not, eqb, ltb, Some, List, [], ◌∷◌, refl, sym, ap, ◌∙◌, arith}
 use Rattle.std.specs.Ordering.{nat_cmp}
 use Rattle.std.specs.FinMap.{get, contains_key}
 use Rattle.std.specs.FinSet.{FinSet, contains, remove, contains-retain, nat_cmp-IsAntisymmetric}
 use Rattle.std.proofs.lemmas.Bool.Decides.{nat_tests}
-use Rattle.std.proofs.lemmas.Bool.{false≢true}
+use Rattle.std.proofs.lemmas.Bool.{false≢true, not-false, or_left, and_parts, false_from_ne_true, lt-ltb, or_from, or_right, or_parts, not-true}
 use Rattle.mig_base.specs.declared.cpu_state.CpuState.{CpuState}
 use Rattle.mig_base.specs.declared.phase.SourcePhase.{SourcePhase}
-use Rattle.mig_base.specs.declared.schedule.Step.{Step}
 use Rattle.mig_base.specs.declared.TheConstants.{HIGH_PAGE}
 use Rattle.mig_base.specs.declared.message.Message.{Message}
 use Rattle.mig_base.specs.declared.message.Message.TheVariants.{PageFault, Remap, Remove, Unmap}
@@ -26,18 +25,19 @@ use Rattle.mig_model.proofs.IoctlLemmas.{IsSoundSpace-read, IsSoundSpace-protect
 use Rattle.mig_model.proofs.SourceKept.{source_holds, IsChanged, changed}
 use Rattle.mig_model.proofs.SourceCalls.{registered_below}
 use Rattle.mig_model.proofs.SourceZeros.{memory_zeroed, missing_none, more_present, elsewhere}
-use Rattle.mig_model.proofs.SourceTests.{in_one_is, none_absurd, not_false, not_true, never_true, and_parts, or_first, or_second, or_none, ltb_true}
-use Rattle.mig_model.specs.Log.{forgotten, present, unchanged}
+use Rattle.mig_model.proofs.SourceTests.{in_one_is}
+use Rattle.mig_model.specs.Log.{present, unchanged}
 use Rattle.mig_model.specs.Source.{is_source_idle, source_act, source_act_by, source_acted_by, space_of}
+use Rattle.mig_model.proofs.Facts.{none_absurd, some_is}
 
 -- The tests of both steps
 
 never_idle : {A : Type 0} (phase : SourcePhase) → not (is_source_idle phase) ≡ true → phase ≡ SourcePhase.Idle → A
-never_idle phase h idle = none_absurd (sym (not_true (is_source_idle phase) h) ∙ ap is_source_idle idle)
+never_idle phase h idle = none_absurd (sym (not-true (is_source_idle phase) h) ∙ ap is_source_idle idle)
 
 -- a destination has run only once the source has stopped
 pub has_not_run : (world : World) → IsSoundWorld world → world.source.switched ≡ false → world.destination.has_run ≡ false
-has_not_run world kept unswitched = never_true world.destination.has_run (λ h. false≢true (sym unswitched ∙ kept.phases.ran_after_switch h))
+has_not_run world kept unswitched = false_from_ne_true world.destination.has_run (λ h. false≢true (sym unswitched ∙ kept.phases.ran_after_switch h))
 
 -- A message is read
 
@@ -47,12 +47,6 @@ record IsRead (object new : Object) (message : Message) : Type 0 where
   right : AreRight object.events → AreRight new.events
   unread : (page : ℕ) → is_changed_by message page ≡ false → is_unread new.events page ≡ false → is_unread object.events page ≡ false
 
-neither : (a b : Bool) → a ≡ false → b ≡ false → (a || b) ≡ false
-neither a b x y = rw (x, y) refl
-
-same_noted : (a b : Noted) → Some a ≡ Some b → a ≡ b
-same_noted a b h = cc
-
 is_read : (faults events : List Noted) (object : Object) (noted : Noted) → next_of faults events ≡ Some noted →
     IsRead (record object { faults = faults; events = events }) (read_by faults (record object { faults = faults; events = events })) noted.message
 is_read [] [] object noted h = absurd (cc)
@@ -61,7 +55,7 @@ is_read [] (first ∷ rest) object noted h =
       missing = refl;
       protect = refl;
       right = λ are. are.1;
-      unread = λ page out u. neither (is_changed_by first.message page) (is_unread rest page) (ap (λ n. is_changed_by n.message page) (same_noted first noted h) ∙ out) u;
+      unread = λ page out u. or_from (is_changed_by first.message page) (is_unread rest page) (ap (λ n. is_changed_by n.message page) (some_is first noted h) ∙ out) u;
     }
 is_read (fault ∷ faults) events object noted h = record { missing = refl; protect = refl; right = λ are. are; unread = λ page out u. u }
 
@@ -69,7 +63,7 @@ member_unchanged : (s : FinSet nat_cmp) (message : Message) (page : ℕ) → con
 member_unchanged s message page h =
     let both = and_parts (contains s page) (not (is_changed_by message page))
     (sym (contains-retain s (λ q. not (is_changed_by message q)) page (λ x e. ap (λ q. not (is_changed_by message q)) (sym (nat_cmp-IsAntisymmetric page x e)))) ∙ h) in
-    (both.0, not_true (is_changed_by message page) both.1)
+    (both.0, not-true (is_changed_by message page) both.1)
 
 read_changed : (world : World) (noted : Noted) (processors : List CpuState) → IsSoundWorld world → world.source.switched ≡ false → not (is_source_idle world.source.phase) ≡ true →
     next_message (space_of world.source).object ≡ Some noted →
@@ -123,10 +117,10 @@ either_same false b e h = h
 
 is_watched : (space : Space) (page : ℕ) → contains space.object.missing page ≡ contains space.object.protect page → is_forgotten space page ≡ false → IsWatched space page
 is_watched space page both h =
-    let parts = or_none (not (contains_key space.host.areas page)) (not (is_registered space.object page)) h in
+    let parts = or_parts (not (contains_key space.host.areas page)) (not (is_registered space.object page)) h in
     record {
-      mapped = not_false (contains_key space.host.areas page) parts.0;
-      protect = either_same (contains space.object.missing page) (contains space.object.protect page) both (not_false (is_registered space.object page) parts.1);
+      mapped = not-false (contains_key space.host.areas page) parts.0;
+      protect = either_same (contains space.object.missing page) (contains space.object.protect page) both (not-false (is_registered space.object page) parts.1);
     }
 
 unprotected_is : (forgotten present protected : Bool) → source_act_by forgotten present protected ≡ Unprotected → forgotten ≡ false
@@ -160,7 +154,7 @@ same_changed world processors kept unswitched =
 
 protected_below : (space : Space) (page : ℕ) → IsSoundSpace space → contains space.protected page ≡ true → ltb page HIGH_PAGE ≡ true
 protected_below space page sound h =
-    ltb_true page HIGH_PAGE (registered_below space page sound (or_second (contains space.object.missing page) (contains space.object.protect page) (sound.watched page h)))
+    lt-ltb page HIGH_PAGE (registered_below space page sound (or_right (contains space.object.missing page) (contains space.object.protect page) (sound.watched page h)))
 
 unprotected_changed : (world : World) (page : ℕ) (processors : List CpuState) → IsSoundWorld world → world.source.switched ≡ false → not (is_source_idle world.source.phase) ≡ true → IsWatched (space_of world.source) page →
     IsChanged world.source (record { space = protected_in (space_of world.source) page 1 false; cpus = processors }) (remove world.source.log.clean page) world.source.log.todo world.transcript
@@ -176,7 +170,7 @@ unprotected_changed world page processors kept unswitched started watched =
       idle = λ h. never_idle world.source.phase started h;
       protected = λ q h u.
           let was = kept.precopy.clean_protected unswitched q (removed q h).1 u in
-          member_below _ HIGH_PAGE q ∙ rw (protected_below space q kept.spaces.source_space was, not_in_one page q (not_true (eqb q page) (removed q h).0)) was;
+          member_below _ HIGH_PAGE q ∙ rw (protected_below space q kept.spaces.source_space was, not_in_one page q (not-true (eqb q page) (removed q h).0)) was;
       sendable = λ q h u. kept.precopy.todo_sendable unswitched q h u;
       copies = λ q h u. ((removed q h).1, u, refl);
     }
@@ -198,7 +192,7 @@ zeroed_changed world page processors kept unswitched started watched missing =
       idle = λ h. never_idle world.source.phase started h;
       protected = λ q h u.
           let was = kept.precopy.clean_protected unswitched q h u in
-          member_below _ HIGH_PAGE q ∙ rw (protected_below space q sound was) (or_first (contains space.protected q) _ was);
+          member_below _ HIGH_PAGE q ∙ rw (protected_below space q sound was) (or_left (contains space.protected q) _ was);
       sendable = λ q h u. let was = kept.precopy.todo_sendable unswitched q h u in (more_present space page q was.0, was.1);
       copies = λ q h u. (h, u, elsewhere space page q missing (sound.present q (kept.precopy.clean_protected unswitched q h u)));
     }

@@ -1,12 +1,11 @@
 -- What a step of a source that has not stopped has to keep, so that the world keeps all of its invariant.
-use Rattle.std.proofs.Common.{◌≡◌, ◌≢◌, ℕ, ◌≤◌, Bool, true, false, if◌then◌else◌, Option, Some, None, List, [], ◌∷◌, refl, sym, ap, ◌∙◌, ◌⊎◌}
+use Rattle.std.proofs.Common.{◌≡◌, ◌≢◌, ℕ, ◌≤◌, Bool, true, false, Option, Some, None, List, [], refl, sym, ap, ◌∙◌, ◌⊎◌}
 use Rattle.std.specs.Ordering.{nat_cmp}
 use Rattle.std.specs.FinMap as finmap
 use Rattle.std.specs.FinMap.{FinMap, get, get-empty}
 use Rattle.std.specs.FinSet.{FinSet, contains, contains-empty}
 use Rattle.mig_base.specs.declared.phase.DestPhase.{DestPhase}
 use Rattle.mig_base.specs.declared.phase.SourcePhase.{SourcePhase}
-use Rattle.mig_base.specs.declared.refusal.Refusal.{Refusal}
 use Rattle.mig_base.specs.declared.command.Entry.{Entry}
 use Rattle.mig_base.specs.Flat.{IsFlatRun, memory_of}
 use Rattle.mig_model.specs.Host.{Host, memory}
@@ -15,10 +14,10 @@ use Rattle.mig_model.specs.Guest.{Guest, is_present, Fault}
 use Rattle.mig_model.specs.Wire.{Sent}
 use Rattle.mig_model.specs.Migration.{World, next}
 use Rattle.mig_model.specs.Invariant.{IsSoundWorld, IsPrecopying, Wires, AreRight, AreWhole, AreOf, EpochAt, RanAt, SwitchedAt, is_unread, copies_of, current_by, HeldFits}
-use Rattle.mig_model.proofs.SourceTests.{none_absurd}
 use Rattle.mig_model.specs.Log.{no_pages}
 use Rattle.mig_model.specs.Source.{Source, space_of}
 use Rattle.mig_model.specs.Destination.{Destination, settled}
+use Rattle.mig_model.proofs.Facts.{none_absurd}
 
 pub no_page : (page : ℕ) → contains no_pages page ≡ false
 no_page page = contains-empty nat_cmp page

@@ -1,7 +1,7 @@
 -- The messages of a map call: each is right, and together they tell of every registered page that the call changes.
 use Rattle.std.proofs.Common.{◌≡◌, ℕ, ◌+◌, ◌-◌, ◌*◌, ◌/◌, ◌<◌, ◌≤◌, ◌&&◌, ◌||◌, Bool, true, false, not, ltb, List, [], ◌∷◌, ◌++◌, refl, sym, ap, ◌∙◌, ◌⊎◌, inl, inr, ⊎_elim, arith, append_assoc}
 use Rattle.std.proofs.lemmas.Bool.Decides.{nat_tests}
-use Rattle.std.proofs.lemmas.Bool.{false≢true}
+use Rattle.std.proofs.lemmas.Bool.{false≢true, false_from_ne_true, cases_lt, and_from, or_parts}
 use Rattle.mig_base.specs.declared.TheConstants.{HIGH, HIGH_PAGE}
 use Rattle.mig_base.specs.declared.message.Message.{Message}
 use Rattle.mig_base.specs.declared.message.Message.TheVariants.{Remove, Unmap}
@@ -11,8 +11,9 @@ use Rattle.mig_model.specs.Userfault.{Noted, Object, is_registered, event_queued
 use Rattle.mig_model.specs.Guest.{is_changed_by, in_bytes}
 use Rattle.mig_model.specs.Space.{told, all_queued}
 use Rattle.mig_model.specs.Invariant.{is_unread, IsRight, AreRight}
-use Rattle.mig_model.proofs.SourceTests.{none_absurd, never_true, and_both, or_none, append_nil, less_or_not, lesser_is, in_range_inside}
+use Rattle.mig_model.proofs.SourceTests.{append_nil, lesser_is}
 use Rattle.mig_model.specs.Migration.{start}
+use Rattle.mig_model.proofs.Facts.{none_absurd, in_range_first, or_assoc}
 
 -- Messages and the events that they become
 
@@ -28,10 +29,6 @@ events_queued object (message ∷ messages) cpu = events_queued (event_queued ob
 abbrev pub tells : List Message → ℕ → Bool
 tells [] page = false
 tells (message ∷ messages) page = is_changed_by message page || tells messages page
-
-or_assoc : (a b c : Bool) → (a || (b || c)) ≡ ((a || b) || c)
-or_assoc true b c = refl
-or_assoc false b c = refl
 
 pub is_unread-append : (events : List Noted) (messages : List Message) (cpu page : ℕ) → is_unread (events ++ noted_all messages cpu) page ≡ (is_unread events page || tells messages page)
 is_unread-append [] [] cpu page = refl
@@ -64,7 +61,7 @@ told_right false message right = tt
 -- A message is told where a page of its range was registered
 
 untold : (reason changed : Bool) (message : Message) (page : ℕ) → is_changed_by message page ≡ changed → reason ≡ true → tells (told reason message) page ≡ false → changed ≡ false
-untold true changed message page is reasoned h = sym is ∙ (or_none (is_changed_by message page) false h).0
+untold true changed message page is reasoned h = sym is ∙ (or_parts (is_changed_by message page) false h).0
 untold false changed message page is reasoned h = none_absurd reasoned
 
 watched_by : (none : Bool) → (none ≡ true → ⊥) → not none ≡ true
@@ -73,7 +70,7 @@ watched_by false never = refl
 
 watched_page : (object : Object) (first count page : ℕ) → is_registered object page ≡ true → in_range first count page ≡ true → is_watched object first count ≡ true
 watched_page object first count page registered inside =
-    let l = in_range_inside first count page inside in
+    let l = in_range_first first count page inside in
     let at : first + (page - first) ≡ page = omega (arith, l) in
     watched_by (none_below (λ i. is_registered object (first + i)) count) (λ none.
     false≢true (sym (none_below_tells (λ i. is_registered object (first + i)) count (page - first) none (omega (arith, l))) ∙ ap (is_registered object) at ∙ registered))
@@ -85,8 +82,8 @@ in_bytes-pages start count page = let n : (start + 4096 * count) / 4096 - start 
 pub outside_told : (reason : Bool) (message : Message) (object : Object) (first count page : ℕ) → (in_range first count page ≡ true → is_changed_by message page ≡ true) → reason ≡ true → is_registered object page ≡ true →
     tells (told (reason && is_watched object first count) message) page ≡ false → in_range first count page ≡ false
 outside_told reason message object first count page covers reasoned registered h =
-    never_true (in_range first count page) (λ inside.
-    false≢true (sym (untold (reason && is_watched object first count) (is_changed_by message page) message page refl (and_both reason _ reasoned (watched_page object first count page registered inside)) h) ∙ covers inside))
+    false_from_ne_true (in_range first count page) (λ inside.
+    false≢true (sym (untold (reason && is_watched object first count) (is_changed_by message page) message page refl (and_from reason _ reasoned (watched_page object first count page registered inside)) h) ∙ covers inside))
 
 pub unmapped_outside : (object : Object) (start count page : ℕ) → is_registered object page ≡ true → tells (told (is_watched object (start / 4096) count) (Unmap start (start + 4096 * count))) page ≡ false → in_range (start / 4096) count page ≡ false
 unmapped_outside object start count page registered h =
@@ -107,7 +104,7 @@ pub dropped_outside : (object : Object) (start count page : ℕ) → page < HIGH
 dropped_outside object start count page below registered h =
     let end = lesser (start + 4096 * count) HIGH in
     outside_told true (Remove start end) object (start / 4096) count page
-    (λ inside. let l = in_range_inside (start / 4096) count page inside in below_end start count page end below l.0 l.1 (lesser_is (start + 4096 * count) HIGH)) refl registered h
+    (λ inside. let l = in_range_first (start / 4096) count page inside in below_end start count page end below l.0 l.1 (lesser_is (start + 4096 * count) HIGH)) refl registered h
 
 -- Mremap
 
@@ -120,11 +117,11 @@ pub stays_there : (from count new_count page : ℕ) → (new_count < count → i
 stays_there from count new_count page tail growth = ⊎_elim
     (λ (shorter : new_count < count). let out = tail shorter in grind (arith, nat_tests))
     (λ (longer : count ≤ new_count). grind (arith, nat_tests))
-    (less_or_not new_count count)
+    (cases_lt new_count count)
 
 pub moved_away : (from count to new_count page : ℕ) → in_range to new_count page ≡ false → (new_count < count → in_range (from + new_count) (count - new_count) page ≡ false) → in_range from (lesser count new_count) page ≡ false →
     in_range from count page ≡ false
 moved_away from count to new_count page out tail head = ⊎_elim
     (λ (shorter : new_count < count). let more = tail shorter in grind (arith, nat_tests))
     (λ (longer : count ≤ new_count). grind (arith, nat_tests))
-    (less_or_not new_count count)
+    (cases_lt new_count count)

@@ -1,14 +1,13 @@
 -- The source begins a migration, or a round of pre-copy, and keeps what every world keeps.
-use Rattle.std.proofs.Common.{◌≡◌, ℕ, ◌+◌, ◌<◌, ◌≤◌, ◌&&◌, Bool, true, false, cond, not, ltb, if◌then◌else◌, Some, None, List, [], ◌∷◌, ◌++◌, refl, sym, ap, ◌∙◌, subst, inl, arith, is_some}
+use Rattle.std.proofs.Common.{◌≡◌, ℕ, ◌+◌, ◌<◌, ◌&&◌, Bool, true, false, cond, not, ltb, if◌then◌else◌, Some, None, List, [], ◌∷◌, ◌++◌, refl, sym, ap, ◌∙◌, subst, inl, arith, is_some}
 use Rattle.std.specs.Ordering.{nat_cmp}
 use Rattle.std.specs.FinMap as finmap
 use Rattle.std.specs.FinMap.{FinMap, get, contains_key, get-empty}
-use Rattle.std.specs.FinSet.{contains, contains-retain, nat_cmp-IsAntisymmetric}
+use Rattle.std.specs.FinSet.{contains}
 use Rattle.std.proofs.lemmas.Bool.Decides.{nat_tests}
-use Rattle.std.proofs.lemmas.Bool.{false≢true}
+use Rattle.std.proofs.lemmas.Bool.{false≢true, true_from_ne_false, lt-ltb, and_from, or_right}
 use Rattle.mig_base.specs.declared.phase.DestPhase.{DestPhase}
 use Rattle.mig_base.specs.declared.phase.SourcePhase.{SourcePhase}
-use Rattle.mig_base.specs.declared.schedule.Step.{Step}
 use Rattle.mig_base.specs.declared.TheConstants.{HIGH_PAGE}
 use Rattle.mig_base.specs.Ranges.{in_range}
 use Rattle.mig_base.specs.Sets.{pages_where}
@@ -26,12 +25,12 @@ use Rattle.mig_model.proofs.IoctlLemmas.{IsSoundSpace-registered}
 use Rattle.mig_model.proofs.SourceKept.{no_page_absurd, source_holds, IsNext, renewed, IsChanged, changed}
 use Rattle.mig_model.proofs.SourceCalls.{registered_below}
 use Rattle.mig_model.proofs.SourceHandler.{has_not_run}
-use Rattle.mig_model.proofs.SourceTests.{none_absurd, and_parts, and_both, and_true, or_second, ltb_true, never_false}
 use Rattle.mig_model.specs.Cpus.{is_idle}
-use Rattle.mig_model.specs.Log.{no_pages, present}
+use Rattle.mig_model.specs.Log.{no_pages}
 use Rattle.mig_model.specs.Source.{Source, all_registered, for_both, is_precopy, is_source_idle, not_clean, source_started, space_of}
 use Rattle.mig_model.specs.Destination.{Destination}
 use Rattle.mig_model.proofs.HeldLemmas.{fits-more}
+use Rattle.mig_model.proofs.Facts.{none_absurd, low_or, member_not_clean, and_true}
 
 -- The source makes rounds of pre-copy
 
@@ -43,7 +42,7 @@ pub never_idle : {A : Type 0} (phase : SourcePhase) → is_precopy phase ≡ tru
 never_idle phase h idle = none_absurd (sym (ap is_precopy idle) ∙ h)
 
 pub watched_below : (space : Space) (page : ℕ) → IsSoundSpace space → contains space.object.protect page ≡ true → ltb page HIGH_PAGE ≡ true
-watched_below space page sound h = ltb_true page HIGH_PAGE (registered_below space page sound (or_second (contains space.object.missing page) (contains space.object.protect page) h))
+watched_below space page sound h = lt-ltb page HIGH_PAGE (registered_below space page sound (or_right (contains space.object.missing page) (contains space.object.protect page) h))
 
 -- Every mapped page is registered
 
@@ -59,9 +58,6 @@ registered_now true true true false low is = refl
 registered_now true true false true low is = refl
 registered_now true true false false low is = refl
 
-low_or : {page : ℕ} → (HIGH_PAGE ≤ page → ⊥) → page < HIGH_PAGE
-low_or h = grind (arith, nat_tests, h)
-
 whole_range : (page : ℕ) → page < HIGH_PAGE → in_range 0 HIGH_PAGE page ≡ true
 whole_range page h = grind (arith, nat_tests)
 
@@ -69,8 +65,8 @@ mapped_registered : (space : Space) (page : ℕ) → IsSoundSpace space → cont
 mapped_registered space page sound mapped =
     let low = low_or (λ h. false≢true (sym (ap is_some (sound.host.bound page h)) ∙ mapped)) in
     member_below _ HIGH_PAGE page
-    ∙ registered_now (ltb page HIGH_PAGE) (is_mapped_in space 0 HIGH_PAGE page) (contains space.object.missing page) (contains space.object.protect page) (ltb_true page HIGH_PAGE low)
-    (and_both (in_range 0 HIGH_PAGE page) (contains_key space.host.areas page) (whole_range page low) mapped)
+    ∙ registered_now (ltb page HIGH_PAGE) (is_mapped_in space 0 HIGH_PAGE page) (contains space.object.missing page) (contains space.object.protect page) (lt-ltb page HIGH_PAGE low)
+    (and_from (in_range 0 HIGH_PAGE page) (contains_key space.host.areas page) (whole_range page low) mapped)
 
 present_mapped : (space : Space) (page : ℕ) → IsSoundSpace space → is_present space page ≡ true → contains_key space.host.areas page ≡ true
 present_mapped space page sound h =
@@ -83,12 +79,6 @@ still_protected : (space : Space) (page : ℕ) → IsSoundSpace space → contai
 still_protected space page sound h = member_below _ HIGH_PAGE page ∙ rw (watched_below space page sound (sound.watched page h)) (and_true (contains space.protected page) ∙ h)
 
 -- Round
-
-member_not_clean : (source : Source) (page : ℕ) → contains (not_clean source) page ≡ true → is_present (space_of source) page ≡ true
-member_not_clean source page h =
-    let both = and_parts (contains (present (space_of source)) page) (not (contains source.log.clean page))
-    (sym (contains-retain (present (space_of source)) (λ q. not (contains source.log.clean q)) page (λ x e. ap (λ q. not (contains source.log.clean q)) (sym (nat_cmp-IsAntisymmetric page x e)))) ∙ h) in
-    (and_parts (ltb page HIGH_PAGE) (is_present (space_of source) page) (sym (member_below _ HIGH_PAGE page) ∙ both.0)).1
 
 round_changed : (world : World) → IsSoundWorld world → is_precopy world.source.phase ≡ true → world.source.switched ≡ false →
     IsChanged world.source (record world.source.guest { space = all_registered (space_of world.source) }) world.source.log.clean (not_clean world.source) world.transcript
@@ -195,6 +185,6 @@ pub kept-start : (world : World) → IsSoundWorld world → is_source_idle world
 kept-start world kept is_idle =
     let idle = idle_is world.source.phase is_idle in
     let unswitched = idle_unswitched world.source.phase world.source.switched idle kept.phases.source_phase in
-    let up = never_false world.up (λ down. (kept.flight.down down).2 idle) in
+    let up = true_from_ne_false world.up (λ down. (kept.flight.down down).2 idle) in
     renewed world (source_started world.source) (start_wire world) world.transcript kept (has_not_run world kept unswitched)
     (started_next world kept idle unswitched up (idle_wires world.source.phase world.source world.destination world.forward.frames world.back.frames idle (kept.flight.wires up)))

@@ -1,35 +1,34 @@
 -- The source sends the next page of a round, and keeps what every world keeps.
-use Rattle.std.proofs.Common.{◌≡◌, ℕ, ◌&&◌, ◌||◌, Bool, true, false, cond, not, eqb, ltb, Option, Some, None, List, [], ◌∷◌, ◌++◌, refl, sym, ap, ◌∙◌, ◌⊎◌, inl, inr, ⊎_elim, arith, is_some, length, unwrap_or}
+use Rattle.std.proofs.Common.{◌≡◌, ℕ, ◌&&◌, ◌||◌, Bool, true, false, cond, not, eqb, ltb, Option, Some, None, List, [], ◌∷◌, ◌++◌, refl, sym, ap, ◌∙◌, ◌⊎◌, inl, inr, ⊎_elim, is_some, length, unwrap_or}
 use Rattle.std.specs.Option.{option_and_then}
 use Rattle.std.specs.Ordering.{nat_cmp}
 use Rattle.std.specs.FinMap.{FinMap, get}
 use Rattle.std.specs.FinSet.{contains, insert}
-use Rattle.std.proofs.lemmas.Bool.Decides.{nat_tests}
+use Rattle.std.proofs.lemmas.Bool.{eqb-true, and_parts, or_right}
 use Rattle.mig_base.specs.declared.phase.DestPhase.{DestPhase}
 use Rattle.mig_base.specs.declared.phase.SourcePhase.{SourcePhase}
-use Rattle.mig_base.specs.declared.schedule.Step.{Step}
 use Rattle.mig_base.specs.declared.TheConstants.{HIGH_PAGE}
 use Rattle.mig_base.specs.Bytes.{zero_page}
 use Rattle.mig_base.specs.Ranges.{in_range}
 use Rattle.mig_base.proofs.RangeLemmas.{least_below_tells}
 use Rattle.mig_base.proofs.SetLemmas.{member_below, member_inserted, member_removed}
-use Rattle.mig_model.specs.Userfault.{Noted}
 use Rattle.mig_model.specs.Space.{Space, IsSoundSpace}
 use Rattle.mig_model.specs.Ioctls.{protected_in}
 use Rattle.mig_model.specs.Guest.{is_present}
 use Rattle.mig_model.specs.Wire.{Sent, page_frame}
-use Rattle.mig_model.specs.Migration.{World, after_send, is_changing, next}
+use Rattle.mig_model.specs.Migration.{World, after_send, is_changing}
 use Rattle.mig_model.specs.Invariant.{IsSoundWorld, IsPrecopying, Wires, Flow, flow_after, flow_next, kept_by, is_unread}
 use Rattle.mig_model.specs.Invariant.Flow.{BeforeAdvise, Copies}
 use Rattle.mig_model.proofs.IoctlLemmas.{IsSoundSpace-protected}
 use Rattle.mig_model.proofs.SourceKept.{source_holds, IsNext, renewed}
-use Rattle.mig_model.proofs.SourceFrames.{copy_in-page_frame, flow_next-page_frame, flow_after-push, AreOf-push, copies_whole-push, kept_by-page}
+use Rattle.mig_model.proofs.SourceFrames.{copy_in-page_frame, flow_next-page_frame, flow_after-push, copies_whole-push, kept_by-page}
 use Rattle.mig_model.proofs.SourceHandler.{has_not_run}
-use Rattle.mig_model.proofs.SourceTests.{in_one_is, none_absurd, and_parts, or_second, eqb_tells, in_one, or_either}
+use Rattle.mig_model.proofs.SourceTests.{in_one_is}
 use Rattle.mig_model.proofs.SourceRounds.{precopy_unswitched, never_idle, watched_below}
 use Rattle.mig_model.specs.Log.{least_of, present}
 use Rattle.mig_model.specs.Source.{bytes_of, is_precopy, page_sent, space_of}
 use Rattle.mig_model.proofs.HeldLemmas.{fits-append}
+use Rattle.mig_model.proofs.Facts.{none_absurd, either, only_one, AreOf-one, no_event}
 
 present_bytes : {X : Type 0} (o : Option X) (zeros : X) → is_some o ≡ true → Some (unwrap_or o zeros) ≡ o
 present_bytes None zeros h = none_absurd h
@@ -67,16 +66,16 @@ still_after : (world : World) (page q : ℕ) → IsSoundWorld world → world.so
     contains (protected_in (space_of world.source) page 1 true).protected q ≡ true
 still_after world page q kept unswitched is h u =
     let space = space_of world.source in
-    let either : (eqb q page || contains world.source.log.clean q) ≡ true = sym (member_inserted world.source.log.clean page q) ∙ h in
+    let one_holds : (eqb q page || contains world.source.log.clean q) ≡ true = sym (member_inserted world.source.log.clean page q) ∙ h in
     let new : eqb q page ≡ true → contains (protected_in space page 1 true).protected q ≡ true = λ e.
-    let here = eqb_tells q page e in
+    let here = eqb-true q page e in
     member_below _ HIGH_PAGE q ∙ protected_now (ltb q HIGH_PAGE) (in_range page 1 q) (is_present space q) (contains space.protected q) (ap (λ k. ltb k HIGH_PAGE) here ∙ is.low) (ap (is_present space) here ∙ is.present)
-    (ap (λ b. b || contains space.protected q) (in_one page q ∙ e)) in
+    (ap (λ b. b || contains space.protected q) (only_one page q ∙ e)) in
     let old : contains world.source.log.clean q ≡ true → contains (protected_in space page 1 true).protected q ≡ true = λ clean.
     let was = kept.precopy.clean_protected unswitched q clean u in
     member_below _ HIGH_PAGE q ∙ protected_now (ltb q HIGH_PAGE) (in_range page 1 q) (is_present space q) (contains space.protected q) (watched_below space q kept.spaces.source_space (kept.spaces.source_space.watched q was)) (kept.spaces.source_space.present q was)
-    (or_second (in_range page 1 q) (contains space.protected q) was) in
-    or_either (eqb q page) (contains world.source.log.clean q) either new old
+    (or_right (in_range page 1 q) (contains space.protected q) was) in
+    either (eqb q page) (contains world.source.log.clean q) one_holds new old
 
 abbrev page_wire : World → ℕ → List Sent
 page_wire world page = world.forward.frames ++ record { epoch = world.source.epoch; frame = page_frame page (bytes_of world.source page) } ∷ []
@@ -103,12 +102,12 @@ sent_copies world page flow kept is right old =
     record {
       clean_copy = λ q h u.
           newest q ∙ here_or_before (eqb q page) bytes (get (kept_by kept world.forward.frames) q) (get space.host.bytes q)
-          (λ e. present_bytes (get space.host.bytes page) zero_page is.present ∙ ap (get space.host.bytes) (sym (eqb_tells q page e)))
+          (λ e. present_bytes (get space.host.bytes page) zero_page is.present ∙ ap (get space.host.bytes) (sym (eqb-true q page e)))
           (λ e. old.clean_copy q (was_clean (eqb q page) (contains source.log.clean q) (sym (member_inserted source.log.clean page q) ∙ h) e) u);
       copies_sent = λ q h.
           member_inserted source.log.sent page q ∙ ⊎_elim
           (λ (e : eqb q page ≡ true). ap (λ b. b || contains source.log.sent q) e)
-          (λ (e : is_some (get (kept_by kept world.forward.frames) q) ≡ true). or_second (eqb q page) (contains source.log.sent q) (old.copies_sent q e))
+          (λ (e : is_some (get (kept_by kept world.forward.frames) q) ≡ true). or_right (eqb q page) (contains source.log.sent q) (old.copies_sent q e))
           (copied_or_before (eqb q page) bytes (get (kept_by kept world.forward.frames) q) (sym (ap is_some (newest q)) ∙ h));
     }
 
@@ -168,16 +167,12 @@ sent_next world page kept precopy up unswitched is =
           kept.precopy.todo_sendable unswitched q (and_parts (not (eqb q page)) (contains source.log.todo q) (sym (member_removed source.log.todo page q) ∙ h)).1 u;
       down = λ h. none_absurd (sym h ∙ up);
       wires = λ h. wires_sent source.phase world.destination.phase world page precopy is (kept.flight.wires h);
-      forward_epoch = AreOf-push source.epoch world.forward.frames (page_frame page (bytes_of source page)) kept.epochs.forward_epoch;
+      forward_epoch = AreOf-one source.epoch world.forward.frames (page_frame page (bytes_of source page)) kept.epochs.forward_epoch;
       back_epoch = kept.epochs.back_epoch;
       epochs = kept.epochs.not_ahead;
       epoch_at = kept.epochs.epoch_at;
       held = fits-append world.forward.frames _ world.forward.held kept.held.forward_held;
     }
-
-no_event : (events : List Noted) → ltb 0 (length events) ≡ false → events ≡ []
-no_event [] h = refl
-no_event (noted ∷ events) h = absurd (grind (arith, nat_tests))
 
 pub kept-send : (world : World) (page : ℕ) → IsSoundWorld world → least_of world.source.log.todo ≡ Some page → is_precopy world.source.phase ≡ true → world.up ≡ true → is_changing world.source.guest ≡ false → IsSoundWorld (after_send world page)
 kept-send world page kept found precopy up quiet =

@@ -2,7 +2,7 @@
 use Rattle.std.proofs.Common.{◌≡◌, ℕ, ◌/◌, ◌%◌, Bool, true, false, cond, Option, Some, None, List, [], refl, sym, ap, ◌∙◌, is_some, get_or, unwrap_or}
 use Rattle.std.specs.Option.{option_map}
 use Rattle.std.specs.FinMap.{get}
-use Rattle.std.proofs.lemmas.Bool.{false≢true}
+use Rattle.std.proofs.lemmas.Bool.{false≢true, false_from_ne_true}
 use Rattle.mig_base.specs.declared.Prot.{Prot}
 use Rattle.mig_base.specs.Bytes.{zero_page}
 use Rattle.mig_base.specs.Ranges.{in_range}
@@ -14,8 +14,9 @@ use Rattle.mig_model.specs.Ioctls.{put_pages}
 use Rattle.mig_model.specs.Guest.{zero_installed, is_present}
 use Rattle.mig_model.proofs.HostLemmas.{same_memory, memory-at}
 use Rattle.mig_model.proofs.IoctlLemmas.{get-put_pages}
-use Rattle.mig_model.proofs.SourceTests.{in_one_is, none_absurd, never_true, some_either}
+use Rattle.mig_model.proofs.SourceTests.{in_one_is}
 use Rattle.mig_model.specs.Log.{present}
+use Rattle.mig_model.proofs.Facts.{none_absurd, some_either}
 
 zero_bytes : (here : Bool) (o : Option (List ℕ)) (i : ℕ) → (here ≡ true → o ≡ None) → get_or (unwrap_or (cond here (Some zero_page) o) []) i 0 ≡ get_or (unwrap_or o []) i 0
 zero_bytes true o i h = get_or-zero_page i ∙ sym (ap (λ p. get_or (unwrap_or p []) i 0) (h refl))
@@ -46,4 +47,4 @@ more_present space page q h = ap is_some (get-put_pages space.host.bytes page 1 
 pub elsewhere : (space : Space) (page q : ℕ) → is_present space page ≡ false → is_present space q ≡ true → get (zero_installed space page).host.bytes q ≡ get space.host.bytes q
 elsewhere space page q missing present =
     get-put_pages space.host.bytes page 1 q (λ i. zero_page)
-    ∙ ap (λ b. cond b (Some zero_page) (get space.host.bytes q)) (never_true (in_range page 1 q) (λ here. false≢true (sym missing ∙ ap (is_present space) (sym (in_one_is page q here)) ∙ present)))
+    ∙ ap (λ b. cond b (Some zero_page) (get space.host.bytes q)) (false_from_ne_true (in_range page 1 q) (λ here. false≢true (sym missing ∙ ap (is_present space) (sym (in_one_is page q here)) ∙ present)))

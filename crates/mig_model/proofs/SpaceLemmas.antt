@@ -1,5 +1,5 @@
 -- What a space keeps over each load, store and map call.
-use Rattle.std.proofs.Common.{◌≡◌, ℕ, ◌+◌, ◌-◌, ◌/◌, ◌&&◌, ◌||◌, Bool, true, false, cond, not, eqb, ltb, Option, Some, None, List, [], ◌∷◌, refl, sym, ap, ◌∙◌, subst, arith, is_some}
+use Rattle.std.proofs.Common.{◌≡◌, ℕ, ◌+◌, ◌-◌, ◌/◌, ◌&&◌, ◌||◌, Bool, true, false, cond, not, eqb, ltb, Option, Some, None, List, refl, sym, ap, ◌∙◌, subst, arith, is_some}
 use Rattle.std.specs.Ordering.{nat_cmp}
 use Rattle.std.specs.FinMap.{FinMap, get, insert, contains_key}
 use Rattle.std.specs.FinSet.{FinSet, empty, contains, contains-empty}
@@ -13,7 +13,6 @@ use Rattle.mig_base.specs.declared.command.Reply.{Reply}
 use Rattle.mig_base.specs.declared.command.Reply.TheVariants.{Done, At, Refused}
 use Rattle.mig_base.specs.declared.command.Access.{Access}
 use Rattle.mig_base.specs.declared.command.Access.TheVariants.{Answered, Missing, Protected}
-use Rattle.mig_base.specs.declared.message.Message.{Message}
 use Rattle.mig_base.specs.Ranges.{in_range, pages_of, rounded}
 use Rattle.mig_base.specs.Pages.{set_range, remove_range, moved_range}
 use Rattle.mig_base.specs.Sets.{without, moved_set}
@@ -23,12 +22,11 @@ use Rattle.mig_base.proofs.SetLemmas.{member_without, member_below}
 use Rattle.mig_base.proofs.ReplyLemmas.{IsRemapped, mremap_told}
 use Rattle.mig_model.specs.Host.{Host, memory, host_changed, host_after, IsSound}
 use Rattle.mig_base.specs.Commands.{is_access}
-use Rattle.mig_model.specs.Userfault.{Object, Mode, mode_at, fault_queued, event_queued, waits_fault}
-use Rattle.mig_model.specs.Space.{Space, fresh_space, IsSoundSpace, access_of, accessed_by, accessed, called, modes_after, protected_after, call_messages, all_queued}
+use Rattle.mig_model.specs.Userfault.{Object, Mode, mode_at, fault_queued, waits_fault}
+use Rattle.mig_model.specs.Space.{Space, fresh_space, IsSoundSpace, access_of, accessed_by, accessed, called, modes_after, protected_after, call_messages}
 use Rattle.mig_model.proofs.HostLemmas.{IsSound-empty, memory-none, get-put}
 use Rattle.mig_model.proofs.CommandLemmas.{IsSound-changed, one_prot_some}
-use Rattle.mig_model.specs.Log.{present}
-use Rattle.mig_model.specs.Promises.{gone}
+use Rattle.mig_model.proofs.Facts.{none_absurd, queued_missing, queued_protect, answered_as, some_either}
 
 abbrev PageMap : Type 0 → Type 0
 PageMap X = FinMap nat_cmp X
@@ -47,9 +45,6 @@ watched_of space sound = record { mapped = sound.mapped; present = sound.present
 
 sound_of : (space : Space) → IsSound space.host → IsWatched space.host.areas space.host.bytes space.object.missing space.object.protect space.protected → IsSoundSpace space
 sound_of space host parts = record { host = host; mapped = parts.mapped; present = parts.present; watched = parts.watched }
-
-none_absurd : {A : Type 0} → false ≡ true → A
-none_absurd h = absurd (false≢true h)
 
 -- Ranges taken out
 
@@ -162,14 +157,6 @@ moved_parts areas bytes missing protect protected from count to new_count mode s
 
 -- Messages leave the modes
 
-queued_missing : (object : Object) (messages : List Message) (cpu : ℕ) → (all_queued object messages cpu).missing ≡ object.missing
-queued_missing object [] cpu = refl
-queued_missing object (message ∷ messages) cpu = queued_missing (event_queued object message cpu) messages cpu
-
-queued_protect : (object : Object) (messages : List Message) (cpu : ℕ) → (all_queued object messages cpu).protect ≡ object.protect
-queued_protect object [] cpu = refl
-queued_protect object (message ∷ messages) cpu = queued_protect (event_queued object message cpu) messages cpu
-
 fault_missing : (waits : Bool) (object other : Object) → other.missing ≡ object.missing → (cond waits object other).missing ≡ object.missing
 fault_missing true object other h = refl
 fault_missing false object other h = h
@@ -218,10 +205,6 @@ IsSoundSpace-called space cpu command call sound =
     (subst (λ s. IsWatched new.host.areas new.host.bytes modes.missing s new.protected) (sym (queued_protect modes messages cpu)) parts))
 
 -- Loads and stores
-
-some_either : {X : Type 0} (here : Bool) (value : X) (o : Option X) → is_some o ≡ true → is_some (cond here (Some value) o) ≡ true
-some_either true value o h = refl
-some_either false value o h = h
 
 more_present : (bytes : PageMap (List ℕ)) (page q : ℕ) (held : List ℕ) → contains_key bytes q ≡ true → contains_key (insert bytes page held) q ≡ true
 more_present bytes page q held h = ap is_some (get-put bytes page q held) ∙ some_either (eqb q page) held (get bytes q) h
@@ -293,15 +276,11 @@ IsSoundSpace-fresh =
 
 -- What an access answers
 
--- an access that is answered is answered as the flat memory answers it, and a page fault changes no memory
-same_answer : (reply other : Reply) → Answered reply ≡ Answered other → other ≡ reply
-same_answer reply other h = cc
-
 answered_reply : (made missing protect : Bool) (reply other : Reply) → cond (not made) (Answered reply) (cond missing Missing (cond protect Protected (Answered reply))) ≡ Answered other → other ≡ reply
-answered_reply false missing protect reply other h = same_answer reply other h
+answered_reply false missing protect reply other h = answered_as reply other h
 answered_reply true true protect reply other h = absurd (cc)
 answered_reply true false true reply other h = absurd (cc)
-answered_reply true false false reply other h = same_answer reply other h
+answered_reply true false false reply other h = answered_as reply other h
 
 pub access_reply : (space : Space) (command : Command) (reply : Reply) → access_of space command ≡ Answered reply → reply ≡ reply_of (memory space.host) command
 access_reply space command reply h = answered_reply _ _ _ (reply_of (memory space.host) command) reply h

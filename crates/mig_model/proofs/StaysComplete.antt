@@ -1,8 +1,7 @@
 -- A migration that is complete stays complete.
-use Rattle.std.proofs.Common.{◌≡◌, ℕ, ◌&&◌, ◌||◌, Bool, true, false, not, Option, Some, None, List, [], ◌∷◌, refl, sym, ap, ◌∙◌}
-use Rattle.std.proofs.lemmas.Bool.{false≢true}
+use Rattle.std.proofs.Common.{◌≡◌, ℕ, Bool, true, false, List, ◌∷◌, refl, sym, ap, ◌∙◌}
+use Rattle.std.proofs.lemmas.Bool.{false≢true, true_from_ne_false}
 use Rattle.mig_base.specs.declared.phase.SourcePhase.{SourcePhase}
-use Rattle.mig_base.specs.declared.refusal.Refusal.{Refusal}
 use Rattle.mig_base.specs.declared.schedule.Side.{Side}
 use Rattle.mig_base.specs.declared.schedule.Step.{Step}
 use Rattle.mig_base.specs.declared.command.Command.{Command}
@@ -14,11 +13,11 @@ use Rattle.mig_model.specs.Guest.Act.{Unprotected, Zeroed, Woke, Forgot, Request
 use Rattle.mig_model.specs.Migration.{World, next, guest_of, with_guest_by, after_command, answer}
 use Rattle.mig_model.specs.Invariant.{IsSoundWorld}
 use Rattle.mig_model.specs.Promises.{IsComplete}
-use Rattle.mig_model.proofs.Stopping.{in_phases, none_absurd}
+use Rattle.mig_model.proofs.Stopping.{in_phases}
 use Rattle.mig_model.proofs.StepLemmas.{Leaves, leaves-next}
 use Rattle.mig_model.proofs.StepCases.{made-break, made-deliver, made-deliver_back, made-dest_act, made-dest_read, made-end, made-install, made-issue, made-notice, made-push, made-resume, made-retry, made-round, made-send, made-serve, made-source_act, made-source_read, made-start, made-switch}
-use Rattle.mig_model.specs.Log.{present}
 use Rattle.mig_model.specs.Source.{is_precopy, is_released, is_source_idle, is_source_paused, is_stopped, released, source_act, source_acted_by}
+use Rattle.mig_model.proofs.Facts.{none_absurd}
 
 -- A released source is in no other phase
 
@@ -66,13 +65,9 @@ worked_phase Woke world page = refl
 worked_phase Forgot world page = refl
 worked_phase (Requested source) world page = refl
 
-up_is : (up : Bool) → (up ≡ false → ⊥) → up ≡ true
-up_is true h = refl
-up_is false h = absurd (h refl)
-
 -- nothing is on the wire back any more
 back_empty_in : (from : SourcePhase) (world : World) → is_released from ≡ true → IsSoundWorld (in_phases from world.destination.phase world) → is_empty world.back.frames ≡ true
-back_empty_in SourcePhase.Released world released kept = ap is_empty (kept.flight.wires (up_is world.up (λ h. (kept.flight.down h).3 refl))).2
+back_empty_in SourcePhase.Released world released kept = ap is_empty (kept.flight.wires (true_from_ne_false world.up (λ h. (kept.flight.down h).3 refl))).2
 back_empty_in SourcePhase.Idle world released kept = none_absurd released
 back_empty_in SourcePhase.Precopy world released kept = none_absurd released
 back_empty_in SourcePhase.Stopped world released kept = none_absurd released
@@ -86,7 +81,7 @@ nothing_back : (world : World) (sent : Sent) (rest : List Sent) → IsSoundWorld
 nothing_back world sent rest kept done is = false≢true (ap is_empty (sym is) ∙ back_empty_in world.source.phase world done kept)
 
 complete-answer : (world : World) (step : Step) → IsSoundWorld world → IsComplete world → Leaves IsComplete (answer world step)
-complete-answer world (Step.Issue cpu command) kept done = made-issue _ world cpu command (λ idle may. still world.source.phase _ (command_phase world cpu command) done)
+complete-answer world (Step.Issue cpu command) kept done = made-issue _ world cpu command (λ there idle may. still world.source.phase _ (command_phase world cpu command) done)
 complete-answer world (Step.Retry cpu) kept done = made-retry _ world cpu (λ command waits woken may. still world.source.phase _ (command_phase world cpu command) done)
 complete-answer world Step.Start kept done = made-start _ world (λ idle. absurd (not_idle world.source.phase done idle))
 complete-answer world Step.Round kept done = made-round _ world (λ precopy quiet. absurd (not_precopy world.source.phase done precopy))

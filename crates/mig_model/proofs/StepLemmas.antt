@@ -1,6 +1,6 @@
 -- What holds of the answer of a step, and so of the world after it.
-use Rattle.std.proofs.Common.{◌≡◌, Bool, true, false, Option, Some, None, List, [], ◌∷◌, refl, subst, ap, if◌then◌else◌}
-use Rattle.std.specs.Prelude.{Ok, Err, Result, IsOk}
+use Rattle.std.proofs.Common.{◌≡◌, Bool, true, false, List, [], ◌∷◌, refl, subst, ap, if◌then◌else◌}
+use Rattle.std.specs.Prelude.{Ok, Err, IsOk}
 use Rattle.std.proofs.lemmas.Bool.{false≢true}
 use Rattle.mig_base.specs.declared.effect.Effect.{Effect}
 use Rattle.mig_base.specs.declared.refusal.Refusal.{Refusal}

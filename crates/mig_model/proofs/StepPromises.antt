@@ -1,12 +1,11 @@
 -- What single steps enter in the transcript, put at missing pages, and do to the pages that remain.
-use Rattle.std.proofs.Common.{◌≡◌, ℕ, ◌*◌, ◌/◌, ◌&&◌, Bool, true, false, not, eqb, Option, Some, None, List, [], ◌∷◌, ◌++◌, refl, sym, ap, ◌∙◌, subst, arith, if◌then◌else◌, IsOk}
+use Rattle.std.proofs.Common.{◌≡◌, ℕ, ◌*◌, ◌/◌, ◌&&◌, Bool, true, false, not, eqb, Some, ◌++◌, refl, sym, ap, ◌∙◌, subst, arith, if◌then◌else◌, IsOk}
 use Rattle.std.specs.Prelude.{Ok}
 use Rattle.std.specs.FinMap.{get}
 use Rattle.std.specs.FinSet.{contains}
 use Rattle.std.proofs.lemmas.Bool.Decides.{nat_tests}
 use Rattle.std.proofs.lemmas.Bool.{false≢true}
 use Rattle.mig_base.specs.declared.effect.Effect.{Effect}
-use Rattle.mig_base.specs.declared.refusal.Refusal.{Refusal}
 use Rattle.mig_base.specs.declared.schedule.Side.{Side}
 use Rattle.mig_base.specs.declared.schedule.Step.{Step}
 use Rattle.mig_base.specs.declared.schedule.Ticket.{Ticket}
@@ -25,19 +24,16 @@ use Rattle.mig_model.proofs.PromiseLemmas.{source_zero, destination_zero}
 use Rattle.mig_model.proofs.StepLemmas.{Leaves, holds-effect, leaves-next, leaves-ok}
 use Rattle.mig_model.proofs.StepCases.{made-break, made-deliver, made-dest_act, made-dest_read, made-end, made-install, made-issue, made-notice, made-push, made-resume, made-retry, made-round, made-send, made-serve, made-source_act, made-source_read, made-start}
 use Rattle.mig_model.specs.Cpus.{entries_of, outstanding, processor_at}
-use Rattle.mig_model.specs.Log.{present}
 use Rattle.mig_model.specs.Source.{Source, source_act, source_acted_by, space_of}
 use Rattle.mig_model.specs.Destination.{destination_act, destination_acted_by}
+use Rattle.mig_model.proofs.Facts.{and_second, some_command, page_again}
 
 -- The transcript
 
 pub entered_issue : (world : World) (cpu : ℕ) (command : Command) → IsOk (outcome world (Step.Issue cpu command)) →
     (next world (Step.Issue cpu command)).transcript ≡ world.transcript ++ entries_of cpu command (took_by (is_access command) (guest_of world).space command)
 entered_issue world cpu command ok =
-    leaves-ok (λ new. new.transcript ≡ world.transcript ++ entries_of cpu command (took_by (is_access command) (guest_of world).space command)) world (Step.Issue cpu command) (made-issue _ world cpu command (λ idle may. refl)) ok
-
-some_command : (a b : Command) → Some a ≡ Some b → a ≡ b
-some_command a b h = cc
+    leaves-ok (λ new. new.transcript ≡ world.transcript ++ entries_of cpu command (took_by (is_access command) (guest_of world).space command)) world (Step.Issue cpu command) (made-issue _ world cpu command (λ there idle may. refl)) ok
 
 pub entered_retry : (world : World) (cpu : ℕ) (command : Command) → IsOk (outcome world (Step.Retry cpu)) → outstanding (processor_at (guest_of world).cpus cpu) ≡ Some command →
     (next world (Step.Retry cpu)).transcript ≡ world.transcript ++ entries_of cpu command (took_by (is_access command) (guest_of world).space command)
@@ -53,9 +49,6 @@ told_zeroed Zeroed a b h = (refl, cc)
 told_zeroed Woke a b h = absurd (cc)
 told_zeroed Forgot a b h = absurd (cc)
 told_zeroed (Requested origin) a b h = absurd (cc)
-
-page_of_addr : (page addr : ℕ) → 4096 * page ≡ addr → page ≡ addr / 4096
-page_of_addr page addr h = omega (arith, h)
 
 one_page : (page : ℕ) → in_range page 1 page ≡ true
 one_page page = grind (arith, nat_tests)
@@ -74,7 +67,7 @@ source_zeroed world addr answered =
     holds-effect (λ effect new. effect ≡ Effect.Zeroed addr → IsZeroed (space_of world.source) (space_of new.source) (addr / 4096)) world Step.SourceAct (Effect.Zeroed addr)
     (made-source_act _ world (λ fault rest is started unswitched quiet h.
     let told = told_zeroed (source_act world.source fault) (4096 * fault.page) addr h in
-    subst (λ p. IsZeroed (space_of world.source) (space_of (after_source_act world fault).source) p) (page_of_addr fault.page addr told.1)
+    subst (λ p. IsZeroed (space_of world.source) (space_of (after_source_act world fault).source) p) (page_again fault.page addr told.1)
     (record { missing = source_zero world fault told.0; zeros = source_put (source_act world.source fault) world fault.page told.0 }))) answered refl
 
 pub destination_zeroed : (world : World) (addr : ℕ) → outcome world Step.DestAct ≡ Ok (Effect.Zeroed addr) → IsZeroed world.destination.guest.space (next world Step.DestAct).destination.guest.space (addr / 4096)
@@ -82,7 +75,7 @@ destination_zeroed world addr answered =
     holds-effect (λ effect new. effect ≡ Effect.Zeroed addr → IsZeroed world.destination.guest.space new.destination.guest.space (addr / 4096)) world Step.DestAct (Effect.Zeroed addr)
     (made-dest_act _ world (λ fault rest is ran quiet h.
     let told = told_zeroed (destination_act world.destination fault) (4096 * fault.page) addr h in
-    subst (λ p. IsZeroed world.destination.guest.space (after_dest_act world fault).destination.guest.space p) (page_of_addr fault.page addr told.1)
+    subst (λ p. IsZeroed world.destination.guest.space (after_dest_act world fault).destination.guest.space p) (page_again fault.page addr told.1)
     (record { missing = destination_zero world fault told.0; zeros = destination_put (destination_act world.destination fault) world fault.page told.0 }))) answered refl
 
 -- The pages that remain
@@ -106,16 +99,12 @@ worked_remaining Woke node page q = refl
 worked_remaining Forgot node page q = refl
 worked_remaining (Requested source) node page q = refl
 
-and_second : (a b : Bool) → (a && b) ≡ true → b ≡ true
-and_second true b h = h
-and_second false b h = absurd (false≢true h)
-
 -- a page that remains in the new world did in the old one
 abbrev RemainedIn : World → ℕ → World → Type 0
 RemainedIn world q new = contains new.source.remaining q ≡ true → contains world.source.remaining q ≡ true
 
 remaining_answer : (world : World) (step : Step) (q : ℕ) → keeps_remaining step ≡ true → Leaves (RemainedIn world q) (answer world step)
-remaining_answer world (Step.Issue cpu command) q keeps = made-issue _ world cpu command (λ idle may h. sym (tried_remaining world cpu command q) ∙ h)
+remaining_answer world (Step.Issue cpu command) q keeps = made-issue _ world cpu command (λ there idle may h. sym (tried_remaining world cpu command q) ∙ h)
 remaining_answer world (Step.Retry cpu) q keeps = made-retry _ world cpu (λ command waits woken may h. sym (tried_remaining world cpu command q) ∙ h)
 remaining_answer world Step.Start q keeps = made-start _ world (λ idle h. h)
 remaining_answer world Step.Round q keeps = made-round _ world (λ precopy quiet h. h)

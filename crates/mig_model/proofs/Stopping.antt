@@ -1,15 +1,12 @@
 -- Push, Serve and End keep what every world of the whole migration keeps: a stopped source sends.
-use Rattle.std.proofs.Common.{◌≡◌, ◌≢◌, ℕ, zero, suc, ◌<◌, ◌≤◌, ◌&&◌, ◌||◌, Bool, true, false, cond, not, eqb, Option, Some, None, List, [], ◌∷◌, ◌++◌, refl, sym, ap, ◌∙◌, subst, ◌⊎◌, inl, inr, ⊎_elim, arith, length, is_some, unwrap_or}
+use Rattle.std.proofs.Common.{◌≡◌, ◌≢◌, ℕ, zero, suc, ◌<◌, ◌&&◌, ◌||◌, Bool, true, false, cond, not, eqb, Option, Some, None, List, [], ◌∷◌, ◌++◌, refl, sym, ap, ◌∙◌, subst, ◌⊎◌, inl, inr, ⊎_elim, arith, length, is_some, unwrap_or}
 use Rattle.std.specs.Ordering.{nat_cmp}
 use Rattle.std.specs.FinMap.{FinMap, get}
 use Rattle.std.specs.FinSet as finset
 use Rattle.std.specs.FinSet.{FinSet, contains, contains-empty}
-use Rattle.std.proofs.lemmas.Bool.Decides.{nat_tests}
-use Rattle.std.proofs.lemmas.Bool.{false≢true}
+use Rattle.std.proofs.lemmas.Bool.{false≢true, false_from_ne_true, eq-eqb}
 use Rattle.mig_base.specs.declared.phase.DestPhase.{DestPhase}
 use Rattle.mig_base.specs.declared.phase.SourcePhase.{SourcePhase}
-use Rattle.mig_base.specs.declared.schedule.Step.{Step}
-use Rattle.mig_base.specs.declared.schedule.Ticket.{Ticket}
 use Rattle.mig_base.specs.declared.TheConstants.{HIGH_PAGE}
 use Rattle.mig_base.specs.Bytes.{zero_page}
 use Rattle.mig_base.specs.Ranges.{least_below}
@@ -22,17 +19,15 @@ use Rattle.mig_model.specs.Guest.{is_present}
 use Rattle.mig_model.specs.Migration.{World, after_end, after_push, after_serve}
 use Rattle.mig_model.specs.Invariant.{IsSoundWorld, StoppedWires, IsSwitching, Flow, flow_after, flow_of, copies_of, has_copy, AreFaithful, AreWhole, behind}
 use Rattle.mig_model.specs.Invariant.Flow.{BeforeAdvise, Copies, BeforePackage, Pushed, AfterEnd}
-use Rattle.mig_model.proofs.SendingLemmas.{flow_sent, copies_of-append, AreWhole-append, AreFaithful-append, has_copy-append, AreOf-one, has_package, copies_of-page, page_flow}
+use Rattle.mig_model.proofs.SendingLemmas.{flow_sent, has_copy-append, has_package, copies_of-page, page_flow}
 use Rattle.mig_model.specs.Log.{least_of, no_pages, present}
 use Rattle.mig_model.specs.Source.{Source, bytes_of, is_stopped, page_pushed, request_served, space_of}
 use Rattle.mig_model.proofs.HeldLemmas.{fits-more}
+use Rattle.mig_model.proofs.Facts.{none_absurd, eqb-self, eqb_other, same_or_other, low_or, copies_of-append, AreWhole-append, AreFaithful-append, AreOf-one, below_or_at}
 
 -- a world in these phases
 abbrev pub in_phases : SourcePhase → DestPhase → World → World
 in_phases from to world = record world { source = record world.source { phase = from }; destination = record world.destination { phase = to } }
-
-pub none_absurd : {A : Type 0} → false ≡ true → A
-none_absurd h = absurd (false≢true h)
 
 pub no_member : (page : ℕ) → contains no_pages page ≡ false
 no_member page = contains-empty nat_cmp page
@@ -41,23 +36,14 @@ no_member page = contains-empty nat_cmp page
 not_ended : (source : Source) (page : ℕ) → (source.end_epoch ≡ source.epoch → source.remaining ≡ no_pages) → contains source.remaining page ≡ true → source.end_epoch ≢ source.epoch
 not_ended source page rest remains ended = false≢true (sym (ap (λ s. contains s page) (rest ended) ∙ no_member page) ∙ remains)
 
-eqb-other : (a b : ℕ) → a ≢ b → eqb a b ≡ false
-eqb-other a b h = grind (arith, nat_tests)
-
 pub flow_open : (source : Source) → source.end_epoch ≢ source.epoch → flow_of source ≡ Pushed
-flow_open source other = ap (λ b. cond b AfterEnd Pushed) (eqb-other source.end_epoch source.epoch other)
+flow_open source other = ap (λ b. cond b AfterEnd Pushed) (eqb_other source.end_epoch source.epoch other)
 
 present_bytes : (o : Option (List ℕ)) → is_some o ≡ true → o ≡ Some (unwrap_or o zero_page)
 present_bytes None h = none_absurd h
 present_bytes (Some bytes) h = refl
 
 -- One copy more
-
-same_or_other : (a b : ℕ) → (a ≡ b) ⊎ (eqb a b ≡ false)
-same_or_other a b = grind (arith, nat_tests)
-
-eqb-refl : (a : ℕ) → eqb a a ≡ true
-eqb-refl a = grind (arith, nat_tests)
 
 or_true : (a : Bool) → (a || true) ≡ true
 or_true true = refl
@@ -75,7 +61,7 @@ pushed_whereabouts remaining copies page q bytes h =
     ap (λ b. b || has_copy (copies ++ record { page = page; bytes = bytes } ∷ []) q) (member_removed remaining page q)
     ∙ ap (λ b. (not (eqb q page) && contains remaining q) || b) (has_copy-append copies (record { page = page; bytes = bytes } ∷ []) q)
     ∙ ⊎_elim
-    (λ (same : q ≡ page). rw (same, eqb-refl page) (or_true (has_copy copies page)))
+    (λ (same : q ≡ page). rw (same, eqb-self page) (or_true (has_copy copies page)))
     (λ (other : eqb q page ≡ false). rw other (still_there (contains remaining q) (has_copy copies q) (eqb page q || false) h))
     (same_or_other q page)
 
@@ -91,7 +77,7 @@ pushed_flowing remaining copies arrivals page q bytes h =
     ap (λ b. b || has_copy (copies ++ record { page = page; bytes = bytes } ∷ []) q || has_copy arrivals q) (member_removed remaining page q)
     ∙ ap (λ b. (not (eqb q page) && contains remaining q) || b || has_copy arrivals q) (has_copy-append copies (record { page = page; bytes = bytes } ∷ []) q)
     ∙ ⊎_elim
-    (λ (same : q ≡ page). rw (same, eqb-refl page) (ap (λ b. b || has_copy arrivals page) (or_true (has_copy copies page))))
+    (λ (same : q ≡ page). rw (same, eqb-self page) (ap (λ b. b || has_copy arrivals page) (or_true (has_copy copies page))))
     (λ (other : eqb q page ≡ false). rw other (three_there (contains remaining q) (has_copy copies q) (has_copy arrivals q) (eqb page q || false) h))
     (same_or_other q page)
 
@@ -252,9 +238,6 @@ end_frame source = record { epoch = source.epoch; frame = End }
 abbrev end_sent_by : Source → Source
 end_sent_by source = record source { end_epoch = source.epoch }
 
-eqb-is : (a b : ℕ) → a ≡ b → eqb a b ≡ true
-eqb-is a b h = grind (arith, nat_tests)
-
 pub stopped_not_paused : SourcePhase.Stopped ≢ SourcePhase.Paused
 stopped_not_paused h = cc
 
@@ -262,33 +245,23 @@ pub append-nil : {A : Type 0} (xs : List A) → xs ++ [] ≡ xs
 append-nil [] = refl
 append-nil (x ∷ xs) = ap (λ l. x ∷ l) (append-nil xs)
 
-not_true : (b : Bool) → (b ≡ true → ⊥) → b ≡ false
-not_true true h = absurd (h refl)
-not_true false h = refl
-
-high_or : {page : ℕ} → (HIGH_PAGE ≤ page → ⊥) → page < HIGH_PAGE
-high_or h = grind (arith, nat_tests, h)
-
 found_step : (o : Option ℕ) (here : Bool) (bound : ℕ) → (is_some o ≡ true) ⊎ (here ≡ true) → is_some (elim o [ Some least ↦ Some least | None ↦ cond here (Some bound) None ]) ≡ true
 found_step (Some least) here bound h = refl
 found_step None true bound h = refl
 found_step None false bound h = ⊎_elim (λ e. none_absurd e) (λ e. none_absurd e) h
 
-at_or_below : (q bound : ℕ) → q < suc bound → (q < bound) ⊎ (q ≡ bound)
-at_or_below q bound h = grind (arith, nat_tests)
-
 least_found : (test : ℕ → Bool) (bound q : ℕ) → q < bound → test q ≡ true → is_some (least_below test bound) ≡ true
 unfolding least_below
 least_found test zero q l h = absurd (omega arith)
 least_found test (suc bound) q l h =
-    found_step (least_below test bound) (test bound) bound (⊎_elim (λ below. inl (least_found test bound q below h)) (λ (at : q ≡ bound). inr (ap test (sym at) ∙ h)) (at_or_below q bound l))
+    found_step (least_below test bound) (test bound) bound (⊎_elim (λ below. inl (least_found test bound q below h)) (λ (at : q ≡ bound). inr (ap test (sym at) ∙ h)) (below_or_at q bound l))
 
 -- where a number below the bound passes, one is found
 some_least : (test : ℕ → Bool) (bound q : ℕ) → q < bound → test q ≡ true → least_below test bound ≡ None → ⊥
 some_least test bound q l h none = false≢true (sym (ap is_some none) ∙ least_found test bound q l h)
 
 pub present_below : (space : Space) (page : ℕ) → IsSound space.host → is_present space page ≡ true → page < HIGH_PAGE
-present_below space page sound present = high_or (λ past. false≢true (sym (ap is_some (sound.mapped page (sound.bound page past))) ∙ present))
+present_below space page sound present = low_or (λ past. false≢true (sym (ap is_some (sound.mapped page (sound.bound page past))) ∙ present))
 
 found_some : (o : Option ℕ) → is_some o ≡ false → o ≡ None
 found_some None h = refl
@@ -297,7 +270,7 @@ found_some (Some page) h = none_absurd (sym h)
 nothing_remains : (world : World) → IsSoundWorld world → least_of world.source.remaining ≡ None → world.source.remaining ≡ no_pages
 nothing_remains world kept none =
     same_members world.source.remaining no_pages (λ q.
-    not_true (contains world.source.remaining q) (λ remains.
+    false_from_ne_true (contains world.source.remaining q) (λ remains.
     let low = present_below (space_of world.source) q kept.spaces.source_space.host (kept.pushing.remaining_present q remains) in
     some_least (contains world.source.remaining) HIGH_PAGE q low remains none) ∙ sym (no_member q))
 
@@ -330,7 +303,7 @@ ended_wires DestPhase.Running world other flows old =
       },
     )
 ended_wires DestPhase.Paused world other flows old = absurd old
-ended_wires DestPhase.Ended world other flows old = absurd (false≢true (sym other ∙ eqb-is world.source.end_epoch world.source.epoch old.2))
+ended_wires DestPhase.Ended world other flows old = absurd (false≢true (sym other ∙ eq-eqb world.source.end_epoch world.source.epoch old.2))
 
 ended_in : (from : SourcePhase) (to : DestPhase) (world : World) → is_stopped from ≡ true → world.up ≡ true → eqb world.source.end_epoch world.source.epoch ≡ false → least_of world.source.remaining ≡ None → IsSoundWorld (in_phases from to world) → IsSoundWorld (after_end (in_phases from to world))
 ended_in SourcePhase.Stopped to world stopped up other none kept =
@@ -338,7 +311,7 @@ ended_in SourcePhase.Stopped to world stopped up other none kept =
     let bytes = (space_of source).host.bytes in
     let nothing = nothing_remains (in_phases SourcePhase.Stopped to world) kept none in
     let before : flow_of source ≡ Pushed = ap (λ b. cond b AfterEnd Pushed) other in
-    let after : flow_of (end_sent_by source) ≡ AfterEnd = ap (λ b. cond b AfterEnd Pushed) (eqb-refl source.epoch) in
+    let after : flow_of (end_sent_by source) ≡ AfterEnd = ap (λ b. cond b AfterEnd Pushed) (eqb-self source.epoch) in
     let copies : copies_of (world.forward.frames ++ end_frame source ∷ []) ≡ copies_of world.forward.frames = copies_of-append world.forward.frames (end_frame source ∷ []) ∙ append-nil (copies_of world.forward.frames) in
     let flows = λ (flow : Flow) (h : flow_after flow world.forward.frames ≡ Some (flow_of source)). flow_sent flow Pushed AfterEnd world.forward.frames (end_frame source) (h ∙ ap (λ f. Some f) before) refl ∙ ap (λ f. Some f) (sym after) in
     record {

@@ -1,10 +1,11 @@
 -- A migration can be completed: one list of steps that leads there, with nothing to move.
-use Rattle.std.proofs.Common.{◌≡◌, ℕ, ◌&&◌, Bool, true, false, cond, ltb, Some, None, [], ◌∷◌, refl, ap, ◌∙◌, is_some, if◌then◌else◌, ◌+◌, ◌-◌, ◌≤◌, List, arith, Option}
+use Rattle.std.proofs.Common.{◌≡◌, ℕ, ◌&&◌, Bool, false, ltb, None, [], ◌∷◌, refl, ap, ◌∙◌, is_some, if◌then◌else◌, ◌+◌, ◌-◌, ◌≤◌, arith}
 use Rattle.std.specs.Prelude.{Err}
 use Rattle.std.specs.Ordering.{nat_cmp}
 use Rattle.std.proofs.lemmas.Bool.Decides.{nat_tests}
 use Rattle.std.specs.FinMap.{get-empty}
 use Rattle.std.specs.FinSet.{contains}
+use Rattle.std.proofs.lemmas.Bool.{and_right, and_left}
 use Rattle.mig_base.specs.declared.effect.Effect.{Effect}
 use Rattle.mig_base.specs.declared.refusal.Refusal.{Refusal}
 use Rattle.mig_base.specs.declared.schedule.Step.{Step}
@@ -61,21 +62,10 @@ ended cpus = after_deliver (after_end (running cpus)) end_sent []
 enough : ℕ → ℕ
 enough cpus = text_len (discard_sent cpus).frame + text_len (package_sent cpus).frame + 100
 
-and_false : (a b : Bool) → b ≡ false → (a && b) ≡ false
-and_false true b h = h
-and_false false b h = refl
-
-true_not : true ≡ false → ⊥
-true_not h = cc
-
-first_false : (a b : Bool) → a ≡ false → (a && b) ≡ false
-first_false true b h = absurd (true_not h)
-first_false false b h = refl
-
 nothing_owed : (cpus page : ℕ) → contains (not_clean (started_source cpus)) page ≡ false
 nothing_owed cpus page =
     member_not_clean (started_source cpus) page
-    ∙ first_false (ltb page HIGH_PAGE && is_present (space_of (started_source cpus)) page) _ (and_false (ltb page HIGH_PAGE) (is_present (space_of (started_source cpus)) page) (ap is_some (get-empty nat_cmp page)))
+    ∙ and_left (ltb page HIGH_PAGE && is_present (space_of (started_source cpus)) page) _ (and_right (ltb page HIGH_PAGE) (is_present (space_of (started_source cpus)) page) (ap is_some (get-empty nat_cmp page)))
 
 nothing_remains : (cpus : ℕ) → least_of (running cpus).source.remaining ≡ None
 nothing_remains cpus = least_below-none (contains (not_clean (started_source cpus))) HIGH_PAGE (λ page l. nothing_owed cpus page)

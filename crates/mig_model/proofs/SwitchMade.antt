@@ -1,6 +1,6 @@
 -- Switch keeps what every world of the whole migration keeps: what is owed is what is present and not clean, and what was sent and is
 -- not clean is discarded.
-use Rattle.std.proofs.Common.{◌≡◌, ◌≢◌, ℕ, suc, ◌<◌, ◌&&◌, ◌||◌, Bool, true, false, cond, not, ltb, Option, Some, None, List, [], ◌∷◌, ◌++◌, refl, sym, ap, ◌∙◌, subst, ◌⊎◌, ⊎_elim, arith, length, is_some}
+use Rattle.std.proofs.Common.{◌≡◌, ◌≢◌, ℕ, suc, ◌<◌, ◌&&◌, ◌||◌, Bool, true, false, cond, not, ltb, Option, Some, None, List, [], ◌∷◌, ◌++◌, refl, sym, ap, ◌∙◌, subst, ◌⊎◌, ⊎_elim, arith, is_some}
 use Rattle.std.specs.Ordering.{nat_cmp}
 use Rattle.std.specs.FinMap.{FinMap, get, get-retain_keys, nat_cmp-IsAntisymmetric}
 use Rattle.std.specs.FinSet.{FinSet, contains, contains-retain}
@@ -9,22 +9,20 @@ use Rattle.std.proofs.lemmas.Bool.{false≢true}
 use Rattle.std.proofs.lemmas.List.{append_assoc}
 use Rattle.mig_base.specs.declared.phase.DestPhase.{DestPhase}
 use Rattle.mig_base.specs.declared.phase.SourcePhase.{SourcePhase}
-use Rattle.mig_base.specs.declared.schedule.Step.{Step}
 use Rattle.mig_base.specs.declared.TheConstants.{HIGH_PAGE}
 use Rattle.mig_base.proofs.SetLemmas.{member_below}
-use Rattle.mig_model.specs.Userfault.{Noted}
 use Rattle.mig_model.specs.Wire.{Sent, kept_after}
 use Rattle.mig_model.specs.Wire.Frame.{Discard, Package}
 use Rattle.mig_model.specs.Guest.{is_present}
 use Rattle.mig_model.specs.Migration.{World, after_switch, is_changing}
 use Rattle.mig_model.specs.Invariant.{IsSoundWorld, PrecopyWires, StoppedWires, IsPrecopying, IsSwitching, Flow, flow_after, flow_of, copies_of, has_copy, AreFaithful, AreWhole, is_unread, kept_by, behind, package_in}
 use Rattle.mig_model.specs.Invariant.Flow.{BeforeAdvise, Copies, BeforePackage, Pushed}
-use Rattle.mig_model.proofs.SendingLemmas.{flow_sent, copies_of-append, AreOf-one, has_no_package}
-use Rattle.mig_model.proofs.Stopping.{in_phases, none_absurd, flow_open, append-nil, present_below, stopped_not_paused, stopped_not_released}
-use Rattle.mig_model.proofs.FirstFrame.{nothing_behind}
+use Rattle.mig_model.proofs.SendingLemmas.{flow_sent, has_no_package}
+use Rattle.mig_model.proofs.Stopping.{in_phases, flow_open, append-nil, present_below, stopped_not_paused, stopped_not_released}
 use Rattle.mig_model.specs.Log.{less, present}
 use Rattle.mig_model.specs.Source.{Source, commands_of, is_precopy, not_clean, space_of, switch_made, switch_frames}
 use Rattle.mig_model.proofs.HeldLemmas.{fits-more}
+use Rattle.mig_model.proofs.Facts.{none_absurd, and_second, and_left, and_false, missing_none, copies_of-append, AreOf-one, no_event, and_true}
 
 pub member_less : (set other : FinSet nat_cmp) (q : ℕ) → contains (less set other) q ≡ (contains set q && not (contains other q))
 member_less set other q = contains-retain set (λ page. not (contains other page)) q (λ x e. ap (λ k. not (contains other k)) (sym (nat_cmp-IsAntisymmetric q x e)))
@@ -38,10 +36,6 @@ get-discarded kept pages q =
     get-retain_keys kept (λ page. not (contains pages page)) q (λ x e. ap (λ k. not (contains pages k)) (sym (nat_cmp-IsAntisymmetric q x e)))
     ∙ cond_not (contains pages q) (get kept q) None
 
-no_value : (o : Option (List ℕ)) → is_some o ≡ false → o ≡ None
-no_value None h = refl
-no_value (Some bytes) h = none_absurd (sym h)
-
 gone_or_none : (sent : Bool) (k : Option (List ℕ)) → (is_some k ≡ true → sent ≡ true) → cond sent None k ≡ None
 gone_or_none true k h = refl
 gone_or_none false None h = refl
@@ -50,16 +44,8 @@ gone_or_none false (Some bytes) h = none_absurd (h refl)
 owed_or_none : (low present : Bool) (bytes : Option (List ℕ)) → present ≡ is_some bytes → (present ≡ true → low ≡ true) → None ≡ cond (low && present) None bytes
 owed_or_none true true bytes is low = refl
 owed_or_none false true bytes is low = none_absurd (low refl)
-owed_or_none true false bytes is low = sym (no_value bytes (sym is))
-owed_or_none false false bytes is low = sym (no_value bytes (sym is))
-
-and_false : (a : Bool) → (a && false) ≡ false
-and_false true = refl
-and_false false = refl
-
-and_true : (a : Bool) → (a && true) ≡ a
-and_true true = refl
-and_true false = refl
+owed_or_none true false bytes is low = sym (missing_none bytes (sym is))
+owed_or_none false false bytes is low = sym (missing_none bytes (sym is))
 
 -- one page: what is kept of it once it was discarded or not is its bytes, unless it is owed
 rest_of : (clean sent low present : Bool) (k bytes : Option (List ℕ)) → (clean ≡ true → k ≡ bytes) → (is_some k ≡ true → sent ≡ true) → present ≡ is_some bytes → (present ≡ true → low ≡ true) →
@@ -71,10 +57,6 @@ rest_of false sent low present k bytes same was is below =
 
 some_above : (n : ℕ) → ltb 0 (suc n) ≡ true
 some_above n = grind (arith, nat_tests)
-
-pub no_events : (events : List Noted) → ltb 0 (length events) ≡ false → events ≡ []
-no_events [] h = refl
-no_events (noted ∷ events) h = none_absurd (sym h ∙ some_above (length events))
 
 -- the two frames of a switch
 abbrev discard_frame : Source → Sent
@@ -89,19 +71,11 @@ switched_wire source forward = (forward ++ discard_frame source ∷ []) ++ packa
 low_true : (page : ℕ) → page < HIGH_PAGE → ltb page HIGH_PAGE ≡ true
 low_true page l = grind (arith, nat_tests)
 
-and_left : (a b : Bool) → (a && b) ≡ true → a ≡ true
-and_left true b h = refl
-and_left false b h = none_absurd h
-
-and_right : (a b : Bool) → (a && b) ≡ true → b ≡ true
-and_right true b h = h
-and_right false b h = none_absurd h
-
 pub member_not_clean : (source : Source) (page : ℕ) → contains (not_clean source) page ≡ ((ltb page HIGH_PAGE && is_present (space_of source) page) && not (contains source.log.clean page))
 member_not_clean source page = member_less (present (space_of source)) source.log.clean page ∙ ap (λ b. b && not (contains source.log.clean page)) (member_below (λ q. is_present (space_of source) q) HIGH_PAGE page)
 
 owed_is_present : (source : Source) (page : ℕ) → contains (not_clean source) page ≡ true → is_present (space_of source) page ≡ true
-owed_is_present source page h = and_right (ltb page HIGH_PAGE) _ (and_left (ltb page HIGH_PAGE && is_present (space_of source) page) _ (sym (member_not_clean source page) ∙ h))
+owed_is_present source page h = and_second (ltb page HIGH_PAGE) _ (and_left (ltb page HIGH_PAGE && is_present (space_of source) page) _ (sym (member_not_clean source page) ∙ h))
 
 switching : (flow : Flow) (world : World) → IsSoundWorld world → (space_of world.source).object.events ≡ [] → flow_after flow world.forward.frames ≡ Some Copies → IsPrecopying world.source world.destination.kept world.forward.frames →
     IsSwitching (switch_made world.source) world.destination.kept (switched_wire world.source world.forward.frames)
@@ -220,4 +194,4 @@ switched_in SourcePhase.Paused to world precopy up quiet kept = none_absurd prec
 switched_in SourcePhase.Released to world precopy up quiet kept = none_absurd precopy
 
 pub kept-switch : (world : World) → IsSoundWorld world → is_precopy world.source.phase ≡ true → world.up ≡ true → is_changing world.source.guest ≡ false → IsSoundWorld (after_switch world)
-kept-switch world kept precopy up quiet = switched_in world.source.phase world.destination.phase world precopy up (no_events (space_of world.source).object.events quiet) kept
+kept-switch world kept precopy up quiet = switched_in world.source.phase world.destination.phase world precopy up (no_event (space_of world.source).object.events quiet) kept

@@ -1,23 +1,21 @@
 -- A command that a processor tries at the destination: the destination's space stays in order with what is owed to it, and the host
 -- that the guest sees answers as its memory does and changes as the command says.
-use Rattle.std.proofs.Common.{◌≡◌, ℕ, zero, suc, ◌/◌, ◌*◌, Bool, true, false, cond, eqb, Option, Some, List, [], ◌∷◌, refl, sym, ap, ◌∙◌, subst, ◌⊎◌, ⊎_elim, inl, inr, arith, is_some}
+use Rattle.std.proofs.Common.{◌≡◌, ℕ, ◌/◌, ◌*◌, Bool, true, false, cond, eqb, Option, Some, List, [], ◌∷◌, refl, sym, ap, ◌∙◌, subst, ◌⊎◌, ⊎_elim, inl, inr, is_some}
 use Rattle.std.specs.FinMap.{get, contains_key}
 use Rattle.std.specs.FinSet.{contains}
-use Rattle.std.proofs.lemmas.Bool.Decides.{nat_tests}
-use Rattle.std.proofs.lemmas.Bool.{false≢true}
+use Rattle.std.proofs.lemmas.Bool.{false≢true, eqb-true}
 use Rattle.mig_base.specs.declared.command.Command.{Command}
 use Rattle.mig_base.specs.declared.command.Command.TheVariants.{Load, Store, Mmap, Munmap, Mremap, DontNeed}
 use Rattle.mig_base.specs.declared.command.Reply.{Reply}
-use Rattle.mig_base.specs.declared.command.Reply.TheVariants.{Done, At}
+use Rattle.mig_base.specs.declared.command.Reply.TheVariants.{Done}
 use Rattle.mig_base.specs.declared.command.Access.{Access}
 use Rattle.mig_base.specs.declared.command.Access.TheVariants.{Answered, Missing, Protected}
 use Rattle.mig_base.specs.declared.command.Entry.{Entry}
-use Rattle.mig_base.specs.declared.message.Message.{Message}
 use Rattle.mig_base.specs.Flat.{reply_of}
 use Rattle.mig_base.specs.Commands.{is_access, page_of}
 use Rattle.mig_model.specs.Host.{Host, memory, host_changed, host_after, IsSound}
-use Rattle.mig_model.specs.Userfault.{Object, Noted, waits_fault, event_queued}
-use Rattle.mig_model.specs.Space.{Space, IsSoundSpace, is_made, access_of, accessed_by, called, modes_after, call_messages, all_queued, queued_by}
+use Rattle.mig_model.specs.Userfault.{Noted, waits_fault}
+use Rattle.mig_model.specs.Space.{Space, IsSoundSpace, is_made, access_of, accessed_by, called, modes_after, call_messages, queued_by}
 use Rattle.mig_model.specs.Guest.{took_by, space_by}
 use Rattle.mig_model.specs.Cpus.Took.{Answer, Sleep}
 use Rattle.mig_model.specs.Invariant.{AreRight, seen_host}
@@ -29,13 +27,9 @@ use Rattle.mig_model.proofs.EventLemmas.{settled_called, right_called}
 use Rattle.mig_model.proofs.ChangedLemmas.{called_seen, accessed_seen}
 use Rattle.mig_model.proofs.PairLemmas.{ArePairs, HasNone, pairs_watched, pairs_called, none_protected, none_in_mode}
 use Rattle.mig_model.specs.Cpus.{Took, access_took, call_took, entries_of}
-use Rattle.mig_model.specs.Log.{present}
 use Rattle.mig_model.specs.Owed.{settled_by}
 use Rattle.mig_model.specs.Promises.{owed_changed}
-use Rattle.mig_model.specs.Migration.{made, start}
-
-none_absurd : {A : Type 0} → false ≡ true → A
-none_absurd h = absurd (false≢true h)
+use Rattle.mig_model.proofs.Facts.{none_absurd, queued_missing, queued_protect, entered_once, modes_events}
 
 -- what is settled in a space, from the owed table
 abbrev pub settled_in : Space → (ℕ → Option ℕ) → ℕ → Option ℕ
@@ -80,14 +74,11 @@ put_still : {X : Type 0} (same : Bool) (held : X) (o : Option X) → (same ≡ t
 put_still true held o other h = absurd (other refl)
 put_still false held o other h = h
 
-same_page : (a b : ℕ) → eqb a b ≡ true → a ≡ b
-same_page a b h = grind (arith, nat_tests, h)
-
 -- an owed page is not the one that is written
 not_written : (space : Space) (owed : ℕ → Option ℕ) (written page origin : ℕ) → ArePairs space owed → owed page ≡ Some origin →
     (contains_key space.host.bytes written ≡ true) ⊎ (contains space.object.missing written ≡ false) → eqb page written ≡ true → ⊥
 not_written space owed written page origin pairs h own same =
-    let at = same_page page written same in
+    let at = eqb-true page written same in
     let is = pairs page origin h in
     ⊎_elim
     (λ (present : contains_key space.host.bytes written ≡ true). false≢true (sym is.1 ∙ ap (contains_key space.host.bytes) at ∙ present))
@@ -148,24 +139,6 @@ access_tried Protected there owed space cpu command far access ready is = faulte
 
 -- Map calls
 
-queued_missing : (object : Object) (messages : List Message) (cpu : ℕ) → (all_queued object messages cpu).missing ≡ object.missing
-queued_missing object [] cpu = refl
-queued_missing object (message ∷ messages) cpu = queued_missing (event_queued object message cpu) messages cpu
-
-queued_protect : (object : Object) (messages : List Message) (cpu : ℕ) → (all_queued object messages cpu).protect ≡ object.protect
-queued_protect object [] cpu = refl
-queued_protect object (message ∷ messages) cpu = queued_protect (event_queued object message cpu) messages cpu
-
-modes_events : (object : Object) (command : Command) (reply : Reply) → (modes_after object command reply).events ≡ object.events
-modes_events object (Mmap len prot place) (At start) = refl
-modes_events object (Munmap addr len) Done = refl
-modes_events object (Mremap addr old_len new_len may_move fixed) (At target) = refl
-modes_events object _ _ = refl
-
-call_entries : (cpu : ℕ) (command : Command) (reply : Reply) (left : ℕ) → entries_of cpu command (call_took reply left) ≡ record { cpu = cpu; command = command; reply = reply } ∷ []
-call_entries cpu command reply zero = refl
-call_entries cpu command reply (suc left) = refl
-
 -- what is settled after a map call: the owed relation has changed as the pages have
 pub settled_then : (space : Space) (owed : ℕ → Option ℕ) (cpu : ℕ) (command : Command) → IsReady space owed →
     settled_in (called space cpu command) owed ≡ owed_changed (settled_in space owed) command (reply_of (memory space.host) command)
@@ -203,7 +176,7 @@ call_tried there owed space cpu command far call ready =
         pairs = subst (ArePairs new) (sym settles) pairs;
       };
       entered = Entered
-          (call_entries cpu command reply (queued_by space command) ∙ ap {B = List Entry} (λ r. record { cpu = cpu; command = command; reply = r } ∷ []) alike)
+          (entered_once cpu command reply (queued_by space command) ∙ ap {B = List Entry} (λ r. record { cpu = cpu; command = command; reply = r } ∷ []) alike)
           (ap (seen_host new.host there) settles
           ∙ called_seen space.host there now command reply call sound.host mapped new_sound.host (watched_mapped new (owed_changed now command reply) new_sound (pairs_watched new (owed_changed now command reply) pairs))
           ∙ ap (host_changed seen command) alike);

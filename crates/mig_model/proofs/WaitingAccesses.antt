@@ -1,6 +1,7 @@
 -- A command that waits is a load or a store.
 use Rattle.std.proofs.Common.{◌≡◌, ℕ, zero, suc, Bool, true, false, eqb, Option, Some, None, List, [], ◌∷◌, refl, sym, ap, ◌∙◌, subst, if◌then◌else◌}
 use Rattle.std.specs.Prelude.{map, set, length}
+use Rattle.std.proofs.lemmas.Option.{same_Some, none-some}
 use lib.ListN.{length-map}
 use Rattle.mig_base.specs.declared.cpu_state.CpuState.{CpuState}
 use Rattle.mig_base.specs.declared.phase.Received.{Received}
@@ -25,13 +26,12 @@ use Rattle.mig_model.specs.Invariant.{IsSoundWorld}
 use Rattle.mig_model.specs.Promises.{IsReached, AllAccess, AreAccesses}
 use Rattle.mig_model.proofs.FirstFrame.{first_in_place}
 use Rattle.mig_model.proofs.FramesTaken.{with_first}
-use Rattle.mig_model.proofs.WaitingCommands.{woken_keeps, taken_keeps, package_told}
+use Rattle.mig_model.proofs.WaitingCommands.{woken_keeps, taken_keeps, package_told, less_same, set_same}
 use Rattle.mig_model.proofs.EveryStep.{kept-next}
 use Rattle.mig_model.proofs.FirstWorld.{kept-first}
 use Rattle.mig_model.proofs.StepLemmas.{Leaves, leaves-next}
 use Rattle.mig_model.proofs.StepCases.{made-break, made-deliver, made-deliver_back, made-dest_act, made-dest_read, made-end, made-install, made-issue, made-notice, made-push, made-resume, made-retry, made-round, made-send, made-serve, made-source_act, made-source_read, made-start, made-switch}
 use Rattle.mig_model.specs.Cpus.{access_took, all_woken, call_took, idle_processors, message_less, outstanding, processor_after, processor_at, taken_over, woken_if}
-use Rattle.mig_model.specs.Log.{less, present}
 use Rattle.mig_model.specs.Owed.{home}
 use Rattle.mig_model.specs.Source.{Source, commands_of, source_act, source_acted_by, source_took}
 use Rattle.mig_model.specs.Destination.{Destination, copy_came, destination_act, destination_acted_by, destination_took, install_by, received_of, resumed_by}
@@ -47,22 +47,16 @@ all_like old new like all k command h = all k command (sym (like.waits k) ∙ h)
 unchanged : (processors : List CpuState) → IsLike processors processors
 unchanged processors = record { waits = λ k. refl; many = refl }
 
-none_some : {A : Type 0} (x : A) → None ≡ Some x → ⊥
-none_some x h = cc
-
-same_some : {A : Type 0} (x y : A) → Some x ≡ Some y → x ≡ y
-same_some x y h = cc
-
 -- A command that is tried
 
 answered_waits : (access : Access) (command other : Command) → outstanding (processor_after command (access_took access)) ≡ Some other → command ≡ other
-answered_waits (Answered reply) command other h = absurd (none_some other h)
-answered_waits Missing command other h = same_some command other h
-answered_waits Protected command other h = same_some command other h
+answered_waits (Answered reply) command other h = absurd (none-some other h)
+answered_waits Missing command other h = same_Some command other h
+answered_waits Protected command other h = same_Some command other h
 
 called_waits : (reply : Reply) (left : ℕ) (command other : Command) → outstanding (processor_after command (call_took reply left)) ≡ Some other → ⊥
-called_waits reply zero command other h = none_some other h
-called_waits reply (suc left) command other h = none_some other h
+called_waits reply zero command other h = none-some other h
+called_waits reply (suc left) command other h = none-some other h
 
 tried_access : (access : Bool) (space : Space) (command other : Command) → access ≡ is_access command → outstanding (processor_after command (took_by access space command)) ≡ Some other → is_access other ≡ true
 tried_access true space command other is h = ap is_access (sym (answered_waits (access_of space command) command other h)) ∙ sym is
@@ -80,14 +74,6 @@ guest_access guest cpu command all = set_access guest.cpus cpu _ (λ other h. tr
 
 -- A message that is read
 
-less_same : (p : CpuState) → outstanding (message_less p) ≡ outstanding p
-less_same CpuState.Idle = refl
-less_same (CpuState.Asleep command) = refl
-less_same (CpuState.Woken command) = refl
-less_same (CpuState.InCall reply zero) = refl
-less_same (CpuState.InCall reply (suc zero)) = refl
-less_same (CpuState.InCall reply (suc (suc left))) = refl
-
 woken_like : (test : ℕ → Bool) (processors : List CpuState) → IsLike processors (all_woken test processors)
 woken_like test processors = record { waits = woken_keeps test processors; many = length-map processors (woken_if test) }
 
@@ -95,14 +81,6 @@ set_many : (processors : List CpuState) (i : ℕ) (new : CpuState) → length (s
 set_many [] i new = refl
 set_many (p ∷ ps) zero new = refl
 set_many (p ∷ ps) (suc i) new = ap suc (set_many ps i new)
-
-set_same : (processors : List CpuState) (i : ℕ) (new : CpuState) → outstanding new ≡ outstanding (processor_at processors i) → (k : ℕ) →
-    outstanding (processor_at (set processors i new) k) ≡ outstanding (processor_at processors k)
-set_same [] i new same k = refl
-set_same (p ∷ ps) zero new same zero = same
-set_same (p ∷ ps) zero new same (suc k) = refl
-set_same (p ∷ ps) (suc i) new same zero = refl
-set_same (p ∷ ps) (suc i) new same (suc k) = set_same ps i new same k
 
 event_like : (guest : Guest) (cpu : ℕ) (message : Message) → IsLike guest.cpus (all_woken (is_left_by message) (set guest.cpus cpu (message_less (processor_at guest.cpus cpu))))
 event_like guest cpu message =
@@ -224,7 +202,7 @@ frame_all (Recv state owed) epoch rest world kept up first all = unmoved world a
 frame_all Done epoch rest world kept up first all = unmoved world all
 
 waits_answer : (world : World) (step : Step) → IsSoundWorld world → Wait world → Leaves Wait (answer world step)
-waits_answer world (Step.Issue cpu command) kept all = made-issue _ world cpu command (λ idle may. tried_all world cpu command all)
+waits_answer world (Step.Issue cpu command) kept all = made-issue _ world cpu command (λ there idle may. tried_all world cpu command all)
 waits_answer world (Step.Retry cpu) kept all = made-retry _ world cpu (λ command waits woken may. tried_all world cpu command all)
 waits_answer world Step.Start kept all = made-start _ world (λ idle. record { source = all.source; destination = all.destination; many = all.many })
 waits_answer world Step.Round kept all = made-round _ world (λ precopy quiet. record { source = all.source; destination = all.destination; many = all.many })
@@ -260,8 +238,8 @@ waits_answer world (Step.Notice Side.Destination) kept all = made-notice _ world
 waits_answer world Step.Resume kept all = made-resume _ world (λ from to down. record { source = all.source; destination = all.destination; many = all.many })
 
 idle_all : (count : ℕ) → AllAccess (idle_processors count)
-idle_all zero k command h = absurd (none_some command h)
-idle_all (suc count) zero command h = absurd (none_some command h)
+idle_all zero k command h = absurd (none-some command h)
+idle_all (suc count) zero command h = absurd (none-some command h)
 idle_all (suc count) (suc k) command h = idle_all count k command h
 
 next_all : (world : World) (step : Step) → IsSoundWorld world → Wait world → Wait (next world step)

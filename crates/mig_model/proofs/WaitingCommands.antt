@@ -1,16 +1,16 @@
 -- A command that waits is changed by no step but the Retry that answers it.
-use Rattle.std.proofs.Common.{◌≡◌, ℕ, zero, suc, Bool, true, false, eqb, Option, Some, None, List, [], ◌∷◌, refl, sym, ap, ◌∙◌, subst, arith, if◌then◌else◌, IsOk}
+use Rattle.std.proofs.Common.{◌≡◌, ℕ, zero, suc, Bool, true, false, eqb, Option, Some, None, List, [], ◌∷◌, refl, sym, ap, ◌∙◌, subst, arith, if◌then◌else◌, IsOk, ◌⊎◌, inl, inr, ⊎_elim, not, ltb, length}
 use Rattle.std.specs.Prelude.{map, set}
 use Rattle.std.specs.Ordering.{nat_cmp}
 use Rattle.std.specs.FinMap.{FinMap}
 use Rattle.std.specs.FinSet.{FinSet}
 use Rattle.std.proofs.lemmas.Bool.Decides.{nat_tests}
-use Rattle.std.proofs.lemmas.Bool.{false≢true}
+use Rattle.std.proofs.lemmas.Bool.{false≢true, eq-eqb}
+use Rattle.std.proofs.lemmas.Option.{none-some}
 use Rattle.mig_base.specs.declared.cpu_state.CpuState.{CpuState}
 use Rattle.mig_base.specs.declared.phase.DestPhase.{DestPhase}
 use Rattle.mig_base.specs.declared.phase.Received.{Received}
 use Rattle.mig_base.specs.declared.phase.SourcePhase.{SourcePhase}
-use Rattle.mig_base.specs.declared.refusal.Refusal.{Refusal}
 use Rattle.mig_base.specs.declared.schedule.Side.{Side}
 use Rattle.mig_base.specs.declared.schedule.Step.{Step}
 use Rattle.mig_base.specs.declared.Prot.{Prot}
@@ -19,21 +19,22 @@ use Rattle.mig_base.specs.declared.message.Message.{Message}
 use Rattle.mig_base.specs.declared.message.Message.TheVariants.{PageFault, Remap, Remove, Unmap}
 use Rattle.mig_base.specs.Commands.{is_access, page_of}
 use Rattle.mig_model.specs.Guest.{Guest, Fault, is_left_by, read_guest, took_by, tried, Act}
+use Rattle.mig_model.specs.Cpus.Took.{Sleep, Call}
 use Rattle.mig_model.specs.Wire.{Frame, Sent, Copy}
 use Rattle.mig_model.specs.Wire.Frame.{Advise, Page, Zero, Discard, Package, End, Resume, Request, Recv, Done}
 use Rattle.mig_model.specs.Guest.Act.{Unprotected, Zeroed, Woke, Forgot, Requested}
 use Rattle.mig_model.specs.Migration.{World, next, guest_by, guest_of, with_guest_by, after_command, after_dest_act, after_install, answer, outcome, start}
 use Rattle.mig_model.specs.Invariant.{IsSoundWorld, is_package}
-use Rattle.mig_model.specs.Promises.{is_retry_of}
+use Rattle.mig_model.specs.Promises.{is_retry_of, Slept}
 use Rattle.mig_model.proofs.FirstFrame.{comes, first_in_place, delivered}
 use Rattle.mig_model.proofs.FramesTaken.{with_first, commands_in}
 use Rattle.mig_model.proofs.StepLemmas.{Leaves, leaves-next, leaves-ok}
 use Rattle.mig_model.proofs.StepCases.{made-break, made-deliver, made-deliver_back, made-dest_act, made-dest_read, made-end, made-install, made-issue, made-notice, made-push, made-resume, made-retry, made-round, made-send, made-serve, made-source_act, made-source_read, made-start, made-switch}
-use Rattle.mig_model.specs.Cpus.{all_woken, is_idle, message_less, outstanding, processor_after, processor_at, taken_over, woken_if}
-use Rattle.mig_model.specs.Log.{present}
+use Rattle.mig_model.specs.Cpus.{all_woken, is_idle, message_less, outstanding, processor_after, processor_at, taken_over, woken_if, Took}
 use Rattle.mig_model.specs.Owed.{home}
 use Rattle.mig_model.specs.Source.{Source, commands_of, source_act, source_acted_by, source_took}
 use Rattle.mig_model.specs.Destination.{Destination, copy_came, destination_act, destination_acted, destination_acted_by, destination_read, destination_took, install_by, received_of, resumed_by}
+use Rattle.mig_model.proofs.Facts.{some_command}
 
 -- Processors
 
@@ -41,14 +42,15 @@ use Rattle.mig_model.specs.Destination.{Destination, copy_came, destination_act,
 pub waits_at : List CpuState → ℕ → Option Command
 waits_at processors k = outstanding (processor_at processors k)
 
-set_keeps : (processors : List CpuState) (i k : ℕ) (new : CpuState) (command : Command) → outstanding (processor_at processors k) ≡ Some command → (i ≡ k → outstanding new ≡ Some command) → outstanding (processor_at (set processors i new) k) ≡ Some command
-set_keeps [] i k new command h same = h
-set_keeps (p ∷ ps) zero zero new command h same = same refl
-set_keeps (p ∷ ps) zero (suc k) new command h same = h
-set_keeps (p ∷ ps) (suc i) zero new command h same = h
-set_keeps (p ∷ ps) (suc i) (suc k) new command h same = set_keeps ps i k new command h (λ e. same (ap suc e))
+pub set_same : (processors : List CpuState) (i : ℕ) (new : CpuState) → outstanding new ≡ outstanding (processor_at processors i) → (k : ℕ) →
+    outstanding (processor_at (set processors i new) k) ≡ outstanding (processor_at processors k)
+set_same [] i new same k = refl
+set_same (p ∷ ps) zero new same zero = same
+set_same (p ∷ ps) zero new same (suc k) = refl
+set_same (p ∷ ps) (suc i) new same zero = refl
+set_same (p ∷ ps) (suc i) new same (suc k) = set_same ps i new same k
 
-map_at : (f : CpuState → CpuState) (ps : List CpuState) (k : ℕ) → f CpuState.Idle ≡ CpuState.Idle → processor_at (map f ps) k ≡ f (processor_at ps k)
+pub map_at : (f : CpuState → CpuState) (ps : List CpuState) (k : ℕ) → f CpuState.Idle ≡ CpuState.Idle → processor_at (map f ps) k ≡ f (processor_at ps k)
 map_at f [] k idle = sym idle
 map_at f (p ∷ ps) zero idle = refl
 map_at f (p ∷ ps) (suc k) idle = map_at f ps k idle
@@ -67,14 +69,13 @@ woken_outstanding test (CpuState.InCall reply left) = refl
 pub woken_keeps : (test : ℕ → Bool) (ps : List CpuState) (k : ℕ) → outstanding (processor_at (all_woken test ps) k) ≡ outstanding (processor_at ps k)
 woken_keeps test ps k = ap outstanding (map_at (woken_if test) ps k refl) ∙ woken_outstanding test (processor_at ps k)
 
-none_some : {A : Type 0} (x : A) → None ≡ Some x → ⊥
-none_some x h = cc
-
-less_keeps : (p : CpuState) (command : Command) → outstanding p ≡ Some command → outstanding (message_less p) ≡ Some command
-less_keeps CpuState.Idle command h = h
-less_keeps (CpuState.Asleep other) command h = h
-less_keeps (CpuState.Woken other) command h = h
-less_keeps (CpuState.InCall reply left) command h = absurd (none_some command h)
+pub less_same : (p : CpuState) → outstanding (message_less p) ≡ outstanding p
+less_same CpuState.Idle = refl
+less_same (CpuState.Asleep command) = refl
+less_same (CpuState.Woken command) = refl
+less_same (CpuState.InCall reply zero) = refl
+less_same (CpuState.InCall reply (suc zero)) = refl
+less_same (CpuState.InCall reply (suc (suc left))) = refl
 
 taken_outstanding : (p : CpuState) → outstanding (taken_over (outstanding p)) ≡ outstanding p
 taken_outstanding CpuState.Idle = refl
@@ -90,54 +91,54 @@ taken_keeps (p ∷ ps) (suc k) = taken_keeps ps k
 
 -- Guests
 
--- the second guest still has to make what the first has to
-abbrev pub StillWaits : Guest → Guest → Type 0
-StillWaits old new = (k : ℕ) (command : Command) → outstanding (processor_at old.cpus k) ≡ Some command → outstanding (processor_at new.cpus k) ≡ Some command
+-- the second guest has to make what the first has to, and nothing else
+abbrev pub SameWaits : Guest → Guest → Type 0
+SameWaits old new = (k : ℕ) → outstanding (processor_at new.cpus k) ≡ outstanding (processor_at old.cpus k)
 
-read_keeps : (guest : Guest) (cpu : ℕ) (message : Message) (k : ℕ) (command : Command) → outstanding (processor_at guest.cpus k) ≡ Some command →
-    outstanding (processor_at (all_woken (is_left_by message) (set guest.cpus cpu (message_less (processor_at guest.cpus cpu)))) k) ≡ Some command
-read_keeps guest cpu message k command h =
+read_same : (guest : Guest) (cpu : ℕ) (message : Message) (k : ℕ) →
+    outstanding (processor_at (all_woken (is_left_by message) (set guest.cpus cpu (message_less (processor_at guest.cpus cpu)))) k) ≡ outstanding (processor_at guest.cpus k)
+read_same guest cpu message k =
     woken_keeps (is_left_by message) (set guest.cpus cpu (message_less (processor_at guest.cpus cpu))) k
-    ∙ set_keeps guest.cpus cpu k (message_less (processor_at guest.cpus cpu)) command h (λ e. less_keeps (processor_at guest.cpus cpu) command (ap (λ i. outstanding (processor_at guest.cpus i)) e ∙ h))
+    ∙ set_same guest.cpus cpu (message_less (processor_at guest.cpus cpu)) (less_same (processor_at guest.cpus cpu)) k
 
-pub waits_read : (guest : Guest) (cpu : ℕ) (message : Message) → StillWaits guest (read_guest guest cpu message)
-waits_read guest cpu (PageFault addr write wp) k command h = h
-waits_read guest cpu (Remap from to len) k command h = read_keeps guest cpu (Remap from to len) k command h
-waits_read guest cpu (Remove start end) k command h = read_keeps guest cpu (Remove start end) k command h
-waits_read guest cpu (Unmap start end) k command h = read_keeps guest cpu (Unmap start end) k command h
+pub waits_read : (guest : Guest) (cpu : ℕ) (message : Message) → SameWaits guest (read_guest guest cpu message)
+waits_read guest cpu (PageFault addr write wp) k = refl
+waits_read guest cpu (Remap from to len) k = read_same guest cpu (Remap from to len) k
+waits_read guest cpu (Remove start end) k = read_same guest cpu (Remove start end) k
+waits_read guest cpu (Unmap start end) k = read_same guest cpu (Unmap start end) k
 
 -- where the guest runs, by the node that changes
-pub waits_source : (ran : Bool) (old new to : Guest) → StillWaits old new → StillWaits (guest_by ran old to) (guest_by ran new to)
-waits_source true old new to still k command h = h
-waits_source false old new to still k command h = still k command h
+pub waits_source : (ran : Bool) (old new to : Guest) → SameWaits old new → SameWaits (guest_by ran old to) (guest_by ran new to)
+waits_source true old new to same k = refl
+waits_source false old new to same k = same k
 
-pub waits_destination : (ran : Bool) (from old new : Guest) → StillWaits old new → StillWaits (guest_by ran from old) (guest_by ran from new)
-waits_destination true from old new still k command h = still k command h
-waits_destination false from old new still k command h = h
+pub waits_destination : (ran : Bool) (from old new : Guest) → SameWaits old new → SameWaits (guest_by ran from old) (guest_by ran from new)
+waits_destination true from old new same k = same k
+waits_destination false from old new same k = refl
 
 -- the steps of the nodes
 
-pub waits_source_act : (act : Act) (node : Source) (page : ℕ) → StillWaits node.guest (source_acted_by act node page).guest
-waits_source_act Unprotected node page k command h = woken_keeps (λ q. eqb q page) node.guest.cpus k ∙ h
-waits_source_act Zeroed node page k command h = woken_keeps (λ q. eqb q page) node.guest.cpus k ∙ h
-waits_source_act Woke node page k command h = woken_keeps (λ q. eqb q page) node.guest.cpus k ∙ h
-waits_source_act Forgot node page k command h = woken_keeps (λ q. eqb q page) node.guest.cpus k ∙ h
-waits_source_act (Requested source) node page k command h = woken_keeps (λ q. eqb q page) node.guest.cpus k ∙ h
+pub waits_source_act : (act : Act) (node : Source) (page : ℕ) → SameWaits node.guest (source_acted_by act node page).guest
+waits_source_act Unprotected node page k = woken_keeps (λ q. eqb q page) node.guest.cpus k
+waits_source_act Zeroed node page k = woken_keeps (λ q. eqb q page) node.guest.cpus k
+waits_source_act Woke node page k = woken_keeps (λ q. eqb q page) node.guest.cpus k
+waits_source_act Forgot node page k = woken_keeps (λ q. eqb q page) node.guest.cpus k
+waits_source_act (Requested source) node page k = woken_keeps (λ q. eqb q page) node.guest.cpus k
 
-pub waits_destination_act : (act : Act) (node : Destination) (page : ℕ) → StillWaits node.guest (destination_acted_by act node page).guest
-waits_destination_act Unprotected node page k command h = woken_keeps (λ q. eqb q page) node.guest.cpus k ∙ h
-waits_destination_act Zeroed node page k command h = woken_keeps (λ q. eqb q page) node.guest.cpus k ∙ h
-waits_destination_act Woke node page k command h = woken_keeps (λ q. eqb q page) node.guest.cpus k ∙ h
-waits_destination_act Forgot node page k command h = woken_keeps (λ q. eqb q page) node.guest.cpus k ∙ h
-waits_destination_act (Requested source) node page k command h = h
+pub waits_destination_act : (act : Act) (node : Destination) (page : ℕ) → SameWaits node.guest (destination_acted_by act node page).guest
+waits_destination_act Unprotected node page k = woken_keeps (λ q. eqb q page) node.guest.cpus k
+waits_destination_act Zeroed node page k = woken_keeps (λ q. eqb q page) node.guest.cpus k
+waits_destination_act Woke node page k = woken_keeps (λ q. eqb q page) node.guest.cpus k
+waits_destination_act Forgot node page k = woken_keeps (λ q. eqb q page) node.guest.cpus k
+waits_destination_act (Requested source) node page k = refl
 
-install_waits : (o : Option ℕ) (node : Destination) (copy : Copy) (rest : List Copy) → StillWaits node.guest (install_by o node copy rest).guest
-install_waits None node copy rest k command h = h
-install_waits (Some page) node copy rest k command h = woken_keeps (λ q. eqb q page) node.guest.cpus k ∙ h
+install_waits : (o : Option ℕ) (node : Destination) (copy : Copy) (rest : List Copy) → SameWaits node.guest (install_by o node copy rest).guest
+install_waits None node copy rest k = refl
+install_waits (Some page) node copy rest k = woken_keeps (λ q. eqb q page) node.guest.cpus k
 
 -- Steps
 
-same_guest : (ran : Bool) (world : World) (guest : Guest) → guest_by ran (with_guest_by ran world guest).source.guest (with_guest_by ran world guest).destination.guest ≡ guest
+pub same_guest : (ran : Bool) (world : World) (guest : Guest) → guest_by ran (with_guest_by ran world guest).source.guest (with_guest_by ran world guest).destination.guest ≡ guest
 same_guest true world guest = refl
 same_guest false world guest = refl
 
@@ -153,20 +154,23 @@ tried_guest world cpu command =
     ap (λ b. guest_by b (with_guest_by ran world guest).source.guest (with_guest_by ran world guest).destination.guest) (same_ran ran world guest) ∙ same_guest ran world guest
 
 -- another processor has tried a command
-tried_keeps : (world : World) (cpu : ℕ) (tries : Command) (k : ℕ) (command : Command) → (cpu ≡ k → ⊥) → outstanding (processor_at (guest_of world).cpus k) ≡ Some command →
-    outstanding (processor_at (guest_of (after_command world cpu tries)).cpus k) ≡ Some command
-tried_keeps world cpu tries k command other h =
+pub set_other : (processors : List CpuState) (i k : ℕ) (new : CpuState) → (i ≡ k → ⊥) → processor_at (set processors i new) k ≡ processor_at processors k
+set_other [] i k new other = refl
+set_other (p ∷ ps) zero zero new other = absurd (other refl)
+set_other (p ∷ ps) zero (suc k) new other = refl
+set_other (p ∷ ps) (suc i) zero new other = refl
+set_other (p ∷ ps) (suc i) (suc k) new other = set_other ps i k new (λ e. other (ap suc e))
+
+pub tried_other : (world : World) (cpu : ℕ) (tries : Command) (k : ℕ) → (cpu ≡ k → ⊥) → outstanding (processor_at (guest_of (after_command world cpu tries)).cpus k) ≡ outstanding (processor_at (guest_of world).cpus k)
+tried_other world cpu tries k other =
     ap (λ g. outstanding (processor_at g.cpus k)) (tried_guest world cpu tries)
-    ∙ set_keeps (guest_of world).cpus cpu k (processor_after tries (took_by (is_access tries) (guest_of world).space tries)) command h (λ e. absurd (other e))
+    ∙ ap outstanding (set_other (guest_of world).cpus cpu k (processor_after tries (took_by (is_access tries) (guest_of world).space tries)) other)
 
 idle_none : (p : CpuState) (command : Command) → is_idle p ≡ true → outstanding p ≡ Some command → ⊥
-idle_none CpuState.Idle command h e = none_some command e
+idle_none CpuState.Idle command h e = none-some command e
 idle_none (CpuState.Asleep other) command h e = false≢true h
 idle_none (CpuState.Woken other) command h e = false≢true h
 idle_none (CpuState.InCall reply left) command h e = false≢true h
-
-eqb-is : (a b : ℕ) → a ≡ b → eqb a b ≡ true
-eqb-is a b h = grind (arith, nat_tests)
 
 acted_ran : (act : Act) (node : Destination) (page : ℕ) → (destination_acted_by act node page).has_run ≡ node.has_run
 acted_ran Unprotected node page = refl
@@ -179,16 +183,16 @@ installed_ran : (o : Option ℕ) (node : Destination) (copy : Copy) (rest : List
 installed_ran None node copy rest = refl
 installed_ran (Some page) node copy rest = refl
 
-installed_keeps : (copy : Copy) (rest : List Copy) (world : World) → StillWaits (guest_of world) (guest_of (after_install world copy rest))
-installed_keeps copy rest world k command h =
+installed_same : (copy : Copy) (rest : List Copy) (world : World) → SameWaits (guest_of world) (guest_of (after_install world copy rest))
+installed_same copy rest world k =
     let o = home world.destination.owed copy.page in
     ap (λ b. outstanding (processor_at (guest_by b world.source.guest (install_by o world.destination copy rest).guest).cpus k)) (installed_ran o world.destination copy rest)
-    ∙ waits_destination world.destination.has_run world.source.guest world.destination.guest (install_by o world.destination copy rest).guest (install_waits o world.destination copy rest) k command h
+    ∙ waits_destination world.destination.has_run world.source.guest world.destination.guest (install_by o world.destination copy rest).guest (install_waits o world.destination copy rest) k
 
-acted_destination_keeps : (fault : Fault) (world : World) → StillWaits (guest_of world) (guest_of (after_dest_act world fault))
-acted_destination_keeps fault world k command h =
+acted_same : (fault : Fault) (world : World) → SameWaits (guest_of world) (guest_of (after_dest_act world fault))
+acted_same fault world k =
     ap (λ b. outstanding (processor_at (guest_by b world.source.guest (destination_acted world.destination fault).guest).cpus k)) (acted_ran (destination_act world.destination fault) world.destination fault.page)
-    ∙ waits_destination world.destination.has_run world.source.guest world.destination.guest (destination_acted world.destination fault).guest (waits_destination_act (destination_act world.destination fault) world.destination fault.page) k command h
+    ∙ waits_destination world.destination.has_run world.source.guest world.destination.guest (destination_acted world.destination fault).guest (waits_destination_act (destination_act world.destination fault) world.destination fault.page) k
 
 -- Deliveries
 
@@ -230,9 +234,9 @@ package_told SourcePhase.Precopy DestPhase.Idle epoch areas owed commands rest w
 package_told SourcePhase.Paused DestPhase.Paused epoch areas owed commands rest world is up kept = absurd (false≢true is)
 package_told _ _ epoch areas owed commands rest world is up kept = absurd (false≢true is)
 
-package_keeps : (epoch : ℕ) (areas : FinMap nat_cmp Prot) (owed : FinSet nat_cmp) (commands : List (Option Command)) (rest : List Sent) (world : World) → world.up ≡ true → world.forward.frames ≡ record { epoch = epoch; frame = Package areas owed commands } ∷ rest → IsSoundWorld world →
-    StillWaits (guest_of world) (guest_of (delivered world (record { epoch = epoch; frame = Package areas owed commands } ∷ rest)))
-package_keeps epoch areas owed commands rest world up first kept k command h =
+package_same : (epoch : ℕ) (areas : FinMap nat_cmp Prot) (owed : FinSet nat_cmp) (commands : List (Option Command)) (rest : List Sent) (world : World) → world.up ≡ true → world.forward.frames ≡ record { epoch = epoch; frame = Package areas owed commands } ∷ rest → IsSoundWorld world →
+    SameWaits (guest_of world) (guest_of (delivered world (record { epoch = epoch; frame = Package areas owed commands } ∷ rest)))
+package_same epoch areas owed commands rest world up first kept k =
     let again = subst (λ w. IsSoundWorld (record world { forward = record world.forward { frames = w } })) first kept in
     let old = with_first world.source.phase world.destination.phase epoch (Package areas owed commands) rest world in
     let is = first_in_place old.source old.destination (record { epoch = epoch; frame = Package areas owed commands }) rest old.back.frames (again.flight.wires up) in
@@ -240,92 +244,150 @@ package_keeps epoch areas owed commands rest world up first kept k command h =
     ap (λ cs. outstanding (processor_at (map taken_over cs) k)) told.0
     ∙ taken_keeps world.source.guest.cpus k
     ∙ ap (λ b. outstanding (processor_at (guest_by b world.source.guest world.destination.guest).cpus k)) (sym told.1)
-    ∙ h
 
-same_keeps : (world : World) (new : Destination) → IsSame world.destination new → (k : ℕ) (command : Command) → outstanding (processor_at (guest_of world).cpus k) ≡ Some command →
-    outstanding (processor_at (guest_by new.has_run world.source.guest new.guest).cpus k) ≡ Some command
-same_keeps world new is k command h =
+same_node_waits : (world : World) (new : Destination) → IsSame world.destination new → SameWaits (guest_of world) (guest_by new.has_run world.source.guest new.guest)
+same_node_waits world new is k =
     ap (λ b. outstanding (processor_at (guest_by b world.source.guest new.guest).cpus k)) is.ran
     ∙ ap (λ g. outstanding (processor_at (guest_by world.destination.has_run world.source.guest g).cpus k)) is.guest
-    ∙ h
 
-delivered_first : (epoch : ℕ) (frame : Frame) (rest : List Sent) (world : World) → world.up ≡ true → world.forward.frames ≡ record { epoch = epoch; frame = frame } ∷ rest → IsSoundWorld world → StillWaits (guest_of world) (guest_of (delivered world (record { epoch = epoch; frame = frame } ∷ rest)))
-delivered_first epoch (Package areas owed commands) rest world up first kept k command h = package_keeps epoch areas owed commands rest world up first kept k command h
-delivered_first epoch Advise rest world up first kept k command h = same_keeps world _ (same_took Advise world.destination epoch refl) k command h
-delivered_first epoch (Page page bytes) rest world up first kept k command h = same_keeps world _ (same_took (Page page bytes) world.destination epoch refl) k command h
-delivered_first epoch (Zero page) rest world up first kept k command h = same_keeps world _ (same_took (Zero page) world.destination epoch refl) k command h
-delivered_first epoch (Discard pages) rest world up first kept k command h = same_keeps world _ (same_took (Discard pages) world.destination epoch refl) k command h
-delivered_first epoch End rest world up first kept k command h = same_keeps world _ (same_took End world.destination epoch refl) k command h
-delivered_first epoch Resume rest world up first kept k command h = same_keeps world _ (same_took Resume world.destination epoch refl) k command h
-delivered_first epoch (Request page) rest world up first kept k command h = same_keeps world _ (same_took (Request page) world.destination epoch refl) k command h
-delivered_first epoch (Recv state owed) rest world up first kept k command h = same_keeps world _ (same_took (Recv state owed) world.destination epoch refl) k command h
-delivered_first epoch Done rest world up first kept k command h = same_keeps world _ (same_took Done world.destination epoch refl) k command h
+delivered_first : (epoch : ℕ) (frame : Frame) (rest : List Sent) (world : World) → world.up ≡ true → world.forward.frames ≡ record { epoch = epoch; frame = frame } ∷ rest → IsSoundWorld world → SameWaits (guest_of world) (guest_of (delivered world (record { epoch = epoch; frame = frame } ∷ rest)))
+delivered_first epoch (Package areas owed commands) rest world up first kept k = package_same epoch areas owed commands rest world up first kept k
+delivered_first epoch Advise rest world up first kept k = same_node_waits world _ (same_took Advise world.destination epoch refl) k
+delivered_first epoch (Page page bytes) rest world up first kept k = same_node_waits world _ (same_took (Page page bytes) world.destination epoch refl) k
+delivered_first epoch (Zero page) rest world up first kept k = same_node_waits world _ (same_took (Zero page) world.destination epoch refl) k
+delivered_first epoch (Discard pages) rest world up first kept k = same_node_waits world _ (same_took (Discard pages) world.destination epoch refl) k
+delivered_first epoch End rest world up first kept k = same_node_waits world _ (same_took End world.destination epoch refl) k
+delivered_first epoch Resume rest world up first kept k = same_node_waits world _ (same_took Resume world.destination epoch refl) k
+delivered_first epoch (Request page) rest world up first kept k = same_node_waits world _ (same_took (Request page) world.destination epoch refl) k
+delivered_first epoch (Recv state owed) rest world up first kept k = same_node_waits world _ (same_took (Recv state owed) world.destination epoch refl) k
+delivered_first epoch Done rest world up first kept k = same_node_waits world _ (same_took Done world.destination epoch refl) k
 
-rebuilt_by : (switched : Bool) (a b node : Source) → StillWaits node.guest a.guest → StillWaits node.guest b.guest → StillWaits node.guest (if switched then a else b).guest
+rebuilt_by : (switched : Bool) (a b node : Source) → SameWaits node.guest a.guest → SameWaits node.guest b.guest → SameWaits node.guest (if switched then a else b).guest
 rebuilt_by true a b node one two = one
 rebuilt_by false a b node one two = two
 
-took_keeps : (frame : Frame) (node : Source) → StillWaits node.guest (source_took node frame).guest
-took_keeps (Request page) node k command h = h
-took_keeps (Recv Received.NotRun owed) node k command h = rebuilt_by node.switched _ _ node (λ i c e. e) (λ i c e. e) k command h
-took_keeps (Recv Received.Running owed) node k command h = h
-took_keeps (Recv Received.Ended owed) node k command h = h
-took_keeps Done node k command h = h
-took_keeps Advise node k command h = h
-took_keeps (Page page bytes) node k command h = h
-took_keeps (Zero page) node k command h = h
-took_keeps (Discard pages) node k command h = h
-took_keeps (Package areas owed commands) node k command h = h
-took_keeps End node k command h = h
-took_keeps Resume node k command h = h
+took_same : (frame : Frame) (node : Source) → SameWaits node.guest (source_took node frame).guest
+took_same (Request page) node k = refl
+took_same (Recv Received.NotRun owed) node k = rebuilt_by node.switched _ _ node (λ i. refl) (λ i. refl) k
+took_same (Recv Received.Running owed) node k = refl
+took_same (Recv Received.Ended owed) node k = refl
+took_same Done node k = refl
+took_same Advise node k = refl
+took_same (Page page bytes) node k = refl
+took_same (Zero page) node k = refl
+took_same (Discard pages) node k = refl
+took_same (Package areas owed commands) node k = refl
+took_same End node k = refl
+took_same Resume node k = refl
 
-same_source : (world : World) (new : Guest) → StillWaits world.source.guest new → StillWaits (guest_of world) (guest_by world.destination.has_run new world.destination.guest)
-same_source world new still k command h = waits_source world.destination.has_run world.source.guest new world.destination.guest still k command h
+same_source : (world : World) (new : Guest) → SameWaits world.source.guest new → SameWaits (guest_of world) (guest_by world.destination.has_run new world.destination.guest)
+same_source world new same k = waits_source world.destination.has_run world.source.guest new world.destination.guest same k
+
+-- every step but an Issue and a Retry leaves what each processor has to make
+abbrev pub WaitsAs : World → World → Type 0
+WaitsAs world new = SameWaits (guest_of world) (guest_of new)
+
+abbrev pub is_try : Step → Bool
+is_try (Step.Issue cpu command) = true
+is_try (Step.Retry cpu) = true
+is_try step = false
+
+pub same_answer : (world : World) (step : Step) → IsSoundWorld world → is_try step ≡ false → Leaves (WaitsAs world) (answer world step)
+same_answer world (Step.Issue cpu tries) kept other = absurd (false≢true (sym other))
+same_answer world (Step.Retry cpu) kept other = absurd (false≢true (sym other))
+same_answer world Step.Start kept other = made-start _ world (λ idle. same_source world _ (λ i. refl))
+same_answer world Step.Round kept other = made-round _ world (λ precopy quiet. same_source world _ (λ i. refl))
+same_answer world Step.Send kept other = made-send _ world (λ page is precopy up quiet. same_source world _ (λ i. refl))
+same_answer world Step.SourceRead kept other = made-source_read _ world (λ noted is started unswitched. same_source world _ (waits_read world.source.guest noted.cpu noted.message))
+same_answer world Step.SourceAct kept other = made-source_act _ world (λ fault rest is started unswitched quiet. same_source world _ (waits_source_act (source_act world.source fault) world.source fault.page))
+same_answer world Step.Switch kept other = made-switch _ world (λ precopy up quiet. same_source world _ (λ i. refl))
+same_answer world (Step.Deliver n) kept other = made-deliver _ world n (λ sent rest is short k. refl) (λ sent rest is full started up free. delivered_first sent.epoch sent.frame rest world up is kept)
+same_answer world (Step.DeliverBack n) kept other = made-deliver_back _ world n (λ sent rest is short k. refl) (λ sent rest is full started up. same_source world _ (took_same sent.frame world.source))
+same_answer world Step.DestRead kept other =
+    made-dest_read _ world (λ noted is ran.
+    waits_destination world.destination.has_run world.source.guest world.destination.guest (destination_read world.destination noted).guest (waits_read world.destination.guest noted.cpu noted.message))
+same_answer world Step.DestAct kept other = made-dest_act _ world (λ fault rest is ran quiet. acted_same fault world)
+same_answer world Step.Install kept other = made-install _ world (λ copy rest is ran quiet. installed_same copy rest world)
+same_answer world (Step.Push ticket) kept other = made-push _ world ticket (λ stopped up own present remains. same_source world _ (λ i. refl))
+same_answer world Step.Serve kept other = made-serve _ world (λ page pages is stopped up. same_source world _ (λ i. refl))
+same_answer world Step.End kept other = made-end _ world (λ stopped ended up none. same_source world _ (λ i. refl))
+same_answer world Step.Break kept other = made-break _ world (λ started unreleased up k. refl)
+same_answer world (Step.Notice Side.Source) kept other = made-notice _ world Side.Source (λ started unreleased down k. refl)
+same_answer world (Step.Notice Side.Destination) kept other = made-notice _ world Side.Destination (λ started unreleased down k. refl)
+same_answer world Step.Resume kept other = made-resume _ world (λ from to down. same_source world _ (λ i. refl))
+
+pub same_waits : (world : World) (step : Step) → IsSoundWorld world → is_try step ≡ false → WaitsAs world (next world step)
+same_waits world step kept other = leaves-next (WaitsAs world) world step (λ k. refl) (same_answer world step kept other)
 
 -- a processor of a number still has to make its command
 abbrev WaitsIn : ℕ → Command → World → Type 0
 WaitsIn k command world = outstanding (processor_at (guest_of world).cpus k) ≡ Some command
 
-waiting_answer : (world : World) (step : Step) (k : ℕ) (command : Command) → IsSoundWorld world → is_retry_of step k ≡ false → WaitsIn k command world → Leaves (WaitsIn k command) (answer world step)
-waiting_answer world (Step.Issue cpu tries) k command kept other h =
-    made-issue _ world cpu tries (λ idle may.
-    tried_keeps world cpu tries k command (λ e. idle_none (processor_at (guest_of world).cpus cpu) command idle (ap (λ i. outstanding (processor_at (guest_of world).cpus i)) e ∙ h)) h)
-waiting_answer world (Step.Retry cpu) k command kept other h = made-retry _ world cpu (λ tries is woken may. tried_keeps world cpu tries k command (λ e. false≢true (sym other ∙ eqb-is cpu k e)) h)
-waiting_answer world Step.Start k command kept other h = made-start _ world (λ idle. same_source world _ (λ i c e. e) k command h)
-waiting_answer world Step.Round k command kept other h = made-round _ world (λ precopy quiet. same_source world _ (λ i c e. e) k command h)
-waiting_answer world Step.Send k command kept other h = made-send _ world (λ page is precopy up quiet. same_source world _ (λ i c e. e) k command h)
-waiting_answer world Step.SourceRead k command kept other h = made-source_read _ world (λ noted is started unswitched. same_source world _ (waits_read world.source.guest noted.cpu noted.message) k command h)
-waiting_answer world Step.SourceAct k command kept other h =
-    made-source_act _ world (λ fault rest is started unswitched quiet. same_source world _ (waits_source_act (source_act world.source fault) world.source fault.page) k command h)
-waiting_answer world Step.Switch k command kept other h = made-switch _ world (λ precopy up quiet. same_source world _ (λ i c e. e) k command h)
-waiting_answer world (Step.Deliver n) k command kept other h = made-deliver _ world n (λ sent rest is short. h) (λ sent rest is full started up free. delivered_first sent.epoch sent.frame rest world up is kept k command h)
-waiting_answer world (Step.DeliverBack n) k command kept other h = made-deliver_back _ world n (λ sent rest is short. h) (λ sent rest is full started up. same_source world _ (took_keeps sent.frame world.source) k command h)
-waiting_answer world Step.DestRead k command kept other h =
-    made-dest_read _ world (λ noted is ran.
-    waits_destination world.destination.has_run world.source.guest world.destination.guest (destination_read world.destination noted).guest (waits_read world.destination.guest noted.cpu noted.message) k command h)
-waiting_answer world Step.DestAct k command kept other h = made-dest_act _ world (λ fault rest is ran quiet. acted_destination_keeps fault world k command h)
-waiting_answer world Step.Install k command kept other h = made-install _ world (λ copy rest is ran quiet. installed_keeps copy rest world k command h)
-waiting_answer world (Step.Push ticket) k command kept other h = made-push _ world ticket (λ stopped up own present remains. same_source world _ (λ i c e. e) k command h)
-waiting_answer world Step.Serve k command kept other h = made-serve _ world (λ page pages is stopped up. same_source world _ (λ i c e. e) k command h)
-waiting_answer world Step.End k command kept other h = made-end _ world (λ stopped ended up none. same_source world _ (λ i c e. e) k command h)
-waiting_answer world Step.Break k command kept other h = made-break _ world (λ started unreleased up. h)
-waiting_answer world (Step.Notice Side.Source) k command kept other h = made-notice _ world Side.Source (λ started unreleased down. h)
-waiting_answer world (Step.Notice Side.Destination) k command kept other h = made-notice _ world Side.Destination (λ started unreleased down. h)
-waiting_answer world Step.Resume k command kept other h = made-resume _ world (λ from to down. same_source world _ (λ i c e. e) k command h)
-
 pub waiting_command : (world : World) (step : Step) (k : ℕ) (command : Command) → IsSoundWorld world → is_retry_of step k ≡ false → outstanding (processor_at (guest_of world).cpus k) ≡ Some command →
     outstanding (processor_at (guest_of (next world step)).cpus k) ≡ Some command
-waiting_command world step k command kept other h = leaves-next (WaitsIn k command) world step h (waiting_answer world step k command kept other h)
+waiting_command world (Step.Issue cpu tries) k command kept other h =
+    leaves-next (WaitsIn k command) world (Step.Issue cpu tries) h
+    (made-issue _ world cpu tries (λ there idle may.
+    tried_other world cpu tries k (λ e. idle_none (processor_at (guest_of world).cpus cpu) command idle (ap (λ i. outstanding (processor_at (guest_of world).cpus i)) e ∙ h)) ∙ h))
+waiting_command world (Step.Retry cpu) k command kept other h =
+    leaves-next (WaitsIn k command) world (Step.Retry cpu) h (made-retry _ world cpu (λ tries is woken may. tried_other world cpu tries k (λ e. false≢true (sym other ∙ eq-eqb cpu k e)) ∙ h))
+waiting_command world step k command kept other h = same_waits world step kept refl k ∙ h
 
--- What a Retry makes of its processor
+-- Who comes to wait
+
+sleeps_by : (took : Took) (tries command : Command) → outstanding (processor_after tries took) ≡ Some command → (tries ≡ command) × (took ≡ Sleep)
+sleeps_by (Took.Answer reply) tries command h = absurd (none-some command h)
+sleeps_by Sleep tries command h = (some_command tries command h, refl)
+sleeps_by (Call reply left) tries command h = absurd (none-some command h)
+
+-- what stands at a place of a list where one was set
+set_at : (processors : List CpuState) (i k : ℕ) (new : CpuState) (command : Command) → outstanding (processor_at (set processors i new) k) ≡ Some command →
+    ((i ≡ k) × (outstanding new ≡ Some command)) ⊎ (outstanding (processor_at processors k) ≡ Some command)
+set_at [] i k new command h = inr h
+set_at (p ∷ ps) zero zero new command h = inl (refl, h)
+set_at (p ∷ ps) zero (suc k) new command h = inr h
+set_at (p ∷ ps) (suc i) zero new command h = inr h
+set_at (p ∷ ps) (suc i) (suc k) new command h = ⊎_elim (λ (one : (i ≡ k) × (outstanding new ≡ Some command)). inl (ap suc one.0, one.1)) (λ (two : outstanding (processor_at ps k) ≡ Some command). inr two) (set_at ps i k new command h)
+
+-- a processor has a command to make only if it had it, or its own Issue slept
+abbrev ArisesIn : World → Step → ℕ → Command → World → Type 0
+ArisesIn world step k command new = WaitsIn k command new → WaitsIn k command world ⊎ Slept world step k command
+
+tried_waits : (world : World) (cpu : ℕ) (tries : Command) (k : ℕ) (command : Command) → WaitsIn k command (after_command world cpu tries) →
+    ((cpu ≡ k) × (tries ≡ command) × (took_by (is_access tries) (guest_of world).space tries ≡ Sleep)) ⊎ WaitsIn k command world
+tried_waits world cpu tries k command h =
+    let took = took_by (is_access tries) (guest_of world).space tries in
+    ⊎_elim
+    (λ (one : (cpu ≡ k) × (outstanding (processor_after tries took) ≡ Some command)). let told = sleeps_by took tries command one.1 in inl (one.0, told.0, told.1))
+    (λ (two : outstanding (processor_at (guest_of world).cpus k) ≡ Some command). inr two)
+    (set_at (guest_of world).cpus cpu k (processor_after tries took) command (sym (ap (λ g. outstanding (processor_at g.cpus k)) (tried_guest world cpu tries)) ∙ h))
+
+issue_same : (cpu k : ℕ) (tries command : Command) → cpu ≡ k → tries ≡ command → Step.Issue cpu tries ≡ Step.Issue k command
+issue_same cpu k tries command a b = ap (λ i. Step.Issue i tries) a ∙ ap (λ c. Step.Issue k c) b
+
+pub waits_arise : (world : World) (step : Step) (k : ℕ) (command : Command) → IsSoundWorld world → WaitsIn k command (next world step) → WaitsIn k command world ⊎ Slept world step k command
+waits_arise world (Step.Issue cpu tries) k command kept =
+    leaves-next (ArisesIn world (Step.Issue cpu tries) k command) world (Step.Issue cpu tries) (λ h. inl h)
+    (made-issue _ world cpu tries (λ there idle may h.
+    ⊎_elim
+    (λ (one : (cpu ≡ k) × (tries ≡ command) × (took_by (is_access tries) (guest_of world).space tries ≡ Sleep)).
+    inr (record { step_is = issue_same cpu k tries command one.0 one.1; sleeps = subst (λ c. took_by (is_access c) (guest_of world).space c ≡ Sleep) one.1 one.2 }))
+    (λ (two : WaitsIn k command world). inl two) (tried_waits world cpu tries k command h)))
+waits_arise world (Step.Retry cpu) k command kept =
+    leaves-next (ArisesIn world (Step.Retry cpu) k command) world (Step.Retry cpu) (λ h. inl h)
+    (made-retry _ world cpu (λ tries is woken may h.
+    ⊎_elim
+    (λ (one : (cpu ≡ k) × (tries ≡ command) × (took_by (is_access tries) (guest_of world).space tries ≡ Sleep)).
+    inl (ap (λ i. outstanding (processor_at (guest_of world).cpus i)) (sym one.0) ∙ is ∙ ap (λ c. Some c) one.1))
+    (λ (two : WaitsIn k command world). inl two) (tried_waits world cpu tries k command h)))
+waits_arise world step k command kept = λ h. inl (sym (same_waits world step kept refl k) ∙ h)
+
+-- What a try makes of its processor
 
 set_here : (processors : List CpuState) (i : ℕ) (new : CpuState) (command : Command) → outstanding (processor_at processors i) ≡ Some command → processor_at (set processors i new) i ≡ new
-set_here [] i new command h = absurd (none_some command h)
+set_here [] i new command h = absurd (none-some command h)
 set_here (p ∷ ps) zero new command h = refl
 set_here (p ∷ ps) (suc i) new command h = set_here ps i new command h
-
-some_command : (a b : Command) → Some a ≡ Some b → a ≡ b
-some_command a b h = cc
 
 pub retried_at : (world : World) (cpu : ℕ) (command : Command) → IsOk (outcome world (Step.Retry cpu)) → outstanding (processor_at (guest_of world).cpus cpu) ≡ Some command →
     processor_at (guest_of (next world (Step.Retry cpu))).cpus cpu ≡ processor_after command (took_by (is_access command) (guest_of world).space command)
@@ -336,3 +398,21 @@ retried_at world cpu command ok waits =
     ap (λ g. processor_at g.cpus cpu) (tried_guest world cpu other)
     ∙ set_here (guest_of world).cpus cpu (processor_after other (took_by (is_access other) (guest_of world).space other)) command waits
     ∙ ap (λ c. processor_after c (took_by (is_access c) (guest_of world).space c)) same)) ok
+
+no_place : (i : ℕ) → not (ltb i 0) ≡ false → ⊥
+no_place i h = grind (arith, nat_tests)
+
+fewer : (i n : ℕ) → not (ltb (suc i) (suc n)) ≡ false → not (ltb i n) ≡ false
+fewer i n h = grind (arith, nat_tests)
+
+pub set_there : (processors : List CpuState) (i : ℕ) (new : CpuState) → not (ltb i (length processors)) ≡ false → processor_at (set processors i new) i ≡ new
+set_there [] i new h = absurd (no_place i h)
+set_there (p ∷ ps) zero new h = refl
+set_there (p ∷ ps) (suc i) new h = set_there ps i new (fewer i (length ps) h)
+
+pub issued_at : (world : World) (cpu : ℕ) (command : Command) → IsOk (outcome world (Step.Issue cpu command)) →
+    processor_at (guest_of (next world (Step.Issue cpu command))).cpus cpu ≡ processor_after command (took_by (is_access command) (guest_of world).space command)
+issued_at world cpu command ok =
+    leaves-ok (λ new. processor_at (guest_of new).cpus cpu ≡ processor_after command (took_by (is_access command) (guest_of world).space command)) world (Step.Issue cpu command)
+    (made-issue _ world cpu command (λ there idle may.
+    ap (λ g. processor_at g.cpus cpu) (tried_guest world cpu command) ∙ set_there (guest_of world).cpus cpu (processor_after command (took_by (is_access command) (guest_of world).space command)) there)) ok

@@ -4,10 +4,10 @@ use Rattle.std.specs.Option.{option_and_then}
 use Rattle.std.specs.Ordering.{nat_cmp}
 use Rattle.std.specs.FinMap.{FinMap}
 use Rattle.std.proofs.lemmas.Bool.{false≢true}
-use Rattle.mig_model.specs.Wire.{Frame, Sent, Copy, copy_in, kept_after, sending}
+use Rattle.mig_model.specs.Wire.{Frame, Sent, Copy, kept_after, sending}
 use Rattle.mig_model.specs.Wire.Frame.{Request}
-use Rattle.mig_model.specs.Invariant.{Flow, flow_next, flow_after, copies_of, has_copy, AreFaithful, AreWhole, is_package, kept_by, behind, package_in, AreOf, is_request, is_done, are_requests, are_requests_and_done}
-use Rattle.mig_model.specs.Migration.{next}
+use Rattle.mig_model.specs.Invariant.{Flow, flow_next, flow_after, has_copy, is_package, kept_by, behind, package_in, AreOf, is_request, is_done, are_requests, are_requests_and_done}
+use Rattle.mig_model.proofs.Facts.{or_assoc}
 
 -- Frames that are sent stand behind those in flight
 
@@ -34,29 +34,9 @@ flow_after-append flow (sent ∷ a) b =
 
 -- Copies
 
-pub copies_of-append : (a b : List Sent) → copies_of (a ++ b) ≡ copies_of a ++ copies_of b
-copies_of-append [] b = refl
-copies_of-append (sent ∷ a) b =
-    elim (copy_in sent.frame) as (λ o. elim o [ None ↦ copies_of (a ++ b) | Some copy ↦ copy ∷ copies_of (a ++ b) ] ≡ elim o [ None ↦ copies_of a | Some copy ↦ copy ∷ copies_of a ] ++ copies_of b) [
-      | None ↦ copies_of-append a b
-      | Some copy ↦ ap (λ copies. copy ∷ copies) (copies_of-append a b)
-    ]
-
-or_assoc : (a b c : Bool) → (a || (b || c)) ≡ ((a || b) || c)
-or_assoc true b c = refl
-or_assoc false b c = refl
-
 pub has_copy-append : (a b : List Copy) (page : ℕ) → has_copy (a ++ b) page ≡ (has_copy a page || has_copy b page)
 has_copy-append [] b page = refl
 has_copy-append (copy ∷ a) b page = ap (λ t. eqb copy.page page || t) (has_copy-append a b page) ∙ or_assoc (eqb copy.page page) (has_copy a page) (has_copy b page)
-
-pub AreFaithful-append : (bytes : FinMap nat_cmp (List ℕ)) (a b : List Copy) → AreFaithful bytes a → AreFaithful bytes b → AreFaithful bytes (a ++ b)
-AreFaithful-append bytes [] b x y = y
-AreFaithful-append bytes (copy ∷ a) b x y = (x.0, AreFaithful-append bytes a b x.1 y)
-
-pub AreWhole-append : (a b : List Copy) → AreWhole a → AreWhole b → AreWhole (a ++ b)
-AreWhole-append [] b x y = y
-AreWhole-append (copy ∷ a) b x y = (x.0, AreWhole-append a b x.1 y)
 
 -- Epochs
 

@@ -1,9 +1,8 @@
 -- What deliveries, installs and breaks take from the wires and the arrivals, and by which frames a migration completes.
-use Rattle.std.proofs.Common.{◌≡◌, ◌≢◌, ℕ, ◌*◌, ◌<◌, Bool, true, false, Option, Some, None, List, [], ◌∷◌, refl, sym, ap, ◌∙◌, subst, if◌then◌else◌, IsOk}
+use Rattle.std.proofs.Common.{◌≡◌, ◌≢◌, ℕ, ◌*◌, Bool, true, false, Option, Some, None, List, [], ◌∷◌, refl, sym, ap, ◌∙◌, subst, if◌then◌else◌, IsOk}
 use Rattle.std.specs.Prelude.{Ok}
 use Rattle.std.specs.FinMap.{get}
-use Rattle.std.specs.FinSet.{contains, contains-empty}
-use Rattle.std.specs.Ordering.{nat_cmp}
+use Rattle.std.specs.FinSet.{contains}
 use Rattle.std.proofs.lemmas.Bool.{false≢true}
 use Rattle.mig_base.specs.declared.effect.Effect.{Effect}
 use Rattle.mig_base.specs.declared.phase.Received.{Received}
@@ -15,7 +14,7 @@ use Rattle.mig_model.specs.Wire.Frame.{Advise, Page, Zero, Discard, Package, End
 use Rattle.mig_model.specs.Owed.{home, Owed}
 use Rattle.mig_model.specs.Source.{Source, is_released, source_act, source_took}
 use Rattle.mig_model.specs.Destination.{Destination, destination_took, destination_answers, install_by}
-use Rattle.mig_model.specs.Migration.{World, answer, outcome, next, install_effect, with_guest_by, after_deliver, after_deliver_back, after_move, after_move_back, is_short}
+use Rattle.mig_model.specs.Migration.{World, answer, outcome, next, install_effect, after_deliver, after_deliver_back, after_move, after_move_back, is_short}
 use Rattle.mig_model.specs.Invariant.{IsSoundWorld}
 use Rattle.mig_model.specs.Parts.{Grows}
 use Rattle.mig_model.specs.Promises.{IsComplete, IsDelivered, IsDeliveredBack, Completes, takes_forward, takes_back, is_break, is_recv, is_last}
@@ -24,9 +23,7 @@ use Rattle.mig_model.proofs.StepLemmas.{Leaves, leaves-next, leaves-ok, outcome-
 use Rattle.mig_model.proofs.StepCases.{made-issue, made-retry, made-start, made-round, made-send, made-source_read, made-source_act, made-switch, made-push, made-serve, made-end, made-deliver, made-deliver_back, made-dest_read, made-dest_act, made-install, made-break, made-notice, made-resume}
 use Rattle.mig_model.proofs.StaysComplete.{worked_phase, command_phase}
 use Rattle.mig_model.proofs.PartsChanged.{changes_parts}
-use Rattle.mig_model.specs.Guest.{Guest}
-use Rattle.mig_model.specs.Log.{no_pages, present}
-use Rattle.mig_model.proofs.Stopping.{append-nil}
+use Rattle.mig_model.proofs.Facts.{no_page, as_it_was, tried_up}
 
 -- Deliveries
 
@@ -98,12 +95,9 @@ wires_broken world ok = leaves-ok (λ new. (new.forward ≡ empty_wire) × (new.
 same_wire : (old new : Wire) → new ≡ old → Grows old old → Grows old new
 same_wire old new same grows = record { more = grows.more; is = same ∙ grows.is }
 
-nothing_more : (wire : Wire) → Grows wire wire
-nothing_more wire = record { more = []; is = ap (λ f. record wire { frames = f }) (sym (append-nil wire.frames)) }
-
 pub forward_grows : (world : World) (step : Step) → takes_forward step ≡ false → Grows world.forward (next world step).forward
-forward_grows world (Step.Issue cpu command) h = same_wire _ _ (changes_parts world (Step.Issue cpu command)).forward (nothing_more world.forward)
-forward_grows world (Step.Retry cpu) h = same_wire _ _ (changes_parts world (Step.Retry cpu)).forward (nothing_more world.forward)
+forward_grows world (Step.Issue cpu command) h = same_wire _ _ (changes_parts world (Step.Issue cpu command)).forward (as_it_was world.forward)
+forward_grows world (Step.Retry cpu) h = same_wire _ _ (changes_parts world (Step.Retry cpu)).forward (as_it_was world.forward)
 forward_grows world Step.Start h = (changes_parts world Step.Start).forward
 forward_grows world Step.Round h = (changes_parts world Step.Round).forward
 forward_grows world Step.Send h = (changes_parts world Step.Send).forward
@@ -112,50 +106,46 @@ forward_grows world Step.SourceAct h = (changes_parts world Step.SourceAct).forw
 forward_grows world Step.Switch h = (changes_parts world Step.Switch).forward
 forward_grows world (Step.Deliver n) h = absurd (false≢true (sym h))
 forward_grows world (Step.DeliverBack n) h = (changes_parts world (Step.DeliverBack n)).forward
-forward_grows world Step.DestRead h = same_wire _ _ (changes_parts world Step.DestRead).forward (nothing_more world.forward)
-forward_grows world Step.DestAct h = same_wire _ _ (changes_parts world Step.DestAct).forward (nothing_more world.forward)
-forward_grows world Step.Install h = same_wire _ _ (changes_parts world Step.Install).forward (nothing_more world.forward)
+forward_grows world Step.DestRead h = same_wire _ _ (changes_parts world Step.DestRead).forward (as_it_was world.forward)
+forward_grows world Step.DestAct h = same_wire _ _ (changes_parts world Step.DestAct).forward (as_it_was world.forward)
+forward_grows world Step.Install h = same_wire _ _ (changes_parts world Step.Install).forward (as_it_was world.forward)
 forward_grows world (Step.Push ticket) h = (changes_parts world (Step.Push ticket)).forward
 forward_grows world Step.Serve h = (changes_parts world Step.Serve).forward
 forward_grows world Step.End h = (changes_parts world Step.End).forward
 forward_grows world Step.Break h = absurd (false≢true (sym h))
-forward_grows world (Step.Notice Side.Source) h = same_wire _ _ (ap (λ w. w.forward) (changes_parts world (Step.Notice Side.Source)).is) (nothing_more world.forward)
-forward_grows world (Step.Notice Side.Destination) h = same_wire _ _ (ap (λ w. w.forward) (changes_parts world (Step.Notice Side.Destination)).is) (nothing_more world.forward)
+forward_grows world (Step.Notice Side.Source) h = same_wire _ _ (ap (λ w. w.forward) (changes_parts world (Step.Notice Side.Source)).is) (as_it_was world.forward)
+forward_grows world (Step.Notice Side.Destination) h = same_wire _ _ (ap (λ w. w.forward) (changes_parts world (Step.Notice Side.Destination)).is) (as_it_was world.forward)
 forward_grows world Step.Resume h = (changes_parts world Step.Resume).forward
 
 pub back_grows : (world : World) (step : Step) → takes_back step ≡ false → Grows world.back (next world step).back
-back_grows world (Step.Issue cpu command) h = same_wire _ _ (changes_parts world (Step.Issue cpu command)).back (nothing_more world.back)
-back_grows world (Step.Retry cpu) h = same_wire _ _ (changes_parts world (Step.Retry cpu)).back (nothing_more world.back)
-back_grows world Step.Start h = same_wire _ _ (changes_parts world Step.Start).back (nothing_more world.back)
-back_grows world Step.Round h = same_wire _ _ (changes_parts world Step.Round).back (nothing_more world.back)
-back_grows world Step.Send h = same_wire _ _ (changes_parts world Step.Send).back (nothing_more world.back)
-back_grows world Step.SourceRead h = same_wire _ _ (changes_parts world Step.SourceRead).back (nothing_more world.back)
-back_grows world Step.SourceAct h = same_wire _ _ (changes_parts world Step.SourceAct).back (nothing_more world.back)
-back_grows world Step.Switch h = same_wire _ _ (changes_parts world Step.Switch).back (nothing_more world.back)
+back_grows world (Step.Issue cpu command) h = same_wire _ _ (changes_parts world (Step.Issue cpu command)).back (as_it_was world.back)
+back_grows world (Step.Retry cpu) h = same_wire _ _ (changes_parts world (Step.Retry cpu)).back (as_it_was world.back)
+back_grows world Step.Start h = same_wire _ _ (changes_parts world Step.Start).back (as_it_was world.back)
+back_grows world Step.Round h = same_wire _ _ (changes_parts world Step.Round).back (as_it_was world.back)
+back_grows world Step.Send h = same_wire _ _ (changes_parts world Step.Send).back (as_it_was world.back)
+back_grows world Step.SourceRead h = same_wire _ _ (changes_parts world Step.SourceRead).back (as_it_was world.back)
+back_grows world Step.SourceAct h = same_wire _ _ (changes_parts world Step.SourceAct).back (as_it_was world.back)
+back_grows world Step.Switch h = same_wire _ _ (changes_parts world Step.Switch).back (as_it_was world.back)
 back_grows world (Step.Deliver n) h = (changes_parts world (Step.Deliver n)).back
 back_grows world (Step.DeliverBack n) h = absurd (false≢true (sym h))
 back_grows world Step.DestRead h = (changes_parts world Step.DestRead).back
 back_grows world Step.DestAct h = (changes_parts world Step.DestAct).back
 back_grows world Step.Install h = (changes_parts world Step.Install).back
-back_grows world (Step.Push ticket) h = same_wire _ _ (changes_parts world (Step.Push ticket)).back (nothing_more world.back)
-back_grows world Step.Serve h = same_wire _ _ (changes_parts world Step.Serve).back (nothing_more world.back)
-back_grows world Step.End h = same_wire _ _ (changes_parts world Step.End).back (nothing_more world.back)
+back_grows world (Step.Push ticket) h = same_wire _ _ (changes_parts world (Step.Push ticket)).back (as_it_was world.back)
+back_grows world Step.Serve h = same_wire _ _ (changes_parts world Step.Serve).back (as_it_was world.back)
+back_grows world Step.End h = same_wire _ _ (changes_parts world Step.End).back (as_it_was world.back)
 back_grows world Step.Break h = absurd (false≢true (sym h))
-back_grows world (Step.Notice Side.Source) h = same_wire _ _ (ap (λ w. w.back) (changes_parts world (Step.Notice Side.Source)).is) (nothing_more world.back)
-back_grows world (Step.Notice Side.Destination) h = same_wire _ _ (ap (λ w. w.back) (changes_parts world (Step.Notice Side.Destination)).is) (nothing_more world.back)
-back_grows world Step.Resume h = same_wire _ _ (changes_parts world Step.Resume).back (nothing_more world.back)
+back_grows world (Step.Notice Side.Source) h = same_wire _ _ (ap (λ w. w.back) (changes_parts world (Step.Notice Side.Source)).is) (as_it_was world.back)
+back_grows world (Step.Notice Side.Destination) h = same_wire _ _ (ap (λ w. w.back) (changes_parts world (Step.Notice Side.Destination)).is) (as_it_was world.back)
+back_grows world Step.Resume h = same_wire _ _ (changes_parts world Step.Resume).back (as_it_was world.back)
 
 -- the link is up
 abbrev IsUp : World → Type 0
 IsUp world = world.up ≡ true
 
-guest_up : (ran : Bool) (world : World) (guest : Guest) → (with_guest_by ran world guest).up ≡ world.up
-guest_up true world guest = refl
-guest_up false world guest = refl
-
 up_answer : (world : World) (step : Step) → is_break step ≡ false → IsUp world → Leaves IsUp (answer world step)
-up_answer world (Step.Issue cpu command) h up = made-issue _ world cpu command (λ idle may. guest_up world.destination.has_run world _ ∙ up)
-up_answer world (Step.Retry cpu) h up = made-retry _ world cpu (λ command waits woken may. guest_up world.destination.has_run world _ ∙ up)
+up_answer world (Step.Issue cpu command) h up = made-issue _ world cpu command (λ there idle may. tried_up world.destination.has_run world _ ∙ up)
+up_answer world (Step.Retry cpu) h up = made-retry _ world cpu (λ command waits woken may. tried_up world.destination.has_run world _ ∙ up)
 up_answer world Step.Start h up = made-start _ world (λ idle. up)
 up_answer world Step.Round h up = made-round _ world (λ precopy quiet. up)
 up_answer world Step.Send h up = made-send _ world (λ page is precopy linked quiet. up)
@@ -219,9 +209,6 @@ rebuilt_remains : (switched : Bool) (a b : Source) (P : Source → Type 0) → P
 rebuilt_remains true a b P one two = one
 rebuilt_remains false a b P one two = two
 
-no_page : {A : Type 0} (q : ℕ) → contains no_pages q ≡ true → A
-no_page q h = absurd (false≢true (sym (contains-empty nat_cmp q) ∙ h))
-
 taken_remains : (frame : Frame) (node : Source) (q : ℕ) → is_recv frame ≡ false → contains (source_took node frame).remaining q ≡ true → contains node.remaining q ≡ true
 taken_remains (Recv state owed) node q h is = absurd (false≢true (sym h))
 taken_remains Done node q h is = no_page q is
@@ -282,7 +269,7 @@ still_not : {A : Type 0} (old new : SourcePhase) → new ≡ old → is_released
 still_not old new same not h = absurd (false≢true (sym not ∙ sym (ap is_released same) ∙ h))
 
 completes_answer : (world : World) (step : Step) → is_released world.source.phase ≡ false → Leaves (CompletesTo world step) (answer world step)
-completes_answer world (Step.Issue cpu command) not = made-issue _ world cpu command (λ idle may h. still_not world.source.phase _ (command_phase world cpu command) not h)
+completes_answer world (Step.Issue cpu command) not = made-issue _ world cpu command (λ there idle may h. still_not world.source.phase _ (command_phase world cpu command) not h)
 completes_answer world (Step.Retry cpu) not = made-retry _ world cpu (λ command waits woken may h. still_not world.source.phase _ (command_phase world cpu command) not h)
 completes_answer world Step.Start not = made-start _ world (λ idle h. absurd (false≢true h))
 completes_answer world Step.Round not = made-round _ world (λ precopy quiet h. absurd (false≢true (sym not ∙ h)))

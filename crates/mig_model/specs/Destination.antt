@@ -1,6 +1,6 @@
 -- The destination, in the phases of QEMU's postcopy document (docs/devel/migration/postcopy.rst, "Postcopy states" and "Postcopy
 -- recovery"), and what each of its steps makes of it.
-use Rattle.std.specs.Prelude.{ℕ, zero, suc, ◌+◌, ◌-◌, ◌/◌, ◌==◌, ◌&&◌, ◌||◌, not, Bool, true, false, if◌then◌else◌, Option, Some, None, is_some, List, [], ◌∷◌, ◌++◌, map}
+use Rattle.std.specs.Prelude.{ℕ, ◌+◌, ◌||◌, not, Bool, true, false, if◌then◌else◌, Option, Some, None, List, [], ◌∷◌, ◌++◌, map}
 use Rattle.std.specs.Ordering.{nat_cmp}
 use Rattle.std.specs.FinMap as finmap
 use Rattle.std.specs.FinMap.{FinMap, get, contains_key}
@@ -16,9 +16,9 @@ use Rattle.mig_model.specs.Space.{Space, fresh_space}
 use Rattle.mig_model.specs.Ioctls.{event_features, installed as pages_installed}
 use Rattle.mig_model.specs.Cpus.{idle_processors, taken_over}
 use Rattle.mig_model.specs.Guest.{Guest, Fault, Act, fault_count, read_guest, resolved, held_after, rest_held, zero_installed, is_forgotten, is_present}
-use Rattle.mig_model.specs.Guest.Act.{Unprotected, Zeroed, Woke, Forgot, Requested}
+use Rattle.mig_model.specs.Guest.Act.{Zeroed, Woke, Forgot, Requested}
 use Rattle.mig_model.specs.Log.{no_pages}
-use Rattle.mig_model.specs.Owed.{Owed, owed_table_after, settled_by, home, origins, own_places, is_requested, requesting, without_request}
+use Rattle.mig_model.specs.Owed.{Owed, owed_table_after, settled_by, origins, own_places, is_requested, requesting, without_request}
 use Rattle.mig_model.specs.Wire.{Frame, Copy, kept_after}
 use Rattle.mig_model.specs.Wire.Frame.{Advise, Page, Zero, Discard, Package, End, Resume, Request, Recv, Done}
 

@@ -6,6 +6,7 @@ use Rattle.std.specs.Ordering.{nat_cmp}
 use Rattle.std.specs.FinMap as finmap
 use Rattle.std.specs.FinMap.{FinMap, get, contains_key}
 use Rattle.std.specs.FinSet.{FinSet, contains}
+use Rattle.mig_base.specs.declared.cpu_state.CpuState.{CpuState}
 use Rattle.mig_base.specs.declared.phase.DestPhase.{DestPhase}
 use Rattle.mig_base.specs.declared.phase.Received.{Received}
 use Rattle.mig_base.specs.declared.phase.SourcePhase.{SourcePhase}
@@ -23,11 +24,12 @@ use Rattle.mig_model.specs.Texts.{text_len}
 use Rattle.mig_model.specs.Wire.{Wire, Frame, Sent, Copy, copy_in, kept_after}
 use Rattle.mig_model.specs.Wire.Frame.{Advise, Page, Zero, Discard, Package, End, Resume, Request, Recv, Done}
 use Rattle.mig_model.specs.Migration.{World}
-use Rattle.mig_model.specs.Guest.{is_changed_by, is_present}
-use Rattle.mig_model.specs.Log.{no_pages, present}
+use Rattle.mig_model.specs.Cpus.{processor_at}
+use Rattle.mig_model.specs.Guest.{Guest, is_changed_by, is_present}
+use Rattle.mig_model.specs.Log.{no_pages}
 use Rattle.mig_model.specs.Owed.{Owed, settled_by}
-use Rattle.mig_model.specs.Source.{Source, commands_of, released, space_of}
-use Rattle.mig_model.specs.Destination.{Destination, arrived, settled}
+use Rattle.mig_model.specs.Source.{Source, commands_of, space_of}
+use Rattle.mig_model.specs.Destination.{Destination, settled}
 
 -- The memory that the guest sees
 
@@ -387,6 +389,28 @@ HeldFits (sent ∷ rest) held = held < text_len sent.frame
 pub record AreSoundWires (forward back : Wire) : Type 0 where
   pub forward_held : HeldFits forward.frames forward.held
   pub back_held : HeldFits back.frames back.held
+
+-- Calls
+
+-- how many of the unread events a processor has caused
+abbrev pub unread_of : List Noted → ℕ → ℕ
+unread_of [] k = 0
+unread_of (noted ∷ events) k = (if noted.cpu == k then 1 else 0) + unread_of events k
+
+-- a processor is in a call exactly as long as it has unread events, and counts them
+abbrev pub CallFits : CpuState → ℕ → Type 0
+CallFits (CpuState.InCall reply left) unread = (left ≡ unread) × (0 < left)
+CallFits state unread = unread ≡ 0
+
+-- so does each processor of a guest, and the queue of its page faults holds page faults alone
+pub record HasSoundCalls (guest : Guest) : Type 0 where
+  pub fits : (k : ℕ) → CallFits (processor_at guest.cpus k) (unread_of guest.space.object.events k)
+  pub faults : AreFaults guest.space.object.faults
+
+-- so on both nodes
+pub record AreSoundCalls (world : World) : Type 0 where
+  pub source : HasSoundCalls world.source.guest
+  pub destination : HasSoundCalls world.destination.guest
 
 -- what every world keeps
 pub record IsSoundWorld (world : World) : Type 0 where

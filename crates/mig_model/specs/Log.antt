@@ -1,6 +1,6 @@
 -- The dirty log of the source: which pages have a right copy under way, which a round still has to send, which were sent, and the
 -- faults that its handler has read and not resolved yet.
-use Rattle.std.specs.Prelude.{ℕ, ◌+◌, not, Bool, true, false, Option, Some, None, List, []}
+use Rattle.std.specs.Prelude.{ℕ, not, Option, List, []}
 use Rattle.std.specs.Ordering.{nat_cmp}
 use Rattle.std.specs.FinSet as finset
 use Rattle.std.specs.FinSet.{FinSet, contains}

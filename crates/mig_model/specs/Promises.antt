@@ -21,10 +21,11 @@ use Rattle.mig_base.specs.Commands.{is_access}
 use Rattle.mig_model.specs.Space.{Space, fresh_space}
 use Rattle.mig_model.specs.Wire.{Frame, Sent, wire_behind, wire_with}
 use Rattle.mig_model.specs.Wire.Frame.{Advise, Page, Zero, Discard, Package, End, Resume, Request, Recv, Done}
-use Rattle.mig_model.specs.Migration.{World, first_world_with, after_steps}
+use Rattle.mig_model.specs.Migration.{World, guest_of, first_world_with, after_steps}
 use Rattle.mig_model.specs.Invariant.{copies_of, has_copy, AreFaithful}
 use Rattle.mig_model.specs.Cpus.{outstanding, processor_at}
-use Rattle.mig_model.specs.Guest.{is_present}
+use Rattle.mig_model.specs.Cpus.Took.{Sleep}
+use Rattle.mig_model.specs.Guest.{is_present, took_by}
 use Rattle.mig_model.specs.Log.{no_pages}
 use Rattle.mig_model.specs.Source.{Source, is_released, is_source_paused, is_stopped, source_answers, source_took, space_of}
 use Rattle.mig_model.specs.Destination.{Destination, destination_answers, destination_took, settled}
@@ -174,6 +175,11 @@ abbrev pub is_retry_of : Step → ℕ → Bool
 is_retry_of (Step.Retry cpu) k = cpu == k
 is_retry_of step k = false
 
+-- a step is the Issue of a processor, and its command slept
+pub record Slept (world : World) (step : Step) (k : ℕ) (command : Command) : Type 0 where
+  pub step_is : step ≡ Step.Issue k command
+  pub sleeps : took_by (is_access command) (guest_of world).space command ≡ Sleep
+
 -- each command that a processor still has to make is a load or a store
 abbrev pub AllAccess : List CpuState → Type 0
 AllAccess processors = (k : ℕ) (command : Command) → outstanding (processor_at processors k) ≡ Some command → is_access command ≡ true
@@ -216,6 +222,15 @@ is_break step = false
 abbrev pub is_recv : Frame → Bool
 is_recv (Recv state owed) = true
 is_recv frame = false
+
+-- whether a wire back has a Recv of a destination that runs
+abbrev pub is_running_recv : Frame → Bool
+is_running_recv (Recv Received.Running owed) = true
+is_running_recv frame = false
+
+abbrev pub has_recv : List Sent → Bool
+has_recv [] = false
+has_recv (sent ∷ rest) = is_running_recv sent.frame || has_recv rest
 
 -- Completion
 

@@ -1,6 +1,6 @@
 -- The source, in the phases of QEMU's postcopy document (docs/devel/migration/postcopy.rst, "Postcopy states" and "Postcopy
 -- recovery"), and what each of its steps makes of it.
-use Rattle.std.specs.Prelude.{ℕ, zero, suc, ◌+◌, ◌-◌, ◌/◌, ◌==◌, ◌&&◌, ◌||◌, not, Bool, true, false, if◌then◌else◌, Option, Some, None, is_some, List, [], ◌∷◌, ◌++◌, map}
+use Rattle.std.specs.Prelude.{ℕ, ◌+◌, ◌&&◌, Bool, true, false, if◌then◌else◌, Option, List, [], ◌∷◌, ◌++◌, map}
 use Rattle.std.specs.Ordering.{nat_cmp}
 use Rattle.std.specs.FinSet as finset
 use Rattle.std.specs.FinSet.{FinSet, contains}
@@ -14,7 +14,7 @@ use Rattle.mig_model.specs.Space.{Space, fresh_space}
 use Rattle.mig_model.specs.Ioctls.{all_features, registered_in, protected_in}
 use Rattle.mig_model.specs.Cpus.{Cpus, idle_processors, outstanding}
 use Rattle.mig_model.specs.Guest.{Guest, Fault, Act, fault_count, read_guest, resolved, zero_installed, is_forgotten, is_present}
-use Rattle.mig_model.specs.Guest.Act.{Unprotected, Zeroed, Woke, Forgot, Requested}
+use Rattle.mig_model.specs.Guest.Act.{Unprotected, Zeroed, Woke, Forgot}
 use Rattle.mig_model.specs.Log.{Log, empty_log, forgotten, dirty, log_sent, log_read, log_resolved, log_written, no_pages, less, present}
 use Rattle.mig_model.specs.Wire.{Frame}
 use Rattle.mig_model.specs.Wire.Frame.{Discard, Package, Request, Recv, Done}

@@ -2,7 +2,7 @@
 //! and resumptions, in any order, those that are refused among them. Each law is a function with an empty body, whose contract is
 //! the law.
 
-ghost use Rattle.std.specs.Prelude.{◌≡◌, ◌≢◌, ℕ, ◌*◌, ◌/◌, [], ◌∷◌, ◌++◌, ◌==◌, ◌&&◌, not, true, false, if◌then◌else◌, Some, Ok, Err, IsOk, List};
+ghost use Rattle.std.specs.Prelude.{◌⊎◌, ◌≡◌, ◌≢◌, ℕ, ◌*◌, ◌/◌, [], ◌∷◌, ◌++◌, ◌==◌, ◌&&◌, not, true, false, if◌then◌else◌, is_some, Some, Ok, Err, IsOk, List};
 ghost use Rattle.std.specs.FinMap.{get};
 ghost use Rattle.std.specs.FinSet.{contains};
 ghost use Rattle.mig_base.specs.declared.effect.Effect.{Effect};
@@ -15,14 +15,14 @@ ghost use Rattle.mig_base.specs.Flat.{IsFlatRun, memory_of, reply_of};
 ghost use Rattle.mig_base.specs.Commands.{is_access};
 ghost use Rattle.mig_model.specs.Host.{memory};
 ghost use Rattle.mig_model.specs.Cpus.{outstanding, processor_at, processor_after, entries_of};
-ghost use Rattle.mig_model.specs.Guest.{took_by};
-ghost use Rattle.mig_model.specs.Source.{is_released, space_of, is_precopy, is_stopped, is_source_paused};
+ghost use Rattle.mig_model.specs.Guest.{is_present, took_by};
+ghost use Rattle.mig_model.specs.Source.{is_released, switch_frames, space_of, is_precopy, is_stopped, is_source_paused};
 ghost use Rattle.mig_model.specs.Destination.{settled, is_running};
-ghost use Rattle.mig_model.specs.Wire.{Sent, Copy, empty_wire};
+ghost use Rattle.mig_model.specs.Wire.{Sent, Copy, empty_wire, wire_with};
 ghost use Rattle.mig_model.specs.Migration.{World, guest_of, is_short, after_move, after_move_back, outcome, next, first_world, after_steps};
-ghost use Rattle.mig_model.specs.Invariant.{IsSoundWorld, IsPrecopying, IsSwitching, IsReceiving, current_host};
+ghost use Rattle.mig_model.specs.Invariant.{IsSoundWorld, AreSoundCalls, IsPrecopying, IsSwitching, IsReceiving, current_host, package_in};
 ghost use Rattle.mig_model.specs.Parts.{Grows, ChangesParts};
-ghost use Rattle.mig_model.specs.Promises.{AreAccesses, IsReached, IsComplete, IsAlone, ArePaired, AreUnderWay, IsPut, IsZeroed, IsTaken, keeps_remaining, IsInPlaceBack, owed_changed, leaves_settled, is_retry_of, IsDelivered, IsDeliveredBack, takes_forward, takes_back, is_break, is_recv, is_last, Completes, CanComplete};
+ghost use Rattle.mig_model.specs.Promises.{AreAccesses, IsReached, IsComplete, IsAlone, ArePaired, AreUnderWay, IsPut, IsZeroed, IsTaken, keeps_remaining, IsInPlaceBack, owed_changed, leaves_settled, is_retry_of, IsDelivered, IsDeliveredBack, takes_forward, takes_back, is_break, is_recv, is_last, Completes, CanComplete, has_recv, Slept};
 
 /// The commands in the transcript, made in turn on one flat memory, give the replies in it, and what the guest sees is that memory at
 /// the end. Before the destination runs it is the source's; from then on each page is the destination's own, or that of the source
@@ -52,22 +52,32 @@ pub fn clean_copies()
     ensures { (world : World) → IsReached world → world.up ≡ true → is_precopy world.source.phase ≡ true → IsPrecopying world.source world.destination.kept world.forward.frames }
 {}
 
-/// Between Switch and the run of the destination, while the link is up: what will be kept when the Package is taken is what the
+/// While a Package is in flight, and so between Switch and the run of the destination as long as the link is up: what will be kept when the Package is taken is what the
 /// source has and does not owe, and each page that it owes is still to be pushed, or is behind it with the source's bytes.
 pub fn a_package_tells_the_source()
-    ensures { (world : World) → IsReached world → world.up ≡ true → is_stopped world.source.phase ≡ true → world.destination.has_run ≡ false → IsSwitching world.source world.destination.kept world.forward.frames }
+    ensures in_flight { (world : World) → IsReached world → is_some (package_in world.forward.frames) ≡ true → IsSwitching world.source world.destination.kept world.forward.frames }
+    ensures before_run { (world : World) → IsReached world → world.up ≡ true → is_stopped world.source.phase ≡ true → world.destination.has_run ≡ false → IsSwitching world.source world.destination.kept world.forward.frames }
 {}
 
-/// After a resumption, until the source has taken Recv: its list has each page that the destination still needs, and the source has
+/// While a Recv of a destination that runs is in flight, and so after a resumption until the source has taken it: its list has each page that the destination still needs, and the source has
 /// all of them.
 pub fn a_recv_lists_what_is_needed()
-    ensures { (world : World) → IsReached world → world.up ≡ true → is_source_paused world.source.phase ≡ true → is_running world.destination.phase ≡ true → IsReceiving world.source world.destination Received.Running world.back.frames }
+    ensures in_flight { (world : World) → IsReached world → has_recv world.back.frames ≡ true → IsReceiving world.source world.destination Received.Running world.back.frames }
+    ensures paused { (world : World) → IsReached world → world.up ≡ true → is_source_paused world.source.phase ≡ true → is_running world.destination.phase ≡ true → IsReceiving world.source world.destination Received.Running world.back.frames }
 {}
 
 /// The pairs of pages that are owed are one to one, and what they need is there: the source page is present at the source, and the
 /// page that is still owed is registered and missing.
 pub fn owed_pairs()
     ensures { (world : World) → IsReached world → ArePaired world }
+{}
+
+/// A Switch owes exactly the pages that are present and not clean. It puts two frames on the wire: a Discard of the pages that were sent
+/// and are not clean now, and a Package of what is mapped, what is owed and what the processors wait for.
+pub fn what_a_switch_owes()
+    ensures owes { (world : World) (page : ℕ) → IsReached world → IsOk (outcome world Step.Switch) →
+        contains (next world Step.Switch).source.remaining page ≡ (is_present (space_of world.source) page && not (contains world.source.log.clean page)) }
+    ensures sends { (world : World) → IsOk (outcome world Step.Switch) → (next world Step.Switch).forward ≡ wire_with world.forward world.source.epoch (switch_frames world.source) }
 {}
 
 /// Once the destination has run, each owed page is to be pushed, in flight, or arrived, and each copy of it has the bytes that the
@@ -109,9 +119,14 @@ pub fn no_frame_is_refused()
 {}
 
 /// A command that waits is changed by no step but the Retry of its processor: the processor still has to make it, on whichever node it
-/// then is. A Retry that is accepted tries it: the processor is idle where it took effect, and sleeps with the same command where it
-/// did not.
+/// then is. A command comes to wait only by an Issue of its own processor that slept. A Retry that is accepted tries it: the processor
+/// is idle where it took effect, and sleeps with the same command where it did not. An Issue leaves its processor likewise, or in its
+/// call.
 pub fn a_waiting_command()
+    ensures arises { (world : World) (step : Step) (cpu : ℕ) (command : Command) → IsReached world → outstanding (processor_at (guest_of (next world step)).cpus cpu) ≡ Some command →
+        (outstanding (processor_at (guest_of world).cpus cpu) ≡ Some command) ⊎ Slept world step cpu command }
+    ensures issue { (world : World) (cpu : ℕ) (command : Command) → IsOk (outcome world (Step.Issue cpu command)) →
+        processor_at (guest_of (next world (Step.Issue cpu command))).cpus cpu ≡ processor_after command (took_by (is_access command) (guest_of world).space command) }
     ensures kept { (world : World) (step : Step) (cpu : ℕ) (command : Command) → IsReached world → is_retry_of step cpu ≡ false →
         outstanding (processor_at (guest_of world).cpus cpu) ≡ Some command → outstanding (processor_at (guest_of (next world step)).cpus cpu) ≡ Some command }
     ensures retry { (world : World) (cpu : ℕ) (command : Command) → IsOk (outcome world (Step.Retry cpu)) → outstanding (processor_at (guest_of world).cpus cpu) ≡ Some command →
@@ -123,6 +138,12 @@ pub fn waiting_commands_are_accesses()
     ensures { (world : World) → IsReached world → AreAccesses world }
 {}
 
+/// A processor is in a map call exactly as long as it has unread events on its node, and counts them: each event that is read belongs to
+/// a processor in a call. The queues of page faults hold page faults alone.
+pub fn calls_have_unread_events()
+    ensures { (world : World) → IsReached world → AreSoundCalls world }
+{}
+
 /// A command that takes effect is entered with its processor and its reply, at its first try or at a Retry; one that sleeps is not. That
 /// no other step enters anything is among the parts that a step may change.
 pub fn what_is_entered()
@@ -132,11 +153,17 @@ pub fn what_is_entered()
         (next world (Step.Retry cpu)).transcript ≡ world.transcript ++ entries_of cpu command (took_by (is_access command) (guest_of world).space command) }
 {}
 
-/// A page that is pushed remains no longer, and no page comes to remain but by Switch and by the taking of a Recv.
+/// A page that is pushed remains no longer, and no page comes to remain but by Switch and by the taking of a Recv. Neither comes behind
+/// a Push in its epoch: as long as the epoch is that of the Push no Switch is accepted, and no Recv is the next frame of the wire back.
 pub fn pages_that_remain()
     ensures push { (world : World) (ticket : Ticket) (q : ℕ) → IsOk (outcome world (Step.Push ticket)) →
         contains (next world (Step.Push ticket)).source.remaining q ≡ (not (q == ticket.page) && contains world.source.remaining q) }
     ensures shrinks { (world : World) (step : Step) (q : ℕ) → keeps_remaining step ≡ true → contains (next world step).source.remaining q ≡ true → contains world.source.remaining q ≡ true }
+    ensures no_switch { (world : World) (ticket : Ticket) (steps : List Step) → IsReached world → IsOk (outcome world (Step.Push ticket)) →
+        (after_steps (next world (Step.Push ticket)) steps).source.epoch ≡ world.source.epoch → IsOk (outcome (after_steps (next world (Step.Push ticket)) steps) Step.Switch) → ⊥ }
+    ensures no_recv { (world : World) (ticket : Ticket) (steps : List Step) (sent : Sent) (rest : List Sent) → IsReached world → IsOk (outcome world (Step.Push ticket)) →
+        (after_steps (next world (Step.Push ticket)) steps).source.epoch ≡ world.source.epoch → (after_steps (next world (Step.Push ticket)) steps).up ≡ true →
+        (after_steps (next world (Step.Push ticket)) steps).back.frames ≡ sent ∷ rest → is_recv sent.frame ≡ true → ⊥ }
     ensures back { (world : World) (n : ℕ) (sent : Sent) (rest : List Sent) (q : ℕ) → world.back.frames ≡ sent ∷ rest → is_recv sent.frame ≡ false →
         contains (next world (Step.DeliverBack n)).source.remaining q ≡ true → contains world.source.remaining q ≡ true }
 {}

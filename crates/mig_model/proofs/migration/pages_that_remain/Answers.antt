@@ -1,3 +1,7 @@
+use Rattle.mig_base.specs.declared.schedule.Step.{Step}
+use Rattle.mig_model.specs.Migration.{next, after_steps}
+use Rattle.mig_model.proofs.EveryStep.{kept-reached, kept-next, kept-after_steps}
+use Rattle.mig_model.proofs.PushOrder.{no_switch, no_recv_taken, pushed_before}
 use Rattle.mig_model.proofs.StepPromises.{remaining_push, remaining_shrinks}
 use Rattle.mig_model.proofs.WirePromises.{remaining_back}
 use Rattle.mig_model.proofs.migration.pages_that_remain.Goals as goal
@@ -10,3 +14,13 @@ returns-clause-shrinks c world step q keeps is = remaining_shrinks world step q 
 
 pub returns-clause-back : goal.returns-clause-back
 returns-clause-back c world n sent rest q first plain is = remaining_back world n sent rest q first plain is
+
+pub returns-clause-no_switch : goal.returns-clause-no_switch
+returns-clause-no_switch c world ticket steps reached ok same switched =
+    let kept = kept-reached world reached in
+    no_switch world.source.epoch (after_steps (next world (Step.Push ticket)) steps) (kept-after_steps (next world (Step.Push ticket)) steps (kept-next world (Step.Push ticket) kept)) (pushed_before world ticket steps kept ok) same switched
+
+pub returns-clause-no_recv : goal.returns-clause-no_recv
+returns-clause-no_recv c world ticket steps sent rest reached ok same up first is =
+    let kept = kept-reached world reached in
+    no_recv_taken world.source.epoch (after_steps (next world (Step.Push ticket)) steps) sent rest (kept-after_steps (next world (Step.Push ticket)) steps (kept-next world (Step.Push ticket) kept)) (pushed_before world ticket steps kept ok) same up first is

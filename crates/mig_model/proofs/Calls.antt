@@ -1,0 +1,376 @@
+-- A processor is in a call exactly as long as it has unread events there, and counts them: every step keeps it.
+use Rattle.std.proofs.Common.{◌≡◌, ℕ, zero, suc, ◌+◌, Bool, true, false, not, eqb, ltb, Option, Some, None, List, [], ◌∷◌, ◌++◌, length, refl, sym, ap, ◌∙◌, subst, ◌≢◌, ⊎_elim, arith, if◌then◌else◌}
+use Rattle.std.specs.Prelude.{set, map}
+use Rattle.std.proofs.lemmas.Bool.Decides.{nat_tests}
+use Rattle.std.proofs.lemmas.Bool.{false≢true, cases_eq, ne_eqb}
+use Rattle.mig_base.specs.declared.command.Access.{Access}
+use Rattle.mig_base.specs.declared.command.Access.TheVariants.{Answered, Missing, Protected}
+use Rattle.mig_base.specs.declared.command.Command.{Command}
+use Rattle.mig_base.specs.declared.command.Reply.{Reply}
+use Rattle.mig_base.specs.declared.cpu_state.CpuState.{CpuState}
+use Rattle.mig_base.specs.declared.message.Message.{Message}
+use Rattle.mig_base.specs.declared.message.Message.TheVariants.{PageFault, Remap, Remove, Unmap}
+use Rattle.mig_base.specs.declared.phase.Received.{Received}
+use Rattle.mig_base.specs.declared.phase.SourcePhase.{SourcePhase}
+use Rattle.mig_base.specs.declared.schedule.Side.{Side}
+use Rattle.mig_base.specs.declared.schedule.Step.{Step}
+use Rattle.mig_base.specs.Commands.{is_access, page_of}
+use Rattle.mig_base.specs.Flat.{reply_of}
+use Rattle.mig_model.specs.Host.{memory}
+use Rattle.mig_model.specs.Userfault.{Noted, next_of, next_message}
+use Rattle.mig_model.specs.Space.{Space, access_of, call_messages, modes_after}
+use Rattle.mig_model.specs.Guest.Act.{Unprotected, Zeroed, Woke, Forgot, Requested}
+use Rattle.mig_model.specs.Wire.{Frame, Copy}
+use Rattle.mig_model.specs.Wire.Frame.{Advise, Page, Zero, Discard, Package, End, Resume, Request, Recv, Done}
+use Rattle.mig_model.specs.Invariant.{IsSoundWorld, AreRight, AreFaults, unread_of, CallFits, HasSoundCalls, AreSoundCalls, SwitchedAt}
+use Rattle.mig_model.proofs.SourceMessages.{noted_all, events_queued}
+use Rattle.mig_model.proofs.SettledPromises.{accessed_events}
+use Rattle.mig_model.proofs.FaultLemmas.{AreFaults-tried}
+use Rattle.mig_model.proofs.WaitingCommands.{map_at, set_there, set_other}
+use Rattle.mig_model.proofs.DestinationRead.{none_is}
+use Rattle.mig_model.proofs.EveryStep.{kept-next}
+use Rattle.mig_model.proofs.FirstWorld.{kept-first}
+use Rattle.mig_model.proofs.FramesTaken.{is_taken_back}
+use Rattle.mig_model.proofs.StepLemmas.{Leaves, leaves-next}
+use Rattle.mig_model.specs.Cpus.{access_took, all_woken, call_took, idle_processors, is_idle, is_woken, message_less, processor_after, processor_at, taken_over, woken_if}
+use Rattle.mig_model.specs.Guest.{Act, Guest, read_guest, resolved, tried, is_left_by}
+use Rattle.mig_model.specs.Owed.{home}
+use Rattle.mig_model.specs.Source.{Source, is_stopped, released, source_act, source_acted_by, source_took, space_of}
+use Rattle.mig_model.specs.Destination.{Destination, copy_came, destination_act, destination_acted_by, destination_took, install_by, received_of, resumed_by}
+use Rattle.mig_model.specs.Migration.{World, after_command, after_steps, answer, first_world_with, guest_by, guest_of, has_no_cpu, next, start, with_guest_by}
+use Rattle.mig_model.specs.Promises.{IsInPlaceBack, IsReached, is_last}
+use Rattle.mig_model.proofs.StepCases.{made-break, made-deliver, made-deliver_back, made-dest_act, made-dest_read, made-end, made-install, made-issue, made-notice, made-push, made-resume, made-retry, made-round, made-send, made-serve, made-source_act, made-source_read, made-start, made-switch}
+use Rattle.mig_model.proofs.Facts.{eqb-self, some_is, modes_events}
+use Rattle.mig_model.specs.Log.{present}
+
+-- Numbers of events
+
+unread-append : (events more : List Noted) (k : ℕ) → unread_of (events ++ more) k ≡ unread_of events k + unread_of more k
+unread-append [] more k = omega arith
+unread-append (noted ∷ events) more k = let rest = unread-append events more k in omega (arith, rest)
+
+one_more : (here : Bool) (count : ℕ) → (if here then 1 else 0) + (if here then count else 0) ≡ (if here then suc count else 0)
+one_more true count = omega arith
+one_more false count = omega arith
+
+none_noted : (here : Bool) (n : ℕ) → n ≡ (if here then n else n)
+none_noted true n = refl
+none_noted false n = refl
+
+unread-noted : (messages : List Message) (cpu k : ℕ) → unread_of (noted_all messages cpu) k ≡ (if eqb cpu k then length messages else 0)
+unread-noted [] cpu k = none_noted (eqb cpu k) 0
+unread-noted (message ∷ messages) cpu k = ap (λ n. (if eqb cpu k then 1 else 0) + n) (unread-noted messages cpu k) ∙ one_more (eqb cpu k) (length messages)
+
+-- Processors
+
+woken_fits : (here : Bool) (command : Command) (unread : ℕ) → unread ≡ 0 → CallFits (if here then CpuState.Woken command else CpuState.Asleep command) unread
+woken_fits true command unread h = h
+woken_fits false command unread h = h
+
+fits_woken : (test : ℕ → Bool) (p : CpuState) (unread : ℕ) → CallFits p unread → CallFits (woken_if test p) unread
+fits_woken test CpuState.Idle unread h = h
+fits_woken test (CpuState.Asleep command) unread h = woken_fits (test (page_of command)) command unread h
+fits_woken test (CpuState.Woken command) unread h = h
+fits_woken test (CpuState.InCall reply left) unread h = h
+
+-- waking leaves calls
+fits_all : (test : ℕ → Bool) (cpus : List CpuState) (k unread : ℕ) → CallFits (processor_at cpus k) unread → CallFits (processor_at (all_woken test cpus) k) unread
+fits_all test cpus k unread h = subst (λ p. CallFits p unread) (sym (map_at (woken_if test) cpus k refl)) (fits_woken test (processor_at cpus k) unread h)
+
+idle_unread : (p : CpuState) (unread : ℕ) → is_idle p ≡ true → CallFits p unread → unread ≡ 0
+idle_unread CpuState.Idle unread is h = h
+idle_unread (CpuState.Asleep command) unread is h = absurd (false≢true is)
+idle_unread (CpuState.Woken command) unread is h = absurd (false≢true is)
+idle_unread (CpuState.InCall reply left) unread is h = absurd (false≢true is)
+
+woken_unread : (p : CpuState) (unread : ℕ) → is_woken p ≡ true → CallFits p unread → unread ≡ 0
+woken_unread (CpuState.Woken command) unread is h = h
+woken_unread CpuState.Idle unread is h = absurd (false≢true is)
+woken_unread (CpuState.Asleep command) unread is h = absurd (false≢true is)
+woken_unread (CpuState.InCall reply left) unread is h = absurd (false≢true is)
+
+zero_suc : (n : ℕ) → 0 ≡ suc n → ⊥
+zero_suc n h = omega (arith, h)
+
+less_one : (a b : ℕ) → suc a ≡ suc b → a ≡ b
+less_one a b h = omega (arith, h)
+
+-- a processor that is there changes, and the others stay
+fits_set : (cpus : List CpuState) (i : ℕ) (new : CpuState) (before now : ℕ → ℕ) → not (ltb i (length cpus)) ≡ false → ((k : ℕ) → CallFits (processor_at cpus k) (before k)) → ((k : ℕ) → (i ≡ k → ⊥) → now k ≡ before k) → CallFits new (now i) → (k : ℕ) →
+    CallFits (processor_at (set cpus i new) k) (now k)
+fits_set cpus i new before now there fits others here k =
+    ⊎_elim
+    (λ (same : i ≡ k). subst (λ j. CallFits (processor_at (set cpus i new) j) (now j)) same (subst (λ p. CallFits p (now i)) (sym (set_there cpus i new there)) here))
+    (λ (other : i ≡ k → ⊥). subst (λ p. CallFits p (now k)) (sym (set_other cpus i k new other)) (subst (λ n. CallFits (processor_at cpus k) n) (sym (others k other)) (fits k)))
+    (cases_eq i k)
+
+-- Commands
+
+answered_fits : (access : Access) (command : Command) (unread : ℕ) → unread ≡ 0 → CallFits (processor_after command (access_took access)) unread
+answered_fits (Answered reply) command unread h = h
+answered_fits Missing command unread h = h
+answered_fits Protected command unread h = h
+
+called_fits : (reply : Reply) (count : ℕ) (command : Command) (unread : ℕ) → unread ≡ count → CallFits (processor_after command (call_took reply count)) unread
+called_fits reply zero command unread h = h
+called_fits reply (suc left) command unread h = (sym h, omega arith)
+
+eqb_by : (here : Bool) (a b : ℕ) → eqb a b ≡ here → (a ≡ b → ⊥) → here ≡ false
+eqb_by true a b is h = absurd (h (grind (arith, nat_tests)))
+eqb_by false a b is h = refl
+
+plus_none : (n : ℕ) → n + 0 ≡ n
+plus_none n = omega arith
+
+none_plus : (n : ℕ) → 0 + n ≡ n
+none_plus n = omega arith
+
+tried_calls : (access : Bool) (guest : Guest) (cpu : ℕ) (command : Command) → not (ltb cpu (length guest.cpus)) ≡ false → unread_of guest.space.object.events cpu ≡ 0 → HasSoundCalls guest → HasSoundCalls (tried access guest cpu command)
+tried_calls true guest cpu command there none calls =
+    let access = access_of guest.space command in
+    let events = accessed_events access guest.space cpu command in
+    record {
+      fits = subst (λ e. (k : ℕ) → CallFits (processor_at (set guest.cpus cpu (processor_after command (access_took access))) k) (unread_of e k)) (sym events)
+          (fits_set guest.cpus cpu (processor_after command (access_took access)) (unread_of guest.space.object.events) (unread_of guest.space.object.events) there calls.fits (λ k other. refl)
+          (answered_fits access command (unread_of guest.space.object.events cpu) none));
+      faults = AreFaults-tried true guest.space cpu command calls.faults;
+    }
+tried_calls false guest cpu command there none calls =
+    let reply = reply_of (memory guest.space.host) command in
+    let messages = call_messages guest.space.object command reply in
+    let old = guest.space.object.events in
+    let new = processor_after command (call_took reply (length messages)) in
+    let events = events_queued (modes_after guest.space.object command reply) messages cpu ∙ ap (λ e. e ++ noted_all messages cpu) (modes_events guest.space.object command reply) in
+    let count = λ (k : ℕ). unread-append old (noted_all messages cpu) k ∙ ap (λ n. unread_of old k + n) (unread-noted messages cpu k) in
+    record {
+      fits = subst (λ e. (k : ℕ) → CallFits (processor_at (set guest.cpus cpu new) k) (unread_of e k)) (sym events)
+          (fits_set guest.cpus cpu new (unread_of old) (unread_of (old ++ noted_all messages cpu)) there calls.fits
+          (λ k other. count k ∙ ap (λ b. unread_of old k + (if b then length messages else 0)) (ne_eqb cpu k other) ∙ plus_none (unread_of old k))
+          (called_fits reply (length messages) command (unread_of (old ++ noted_all messages cpu) cpu)
+          (count cpu ∙ ap (λ b. unread_of old cpu + (if b then length messages else 0)) (eqb-self cpu) ∙ ap (λ n. n + length messages) none ∙ none_plus (length messages))));
+      faults = AreFaults-tried false guest.space cpu command calls.faults;
+    }
+
+first_there : (n : ℕ) → not (ltb 0 (suc n)) ≡ false
+first_there n = grind (arith, nat_tests)
+
+more_there : (k n : ℕ) → not (ltb k n) ≡ false → not (ltb (suc k) (suc n)) ≡ false
+more_there k n h = grind (arith, nat_tests)
+
+woken_there : (cpus : List CpuState) (k : ℕ) → is_woken (processor_at cpus k) ≡ true → not (ltb k (length cpus)) ≡ false
+woken_there [] k h = absurd (false≢true h)
+woken_there (p ∷ ps) zero h = first_there (length ps)
+woken_there (p ∷ ps) (suc k) h = more_there k (length ps) (woken_there ps k h)
+
+-- Messages
+
+less_fits : (p : CpuState) (unread : ℕ) → CallFits p (1 + unread) → CallFits (message_less p) unread
+less_fits CpuState.Idle unread h = absurd (omega (arith, h))
+less_fits (CpuState.Asleep command) unread h = absurd (omega (arith, h))
+less_fits (CpuState.Woken command) unread h = absurd (omega (arith, h))
+less_fits (CpuState.InCall reply zero) unread h = let no = h.1 in absurd (omega (arith, no))
+less_fits (CpuState.InCall reply (suc zero)) unread h = let is = h.0 in omega (arith, is)
+less_fits (CpuState.InCall reply (suc (suc left))) unread h = let is = h.0 in (omega (arith, is), omega arith)
+
+-- a processor that has unread events is there
+call_there : (cpus : List CpuState) (k unread : ℕ) → CallFits (processor_at cpus k) (1 + unread) → not (ltb k (length cpus)) ≡ false
+call_there [] k unread h = absurd (omega (arith, h))
+call_there (p ∷ ps) zero unread h = first_there (length ps)
+call_there (p ∷ ps) (suc k) unread h = more_there k (length ps) (call_there ps k unread h)
+
+event_fits : (cpus : List CpuState) (first : Noted) (events : List Noted) (test : ℕ → Bool) → ((k : ℕ) → CallFits (processor_at cpus k) (unread_of (first ∷ events) k)) → (k : ℕ) →
+    CallFits (processor_at (all_woken test (set cpus first.cpu (message_less (processor_at cpus first.cpu)))) k) (unread_of events k)
+event_fits cpus first events test fits k =
+    let own = subst (λ n. CallFits (processor_at cpus first.cpu) n) (ap (λ b. (if b then 1 else 0) + unread_of events first.cpu) (eqb-self first.cpu)) (fits first.cpu) in
+    fits_all test (set cpus first.cpu (message_less (processor_at cpus first.cpu))) k (unread_of events k)
+    (fits_set cpus first.cpu (message_less (processor_at cpus first.cpu)) (unread_of (first ∷ events)) (unread_of events) (call_there cpus first.cpu (unread_of events first.cpu) own) fits
+    (λ j other. sym (ap (λ b. (if b then 1 else 0) + unread_of events j) (ne_eqb first.cpu j other) ∙ none_plus (unread_of events j)))
+    (less_fits (processor_at cpus first.cpu) (unread_of events first.cpu) own) k)
+
+-- a guest with these queues. Each guest is one with its own
+abbrev with_queues : List Noted → List Noted → Guest → Guest
+with_queues faults events guest = record guest { space = record guest.space { object = record guest.space.object { faults = faults; events = events } } }
+
+event_calls : (message : Message) (cpu : ℕ) (events : List Noted) (guest : Guest) → AreRight (record { message = message; cpu = cpu } ∷ events) → HasSoundCalls (with_queues [] (record { message = message; cpu = cpu } ∷ events) guest) →
+    HasSoundCalls (read_guest (with_queues [] (record { message = message; cpu = cpu } ∷ events) guest) cpu message)
+event_calls (PageFault addr write wp) cpu events guest right calls = absurd right.0
+event_calls (Remap from to len) cpu events guest right calls = record { fits = event_fits guest.cpus (record { message = Remap from to len; cpu = cpu }) events (is_left_by (Remap from to len)) calls.fits; faults = tt }
+event_calls (Remove start end) cpu events guest right calls = record { fits = event_fits guest.cpus (record { message = Remove start end; cpu = cpu }) events (is_left_by (Remove start end)) calls.fits; faults = tt }
+event_calls (Unmap start end) cpu events guest right calls = record { fits = event_fits guest.cpus (record { message = Unmap start end; cpu = cpu }) events (is_left_by (Unmap start end)) calls.fits; faults = tt }
+
+fault_calls : (message : Message) (cpu : ℕ) (faults events : List Noted) (guest : Guest) → HasSoundCalls (with_queues (record { message = message; cpu = cpu } ∷ faults) events guest) →
+    HasSoundCalls (read_guest (with_queues (record { message = message; cpu = cpu } ∷ faults) events guest) cpu message)
+fault_calls (PageFault addr write wp) cpu faults events guest calls = record { fits = calls.fits; faults = calls.faults.1 }
+fault_calls (Remap from to len) cpu faults events guest calls = absurd calls.faults.0
+fault_calls (Remove start end) cpu faults events guest calls = absurd calls.faults.0
+fault_calls (Unmap start end) cpu faults events guest calls = absurd calls.faults.0
+
+read_in : (faults events : List Noted) (noted : Noted) (guest : Guest) → next_of faults events ≡ Some noted → AreRight events → HasSoundCalls (with_queues faults events guest) → HasSoundCalls (read_guest (with_queues faults events guest) noted.cpu noted.message)
+read_in [] [] noted guest is right calls = absurd (none_is noted is)
+read_in [] (first ∷ events) noted guest is right calls =
+    subst (λ m. HasSoundCalls (read_guest (with_queues [] (first ∷ events) guest) m.cpu m.message)) (some_is first noted is) (event_calls first.message first.cpu events guest right calls)
+read_in (first ∷ faults) events noted guest is right calls =
+    subst (λ m. HasSoundCalls (read_guest (with_queues (first ∷ faults) events guest) m.cpu m.message)) (some_is first noted is) (fault_calls first.message first.cpu faults events guest calls)
+
+read_calls : (guest : Guest) (noted : Noted) → next_message guest.space.object ≡ Some noted → AreRight guest.space.object.events → HasSoundCalls guest → HasSoundCalls (read_guest guest noted.cpu noted.message)
+read_calls guest noted is right calls = read_in guest.space.object.faults guest.space.object.events noted guest is right calls
+
+-- The steps of the nodes
+
+-- a guest whose space is another with the same object, and whose sleepers of a page are woken
+resolved_calls : (guest : Guest) (page : ℕ) (space : Space) → space.object ≡ guest.space.object → HasSoundCalls guest → HasSoundCalls (resolved guest page space)
+resolved_calls guest page space same calls =
+    record {
+      fits = λ k. subst (λ o. CallFits (processor_at (all_woken (λ q. eqb q page) guest.cpus) k) (unread_of o.events k)) (sym same) (fits_all (λ q. eqb q page) guest.cpus k (unread_of guest.space.object.events k) (calls.fits k));
+      faults = subst (λ o. AreFaults o.faults) (sym same) calls.faults;
+    }
+
+source_act_calls : (act : Act) (node : Source) (page : ℕ) → HasSoundCalls node.guest → HasSoundCalls (source_acted_by act node page).guest
+source_act_calls Unprotected node page calls = resolved_calls node.guest page _ refl calls
+source_act_calls Zeroed node page calls = resolved_calls node.guest page _ refl calls
+source_act_calls Woke node page calls = resolved_calls node.guest page _ refl calls
+source_act_calls Forgot node page calls = resolved_calls node.guest page _ refl calls
+source_act_calls (Requested origin) node page calls = resolved_calls node.guest page _ refl calls
+
+destination_act_calls : (act : Act) (node : Destination) (page : ℕ) → HasSoundCalls node.guest → HasSoundCalls (destination_acted_by act node page).guest
+destination_act_calls Unprotected node page calls = resolved_calls node.guest page _ refl calls
+destination_act_calls Zeroed node page calls = resolved_calls node.guest page _ refl calls
+destination_act_calls Woke node page calls = resolved_calls node.guest page _ refl calls
+destination_act_calls Forgot node page calls = resolved_calls node.guest page _ refl calls
+destination_act_calls (Requested origin) node page calls = calls
+
+install_calls : (o : Option ℕ) (node : Destination) (copy : Copy) (rest : List Copy) → HasSoundCalls node.guest → HasSoundCalls (install_by o node copy rest).guest
+install_calls None node copy rest calls = calls
+install_calls (Some page) node copy rest calls = resolved_calls node.guest page _ refl calls
+
+-- a processor that is taken over is in no call
+taken_fits : (commands : List (Option Command)) (k : ℕ) → CallFits (processor_at (map taken_over commands) k) 0
+taken_fits [] k = refl
+taken_fits (None ∷ commands) zero = refl
+taken_fits (Some command ∷ commands) zero = refl
+taken_fits (command ∷ commands) (suc k) = taken_fits commands k
+
+came_calls : (ran : Bool) (node : Destination) (copy : Copy) → HasSoundCalls node.guest → HasSoundCalls (copy_came ran node copy).guest
+came_calls true node copy calls = record { fits = calls.fits; faults = calls.faults }
+came_calls false node copy calls = record { fits = calls.fits; faults = calls.faults }
+
+resumed_calls : (state : Received) (node : Destination) → HasSoundCalls node.guest → HasSoundCalls (resumed_by state node).guest
+resumed_calls Received.NotRun node calls = calls
+resumed_calls Received.Running node calls = calls
+resumed_calls Received.Ended node calls = calls
+
+took_calls : (frame : Frame) (node : Destination) (epoch : ℕ) → HasSoundCalls node.guest → HasSoundCalls (destination_took node epoch frame).guest
+took_calls (Package areas owed commands) node epoch calls = record { fits = λ k. taken_fits commands k; faults = tt }
+took_calls (Page page bytes) node epoch calls = came_calls node.has_run node _ calls
+took_calls (Zero page) node epoch calls = came_calls node.has_run node _ calls
+took_calls Resume node epoch calls = resumed_calls (received_of node) _ calls
+took_calls Advise node epoch calls = calls
+took_calls (Discard pages) node epoch calls = calls
+took_calls End node epoch calls = calls
+took_calls (Request page) node epoch calls = calls
+took_calls (Recv state owed) node epoch calls = calls
+took_calls Done node epoch calls = calls
+
+-- a source that has switched has no unread event, and gives up its space with none
+released_calls : (node : Source) → (space_of node).object.events ≡ [] → HasSoundCalls node.guest → HasSoundCalls (released node).guest
+released_calls node quiet calls = record { fits = λ k. subst (λ e. CallFits (processor_at node.guest.cpus k) (unread_of e k)) quiet (calls.fits k); faults = tt }
+
+rebuilt_calls : (switched : Bool) (one other : Source) → HasSoundCalls one.guest → HasSoundCalls other.guest → HasSoundCalls (if switched then one else other).guest
+rebuilt_calls true one other a b = a
+rebuilt_calls false one other a b = b
+
+back_calls : (frame : Frame) (node : Source) → (is_last frame ≡ true → (space_of node).object.events ≡ []) → HasSoundCalls node.guest → HasSoundCalls (source_took node frame).guest
+back_calls (Recv Received.NotRun owed) node quiet calls = rebuilt_calls node.switched _ _ calls calls
+back_calls (Recv Received.Running owed) node quiet calls = calls
+back_calls (Recv Received.Ended owed) node quiet calls = released_calls node (quiet refl) calls
+back_calls Done node quiet calls = released_calls node (quiet refl) calls
+back_calls (Request page) node quiet calls = calls
+back_calls Advise node quiet calls = calls
+back_calls (Page page bytes) node quiet calls = calls
+back_calls (Zero page) node quiet calls = calls
+back_calls (Discard pages) node quiet calls = calls
+back_calls (Package areas owed commands) node quiet calls = calls
+back_calls End node quiet calls = calls
+back_calls Resume node quiet calls = calls
+
+-- Steps
+
+-- a command is tried where the guest runs
+by_guest : (ran : Bool) (world : World) (cpu : ℕ) (command : Command) → not (ltb cpu (length (guest_by ran world.source.guest world.destination.guest).cpus)) ≡ false →
+    (HasSoundCalls (guest_by ran world.source.guest world.destination.guest) → unread_of (guest_by ran world.source.guest world.destination.guest).space.object.events cpu ≡ 0) → AreSoundCalls world →
+    AreSoundCalls (with_guest_by ran world (tried (is_access command) (guest_by ran world.source.guest world.destination.guest) cpu command))
+by_guest true world cpu command there none all = record { source = all.source; destination = tried_calls (is_access command) world.destination.guest cpu command there (none all.destination) all.destination }
+by_guest false world cpu command there none all = record { source = tried_calls (is_access command) world.source.guest cpu command there (none all.source) all.source; destination = all.destination }
+
+command_calls : (world : World) (cpu : ℕ) (command : Command) → has_no_cpu world cpu ≡ false → (HasSoundCalls (guest_of world) → unread_of (guest_of world).space.object.events cpu ≡ 0) → AreSoundCalls world → AreSoundCalls (after_command world cpu command)
+command_calls world cpu command there none all = let new = by_guest world.destination.has_run world cpu command there none all in record { source = new.source; destination = new.destination }
+
+pub stopped_switched : (phase : SourcePhase) (switched : Bool) → is_stopped phase ≡ true → SwitchedAt phase switched → switched ≡ true
+stopped_switched SourcePhase.Stopped switched h at = at
+stopped_switched SourcePhase.Idle switched h at = absurd (false≢true h)
+stopped_switched SourcePhase.Precopy switched h at = absurd (false≢true h)
+stopped_switched SourcePhase.Paused switched h at = absurd (false≢true h)
+stopped_switched SourcePhase.Released switched h at = absurd (false≢true h)
+
+ended_ran : Received.Ended ≢ Received.NotRun
+ended_ran h = cc
+
+last_switched : (frame : Frame) (world : World) → IsSoundWorld world → IsInPlaceBack world.source frame → is_last frame ≡ true → world.source.switched ≡ true
+last_switched Done world kept place h = stopped_switched world.source.phase world.source.switched place.0 kept.phases.source_phase
+last_switched (Recv Received.Ended owed) world kept place h = place.3 ended_ran
+last_switched (Recv Received.NotRun owed) world kept place h = absurd (false≢true h)
+last_switched (Recv Received.Running owed) world kept place h = absurd (false≢true h)
+last_switched _ world kept place h = absurd (false≢true h)
+
+calls_answer : (world : World) (step : Step) → IsSoundWorld world → AreSoundCalls world → Leaves AreSoundCalls (answer world step)
+calls_answer world (Step.Issue cpu command) kept all =
+    made-issue _ world cpu command (λ there idle may. command_calls world cpu command there (λ calls. idle_unread (processor_at (guest_of world).cpus cpu) _ idle (calls.fits cpu)) all)
+calls_answer world (Step.Retry cpu) kept all =
+    made-retry _ world cpu (λ command is woken may.
+    command_calls world cpu command (woken_there (guest_of world).cpus cpu woken) (λ calls. woken_unread (processor_at (guest_of world).cpus cpu) _ woken (calls.fits cpu)) all)
+calls_answer world Step.Start kept all = made-start _ world (λ idle. record { source = record { fits = all.source.fits; faults = all.source.faults }; destination = all.destination })
+calls_answer world Step.Round kept all = made-round _ world (λ precopy quiet. record { source = record { fits = all.source.fits; faults = all.source.faults }; destination = all.destination })
+calls_answer world Step.Send kept all = made-send _ world (λ page is precopy up quiet. record { source = record { fits = all.source.fits; faults = all.source.faults }; destination = all.destination })
+calls_answer world Step.SourceRead kept all =
+    made-source_read _ world (λ noted is started unswitched. record { source = read_calls world.source.guest noted is kept.spaces.source_events all.source; destination = all.destination })
+calls_answer world Step.SourceAct kept all =
+    made-source_act _ world (λ fault rest is started unswitched quiet. record { source = source_act_calls (source_act world.source fault) world.source fault.page all.source; destination = all.destination })
+calls_answer world Step.Switch kept all = made-switch _ world (λ precopy up quiet. record { source = record { fits = all.source.fits; faults = tt }; destination = all.destination })
+calls_answer world (Step.Deliver n) kept all =
+    made-deliver _ world n (λ sent rest is short. record { source = all.source; destination = all.destination })
+    (λ sent rest is full started up free. record { source = all.source; destination = took_calls sent.frame world.destination sent.epoch all.destination })
+calls_answer world (Step.DeliverBack n) kept all =
+    made-deliver_back _ world n (λ sent rest is short. record { source = all.source; destination = all.destination })
+    (λ sent rest is full started up.
+    record {
+      source = back_calls sent.frame world.source (λ last. kept.phases.source_quiet (last_switched sent.frame world kept (is_taken_back world sent rest kept up is) last)) all.source;
+      destination = all.destination;
+    })
+calls_answer world Step.DestRead kept all =
+    made-dest_read _ world (λ noted is ran. record { source = all.source; destination = read_calls world.destination.guest noted is kept.spaces.destination_events all.destination })
+calls_answer world Step.DestAct kept all =
+    made-dest_act _ world (λ fault rest is ran quiet. record { source = all.source; destination = destination_act_calls (destination_act world.destination fault) world.destination fault.page all.destination })
+calls_answer world Step.Install kept all =
+    made-install _ world (λ copy rest is ran quiet. record { source = all.source; destination = install_calls (home world.destination.owed copy.page) world.destination copy rest all.destination })
+calls_answer world (Step.Push ticket) kept all = made-push _ world ticket (λ stopped up own present remains. record { source = all.source; destination = all.destination })
+calls_answer world Step.Serve kept all = made-serve _ world (λ page pages is stopped up. record { source = all.source; destination = all.destination })
+calls_answer world Step.End kept all = made-end _ world (λ stopped other up none. record { source = all.source; destination = all.destination })
+calls_answer world Step.Break kept all = made-break _ world (λ started unreleased up. record { source = all.source; destination = all.destination })
+calls_answer world (Step.Notice Side.Source) kept all = made-notice _ world Side.Source (λ started unreleased down. record { source = all.source; destination = all.destination })
+calls_answer world (Step.Notice Side.Destination) kept all = made-notice _ world Side.Destination (λ started unreleased down. record { source = all.source; destination = all.destination })
+calls_answer world Step.Resume kept all = made-resume _ world (λ from to down. record { source = all.source; destination = all.destination })
+
+idle_calls : (count k : ℕ) → CallFits (processor_at (idle_processors count) k) 0
+idle_calls zero k = refl
+idle_calls (suc count) zero = refl
+idle_calls (suc count) (suc k) = idle_calls count k
+
+steps_calls : (world : World) (steps : List Step) → IsSoundWorld world → AreSoundCalls world → AreSoundCalls (after_steps world steps)
+steps_calls world [] kept all = all
+steps_calls world (step ∷ steps) kept all = steps_calls (next world step) steps (kept-next world step kept) (leaves-next AreSoundCalls world step all (calls_answer world step kept all))
+
+pub are_sound_calls : (world : World) → IsReached world → AreSoundCalls world
+are_sound_calls world reached =
+    subst AreSoundCalls (sym reached.is)
+    (steps_calls (first_world_with reached.cpus reached.epoch reached.rounds) reached.steps (kept-first reached.cpus reached.epoch reached.rounds)
+    (record { source = record { fits = λ k. idle_calls reached.cpus k; faults = tt }; destination = record { fits = λ k. idle_calls reached.cpus k; faults = tt } }))

@@ -1,0 +1,173 @@
+-- After a Push no Switch of its epoch is made, and no Recv of its epoch is taken.
+use Rattle.std.proofs.Common.{◌≡◌, ℕ, ◌+◌, ◌<◌, Bool, true, false, not, Option, Some, None, List, [], ◌∷◌, refl, sym, ap, ◌∙◌, subst, ◌⊎◌, inl, inr, ⊎_elim, arith, IsOk, if◌then◌else◌}
+use Rattle.std.proofs.lemmas.Bool.{false≢true}
+use Rattle.mig_base.specs.declared.phase.Received.{Received}
+use Rattle.mig_base.specs.declared.phase.SourcePhase.{SourcePhase}
+use Rattle.mig_base.specs.declared.schedule.Side.{Side}
+use Rattle.mig_base.specs.declared.schedule.Step.{Step}
+use Rattle.mig_base.specs.declared.schedule.Ticket.{Ticket}
+use Rattle.mig_model.specs.Wire.{Frame, Sent}
+use Rattle.mig_model.specs.Wire.Frame.{Advise, Page, Zero, Discard, Package, End, Resume, Request, Recv, Done}
+use Rattle.mig_model.specs.Guest.{Act, Guest}
+use Rattle.mig_model.specs.Guest.Act.{Unprotected, Zeroed, Woke, Forgot, Requested}
+use Rattle.mig_model.specs.Invariant.{IsSoundWorld, SwitchedAt}
+use Rattle.mig_model.proofs.EveryStep.{kept-next}
+use Rattle.mig_model.proofs.FramesTaken.{is_taken_back}
+use Rattle.mig_model.proofs.SourceRounds.{precopy_unswitched}
+use Rattle.mig_model.proofs.Calls.{stopped_switched}
+use Rattle.mig_model.proofs.StepLemmas.{Leaves, leaves-next, leaves-ok}
+use Rattle.mig_model.specs.Log.{present}
+use Rattle.mig_model.specs.Source.{Source, is_source_idle, is_source_paused, is_stopped, source_act, source_acted_by, source_took}
+use Rattle.mig_model.specs.Migration.{World, after_steps, answer, next, outcome, with_guest_by}
+use Rattle.mig_model.specs.Promises.{IsInPlaceBack, is_recv}
+use Rattle.mig_model.proofs.StepCases.{made-break, made-deliver, made-deliver_back, made-dest_act, made-dest_read, made-end, made-install, made-issue, made-notice, made-push, made-resume, made-retry, made-round, made-send, made-serve, made-source_act, made-source_read, made-start, made-switch}
+
+-- what tells that the source has switched in an epoch, and is not to be told again what the destination needs: its epoch, whether it
+-- has switched, its phase, and whether the link is up
+abbrev HasPushed : ℕ → ℕ → Bool → SourcePhase → Bool → Type 0
+HasPushed pushed epoch switched phase up = (pushed < epoch) ⊎ ((epoch ≡ pushed) × (switched ≡ true) × (up ≡ true → is_source_paused phase ≡ false))
+
+abbrev PushedIn : ℕ → World → Type 0
+PushedIn pushed world = HasPushed pushed world.source.epoch world.source.switched world.source.phase world.up
+
+-- the parts of a source that tell it
+record IsAlike (old new : Source) : Type 0 where
+  epoch : new.epoch ≡ old.epoch
+  switched : new.switched ≡ old.switched
+  phase : new.phase ≡ old.phase
+
+alike : (pushed : ℕ) (old new : Source) (up : Bool) → IsAlike old new → HasPushed pushed old.epoch old.switched old.phase up → HasPushed pushed new.epoch new.switched new.phase up
+alike pushed old new up same h =
+    subst (λ e. HasPushed pushed e new.switched new.phase up) (sym same.epoch) (subst (λ s. HasPushed pushed old.epoch s new.phase up) (sym same.switched) (subst (λ p. HasPushed pushed old.epoch old.switched p up) (sym same.phase) h))
+
+-- the same while a link that is up stays so
+guest_alike : (ran : Bool) (pushed : ℕ) (world : World) (guest : Guest) → PushedIn pushed world → PushedIn pushed (with_guest_by ran world guest)
+guest_alike true pushed world guest h = h
+guest_alike false pushed world guest h = h
+
+act_alike : (act : Act) (node : Source) (page : ℕ) → IsAlike node (source_acted_by act node page)
+act_alike Unprotected node page = record { epoch = refl; switched = refl; phase = refl }
+act_alike Zeroed node page = record { epoch = refl; switched = refl; phase = refl }
+act_alike Woke node page = record { epoch = refl; switched = refl; phase = refl }
+act_alike Forgot node page = record { epoch = refl; switched = refl; phase = refl }
+act_alike (Requested origin) node page = record { epoch = refl; switched = refl; phase = refl }
+
+idle_unswitched : (phase : SourcePhase) (switched : Bool) → is_source_idle phase ≡ true → SwitchedAt phase switched → switched ≡ false
+idle_unswitched SourcePhase.Idle switched h at = at
+idle_unswitched SourcePhase.Precopy switched h at = absurd (false≢true h)
+idle_unswitched SourcePhase.Stopped switched h at = absurd (false≢true h)
+idle_unswitched SourcePhase.Paused switched h at = absurd (false≢true h)
+idle_unswitched SourcePhase.Released switched h at = absurd (false≢true h)
+
+-- a later epoch alone is left, where the source has not switched
+later : {A : Type 0} (pushed epoch : ℕ) (switched : Bool) (phase : SourcePhase) (up : Bool) → switched ≡ false → HasPushed pushed epoch switched phase up → (pushed < epoch → A) → A
+later pushed epoch switched phase up not h more =
+    ⊎_elim more (λ (one : (epoch ≡ pushed) × (switched ≡ true) × (up ≡ true → is_source_paused phase ≡ false)). absurd (false≢true (sym not ∙ one.1))) h
+
+-- the same, where it is paused and the link is up
+resumed_later : {A : Type 0} (pushed epoch : ℕ) (switched : Bool) (phase : SourcePhase) (up : Bool) → up ≡ true → is_source_paused phase ≡ true → HasPushed pushed epoch switched phase up → (pushed < epoch → A) → A
+resumed_later pushed epoch switched phase up linked paused h more =
+    ⊎_elim more (λ (one : (epoch ≡ pushed) × (switched ≡ true) × (up ≡ true → is_source_paused phase ≡ false)). absurd (false≢true (sym (one.2 linked) ∙ paused))) h
+
+one_later : (pushed epoch : ℕ) → pushed < epoch → pushed < epoch + 1
+one_later pushed epoch h = omega (arith, h)
+
+next_later : (pushed epoch : ℕ) → epoch ≡ pushed → pushed < epoch + 1
+next_later pushed epoch h = omega (arith, h)
+
+rebuilt_epoch : (switched : Bool) (one other : Source) (epoch : ℕ) → one.epoch ≡ epoch → other.epoch ≡ epoch → (if switched then one else other).epoch ≡ epoch
+rebuilt_epoch true one other epoch a b = a
+rebuilt_epoch false one other epoch a b = b
+
+taken_pushed : (frame : Frame) (pushed : ℕ) (node : Source) (up : Bool) → up ≡ true → (is_recv frame ≡ true → is_source_paused node.phase ≡ true) → HasPushed pushed node.epoch node.switched node.phase up →
+    HasPushed pushed (source_took node frame).epoch (source_took node frame).switched (source_took node frame).phase up
+taken_pushed (Recv Received.NotRun owed) pushed node up linked paused h =
+    resumed_later pushed node.epoch node.switched node.phase up linked (paused refl) h (λ more. inl (subst (λ e. pushed < e) (sym (rebuilt_epoch node.switched _ _ node.epoch refl refl)) more))
+taken_pushed (Recv Received.Running owed) pushed node up linked paused h = resumed_later pushed node.epoch node.switched node.phase up linked (paused refl) h (λ more. inl more)
+taken_pushed (Recv Received.Ended owed) pushed node up linked paused h = resumed_later pushed node.epoch node.switched node.phase up linked (paused refl) h (λ more. inl more)
+taken_pushed Done pushed node up linked paused h =
+    ⊎_elim (λ (more : pushed < node.epoch). inl more) (λ (one : (node.epoch ≡ pushed) × (node.switched ≡ true) × (up ≡ true → is_source_paused node.phase ≡ false)). inr (one.0, one.1, λ u. refl)) h
+taken_pushed (Request page) pushed node up linked paused h = h
+taken_pushed Advise pushed node up linked paused h = h
+taken_pushed (Page page bytes) pushed node up linked paused h = h
+taken_pushed (Zero page) pushed node up linked paused h = h
+taken_pushed (Discard pages) pushed node up linked paused h = h
+taken_pushed (Package areas owed commands) pushed node up linked paused h = h
+taken_pushed End pushed node up linked paused h = h
+taken_pushed Resume pushed node up linked paused h = h
+
+recv_paused : (frame : Frame) (node : Source) → IsInPlaceBack node frame → is_recv frame ≡ true → is_source_paused node.phase ≡ true
+recv_paused (Recv state owed) node place is = place.0
+recv_paused _ node place is = absurd (false≢true is)
+
+-- with the link down the phase tells nothing
+down_pushed : (pushed epoch : ℕ) (switched : Bool) (old new : SourcePhase) (before : Bool) → HasPushed pushed epoch switched old before → HasPushed pushed epoch switched new false
+down_pushed pushed epoch switched old new before h =
+    ⊎_elim (λ (more : pushed < epoch). inl more) (λ (one : (epoch ≡ pushed) × (switched ≡ true) × (before ≡ true → is_source_paused old ≡ false)). inr (one.0, one.1, λ u. absurd (false≢true u))) h
+
+pushed_answer : (pushed : ℕ) (world : World) (step : Step) → IsSoundWorld world → PushedIn pushed world → Leaves (PushedIn pushed) (answer world step)
+pushed_answer pushed world (Step.Issue cpu command) kept h = made-issue _ world cpu command (λ there idle may. guest_alike world.destination.has_run pushed world _ h)
+pushed_answer pushed world (Step.Retry cpu) kept h = made-retry _ world cpu (λ command is woken may. guest_alike world.destination.has_run pushed world _ h)
+pushed_answer pushed world Step.Start kept h =
+    made-start _ world (λ idle. later pushed world.source.epoch world.source.switched world.source.phase world.up (idle_unswitched world.source.phase world.source.switched idle kept.phases.source_phase) h (λ more. inl (one_later pushed world.source.epoch more)))
+pushed_answer pushed world Step.Round kept h = made-round _ world (λ precopy quiet. h)
+pushed_answer pushed world Step.Send kept h = made-send _ world (λ page is precopy up quiet. h)
+pushed_answer pushed world Step.SourceRead kept h = made-source_read _ world (λ noted is started unswitched. h)
+pushed_answer pushed world Step.SourceAct kept h =
+    made-source_act _ world (λ fault rest is started unswitched quiet. alike pushed world.source _ world.up (act_alike (source_act world.source fault) world.source fault.page) h)
+pushed_answer pushed world Step.Switch kept h =
+    made-switch _ world (λ precopy up quiet.
+    later pushed world.source.epoch world.source.switched world.source.phase world.up (precopy_unswitched world.source.phase world.source.switched precopy kept.phases.source_phase) h (λ more. inl more))
+pushed_answer pushed world (Step.Deliver n) kept h = made-deliver _ world n (λ sent rest is short. h) (λ sent rest is full started up free. h)
+pushed_answer pushed world (Step.DeliverBack n) kept h =
+    made-deliver_back _ world n (λ sent rest is short. h)
+    (λ sent rest is full started up. taken_pushed sent.frame pushed world.source world.up up (recv_paused sent.frame world.source (is_taken_back world sent rest kept up is)) h)
+pushed_answer pushed world Step.DestRead kept h = made-dest_read _ world (λ noted is ran. h)
+pushed_answer pushed world Step.DestAct kept h = made-dest_act _ world (λ fault rest is ran quiet. h)
+pushed_answer pushed world Step.Install kept h = made-install _ world (λ copy rest is ran quiet. h)
+pushed_answer pushed world (Step.Push ticket) kept h = made-push _ world ticket (λ stopped up own present remains. h)
+pushed_answer pushed world Step.Serve kept h = made-serve _ world (λ page pages is stopped up. h)
+pushed_answer pushed world Step.End kept h = made-end _ world (λ stopped other up none. h)
+pushed_answer pushed world Step.Break kept h = made-break _ world (λ started unreleased up. down_pushed pushed world.source.epoch world.source.switched world.source.phase world.source.phase world.up h)
+pushed_answer pushed world (Step.Notice Side.Source) kept h =
+    made-notice _ world Side.Source (λ started unreleased down.
+    subst (λ u. HasPushed pushed world.source.epoch world.source.switched SourcePhase.Paused u) (sym down) (down_pushed pushed world.source.epoch world.source.switched world.source.phase SourcePhase.Paused world.up h))
+pushed_answer pushed world (Step.Notice Side.Destination) kept h = made-notice _ world Side.Destination (λ started unreleased down. h)
+pushed_answer pushed world Step.Resume kept h =
+    made-resume _ world (λ from to down.
+    ⊎_elim (λ (more : pushed < world.source.epoch). inl (one_later pushed world.source.epoch more))
+    (λ (one : (world.source.epoch ≡ pushed) × (world.source.switched ≡ true) × (world.up ≡ true → is_source_paused world.source.phase ≡ false)). inl (next_later pushed world.source.epoch one.0)) h)
+
+pushed_steps : (pushed : ℕ) (world : World) (steps : List Step) → IsSoundWorld world → PushedIn pushed world → PushedIn pushed (after_steps world steps)
+pushed_steps pushed world [] kept h = h
+pushed_steps pushed world (step ∷ steps) kept h = pushed_steps pushed (next world step) steps (kept-next world step kept) (leaves-next (PushedIn pushed) world step h (pushed_answer pushed world step kept h))
+
+stopped_not_paused : (phase : SourcePhase) → is_stopped phase ≡ true → is_source_paused phase ≡ false
+stopped_not_paused SourcePhase.Stopped h = refl
+stopped_not_paused SourcePhase.Idle h = absurd (false≢true h)
+stopped_not_paused SourcePhase.Precopy h = absurd (false≢true h)
+stopped_not_paused SourcePhase.Paused h = absurd (false≢true h)
+stopped_not_paused SourcePhase.Released h = absurd (false≢true h)
+
+-- an accepted Push, and any steps behind it
+pub pushed_before : (world : World) (ticket : Ticket) (steps : List Step) → IsSoundWorld world → IsOk (outcome world (Step.Push ticket)) → PushedIn world.source.epoch (after_steps (next world (Step.Push ticket)) steps)
+pushed_before world ticket steps kept ok =
+    pushed_steps world.source.epoch (next world (Step.Push ticket)) steps (kept-next world (Step.Push ticket) kept)
+    (leaves-ok (PushedIn world.source.epoch) world (Step.Push ticket)
+    (made-push _ world ticket (λ stopped up own present remains.
+    inr (refl, stopped_switched world.source.phase world.source.switched stopped kept.phases.source_phase, λ u. stopped_not_paused world.source.phase stopped))) ok)
+
+not_later : (pushed epoch : ℕ) → epoch ≡ pushed → pushed < epoch → ⊥
+not_later pushed epoch same more = omega (arith, same, more)
+
+-- so no Switch is accepted in that epoch
+pub no_switch : (pushed : ℕ) (world : World) → IsSoundWorld world → PushedIn pushed world → world.source.epoch ≡ pushed → IsOk (outcome world Step.Switch) → ⊥
+no_switch pushed world kept h same ok =
+    leaves-ok (λ new. ⊥) world Step.Switch
+    (made-switch _ world (λ precopy up quiet.
+    later pushed world.source.epoch world.source.switched world.source.phase world.up (precopy_unswitched world.source.phase world.source.switched precopy kept.phases.source_phase) h (not_later pushed world.source.epoch same))) ok
+
+-- and no Recv is on the wire back
+pub no_recv_taken : (pushed : ℕ) (world : World) (sent : Sent) (rest : List Sent) → IsSoundWorld world → PushedIn pushed world → world.source.epoch ≡ pushed → world.up ≡ true → world.back.frames ≡ sent ∷ rest → is_recv sent.frame ≡ true → ⊥
+no_recv_taken pushed world sent rest kept h same up first is =
+    resumed_later pushed world.source.epoch world.source.switched world.source.phase world.up up (recv_paused sent.frame world.source (is_taken_back world sent rest kept up first) is) h (not_later pushed world.source.epoch same)
