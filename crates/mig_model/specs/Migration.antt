@@ -96,7 +96,7 @@ abbrev pub is_end : Frame → Bool
 is_end End = true
 is_end frame = false
 
--- whether a side has after_notice that the channel is broken
+-- whether a side has noticed that the channel is broken
 abbrev pub is_paused_at : World → Side → Bool
 is_paused_at world Side.Source = is_source_paused world.source.phase
 is_paused_at world Side.Destination = is_dest_paused world.destination.phase

@@ -38,8 +38,8 @@ pub fn every_frame_is_taken()
     ensures back_epoch { (cpus epoch rounds : ℕ) (steps : List Step) (sent : Sent) (rest : List Sent) → (after_steps (first_world_with cpus epoch rounds) steps).back ≡ sent ∷ rest → sent.epoch ≡ (after_steps (first_world_with cpus epoch rounds) steps).source.epoch }
 {}
 
-/// Each step changes only its own parts. The source's steps put nothing at the destination, which changes by the frames that
-/// it takes and by the commands of the processors that it runs.
+/// What each step leaves as it is. No step of the source changes the destination. What a Deliver makes of the destination is the
+/// machine's definition alone: no clause here speaks of it.
 pub fn each_step_changes_its_parts()
     ensures start { (world : World) → ((next world Step.Start).destination ≡ world.destination) × ((next world Step.Start).back ≡ world.back) × ((next world Step.Start).transcript ≡ world.transcript) }
     ensures switch { (world : World) → ((next world Step.Switch).destination ≡ world.destination) × ((next world Step.Switch).back ≡ world.back) × ((next world Step.Switch).transcript ≡ world.transcript) }
