@@ -1,11 +1,11 @@
 //! One host: an address space whose userfault object is not enabled.
 
-ghost use Rattle.std.specs.Prelude.{◌≡◌, ℕ, IfOk, OnOk, OnErr};
+ghost use Rattle.std.specs.Prelude.{◌≡◌, ℕ, None, IfOk, OnOk, OnErr};
 ghost use Rattle.std.specs.FinMap as map;
 ghost use Rattle.std.specs.FinSet as set;
 ghost use Rattle.std.specs.Option.{option_copied};
 ghost use Rattle.mig_base.specs.Flat.{reply_of, after};
-ghost use Rattle.mig_model.specs.Host.{bare_host, memory, host_after, IsSound};
+ghost use Rattle.mig_model.specs.Host.{bare_host, memory, host_after};
 ghost use Rattle.mig_base.specs.Commands.{is_access as is_load_or_store};
 
 use area_map::AreaMap;
@@ -46,9 +46,9 @@ impl Host {
         }
     }
 
-    /// A host of these areas and present pages. Each present page is mapped, and none lies past the end or is protected.
+    /// A host of these areas and present pages. Each present page is mapped, and none is protected.
     pub fn assemble(alloc: Global, areas: AreaMap, pages: PageTable) -> Self
-        requires sound { IsSound (record { areas = areas; bytes = pages.bytes }) }
+        requires mapped { (page : ℕ) → map.get areas page ≡ None → map.get pages.bytes page ≡ None }
         requires open { pages.protected ≡ set.empty }
         ensures { result ≡ record { areas = areas; bytes = pages.bytes } }
     {
