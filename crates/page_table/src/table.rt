@@ -11,8 +11,8 @@ ghost use Rattle.page_table.specs.Leaves.{Cell, cell_at, has_place, no_cell, wit
 
 use crate::leaf::{Page, Place};
 use crate::place::{
-    place_clear, place_gather, place_get, place_is_protected, place_make, place_protect, place_put, place_take,
-    place_write,
+    place_clear, place_gather, place_get, place_is_protected, place_make, place_protect, place_put,
+    place_take, place_write,
 };
 use mig_base::chunk::CHUNK;
 use mig_base::page_set::PageSet;

@@ -79,15 +79,13 @@ pub fn waits(faults: &VecDeque<Noted>, addr: Addr, wp: bool) -> bool
     false
 }
 
-/// The same queue again.
+/// A copy of the queue.
 pub fn copy_queue(alloc: Global, queue: &VecDeque<Noted>) -> Result<VecDeque<Noted>, NoMemory>
     ensures { IfOk result (λ copy. copy.items ≡ queue.now.items) }
 {
     let mut copy = VecDeque::with_capacity(alloc, queue.len())?;
     for i in 0..queue.len() {
-        let Ok(()) = copy.push_back(queue[i]) else {
-            return Err(NoMemory);
-        };
+        copy.push_back(queue[i])?;
     }
     Ok(copy)
 }

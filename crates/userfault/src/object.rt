@@ -174,9 +174,7 @@ impl Userfault {
             return Ok(());
         }
         let noted = Noted::new(Message::PageFault { addr, write, wp }, cpu);
-        let Ok(()) = self.faults.push_back(noted) else {
-            return Err(NoMemory);
-        };
+        self.faults.push_back(noted)?;
         Ok(())
     }
 
@@ -185,9 +183,7 @@ impl Userfault {
         ensures ok { OnOk result (self.new ≡ machine.event_queued self.old message cpu) }
         ensures err { OnErr result (self.new ≡ self.old) }
     {
-        let Ok(()) = self.events.push_back(Noted::new(message, cpu)) else {
-            return Err(NoMemory);
-        };
+        self.events.push_back(Noted::new(message, cpu))?;
         Ok(())
     }
 

@@ -1,0 +1,1 @@
+use Rattle.mig_base.proofs.Prot.allows_store.Goals as goal

@@ -1,0 +1,1 @@
+use Rattle.mig_base.proofs.message.Message.to_bytes.Goals as goal

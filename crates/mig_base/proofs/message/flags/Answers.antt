@@ -1,0 +1,1 @@
+use Rattle.mig_base.proofs.message.flags.Goals as goal
