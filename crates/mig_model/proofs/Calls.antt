@@ -41,7 +41,6 @@ use Rattle.mig_model.specs.Migration.{World, after_command, after_steps, answer,
 use Rattle.mig_model.specs.Promises.{IsInPlaceBack, IsReached, is_last}
 use Rattle.mig_model.proofs.StepCases.{made-break, made-deliver, made-deliver_back, made-dest_act, made-dest_read, made-end, made-install, made-issue, made-notice, made-push, made-resume, made-retry, made-round, made-send, made-serve, made-source_act, made-source_read, made-start, made-switch}
 use Rattle.mig_model.proofs.Facts.{eqb-self, some_is, modes_events}
-use Rattle.mig_model.specs.Log.{present}
 
 -- Numbers of events
 

@@ -344,3 +344,7 @@ IsSoundSpace-zeropaged space start len bits sound =
     let told = none_holds (zeropage_errors space start len bits) e in
     IsSoundSpace-installed space first (missing_run space first count) (λ i. zero_page) false
     (can_put space first count (λ i. zero_page) false sound (not-false (is_one_area space first count) told.1.1.1.1.0) (λ i l. length-zero_page) (λ e. none_absurd e)) sound)
+
+-- the name by which other crates have the standard library's lemma
+pub not_false : (b : Bool) → not b ≡ false → b ≡ true
+not_false b h = not-false b h

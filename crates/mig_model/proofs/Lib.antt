@@ -67,3 +67,4 @@ pub mod StepPromises
 pub mod WaitingAccesses
 pub mod Calls
 pub mod PushOrder
+pub mod ViewPromises

@@ -1,5 +1,5 @@
 -- After a Push no Switch of its epoch is made, and no Recv of its epoch is taken.
-use Rattle.std.proofs.Common.{◌≡◌, ℕ, ◌+◌, ◌<◌, Bool, true, false, not, Option, Some, None, List, [], ◌∷◌, refl, sym, ap, ◌∙◌, subst, ◌⊎◌, inl, inr, ⊎_elim, arith, IsOk, if◌then◌else◌}
+use Rattle.std.proofs.Common.{◌≡◌, ℕ, ◌+◌, ◌<◌, Bool, true, false, not, List, [], ◌∷◌, refl, sym, ◌∙◌, subst, ◌⊎◌, inl, inr, ⊎_elim, arith, IsOk, if◌then◌else◌}
 use Rattle.std.proofs.lemmas.Bool.{false≢true}
 use Rattle.mig_base.specs.declared.phase.Received.{Received}
 use Rattle.mig_base.specs.declared.phase.SourcePhase.{SourcePhase}
@@ -16,7 +16,6 @@ use Rattle.mig_model.proofs.FramesTaken.{is_taken_back}
 use Rattle.mig_model.proofs.SourceRounds.{precopy_unswitched}
 use Rattle.mig_model.proofs.Calls.{stopped_switched}
 use Rattle.mig_model.proofs.StepLemmas.{Leaves, leaves-next, leaves-ok}
-use Rattle.mig_model.specs.Log.{present}
 use Rattle.mig_model.specs.Source.{Source, is_source_idle, is_source_paused, is_stopped, source_act, source_acted_by, source_took}
 use Rattle.mig_model.specs.Migration.{World, after_steps, answer, next, outcome, with_guest_by}
 use Rattle.mig_model.specs.Promises.{IsInPlaceBack, is_recv}

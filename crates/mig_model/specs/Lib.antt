@@ -14,6 +14,7 @@ pub mod Owed
 pub mod Source
 pub mod Destination
 pub mod Migration
+pub mod Views
 pub mod Invariant
 pub mod Parts
 pub mod Promises

@@ -21,6 +21,8 @@ ghost use Rattle.mig_model.specs.Destination.{settled, is_running};
 ghost use Rattle.mig_model.specs.Wire.{Sent, Copy, empty_wire, wire_with};
 ghost use Rattle.mig_model.specs.Migration.{World, guest_of, is_short, after_move, after_move_back, outcome, next, first_world, after_steps};
 ghost use Rattle.mig_model.specs.Invariant.{IsSoundWorld, AreSoundCalls, IsPrecopying, IsSwitching, IsReceiving, current_host, package_in};
+ghost use Rattle.mig_base.specs.declared.step.WorldPhase.{WorldPhase};
+ghost use Rattle.mig_model.specs.Views.{phase_of, new_world_with};
 ghost use Rattle.mig_model.specs.Parts.{Grows, ChangesParts};
 ghost use Rattle.mig_model.specs.Promises.{AreAccesses, IsReached, IsComplete, IsAlone, ArePaired, AreUnderWay, IsPut, IsZeroed, IsTaken, keeps_remaining, IsInPlaceBack, owed_changed, leaves_settled, is_retry_of, IsDelivered, IsDeliveredBack, takes_forward, takes_back, is_break, is_recv, is_last, Completes, CanComplete, has_recv, Slept};
 
@@ -39,6 +41,12 @@ pub fn completion()
     ensures stays { (world : World) (steps : List Step) → IsReached world → IsComplete world → IsComplete (after_steps world steps) × IsAlone (after_steps world steps) }
     ensures taken { (world : World) (n : ℕ) (sent : Sent) (rest : List Sent) → IsOk (outcome world (Step.DeliverBack n)) → world.back.frames ≡ sent ∷ rest → is_short world.back sent.frame n ≡ false → is_last sent.frame ≡ true → IsComplete (next world (Step.DeliverBack n)) }
     ensures only { (world : World) (step : Step) → is_released world.source.phase ≡ false → IsComplete (next world step) → Completes world step }
+{}
+
+/// What a world tells: its phase is Complete exactly where the migration is complete. A new world is one to which no step has led yet.
+pub fn what_a_world_tells()
+    ensures complete { (world : World) → (phase_of world ≡ WorldPhase.Complete → IsComplete world) × (IsComplete world → phase_of world ≡ WorldPhase.Complete) }
+    ensures new { (cpus epoch rounds : ℕ) (world : World) → new_world_with cpus epoch rounds ≡ Ok world → IsReached world }
 {}
 
 /// A migration can be completed: some steps lead there, where there is nothing to move. So the laws of completion are not about nothing.

@@ -1,0 +1,53 @@
+-- The phase of a world is Complete exactly where the migration is complete, and a new world is a first world.
+use Rattle.std.proofs.Common.{◌≡◌, ℕ, ◌||◌, Bool, true, false, eqb, ltb, [], refl, sym, ap, ◌∙◌, if◌then◌else◌}
+use Rattle.std.specs.Prelude.{Ok, Err}
+use Rattle.std.proofs.lemmas.Bool.{false≢true}
+use Rattle.mig_base.specs.declared.TheConstants.{MAX_CPUS}
+use Rattle.mig_base.specs.declared.phase.SourcePhase.{SourcePhase}
+use Rattle.mig_base.specs.declared.refusal.Refusal.{Refusal}
+use Rattle.mig_base.specs.declared.step.WorldPhase.{WorldPhase}
+use Rattle.mig_model.specs.Migration.{World, first_world_with}
+use Rattle.mig_model.specs.Source.{is_released}
+use Rattle.mig_model.specs.Views.{new_world_with, phase_by, phase_of}
+use Rattle.mig_model.specs.Promises.{IsReached, IsComplete}
+
+is_complete : WorldPhase → Bool
+is_complete WorldPhase.Complete = true
+is_complete _ = false
+
+told_by : (phase : SourcePhase) (switched ran : Bool) → is_complete (phase_by phase switched ran) ≡ is_released phase
+unfolding is_complete
+told_by SourcePhase.Released switched ran = refl
+told_by SourcePhase.Idle switched true = refl
+told_by SourcePhase.Idle true false = refl
+told_by SourcePhase.Idle false false = refl
+told_by SourcePhase.Precopy switched true = refl
+told_by SourcePhase.Precopy true false = refl
+told_by SourcePhase.Precopy false false = refl
+told_by SourcePhase.Stopped switched true = refl
+told_by SourcePhase.Stopped true false = refl
+told_by SourcePhase.Stopped false false = refl
+told_by SourcePhase.Paused switched true = refl
+told_by SourcePhase.Paused true false = refl
+told_by SourcePhase.Paused false false = refl
+
+released_is : (phase : SourcePhase) (switched ran : Bool) → is_released phase ≡ true → phase_by phase switched ran ≡ WorldPhase.Complete
+released_is SourcePhase.Released switched ran h = refl
+released_is SourcePhase.Idle switched ran h = absurd (false≢true h)
+released_is SourcePhase.Precopy switched ran h = absurd (false≢true h)
+released_is SourcePhase.Stopped switched ran h = absurd (false≢true h)
+released_is SourcePhase.Paused switched ran h = absurd (false≢true h)
+
+pub phase_complete : (world : World) → (phase_of world ≡ WorldPhase.Complete → IsComplete world) × (IsComplete world → phase_of world ≡ WorldPhase.Complete)
+unfolding is_complete
+phase_complete world = (
+  λ h. sym (told_by world.source.phase world.source.switched world.destination.has_run) ∙ ap is_complete h,
+  λ done. released_is world.source.phase world.source.switched world.destination.has_run done,
+)
+
+made_new : (wrong : Bool) (cpus epoch rounds : ℕ) (world : World) → (if wrong then Err Refusal.NoCpu else Ok (first_world_with cpus epoch rounds)) ≡ Ok world → world ≡ first_world_with cpus epoch rounds
+made_new true cpus epoch rounds world h = absurd (cc)
+made_new false cpus epoch rounds world h = cc
+
+pub new_reached : (cpus epoch rounds : ℕ) (world : World) → new_world_with cpus epoch rounds ≡ Ok world → IsReached world
+new_reached cpus epoch rounds world h = record { cpus = cpus; epoch = epoch; rounds = rounds; steps = []; is = made_new (eqb cpus 0 || ltb MAX_CPUS cpus) cpus epoch rounds world h }

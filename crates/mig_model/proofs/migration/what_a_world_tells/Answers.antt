@@ -1,0 +1,8 @@
+use Rattle.mig_model.proofs.ViewPromises.{phase_complete, new_reached}
+use Rattle.mig_model.proofs.migration.what_a_world_tells.Goals as goal
+
+pub returns-clause-complete : goal.returns-clause-complete
+returns-clause-complete c world = phase_complete world
+
+pub returns-clause-new : goal.returns-clause-new
+returns-clause-new c cpus epoch rounds world h = new_reached cpus epoch rounds world h
