@@ -80,7 +80,9 @@ pub enum Effect {
         owed: u32,
     },
     /// That many bytes were moved, and completed no frame.
-    Moved { bytes: u64 },
+    Moved {
+        bytes: u64,
+    },
     /// The destination knows of the migration.
     TookAdvise,
     /// The destination has the bytes of a page.
