@@ -1,1 +1,0 @@
-use Rattle.mig_base.proofs.Prot.allows_store.Goals as goal

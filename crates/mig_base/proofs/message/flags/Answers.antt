@@ -1,1 +1,0 @@
-use Rattle.mig_base.proofs.message.flags.Goals as goal

@@ -1,1 +1,0 @@
-use Rattle.mig_base.proofs.command.Command.is_access.Goals as goal
