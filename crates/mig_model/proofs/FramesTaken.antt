@@ -31,7 +31,7 @@ use Rattle.mig_model.specs.Log.{no_pages, present}
 use Rattle.mig_model.specs.Source.{Source, commands_of, is_source_paused, is_stopped, space_of}
 use Rattle.mig_model.specs.Destination.{Destination}
 use Rattle.mig_model.proofs.Facts.{none_absurd, and_left}
-use Rattle.mig_model.proofs.UrgentWire.{EndTells, end_tells, placed}
+use Rattle.mig_model.proofs.UrgentWire.{EndTells, end_tells}
 
 -- In place
 

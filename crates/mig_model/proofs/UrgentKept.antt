@@ -1,8 +1,7 @@
 -- PushUrgent and DeliverUrgent keep what every world keeps: a page goes from those that remain to the urgent wire, and from there to the
 -- copies that have arrived.
-use Rattle.std.proofs.Common.{◌≡◌, ◌≢◌, ℕ, ◌+◌, ◌&&◌, ◌||◌, Bool, true, false, cond, not, eqb, Option, Some, None, is_some, List, [], ◌∷◌, ◌++◌, refl, sym, ap, ◌∙◌, subst, ⊎_elim, length}
+use Rattle.std.proofs.Common.{◌≡◌, ◌≢◌, ℕ, ◌&&◌, ◌||◌, Bool, true, false, not, eqb, Some, is_some, List, [], ◌∷◌, ◌++◌, refl, sym, ap, ◌∙◌, subst, ⊎_elim, length}
 use Rattle.std.specs.Ordering.{nat_cmp}
-use Rattle.std.specs.FinMap as finmap
 use Rattle.std.specs.FinMap.{FinMap, get}
 use Rattle.std.specs.FinSet as finset
 use Rattle.std.specs.FinSet.{FinSet, contains}
@@ -13,7 +12,7 @@ use Rattle.mig_base.specs.Bytes.{zero_page}
 use Rattle.mig_base.proofs.SetLemmas.{member_removed}
 use Rattle.mig_model.specs.Wire.{Frame, Sent, Copy, page_frame, wire_behind, copy_in}
 use Rattle.mig_model.specs.Wire.Frame.{Page, Zero}
-use Rattle.mig_model.specs.Migration.{World, after_deliver_urgent, after_push_urgent, runs}
+use Rattle.mig_model.specs.Migration.{World, after_deliver_urgent, after_push_urgent}
 use Rattle.mig_model.specs.Source.{Source, is_stopped, bytes_of, space_of, urgent_pushed}
 use Rattle.mig_model.specs.Invariant.{AreFaithful, AreSoundUrgent, IsSoundWorld, IsSwitching, StoppedWires, are_copies, behind, copies_of, has_copy, is_urgent_or_left, AreOf, EpochAt}
 use Rattle.mig_model.specs.Destination.{urgent_came, is_running}
