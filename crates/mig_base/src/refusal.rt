@@ -25,6 +25,8 @@ pub enum Refusal {
     Changing = 10,
     /// A copy that has arrived is to be installed first.
     InstallFirst = 11,
+    /// Frames of the urgent wire are to be taken first.
+    UrgentFirst = 17,
     /// The source does not have the page.
     PageNotSendable = 12,
     /// The page is not owed, or was pushed in this epoch.

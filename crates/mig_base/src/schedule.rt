@@ -33,6 +33,10 @@ pub enum Step {
     Install,
     /// The source sends an owed page.
     Push(Ticket),
+    /// The source sends an owed page on the urgent wire.
+    PushUrgent(Ticket),
+    /// At most `n` bytes of the urgent wire reach the destination, and none past the first frame that they complete, which it takes.
+    DeliverUrgent { n: u64 },
     /// The source takes the first request of the destination.
     Serve,
     /// The source tells the destination that nothing more is sent.

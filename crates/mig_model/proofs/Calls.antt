@@ -22,7 +22,7 @@ use Rattle.mig_model.specs.Space.{Space, access_of, call_messages, modes_after}
 use Rattle.mig_model.specs.Guest.Act.{Unprotected, Zeroed, Woke, Forgot, Requested}
 use Rattle.mig_model.specs.Wire.{Frame, Copy}
 use Rattle.mig_model.specs.Wire.Frame.{Advise, Page, Zero, Discard, Package, End, Resume, Request, Recv, Done}
-use Rattle.mig_model.specs.Invariant.{IsSoundWorld, AreRight, AreFaults, unread_of, CallFits, HasSoundCalls, AreSoundCalls, SwitchedAt}
+use Rattle.mig_model.specs.Invariant.{IsSoundWorld, AreRight, AreFaults, unread_of, CallFits, HasSoundCalls, AreSoundCalls, SwitchedAt, AreSoundUrgent}
 use Rattle.mig_model.proofs.SourceMessages.{noted_all, events_queued}
 use Rattle.mig_model.proofs.SettledPromises.{accessed_events}
 use Rattle.mig_model.proofs.FaultLemmas.{AreFaults-tried}
@@ -36,11 +36,12 @@ use Rattle.mig_model.specs.Cpus.{access_took, all_woken, call_took, idle_process
 use Rattle.mig_model.specs.Guest.{Act, Guest, read_guest, resolved, tried, is_left_by}
 use Rattle.mig_model.specs.Owed.{home}
 use Rattle.mig_model.specs.Source.{Source, is_stopped, released, source_act, source_acted_by, source_took, space_of}
-use Rattle.mig_model.specs.Destination.{Destination, copy_came, destination_act, destination_acted_by, destination_took, install_by, received_of, resumed_by}
+use Rattle.mig_model.specs.Destination.{Destination, copy_came, destination_act, destination_acted_by, destination_took, install_by, received_of, resumed_by, urgent_took}
 use Rattle.mig_model.specs.Migration.{World, after_command, after_steps, answer, first_world_with, guest_by, guest_of, has_no_cpu, next, start, with_guest_by}
 use Rattle.mig_model.specs.Promises.{IsInPlaceBack, IsReached, is_last}
-use Rattle.mig_model.proofs.StepCases.{made-break, made-deliver, made-deliver_back, made-dest_act, made-dest_read, made-end, made-install, made-issue, made-notice, made-push, made-resume, made-retry, made-round, made-send, made-serve, made-source_act, made-source_read, made-start, made-switch}
+use Rattle.mig_model.proofs.StepCases.{made-break, made-deliver, made-deliver_back, made-dest_act, made-dest_read, made-end, made-install, made-issue, made-notice, made-push, made-resume, made-retry, made-round, made-send, made-serve, made-source_act, made-source_read, made-start, made-switch, made-deliver_urgent, made-push_urgent}
 use Rattle.mig_model.proofs.Facts.{eqb-self, some_is, modes_events}
+use Rattle.mig_model.proofs.UrgentSteps.{urgent-first, urgent-next}
 
 -- Numbers of events
 
@@ -265,10 +266,22 @@ took_calls (Zero page) node epoch calls = came_calls node.has_run node _ calls
 took_calls Resume node epoch calls = resumed_calls (received_of node) _ calls
 took_calls Advise node epoch calls = calls
 took_calls (Discard pages) node epoch calls = calls
-took_calls End node epoch calls = calls
+took_calls (End count) node epoch calls = calls
 took_calls (Request page) node epoch calls = calls
 took_calls (Recv state owed) node epoch calls = calls
 took_calls Done node epoch calls = calls
+
+urgent_calls : (frame : Frame) (node : Destination) → HasSoundCalls node.guest → HasSoundCalls (urgent_took node frame).guest
+urgent_calls (Page page bytes) node calls = calls
+urgent_calls (Zero page) node calls = calls
+urgent_calls Advise node calls = calls
+urgent_calls (Discard pages) node calls = calls
+urgent_calls (Package areas owed commands) node calls = calls
+urgent_calls (End count) node calls = calls
+urgent_calls Resume node calls = calls
+urgent_calls (Request page) node calls = calls
+urgent_calls (Recv state owed) node calls = calls
+urgent_calls Done node calls = calls
 
 -- a source that has switched has no unread event, and gives up its space with none
 released_calls : (node : Source) → (space_of node).object.events ≡ [] → HasSoundCalls node.guest → HasSoundCalls (released node).guest
@@ -289,7 +302,7 @@ back_calls (Page page bytes) node quiet calls = calls
 back_calls (Zero page) node quiet calls = calls
 back_calls (Discard pages) node quiet calls = calls
 back_calls (Package areas owed commands) node quiet calls = calls
-back_calls End node quiet calls = calls
+back_calls (End count) node quiet calls = calls
 back_calls Resume node quiet calls = calls
 
 -- Steps
@@ -337,7 +350,7 @@ calls_answer world Step.SourceAct kept all =
 calls_answer world Step.Switch kept all = made-switch _ world (λ precopy up quiet. record { source = record { fits = all.source.fits; faults = tt }; destination = all.destination })
 calls_answer world (Step.Deliver n) kept all =
     made-deliver _ world n (λ sent rest is short. record { source = all.source; destination = all.destination })
-    (λ sent rest is full started up free. record { source = all.source; destination = took_calls sent.frame world.destination sent.epoch all.destination })
+    (λ sent rest is full started up free early. record { source = all.source; destination = took_calls sent.frame world.destination sent.epoch all.destination })
 calls_answer world (Step.DeliverBack n) kept all =
     made-deliver_back _ world n (λ sent rest is short. record { source = all.source; destination = all.destination })
     (λ sent rest is full started up.
@@ -352,6 +365,8 @@ calls_answer world Step.DestAct kept all =
 calls_answer world Step.Install kept all =
     made-install _ world (λ copy rest is ran quiet. record { source = all.source; destination = install_calls (home world.destination.owed copy.page) world.destination copy rest all.destination })
 calls_answer world (Step.Push ticket) kept all = made-push _ world ticket (λ stopped up own present remains. record { source = all.source; destination = all.destination })
+calls_answer world (Step.PushUrgent ticket) kept all = made-push_urgent _ world ticket (λ stopped up own present remains. record { source = all.source; destination = all.destination })
+calls_answer world (Step.DeliverUrgent n) kept all = made-deliver_urgent _ world n (λ sent rest is short. record { source = all.source; destination = all.destination }) (λ sent rest is full ran up. record { source = all.source; destination = urgent_calls sent.frame world.destination all.destination })
 calls_answer world Step.Serve kept all = made-serve _ world (λ page pages is stopped up. record { source = all.source; destination = all.destination })
 calls_answer world Step.End kept all = made-end _ world (λ stopped other up none. record { source = all.source; destination = all.destination })
 calls_answer world Step.Break kept all = made-break _ world (λ started unreleased up. record { source = all.source; destination = all.destination })
@@ -364,12 +379,12 @@ idle_calls zero k = refl
 idle_calls (suc count) zero = refl
 idle_calls (suc count) (suc k) = idle_calls count k
 
-steps_calls : (world : World) (steps : List Step) → IsSoundWorld world → AreSoundCalls world → AreSoundCalls (after_steps world steps)
-steps_calls world [] kept all = all
-steps_calls world (step ∷ steps) kept all = steps_calls (next world step) steps (kept-next world step kept) (leaves-next AreSoundCalls world step all (calls_answer world step kept all))
+steps_calls : (world : World) (steps : List Step) → IsSoundWorld world → AreSoundUrgent world → AreSoundCalls world → AreSoundCalls (after_steps world steps)
+steps_calls world [] kept urgent all = all
+steps_calls world (step ∷ steps) kept urgent all = steps_calls (next world step) steps (kept-next world step kept urgent) (urgent-next world step kept urgent) (leaves-next AreSoundCalls world step all (calls_answer world step kept all))
 
 pub are_sound_calls : (world : World) → IsReached world → AreSoundCalls world
 are_sound_calls world reached =
     subst AreSoundCalls (sym reached.is)
-    (steps_calls (first_world_with reached.cpus reached.epoch reached.rounds) reached.steps (kept-first reached.cpus reached.epoch reached.rounds)
+    (steps_calls (first_world_with reached.cpus reached.epoch reached.rounds) reached.steps (kept-first reached.cpus reached.epoch reached.rounds) (urgent-first reached.cpus reached.epoch reached.rounds)
     (record { source = record { fits = λ k. idle_calls reached.cpus k; faults = tt }; destination = record { fits = λ k. idle_calls reached.cpus k; faults = tt } }))

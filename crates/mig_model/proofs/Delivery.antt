@@ -14,7 +14,7 @@ use Rattle.mig_model.specs.Space.{fresh_space}
 use Rattle.mig_model.specs.Wire.{Frame, Sent, Copy, kept_after}
 use Rattle.mig_model.specs.Wire.Frame.{Advise, Page, Zero, Discard, Package, End, Resume}
 use Rattle.mig_model.specs.Migration.{World, is_end, after_deliver}
-use Rattle.mig_model.specs.Invariant.{Wires, IsSoundWorld, AreOf, AreWhole, AreFaithful, copies_of, has_copy, flow_of, EpochAt, AreSoundWires}
+use Rattle.mig_model.specs.Invariant.{Wires, IsSoundWorld, AreOf, AreWhole, AreFaithful, copies_of, has_copy, flow_of, EpochAt, AreSoundWires, is_urgent_or_left}
 use Rattle.mig_model.specs.Invariant.Flow.{Copies}
 use Rattle.mig_model.proofs.HostLemmas.{get-put}
 use Rattle.mig_model.proofs.WireLemmas.{has_copy-append}
@@ -31,12 +31,12 @@ use Rattle.mig_model.proofs.Facts.{not_up, put_whole, AreFaithful-append}
 advise_taken : (from : SourcePhase) (ran : Bool) (epoch : ℕ) (rest : List Sent) (world : World) →
     let old : World = at_state from DestPhase.Idle ran true (record { epoch = epoch; frame = Advise } ∷ rest) world in
     let new : World = delivered old old.forward.frames in
-    IsSoundWorld old → Wires new.source new.destination new.forward.frames new.back.frames → IsSoundWorld new
+    IsSoundWorld old → Wires new.source new.destination new.forward.frames new.back.frames new.urgent.frames → IsSoundWorld new
 advise_taken from ran epoch rest world kept on_wires =
     let old : World = at_state from DestPhase.Idle ran true (record { epoch = epoch; frame = Advise } ∷ rest) world in
     let new : World = delivered old old.forward.frames in
     let kept_advised : new.destination.phase ≡ DestPhase.Idle → new.destination.kept ≡ finmap.empty = λ h. cc in
-    let wires : new.up ≡ true → Wires new.source new.destination new.forward.frames new.back.frames = λ u. on_wires in
+    let wires : new.up ≡ true → Wires new.source new.destination new.forward.frames new.back.frames new.urgent.frames = λ u. on_wires in
     let down : new.up ≡ false → (new.forward.frames ≡ []) × (new.back.frames ≡ []) × (new.source.phase ≢ SourcePhase.Idle) × (new.source.phase ≢ SourcePhase.Released) = λ h. absurd (not_up h) in
     let forward_epoch : AreOf new.source.epoch new.forward.frames = kept.epochs.forward_epoch.1 in
     let epochs : new.destination.epoch ≤ new.source.epoch = let e = kept.epochs.forward_epoch.0 in omega (arith, e) in
@@ -55,7 +55,7 @@ whole_put kept page bytes n whole q held h = put_whole (eqb q page) bytes held (
 copy_kept : (from : SourcePhase) (epoch page : ℕ) (bytes : List ℕ) (rest : List Sent) (world : World) →
     let old : World = at_state from DestPhase.Advised false true (record { epoch = epoch; frame = Page page bytes } ∷ rest) world in
     let new : World = delivered old old.forward.frames in
-    IsSoundWorld old → Wires new.source new.destination new.forward.frames new.back.frames → IsSoundWorld new
+    IsSoundWorld old → Wires new.source new.destination new.forward.frames new.back.frames new.urgent.frames → IsSoundWorld new
 copy_kept from epoch page bytes rest world kept on_wires =
     let old : World = at_state from DestPhase.Advised false true (record { epoch = epoch; frame = Page page bytes } ∷ rest) world in
     let new : World = delivered old old.forward.frames in
@@ -64,7 +64,7 @@ copy_kept from epoch page bytes rest world kept on_wires =
     let kept_whole : (q : ℕ) (held : List ℕ) → get new.destination.kept q ≡ Some held → length held ≡ 4096 = whole_put world.destination.kept page bytes kept.copies.copies_whole.0 kept.copies.kept_whole in
     let copies_whole : AreWhole (copies_of new.forward.frames) = kept.copies.copies_whole.1 in
     let flight_faithful : new.destination.has_run ≡ true → AreFaithful new.source.guest.space.host.bytes (copies_of new.forward.frames) = λ h. absurd (false≢true h) in
-    let wires : new.up ≡ true → Wires new.source new.destination new.forward.frames new.back.frames = λ u. on_wires in
+    let wires : new.up ≡ true → Wires new.source new.destination new.forward.frames new.back.frames new.urgent.frames = λ u. on_wires in
     let down : new.up ≡ false → (new.forward.frames ≡ []) × (new.back.frames ≡ []) × (new.source.phase ≢ SourcePhase.Idle) × (new.source.phase ≢ SourcePhase.Released) = λ h. absurd (not_up h) in
     let forward_epoch : AreOf new.source.epoch new.forward.frames = kept.epochs.forward_epoch.1 in
     let held : AreSoundWires new.forward new.back = record { forward_held = fits-none rest; back_held = kept.held.back_held } in
@@ -92,7 +92,7 @@ discard_taken epoch pages rest world kept =
     let kept_none : new.destination.has_run ≡ true → new.destination.kept ≡ finmap.empty = λ h. absurd (false≢true h) in
     let kept_advised : new.destination.phase ≡ DestPhase.Idle → new.destination.kept ≡ finmap.empty = λ h. cc in
     let kept_whole : (q : ℕ) (held : List ℕ) → get new.destination.kept q ≡ Some held → length held ≡ 4096 = whole_discarded world.destination.kept pages kept.copies.kept_whole in
-    let wires : new.up ≡ true → Wires new.source new.destination new.forward.frames new.back.frames =
+    let wires : new.up ≡ true → Wires new.source new.destination new.forward.frames new.back.frames new.urgent.frames =
     λ u. (w.0, w.1, record { owed = w.2.owed; plan = w.2.plan; owed_present = w.2.owed_present; kept_rest = w.2.kept_rest; whereabouts = w.2.whereabouts; faithful = w.2.faithful }) in
     let down : new.up ≡ false → (new.forward.frames ≡ []) × (new.back.frames ≡ []) × (new.source.phase ≢ SourcePhase.Idle) × (new.source.phase ≢ SourcePhase.Released) = λ h. absurd (not_up h) in
     let forward_epoch : AreOf new.source.epoch new.forward.frames = kept.epochs.forward_epoch.1 in
@@ -126,14 +126,14 @@ copy_arrives epoch page bytes rest world kept =
     λ r. AreFaithful-append new.source.guest.space.host.bytes world.destination.arrivals (copy ∷ []) (kept.owing.arrivals_faithful refl) (faithful.0, tt) in
     let flight_faithful : new.destination.has_run ≡ true → AreFaithful new.source.guest.space.host.bytes (copies_of new.forward.frames) = λ r. faithful.1 in
     let ended_empty : new.destination.ended ≡ true → (new.destination.owed ≡ finmap.empty) × (new.destination.arrivals ≡ []) = λ h. absurd (false≢true (sym kept.phases.destination_phase.1 ∙ h)) in
-    let wires : new.up ≡ true → Wires new.source new.destination new.forward.frames new.back.frames =
+    let wires : new.up ≡ true → Wires new.source new.destination new.forward.frames new.back.frames new.urgent.frames =
     λ u. (
       w.0,
       w.1,
       record {
         whereabouts = λ q origin h.
-            ap (λ b. contains world.source.remaining origin || has_copy (copies_of rest) origin || b) (has_copy-append world.destination.arrivals (copy ∷ []) origin)
-            ∙ came (contains world.source.remaining origin) (eqb page origin) (has_copy (copies_of rest) origin) (has_copy world.destination.arrivals origin) (w.2.whereabouts q origin h);
+            ap (λ b. is_urgent_or_left world.source.remaining world.urgent.frames origin || has_copy (copies_of rest) origin || b) (has_copy-append world.destination.arrivals (copy ∷ []) origin)
+            ∙ came (is_urgent_or_left world.source.remaining world.urgent.frames origin) (eqb page origin) (has_copy (copies_of rest) origin) (has_copy world.destination.arrivals origin) (w.2.whereabouts q origin h);
       },
     ) in
     let down : new.up ≡ false → (new.forward.frames ≡ []) × (new.back.frames ≡ []) × (new.source.phase ≢ SourcePhase.Idle) × (new.source.phase ≢ SourcePhase.Released) = λ h. absurd (not_up h) in
@@ -143,17 +143,17 @@ copy_arrives epoch page bytes rest world kept =
 
 -- A page of zeros is a copy of zeros
 
-zero_wires : (from : SourcePhase) (to : DestPhase) (source : Source) (destination : Destination) (epoch page : ℕ) (rest back : List Sent) →
-    Wires (record source { phase = from }) (record destination { phase = to }) (record { epoch = epoch; frame = Zero page } ∷ rest) back →
-    Wires (record source { phase = from }) (record destination { phase = to }) (record { epoch = epoch; frame = Page page zero_page } ∷ rest) back
-zero_wires SourcePhase.Precopy DestPhase.Advised source destination epoch page rest back w = (w.0, w.1, record { clean_copy = w.2.clean_copy; copies_sent = w.2.copies_sent })
-zero_wires SourcePhase.Stopped DestPhase.Advised source destination epoch page rest back w =
+zero_wires : (from : SourcePhase) (to : DestPhase) (source : Source) (destination : Destination) (epoch page : ℕ) (rest back urgent : List Sent) →
+    Wires (record source { phase = from }) (record destination { phase = to }) (record { epoch = epoch; frame = Zero page } ∷ rest) back urgent →
+    Wires (record source { phase = from }) (record destination { phase = to }) (record { epoch = epoch; frame = Page page zero_page } ∷ rest) back urgent
+zero_wires SourcePhase.Precopy DestPhase.Advised source destination epoch page rest back urgent w = (w.0, w.1, record { clean_copy = w.2.clean_copy; copies_sent = w.2.copies_sent })
+zero_wires SourcePhase.Stopped DestPhase.Advised source destination epoch page rest back urgent w =
     (w.0, w.1, record { owed = w.2.owed; plan = w.2.plan; owed_present = w.2.owed_present; kept_rest = w.2.kept_rest; whereabouts = w.2.whereabouts; faithful = w.2.faithful })
-zero_wires SourcePhase.Stopped DestPhase.Running source destination epoch page rest back w = (w.0, w.1, record { whereabouts = w.2.whereabouts })
-zero_wires SourcePhase.Paused DestPhase.Paused source destination epoch page rest back w =
-    absurd (false≢true (first_in_place (record source { phase = SourcePhase.Paused }) (record destination { phase = DestPhase.Paused }) (record { epoch = epoch; frame = Zero page }) rest back w))
-zero_wires from to source destination epoch page rest back w =
-    absurd (false≢true (first_in_place (record source { phase = from }) (record destination { phase = to }) (record { epoch = epoch; frame = Zero page }) rest back w))
+zero_wires SourcePhase.Stopped DestPhase.Running source destination epoch page rest back urgent w = (w.0, w.1, record { whereabouts = w.2.whereabouts })
+zero_wires SourcePhase.Paused DestPhase.Paused source destination epoch page rest back urgent w =
+    absurd (false≢true (first_in_place (record source { phase = SourcePhase.Paused }) (record destination { phase = DestPhase.Paused }) (record { epoch = epoch; frame = Zero page }) rest back urgent w))
+zero_wires from to source destination epoch page rest back urgent w =
+    absurd (false≢true (first_in_place (record source { phase = from }) (record destination { phase = to }) (record { epoch = epoch; frame = Zero page }) rest back urgent w))
 
 zeros_shorter : (held : ℕ) → held < 16 → held < 4112
 zeros_shorter held h = omega (arith, h)
@@ -163,7 +163,7 @@ as_page : (from : SourcePhase) (to : DestPhase) (ran : Bool) (epoch page : ℕ) 
     IsSoundWorld (at_state from to ran true (record { epoch = epoch; frame = Page page zero_page } ∷ rest) world)
 as_page from to ran epoch page rest world kept =
     let new : World = at_state from to ran true (record { epoch = epoch; frame = Page page zero_page } ∷ rest) world in
-    let wires : new.up ≡ true → Wires new.source new.destination new.forward.frames new.back.frames = λ u. zero_wires from to world.source new.destination epoch page rest world.back.frames (kept.flight.wires refl) in
+    let wires : new.up ≡ true → Wires new.source new.destination new.forward.frames new.back.frames new.urgent.frames = λ u. zero_wires from to world.source new.destination epoch page rest world.back.frames world.urgent.frames (kept.flight.wires refl) in
     let down : new.up ≡ false → (new.forward.frames ≡ []) × (new.back.frames ≡ []) × (new.source.phase ≢ SourcePhase.Idle) × (new.source.phase ≢ SourcePhase.Released) = λ h. absurd (not_up h) in
     let held : AreSoundWires new.forward new.back = record { forward_held = zeros_shorter world.forward.held kept.held.forward_held; back_held = kept.held.back_held } in
     assumption
@@ -228,17 +228,21 @@ stopped_discarding epoch _ rest world kept = absurd (none-some (flow_of (record 
 abbrev IsFree : Frame → World → Type 0
 IsFree frame world = (is_end frame && not (is_empty world.destination.arrivals)) ≡ false
 
+-- where End is taken nothing is on the urgent wire
+abbrev pub AllCame : Frame → World → Type 0
+AllCame frame world = (count : ℕ) → frame ≡ End count → world.urgent.frames ≡ []
+
 none_waits : (arrivals : List Copy) → not (is_empty arrivals) ≡ false → arrivals ≡ []
 none_waits [] h = refl
 none_waits (copy ∷ arrivals) h = absurd (not_up h)
 
-stopped_running : (epoch : ℕ) (frame : Frame) (rest : List Sent) (world : World) → IsFree frame world →
+stopped_running : (epoch : ℕ) (frame : Frame) (rest : List Sent) (world : World) → IsFree frame world → AllCame frame world →
     let old : World = at_state SourcePhase.Stopped DestPhase.Running true true (record { epoch = epoch; frame = frame } ∷ rest) world in
     IsSoundWorld old → IsSoundWorld (delivered old old.forward.frames)
-stopped_running epoch (Page page bytes) rest world free kept = copy_arrives epoch page bytes rest world kept
-stopped_running epoch (Zero page) rest world free kept = copy_arrives epoch page zero_page rest world (as_page SourcePhase.Stopped DestPhase.Running true epoch page rest world kept)
-stopped_running epoch End rest world free kept = end_taken epoch rest world (none_waits world.destination.arrivals free) kept
-stopped_running epoch _ rest world free kept = absurd (none-some (flow_of (record world.source { phase = SourcePhase.Stopped })) (kept.flight.wires refl).0)
+stopped_running epoch (Page page bytes) rest world free came kept = copy_arrives epoch page bytes rest world kept
+stopped_running epoch (Zero page) rest world free came kept = copy_arrives epoch page zero_page rest world (as_page SourcePhase.Stopped DestPhase.Running true epoch page rest world kept)
+stopped_running epoch (End count) rest world free came kept = end_taken epoch count rest world (none_waits world.destination.arrivals free) (came count refl) kept
+stopped_running epoch _ rest world free came kept = absurd (none-some (flow_of (record world.source { phase = SourcePhase.Stopped })) (kept.flight.wires refl).0)
 
 is_resume_first : (frame : Frame) (epoch source_epoch : ℕ) (rest : List Sent) → record { epoch = epoch; frame = frame } ∷ rest ≡ record { epoch = source_epoch; frame = Resume } ∷ [] → frame ≡ Resume
 is_resume_first frame epoch source_epoch rest h = ap (λ (wire : List Sent). elim wire [ [] ↦ frame | sent ∷ _ ↦ sent.frame ]) h
@@ -251,26 +255,26 @@ paused_interrupted ran epoch frame rest world is =
     IsSoundWorld (delivered (at_state SourcePhase.Paused DestPhase.Paused ran true (record { epoch = epoch; frame = f } ∷ rest) world) (record { epoch = epoch; frame = f } ∷ rest)))
     (sym is) (resume_taken ran epoch rest world)
 
-delivered_in : (from : SourcePhase) (to : DestPhase) (ran : Bool) (sent : Sent) (rest : List Sent) (world : World) → IsFree sent.frame world →
+delivered_in : (from : SourcePhase) (to : DestPhase) (ran : Bool) (sent : Sent) (rest : List Sent) (world : World) → IsFree sent.frame world → AllCame sent.frame world →
     let old : World = at_state from to ran true (sent ∷ rest) world in
     IsSoundWorld old → IsSoundWorld (delivered old old.forward.frames)
-delivered_in SourcePhase.Precopy DestPhase.Idle ran sent rest world free kept = precopy_unadvised ran sent.epoch sent.frame rest world kept
-delivered_in SourcePhase.Precopy DestPhase.Advised false sent rest world free kept = precopy_advised sent.epoch sent.frame rest world kept
-delivered_in SourcePhase.Precopy DestPhase.Advised true sent rest world free kept = absurd (not_up kept.phases.destination_phase)
-delivered_in SourcePhase.Stopped DestPhase.Idle ran sent rest world free kept = stopped_unadvised ran sent.epoch sent.frame rest world kept
-delivered_in SourcePhase.Stopped DestPhase.Advised false sent rest world free kept = stopped_advised sent.epoch sent.frame rest world kept
-delivered_in SourcePhase.Stopped DestPhase.Advised true sent rest world free kept = absurd (not_up kept.phases.destination_phase)
-delivered_in SourcePhase.Stopped DestPhase.Discarding false sent rest world free kept = stopped_discarding sent.epoch sent.frame rest world kept
-delivered_in SourcePhase.Stopped DestPhase.Discarding true sent rest world free kept = absurd (not_up kept.phases.destination_phase)
-delivered_in SourcePhase.Stopped DestPhase.Running true sent rest world free kept = stopped_running sent.epoch sent.frame rest world free kept
-delivered_in SourcePhase.Stopped DestPhase.Running false sent rest world free kept = absurd (false≢true kept.phases.destination_phase.0)
-delivered_in SourcePhase.Paused DestPhase.Paused ran sent rest world free kept = paused_interrupted ran sent.epoch sent.frame rest world (is_resume_first sent.frame sent.epoch world.source.epoch rest (kept.flight.wires refl).0) kept
-delivered_in from to ran sent rest world free kept = absurd (false≢true (first_in_place (record world.source { phase = from }) (record world.destination { phase = to; has_run = ran }) sent rest world.back.frames (kept.flight.wires refl)))
+delivered_in SourcePhase.Precopy DestPhase.Idle ran sent rest world free came kept = precopy_unadvised ran sent.epoch sent.frame rest world kept
+delivered_in SourcePhase.Precopy DestPhase.Advised false sent rest world free came kept = precopy_advised sent.epoch sent.frame rest world kept
+delivered_in SourcePhase.Precopy DestPhase.Advised true sent rest world free came kept = absurd (not_up kept.phases.destination_phase)
+delivered_in SourcePhase.Stopped DestPhase.Idle ran sent rest world free came kept = stopped_unadvised ran sent.epoch sent.frame rest world kept
+delivered_in SourcePhase.Stopped DestPhase.Advised false sent rest world free came kept = stopped_advised sent.epoch sent.frame rest world kept
+delivered_in SourcePhase.Stopped DestPhase.Advised true sent rest world free came kept = absurd (not_up kept.phases.destination_phase)
+delivered_in SourcePhase.Stopped DestPhase.Discarding false sent rest world free came kept = stopped_discarding sent.epoch sent.frame rest world kept
+delivered_in SourcePhase.Stopped DestPhase.Discarding true sent rest world free came kept = absurd (not_up kept.phases.destination_phase)
+delivered_in SourcePhase.Stopped DestPhase.Running true sent rest world free came kept = stopped_running sent.epoch sent.frame rest world free came kept
+delivered_in SourcePhase.Stopped DestPhase.Running false sent rest world free came kept = absurd (false≢true kept.phases.destination_phase.0)
+delivered_in SourcePhase.Paused DestPhase.Paused ran sent rest world free came kept = paused_interrupted ran sent.epoch sent.frame rest world (is_resume_first sent.frame sent.epoch world.source.epoch rest (kept.flight.wires refl).0) kept
+delivered_in from to ran sent rest world free came kept = absurd (false≢true (first_in_place (record world.source { phase = from }) (record world.destination { phase = to; has_run = ran }) sent rest world.back.frames world.urgent.frames (kept.flight.wires refl)))
 
-delivered_by : (up : Bool) (sent : Sent) (rest : List Sent) (world : World) → up ≡ true → IsFree sent.frame world →
+delivered_by : (up : Bool) (sent : Sent) (rest : List Sent) (world : World) → up ≡ true → IsFree sent.frame world → AllCame sent.frame world →
     IsSoundWorld (record world { up = up; forward = record world.forward { frames = sent ∷ rest } }) → IsSoundWorld (after_deliver (record world { up = up; forward = record world.forward { frames = sent ∷ rest } }) sent rest)
-delivered_by true sent rest world h free kept = delivered_in world.source.phase world.destination.phase world.destination.has_run sent rest world free kept
-delivered_by false sent rest world h free kept = absurd (false≢true h)
+delivered_by true sent rest world h free came kept = delivered_in world.source.phase world.destination.phase world.destination.has_run sent rest world free came kept
+delivered_by false sent rest world h free came kept = absurd (false≢true h)
 
-pub kept-deliver : (world : World) (sent : Sent) (rest : List Sent) → IsSoundWorld world → world.forward.frames ≡ sent ∷ rest → world.up ≡ true → IsFree sent.frame world → IsSoundWorld (after_deliver world sent rest)
-kept-deliver world sent rest kept first up free = delivered_by world.up sent rest world up free (subst (λ wire. IsSoundWorld (record world { forward = record world.forward { frames = wire } })) first kept)
+pub kept-deliver : (world : World) (sent : Sent) (rest : List Sent) → IsSoundWorld world → world.forward.frames ≡ sent ∷ rest → world.up ≡ true → IsFree sent.frame world → AllCame sent.frame world → IsSoundWorld (after_deliver world sent rest)
+kept-deliver world sent rest kept first up free came = delivered_by world.up sent rest world up free came (subst (λ wire. IsSoundWorld (record world { forward = record world.forward { frames = wire } })) first kept)

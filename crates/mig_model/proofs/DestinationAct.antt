@@ -91,12 +91,12 @@ runs_not_advised h = absurd (cc)
 runs_not_ended : {A : Type 0} → DestPhase.Running ≡ DestPhase.Ended → A
 runs_not_ended h = absurd (cc)
 
-request_wires : (from : SourcePhase) (to : DestPhase) (source : Source) (node : Destination) (forward back : List Sent) (sent : Sent) → is_request sent.frame ≡ true → is_running to ≡ true →
-    Wires (record source { phase = from }) (record node { phase = to }) forward back → Wires (record source { phase = from }) (record node { phase = to }) forward (back ++ sent ∷ [])
-request_wires SourcePhase.Idle DestPhase.Running source node forward back sent is runs w = runs_not_advised w.0
-request_wires SourcePhase.Precopy DestPhase.Running source node forward back sent is runs w = w
-request_wires SourcePhase.Stopped DestPhase.Running source node forward back sent is runs w = (w.0, are_requests-push back sent is w.1, w.2)
-request_wires SourcePhase.Paused DestPhase.Running source node forward back sent is runs w =
+request_wires : (from : SourcePhase) (to : DestPhase) (source : Source) (node : Destination) (forward back urgent : List Sent) (sent : Sent) → is_request sent.frame ≡ true → is_running to ≡ true →
+    Wires (record source { phase = from }) (record node { phase = to }) forward back urgent → Wires (record source { phase = from }) (record node { phase = to }) forward (back ++ sent ∷ []) urgent
+request_wires SourcePhase.Idle DestPhase.Running source node forward back urgent sent is runs w = runs_not_advised w.0
+request_wires SourcePhase.Precopy DestPhase.Running source node forward back urgent sent is runs w = w
+request_wires SourcePhase.Stopped DestPhase.Running source node forward back urgent sent is runs w = (w.0, are_requests-push back sent is w.1, w.2)
+request_wires SourcePhase.Paused DestPhase.Running source node forward back urgent sent is runs w =
     let old = w.1 in (
       w.0,
       record {
@@ -111,12 +111,12 @@ request_wires SourcePhase.Paused DestPhase.Running source node forward back sent
         owed_present = old.owed_present;
       },
     )
-request_wires SourcePhase.Released DestPhase.Running source node forward back sent is runs w = runs_not_ended w.0
-request_wires from DestPhase.Idle source node forward back sent is runs w = none_absurd runs
-request_wires from DestPhase.Advised source node forward back sent is runs w = none_absurd runs
-request_wires from DestPhase.Discarding source node forward back sent is runs w = none_absurd runs
-request_wires from DestPhase.Paused source node forward back sent is runs w = none_absurd runs
-request_wires from DestPhase.Ended source node forward back sent is runs w = none_absurd runs
+request_wires SourcePhase.Released DestPhase.Running source node forward back urgent sent is runs w = runs_not_ended w.0
+request_wires from DestPhase.Idle source node forward back urgent sent is runs w = none_absurd runs
+request_wires from DestPhase.Advised source node forward back urgent sent is runs w = none_absurd runs
+request_wires from DestPhase.Discarding source node forward back urgent sent is runs w = none_absurd runs
+request_wires from DestPhase.Paused source node forward back urgent sent is runs w = none_absurd runs
+request_wires from DestPhase.Ended source node forward back urgent sent is runs w = none_absurd runs
 
 running_epoch : (to : DestPhase) (epoch source_epoch : ℕ) → is_running to ≡ true → EpochAt to epoch source_epoch → epoch ≡ source_epoch
 running_epoch DestPhase.Running epoch source_epoch runs at = at
@@ -127,7 +127,7 @@ running_epoch DestPhase.Paused epoch source_epoch runs at = none_absurd runs
 running_epoch DestPhase.Ended epoch source_epoch runs at = none_absurd runs
 
 -- only the wire back has changed
-pub kept-back : (world : World) (back : List Sent) → world.up ≡ true → AreOf world.source.epoch back → Wires world.source world.destination world.forward.frames back → HeldFits back world.back.held → IsSoundWorld world → IsSoundWorld (record world { back = record world.back { frames = back } })
+pub kept-back : (world : World) (back : List Sent) → world.up ≡ true → AreOf world.source.epoch back → Wires world.source world.destination world.forward.frames back world.urgent.frames → HeldFits back world.back.held → IsSoundWorld world → IsSoundWorld (record world { back = record world.back { frames = back } })
 kept-back world back up epoch wires fits kept =
     record {
       memory = kept.memory;
@@ -161,7 +161,7 @@ sent_back true false true world source up running kept =
     let sent : Sent = record { epoch = world.destination.epoch; frame = Request source } in
     kept-back world (world.back.frames ++ sent ∷ []) up
     (AreOf-push world.source.epoch world.back.frames sent (running_epoch world.destination.phase world.destination.epoch world.source.epoch running (kept.epochs.epoch_at up)) kept.epochs.back_epoch)
-    (request_wires world.source.phase world.destination.phase world.source world.destination world.forward.frames world.back.frames sent refl running (kept.flight.wires up))
+    (request_wires world.source.phase world.destination.phase world.source world.destination world.forward.frames world.back.frames world.urgent.frames sent refl running (kept.flight.wires up))
     (fits-append world.back.frames (sent ∷ []) world.back.held kept.held.back_held) kept
 
 -- nothing is sent

@@ -49,26 +49,26 @@ entered_one old new transcript cpu command took (Entered one then) sound holds f
 receiving : (from : Source) (to : Destination) (guest : Guest) (state : Received) (back : List Sent) → IsReceiving from to state back → IsReceiving from (record to { guest = guest }) state back
 receiving from to guest state back is = record { owed = is.owed; epoch = is.epoch; rest = is.rest; first = is.first; requests = is.requests; alone = is.alone; none_listed = is.none_listed; needed = is.needed; owed_present = is.owed_present }
 
-wires_in : (at : SourcePhase) (phase : DestPhase) (from : Source) (to : Destination) (guest : Guest) (forward back : List Sent) →
-    Wires (record from { phase = at }) (record to { phase = phase }) forward back → Wires (record from { phase = at }) (record to { phase = phase; guest = guest }) forward back
-wires_in SourcePhase.Stopped DestPhase.Running from to guest forward back w = (w.0, w.1, record { whereabouts = w.2.whereabouts })
-wires_in SourcePhase.Stopped DestPhase.Idle from to guest forward back w = w
-wires_in SourcePhase.Stopped DestPhase.Advised from to guest forward back w = w
-wires_in SourcePhase.Stopped DestPhase.Discarding from to guest forward back w = w
-wires_in SourcePhase.Stopped DestPhase.Paused from to guest forward back w = w
-wires_in SourcePhase.Stopped DestPhase.Ended from to guest forward back w = w
-wires_in SourcePhase.Paused DestPhase.Advised from to guest forward back w = w
-wires_in SourcePhase.Paused DestPhase.Running from to guest forward back w = (w.0, receiving (record from { phase = SourcePhase.Paused }) (record to { phase = DestPhase.Running }) guest _ back w.1)
-wires_in SourcePhase.Paused DestPhase.Ended from to guest forward back w = (w.0, receiving (record from { phase = SourcePhase.Paused }) (record to { phase = DestPhase.Ended }) guest _ back w.1)
-wires_in SourcePhase.Paused DestPhase.Idle from to guest forward back w = w
-wires_in SourcePhase.Paused DestPhase.Discarding from to guest forward back w = w
-wires_in SourcePhase.Paused DestPhase.Paused from to guest forward back w = w
-wires_in SourcePhase.Idle phase from to guest forward back w = w
-wires_in SourcePhase.Precopy phase from to guest forward back w = w
-wires_in SourcePhase.Released phase from to guest forward back w = w
+wires_in : (at : SourcePhase) (phase : DestPhase) (from : Source) (to : Destination) (guest : Guest) (forward back urgent : List Sent) →
+    Wires (record from { phase = at }) (record to { phase = phase }) forward back urgent → Wires (record from { phase = at }) (record to { phase = phase; guest = guest }) forward back urgent
+wires_in SourcePhase.Stopped DestPhase.Running from to guest forward back urgent w = (w.0, w.1, record { whereabouts = w.2.whereabouts })
+wires_in SourcePhase.Stopped DestPhase.Idle from to guest forward back urgent w = w
+wires_in SourcePhase.Stopped DestPhase.Advised from to guest forward back urgent w = w
+wires_in SourcePhase.Stopped DestPhase.Discarding from to guest forward back urgent w = w
+wires_in SourcePhase.Stopped DestPhase.Paused from to guest forward back urgent w = w
+wires_in SourcePhase.Stopped DestPhase.Ended from to guest forward back urgent w = w
+wires_in SourcePhase.Paused DestPhase.Advised from to guest forward back urgent w = w
+wires_in SourcePhase.Paused DestPhase.Running from to guest forward back urgent w = (w.0, receiving (record from { phase = SourcePhase.Paused }) (record to { phase = DestPhase.Running }) guest _ back w.1)
+wires_in SourcePhase.Paused DestPhase.Ended from to guest forward back urgent w = (w.0, receiving (record from { phase = SourcePhase.Paused }) (record to { phase = DestPhase.Ended }) guest _ back w.1)
+wires_in SourcePhase.Paused DestPhase.Idle from to guest forward back urgent w = w
+wires_in SourcePhase.Paused DestPhase.Discarding from to guest forward back urgent w = w
+wires_in SourcePhase.Paused DestPhase.Paused from to guest forward back urgent w = w
+wires_in SourcePhase.Idle phase from to guest forward back urgent w = w
+wires_in SourcePhase.Precopy phase from to guest forward back urgent w = w
+wires_in SourcePhase.Released phase from to guest forward back urgent w = w
 
-pub wires-with_guest : (from : Source) (to : Destination) (guest : Guest) (forward back : List Sent) → Wires from to forward back → Wires from (record to { guest = guest }) forward back
-wires-with_guest from to guest forward back w = wires_in from.phase to.phase from to guest forward back w
+pub wires-with_guest : (from : Source) (to : Destination) (guest : Guest) (forward back urgent : List Sent) → Wires from to forward back urgent → Wires from (record to { guest = guest }) forward back urgent
+wires-with_guest from to guest forward back urgent w = wires_in from.phase to.phase from to guest forward back urgent w
 
 -- The world
 
@@ -115,8 +115,8 @@ kept-tried_at true world cpu command is ran kept =
     let not_run : new.destination.has_run ≡ false → (new.destination.owed ≡ finmap.empty) × (new.destination.guest.space ≡ fresh_space) × (new.destination.arrivals ≡ []) =
     λ never. absurd (false≢true (sym never ∙ ran)) in
     let pairs_missing : (page origin : ℕ) → settled new.destination page ≡ Some origin → (contains new.destination.guest.space.object.missing page ≡ true) × (is_present new.destination.guest.space page ≡ false) = ready.pairs in
-    let wires : new.up ≡ true → Wires new.source new.destination new.forward.frames new.back.frames =
-    λ up. wires-with_guest world.source world.destination new.destination.guest world.forward.frames world.back.frames (kept.flight.wires up) in
+    let wires : new.up ≡ true → Wires new.source new.destination new.forward.frames new.back.frames new.urgent.frames =
+    λ up. wires-with_guest world.source world.destination new.destination.guest world.forward.frames world.back.frames world.urgent.frames (kept.flight.wires up) in
     assumption
 
 pub kept-command_at_destination : (world : World) (cpu : ℕ) (command : Command) → world.destination.has_run ≡ true → IsSoundWorld world → IsSoundWorld (after_command world cpu command)

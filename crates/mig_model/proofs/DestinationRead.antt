@@ -19,7 +19,7 @@ use Rattle.mig_model.specs.Space.{IsSoundSpace}
 use Rattle.mig_model.specs.Guest.{Guest, Fault, is_left_by, is_present}
 use Rattle.mig_model.specs.Wire.{Sent, Copy}
 use Rattle.mig_model.specs.Migration.{World, after_dest_read, runs, start}
-use Rattle.mig_model.specs.Invariant.{IsSoundWorld, Wires, IsReceiving, IsFlowing, AreRight, AreFaults, AreFaithful, has_copy, copies_of, seen_host, current_host}
+use Rattle.mig_model.specs.Invariant.{IsSoundWorld, Wires, IsReceiving, IsFlowing, AreRight, AreFaults, AreFaithful, has_copy, copies_of, seen_host, current_host, is_urgent_or_left}
 use Rattle.mig_model.proofs.IoctlLemmas.{IsSoundSpace-read}
 use Rattle.mig_model.proofs.SettledLemmas.{get-owed_table_after, settled_by-applied, values-after, none-after, IsOneToOne-after, owed_below-after}
 use Rattle.mig_model.specs.Cpus.{all_woken, message_less, processor_at}
@@ -74,44 +74,44 @@ last_of_three true b c d h k = k
 last_of_three false true c d h k = k
 last_of_three false false c d h k = h k
 
-still_flowing : (source : Source) (node new : Destination) (forward : List Sent) → ((page origin : ℕ) → get new.owed page ≡ Some origin → (other : ℕ) × (get node.owed other ≡ Some origin)) →
-    ((page origin : ℕ) → get new.owed page ≡ Some origin → has_copy node.arrivals origin ≡ true → has_copy new.arrivals origin ≡ true) → IsFlowing source node forward → IsFlowing source new forward
-still_flowing source node new forward values copies old =
+still_flowing : (source : Source) (node new : Destination) (forward urgent : List Sent) → ((page origin : ℕ) → get new.owed page ≡ Some origin → (other : ℕ) × (get node.owed other ≡ Some origin)) →
+    ((page origin : ℕ) → get new.owed page ≡ Some origin → has_copy node.arrivals origin ≡ true → has_copy new.arrivals origin ≡ true) → IsFlowing source node forward urgent → IsFlowing source new forward urgent
+still_flowing source node new forward urgent values copies old =
     record {
       whereabouts = λ page origin h.
           let was = values page origin h in
-          last_of_three (contains source.remaining origin) (has_copy (copies_of forward) origin) (has_copy node.arrivals origin) (has_copy new.arrivals origin) (copies page origin h) (old.whereabouts was.0 origin was.1);
+          last_of_three (is_urgent_or_left source.remaining urgent origin) (has_copy (copies_of forward) origin) (has_copy node.arrivals origin) (has_copy new.arrivals origin) (copies page origin h) (old.whereabouts was.0 origin was.1);
     }
 
-wires_handled : (from : SourcePhase) (to : DestPhase) (source : Source) (node : Destination) (forward back : List Sent) (guest : Guest) (held : List Fault) (owed : FinMap nat_cmp ℕ) (requests : List ℕ) (arrivals : List Copy) (installed dropped faults : ℕ) →
+wires_handled : (from : SourcePhase) (to : DestPhase) (source : Source) (node : Destination) (forward back urgent : List Sent) (guest : Guest) (held : List Fault) (owed : FinMap nat_cmp ℕ) (requests : List ℕ) (arrivals : List Copy) (installed dropped faults : ℕ) →
     ((page origin : ℕ) → get owed page ≡ Some origin → (other : ℕ) × (get node.owed other ≡ Some origin)) →
     ((page origin : ℕ) → get owed page ≡ Some origin → has_copy node.arrivals origin ≡ true → has_copy arrivals origin ≡ true) →
-    Wires (record source { phase = from }) (record node { phase = to }) forward back →
-    Wires (record source { phase = from }) (handled (record node { phase = to }) guest held owed requests arrivals installed dropped faults) forward back
-wires_handled SourcePhase.Idle to source node forward back guest held owed requests arrivals installed dropped faults values copies w = w
-wires_handled SourcePhase.Released to source node forward back guest held owed requests arrivals installed dropped faults values copies w = w
-wires_handled SourcePhase.Precopy DestPhase.Idle source node forward back guest held owed requests arrivals installed dropped faults values copies w = w
-wires_handled SourcePhase.Precopy DestPhase.Advised source node forward back guest held owed requests arrivals installed dropped faults values copies w = w
-wires_handled SourcePhase.Precopy DestPhase.Discarding source node forward back guest held owed requests arrivals installed dropped faults values copies w = w
-wires_handled SourcePhase.Precopy DestPhase.Running source node forward back guest held owed requests arrivals installed dropped faults values copies w = w
-wires_handled SourcePhase.Precopy DestPhase.Paused source node forward back guest held owed requests arrivals installed dropped faults values copies w = w
-wires_handled SourcePhase.Precopy DestPhase.Ended source node forward back guest held owed requests arrivals installed dropped faults values copies w = w
-wires_handled SourcePhase.Stopped DestPhase.Idle source node forward back guest held owed requests arrivals installed dropped faults values copies w = w
-wires_handled SourcePhase.Stopped DestPhase.Advised source node forward back guest held owed requests arrivals installed dropped faults values copies w = w
-wires_handled SourcePhase.Stopped DestPhase.Discarding source node forward back guest held owed requests arrivals installed dropped faults values copies w = w
-wires_handled SourcePhase.Stopped DestPhase.Running source node forward back guest held owed requests arrivals installed dropped faults values copies w =
+    Wires (record source { phase = from }) (record node { phase = to }) forward back urgent →
+    Wires (record source { phase = from }) (handled (record node { phase = to }) guest held owed requests arrivals installed dropped faults) forward back urgent
+wires_handled SourcePhase.Idle to source node forward back urgent guest held owed requests arrivals installed dropped faults values copies w = w
+wires_handled SourcePhase.Released to source node forward back urgent guest held owed requests arrivals installed dropped faults values copies w = w
+wires_handled SourcePhase.Precopy DestPhase.Idle source node forward back urgent guest held owed requests arrivals installed dropped faults values copies w = w
+wires_handled SourcePhase.Precopy DestPhase.Advised source node forward back urgent guest held owed requests arrivals installed dropped faults values copies w = w
+wires_handled SourcePhase.Precopy DestPhase.Discarding source node forward back urgent guest held owed requests arrivals installed dropped faults values copies w = w
+wires_handled SourcePhase.Precopy DestPhase.Running source node forward back urgent guest held owed requests arrivals installed dropped faults values copies w = w
+wires_handled SourcePhase.Precopy DestPhase.Paused source node forward back urgent guest held owed requests arrivals installed dropped faults values copies w = w
+wires_handled SourcePhase.Precopy DestPhase.Ended source node forward back urgent guest held owed requests arrivals installed dropped faults values copies w = w
+wires_handled SourcePhase.Stopped DestPhase.Idle source node forward back urgent guest held owed requests arrivals installed dropped faults values copies w = w
+wires_handled SourcePhase.Stopped DestPhase.Advised source node forward back urgent guest held owed requests arrivals installed dropped faults values copies w = w
+wires_handled SourcePhase.Stopped DestPhase.Discarding source node forward back urgent guest held owed requests arrivals installed dropped faults values copies w = w
+wires_handled SourcePhase.Stopped DestPhase.Running source node forward back urgent guest held owed requests arrivals installed dropped faults values copies w =
     let old : Destination = record node { phase = DestPhase.Running } in
-    (w.0, w.1, still_flowing (record source { phase = SourcePhase.Stopped }) old (handled old guest held owed requests arrivals installed dropped faults) forward values copies w.2)
-wires_handled SourcePhase.Stopped DestPhase.Paused source node forward back guest held owed requests arrivals installed dropped faults values copies w = w
-wires_handled SourcePhase.Stopped DestPhase.Ended source node forward back guest held owed requests arrivals installed dropped faults values copies w = w
-wires_handled SourcePhase.Paused DestPhase.Idle source node forward back guest held owed requests arrivals installed dropped faults values copies w = w
-wires_handled SourcePhase.Paused DestPhase.Advised source node forward back guest held owed requests arrivals installed dropped faults values copies w = w
-wires_handled SourcePhase.Paused DestPhase.Discarding source node forward back guest held owed requests arrivals installed dropped faults values copies w = w
-wires_handled SourcePhase.Paused DestPhase.Running source node forward back guest held owed requests arrivals installed dropped faults values copies w =
+    (w.0, w.1, still_flowing (record source { phase = SourcePhase.Stopped }) old (handled old guest held owed requests arrivals installed dropped faults) forward urgent values copies w.2)
+wires_handled SourcePhase.Stopped DestPhase.Paused source node forward back urgent guest held owed requests arrivals installed dropped faults values copies w = w
+wires_handled SourcePhase.Stopped DestPhase.Ended source node forward back urgent guest held owed requests arrivals installed dropped faults values copies w = w
+wires_handled SourcePhase.Paused DestPhase.Idle source node forward back urgent guest held owed requests arrivals installed dropped faults values copies w = w
+wires_handled SourcePhase.Paused DestPhase.Advised source node forward back urgent guest held owed requests arrivals installed dropped faults values copies w = w
+wires_handled SourcePhase.Paused DestPhase.Discarding source node forward back urgent guest held owed requests arrivals installed dropped faults values copies w = w
+wires_handled SourcePhase.Paused DestPhase.Running source node forward back urgent guest held owed requests arrivals installed dropped faults values copies w =
     let old : Destination = record node { phase = DestPhase.Running } in
     (w.0, still_receiving (record source { phase = SourcePhase.Paused }) old (handled old guest held owed requests arrivals installed dropped faults) Received.Running back values w.1)
-wires_handled SourcePhase.Paused DestPhase.Paused source node forward back guest held owed requests arrivals installed dropped faults values copies w = w
-wires_handled SourcePhase.Paused DestPhase.Ended source node forward back guest held owed requests arrivals installed dropped faults values copies w =
+wires_handled SourcePhase.Paused DestPhase.Paused source node forward back urgent guest held owed requests arrivals installed dropped faults values copies w = w
+wires_handled SourcePhase.Paused DestPhase.Ended source node forward back urgent guest held owed requests arrivals installed dropped faults values copies w =
     let old : Destination = record node { phase = DestPhase.Ended } in
     (w.0, still_receiving (record source { phase = SourcePhase.Paused }) old (handled old guest held owed requests arrivals installed dropped faults) Received.Ended back values w.1)
 
@@ -157,7 +157,7 @@ kept-handled world guest held owed requests arrivals installed dropped faults ke
       flight = record {
         flight_faithful = kept.flight.flight_faithful;
         down = kept.flight.down;
-        wires = λ up. wires_handled world.source.phase world.destination.phase world.source world.destination world.forward.frames world.back.frames guest held owed requests arrivals installed dropped faults new.values new.copies (kept.flight.wires up);
+        wires = λ up. wires_handled world.source.phase world.destination.phase world.source world.destination world.forward.frames world.back.frames world.urgent.frames guest held owed requests arrivals installed dropped faults new.values new.copies (kept.flight.wires up);
       };
       epochs = kept.epochs;
       held = kept.held;

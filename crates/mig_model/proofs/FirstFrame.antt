@@ -53,7 +53,7 @@ late_next BeforePackage next (Package areas owed commands) late h = ap (λ o. el
 late_next BeforePackage next _ late h = absurd (none-some next h)
 late_next Pushed next (Page page bytes) late h = ap (λ o. elim o [ None ↦ true | Some flow ↦ is_late flow ]) (sym h)
 late_next Pushed next (Zero page) late h = ap (λ o. elim o [ None ↦ true | Some flow ↦ is_late flow ]) (sym h)
-late_next Pushed next End late h = ap (λ o. elim o [ None ↦ true | Some flow ↦ is_late flow ]) (sym h)
+late_next Pushed next (End count) late h = ap (λ o. elim o [ None ↦ true | Some flow ↦ is_late flow ]) (sym h)
 late_next Pushed next _ late h = absurd (none-some next h)
 late_next AfterEnd next frame late h = absurd (none-some next h)
 
@@ -96,29 +96,29 @@ copy_first _ rest h = absurd (none-some Copies h)
 resume_first : (sent : Sent) (rest : List Sent) (epoch : ℕ) → sent ∷ rest ≡ record { epoch = epoch; frame = Resume } ∷ [] → comes SourcePhase.Paused DestPhase.Paused sent.frame ≡ true
 resume_first sent rest epoch h = ap (λ (wire : List Sent). elim wire [ [] ↦ false | s ∷ _ ↦ comes SourcePhase.Paused DestPhase.Paused s.frame ]) h
 
-in_place_by : (from : SourcePhase) (to : DestPhase) (source : Source) (destination : Destination) (sent : Sent) (rest back : List Sent)
-    → Wires (record source { phase = from }) (record destination { phase = to }) (sent ∷ rest) back → comes from to sent.frame ≡ true
-in_place_by SourcePhase.Idle to source destination sent rest back w = absurd (empty_not sent rest w.1)
-in_place_by SourcePhase.Precopy DestPhase.Idle source destination sent rest back w = first_flows BeforeAdvise sent rest Copies w.0
-in_place_by SourcePhase.Precopy DestPhase.Advised source destination sent rest back w = copy_first sent.frame rest w.0
-in_place_by SourcePhase.Precopy DestPhase.Discarding source destination sent rest back w = absurd w
-in_place_by SourcePhase.Precopy DestPhase.Running source destination sent rest back w = absurd w
-in_place_by SourcePhase.Precopy DestPhase.Paused source destination sent rest back w = absurd w
-in_place_by SourcePhase.Precopy DestPhase.Ended source destination sent rest back w = absurd w
-in_place_by SourcePhase.Stopped DestPhase.Idle source destination sent rest back w = first_flows BeforeAdvise sent rest _ w.0
-in_place_by SourcePhase.Stopped DestPhase.Advised source destination sent rest back w = first_flows Copies sent rest _ w.0
-in_place_by SourcePhase.Stopped DestPhase.Discarding source destination sent rest back w = first_flows BeforePackage sent rest _ w.0
-in_place_by SourcePhase.Stopped DestPhase.Running source destination sent rest back w = first_flows Pushed sent rest _ w.0
-in_place_by SourcePhase.Stopped DestPhase.Paused source destination sent rest back w = absurd w
-in_place_by SourcePhase.Stopped DestPhase.Ended source destination sent rest back w = absurd (empty_not sent rest w.0)
-in_place_by SourcePhase.Paused DestPhase.Idle source destination sent rest back w = absurd w
-in_place_by SourcePhase.Paused DestPhase.Advised source destination sent rest back w = absurd (empty_not sent rest w.0)
-in_place_by SourcePhase.Paused DestPhase.Discarding source destination sent rest back w = absurd w
-in_place_by SourcePhase.Paused DestPhase.Running source destination sent rest back w = absurd (empty_not sent rest w.0)
-in_place_by SourcePhase.Paused DestPhase.Paused source destination sent rest back w = resume_first sent rest source.epoch w.0
-in_place_by SourcePhase.Paused DestPhase.Ended source destination sent rest back w = absurd (empty_not sent rest w.0)
-in_place_by SourcePhase.Released to source destination sent rest back w = absurd (empty_not sent rest w.1)
+in_place_by : (from : SourcePhase) (to : DestPhase) (source : Source) (destination : Destination) (sent : Sent) (rest back urgent : List Sent)
+    → Wires (record source { phase = from }) (record destination { phase = to }) (sent ∷ rest) back urgent → comes from to sent.frame ≡ true
+in_place_by SourcePhase.Idle to source destination sent rest back urgent w = absurd (empty_not sent rest w.1)
+in_place_by SourcePhase.Precopy DestPhase.Idle source destination sent rest back urgent w = first_flows BeforeAdvise sent rest Copies w.0
+in_place_by SourcePhase.Precopy DestPhase.Advised source destination sent rest back urgent w = copy_first sent.frame rest w.0
+in_place_by SourcePhase.Precopy DestPhase.Discarding source destination sent rest back urgent w = absurd w
+in_place_by SourcePhase.Precopy DestPhase.Running source destination sent rest back urgent w = absurd w
+in_place_by SourcePhase.Precopy DestPhase.Paused source destination sent rest back urgent w = absurd w
+in_place_by SourcePhase.Precopy DestPhase.Ended source destination sent rest back urgent w = absurd w
+in_place_by SourcePhase.Stopped DestPhase.Idle source destination sent rest back urgent w = first_flows BeforeAdvise sent rest _ w.0
+in_place_by SourcePhase.Stopped DestPhase.Advised source destination sent rest back urgent w = first_flows Copies sent rest _ w.0
+in_place_by SourcePhase.Stopped DestPhase.Discarding source destination sent rest back urgent w = first_flows BeforePackage sent rest _ w.0
+in_place_by SourcePhase.Stopped DestPhase.Running source destination sent rest back urgent w = first_flows Pushed sent rest _ w.0
+in_place_by SourcePhase.Stopped DestPhase.Paused source destination sent rest back urgent w = absurd w
+in_place_by SourcePhase.Stopped DestPhase.Ended source destination sent rest back urgent w = absurd (empty_not sent rest w.0)
+in_place_by SourcePhase.Paused DestPhase.Idle source destination sent rest back urgent w = absurd w
+in_place_by SourcePhase.Paused DestPhase.Advised source destination sent rest back urgent w = absurd (empty_not sent rest w.0)
+in_place_by SourcePhase.Paused DestPhase.Discarding source destination sent rest back urgent w = absurd w
+in_place_by SourcePhase.Paused DestPhase.Running source destination sent rest back urgent w = absurd (empty_not sent rest w.0)
+in_place_by SourcePhase.Paused DestPhase.Paused source destination sent rest back urgent w = resume_first sent rest source.epoch w.0
+in_place_by SourcePhase.Paused DestPhase.Ended source destination sent rest back urgent w = absurd (empty_not sent rest w.0)
+in_place_by SourcePhase.Released to source destination sent rest back urgent w = absurd (empty_not sent rest w.1)
 
 -- while the link is up the first frame is never out of place
-pub first_in_place : (source : Source) (destination : Destination) (sent : Sent) (rest back : List Sent) → Wires source destination (sent ∷ rest) back → comes source.phase destination.phase sent.frame ≡ true
-first_in_place source destination sent rest back w = in_place_by source.phase destination.phase source destination sent rest back w
+pub first_in_place : (source : Source) (destination : Destination) (sent : Sent) (rest back urgent : List Sent) → Wires source destination (sent ∷ rest) back urgent → comes source.phase destination.phase sent.frame ≡ true
+first_in_place source destination sent rest back urgent w = in_place_by source.phase destination.phase source destination sent rest back urgent w

@@ -41,7 +41,7 @@ past_next Copies next frame past h = absurd (false≢true past)
 past_next BeforePackage next frame past h = absurd (false≢true past)
 past_next Pushed next (Page page bytes) past h = (ap (λ o. elim o [ None ↦ true | Some flow ↦ is_past flow ]) (sym h), refl)
 past_next Pushed next (Zero page) past h = (ap (λ o. elim o [ None ↦ true | Some flow ↦ is_past flow ]) (sym h), refl)
-past_next Pushed next End past h = (ap (λ o. elim o [ None ↦ true | Some flow ↦ is_past flow ]) (sym h), refl)
+past_next Pushed next (End count) past h = (ap (λ o. elim o [ None ↦ true | Some flow ↦ is_past flow ]) (sym h), refl)
 past_next Pushed next _ past h = absurd (none-some next h)
 past_next AfterEnd next frame past h = absurd (none-some next h)
 
@@ -88,7 +88,7 @@ no_package : (wire : List Sent) → wire ≡ [] → is_some (package_in wire) �
 no_package wire none there = false≢true (ap (λ w. is_some (package_in w)) (sym none) ∙ there)
 
 package_in_phases : (from : SourcePhase) (to : DestPhase) (world : World) → world.up ≡ true → IsSoundWorld (in_phases from to world) → is_some (package_in world.forward.frames) ≡ true →
-    IsSwitching (in_phases from to world).source world.destination.kept world.forward.frames
+    IsSwitching (in_phases from to world).source world.destination.kept world.forward.frames world.urgent.frames
 package_in_phases SourcePhase.Idle to world up kept there = absurd (no_package world.forward.frames (kept.flight.wires up).1 there)
 package_in_phases SourcePhase.Precopy DestPhase.Idle world up kept there = absurd (none_precopy BeforeAdvise world.forward.frames (kept.flight.wires up).0 there)
 package_in_phases SourcePhase.Precopy DestPhase.Advised world up kept there = absurd (none_precopy Copies world.forward.frames (kept.flight.wires up).0 there)
@@ -110,7 +110,7 @@ package_in_phases SourcePhase.Paused DestPhase.Paused world up kept there = absu
 package_in_phases SourcePhase.Paused DestPhase.Ended world up kept there = absurd (no_package world.forward.frames (kept.flight.wires up).0 there)
 package_in_phases SourcePhase.Released to world up kept there = absurd (no_package world.forward.frames (kept.flight.wires up).1 there)
 
-pub package_tells : (world : World) → IsSoundWorld world → is_some (package_in world.forward.frames) ≡ true → IsSwitching world.source world.destination.kept world.forward.frames
+pub package_tells : (world : World) → IsSoundWorld world → is_some (package_in world.forward.frames) ≡ true → IsSwitching world.source world.destination.kept world.forward.frames world.urgent.frames
 package_tells world kept there =
     package_in_phases world.source.phase world.destination.phase world (true_from_ne_false world.up (λ down. no_package world.forward.frames (kept.flight.down down).0 there)) kept there
 

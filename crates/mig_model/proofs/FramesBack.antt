@@ -44,11 +44,11 @@ at_back from to ran switched forward back world =
 pub request_taken : (to : DestPhase) (ran switched : Bool) (epoch page : ℕ) (rest : List Sent) (world : World) →
     let old : World = at_back SourcePhase.Stopped to ran switched world.forward.frames (record { epoch = epoch; frame = Request page } ∷ rest) world in
     let new : World = delivered_back old old.back.frames in
-    IsSoundWorld old → Wires new.source new.destination new.forward.frames new.back.frames → IsSoundWorld new
+    IsSoundWorld old → Wires new.source new.destination new.forward.frames new.back.frames new.urgent.frames → IsSoundWorld new
 request_taken to ran switched epoch page rest world kept on_wires =
     let old : World = at_back SourcePhase.Stopped to ran switched world.forward.frames (record { epoch = epoch; frame = Request page } ∷ rest) world in
     let new : World = delivered_back old old.back.frames in
-    let wires : new.up ≡ true → Wires new.source new.destination new.forward.frames new.back.frames = λ u. on_wires in
+    let wires : new.up ≡ true → Wires new.source new.destination new.forward.frames new.back.frames new.urgent.frames = λ u. on_wires in
     let down : new.up ≡ false → (new.forward.frames ≡ []) × (new.back.frames ≡ []) × (new.source.phase ≢ SourcePhase.Idle) × (new.source.phase ≢ SourcePhase.Released) = λ h. absurd (not_up h) in
     let back_epoch : AreOf new.source.epoch new.back.frames = kept.epochs.back_epoch.1 in
     let held : AreSoundWires new.forward new.back = record { forward_held = kept.held.forward_held; back_held = fits-none rest } in
@@ -108,7 +108,7 @@ released_kept from forward back rest world kept none last =
     let arrivals_faithful : new.destination.has_run ≡ true → AreFaithful (space_of new.source).host.bytes new.destination.arrivals = λ h. subst (AreFaithful fresh_space.host.bytes) (sym bare.1) tt in
     let flight_faithful : new.destination.has_run ≡ true → AreFaithful (space_of new.source).host.bytes (copies_of new.forward.frames) = λ h. subst (λ wire. AreFaithful fresh_space.host.bytes (copies_of wire)) (sym none) tt in
     let released_empty : new.source.phase ≡ SourcePhase.Released → (space_of new.source ≡ fresh_space) × (new.source.remaining ≡ no_pages) = λ h. (refl, refl) in
-    let wires : new.up ≡ true → Wires new.source new.destination new.forward.frames new.back.frames = λ u. (refl, none, last) in
+    let wires : new.up ≡ true → Wires new.source new.destination new.forward.frames new.back.frames new.urgent.frames = λ u. (refl, none, last) in
     let down : new.up ≡ false → (new.forward.frames ≡ []) × (new.back.frames ≡ []) × (new.source.phase ≢ SourcePhase.Idle) × (new.source.phase ≢ SourcePhase.Released) = λ h. absurd (not_up h) in
     let back_epoch : AreOf new.source.epoch new.back.frames = subst (AreOf world.source.epoch) (sym last) tt in
     let held : AreSoundWires new.forward new.back = record { forward_held = kept.held.forward_held; back_held = fits-none rest } in
@@ -141,7 +141,7 @@ recv_precopy owed epoch rest world kept last =
       clean_copy = λ page h unread. no_page page h;
       copies_sent = λ page h. absurd (false≢true (sym (no_copy page world.destination.kept w.2) ∙ h));
     } in
-    let wires : new.up ≡ true → Wires new.source new.destination new.forward.frames new.back.frames = λ u. (refl, last, precopying) in
+    let wires : new.up ≡ true → Wires new.source new.destination new.forward.frames new.back.frames new.urgent.frames = λ u. (refl, last, precopying) in
     let down : new.up ≡ false → (new.forward.frames ≡ []) × (new.back.frames ≡ []) × (new.source.phase ≢ SourcePhase.Idle) × (new.source.phase ≢ SourcePhase.Released) = λ h. absurd (not_up h) in
     let back_epoch : AreOf new.source.epoch new.back.frames = kept.epochs.back_epoch.1 in
     let held : AreSoundWires new.forward new.back = record { forward_held = kept.held.forward_held; back_held = fits-none rest } in
@@ -183,7 +183,7 @@ recv_switched owed epoch rest world kept last =
     λ h. absurd (let e : SourcePhase.Stopped ≡ SourcePhase.Idle = h in cc) in
     let released_empty : new.source.phase ≡ SourcePhase.Released → (space_of new.source ≡ fresh_space) × (new.source.remaining ≡ no_pages) = λ h. absurd (let e : SourcePhase.Stopped ≡ SourcePhase.Released = h in cc) in
     let remaining_present : (page : ℕ) → contains new.source.remaining page ≡ true → is_present (space_of new.source) page ≡ true = λ page h. and_second (ltb page HIGH_PAGE) (is_present world.source.guest.space page) (sym (here page) ∙ h) in
-    let switching : IsSwitching new.source new.destination.kept new.forward.frames =
+    let switching : IsSwitching new.source new.destination.kept new.forward.frames new.urgent.frames =
     record {
       owed = present world.source.guest.space;
       plan = refl;
@@ -192,10 +192,10 @@ recv_switched owed epoch rest world kept last =
           nothing_kept world.destination.kept page w.2
           ∙ all_owed (ltb page HIGH_PAGE) (get world.source.guest.space.host.bytes page) (λ l. sound.mapped page (sound.bound page (ltb-false page HIGH_PAGE l)))
           ∙ sym (ap (λ b. cond b None (get world.source.guest.space.host.bytes page)) (here page));
-      whereabouts = λ page h. ap (λ b. b || false) h;
+      whereabouts = λ page h. ap (λ b. (b || has_copy (copies_of world.urgent.frames) page) || false) h;
       faithful = tt;
     } in
-    let wires : new.up ≡ true → Wires new.source new.destination new.forward.frames new.back.frames = λ u. (flow_pushed world.source fresh, last, switching) in
+    let wires : new.up ≡ true → Wires new.source new.destination new.forward.frames new.back.frames new.urgent.frames = λ u. (flow_pushed world.source fresh, last, switching) in
     let down : new.up ≡ false → (new.forward.frames ≡ []) × (new.back.frames ≡ []) × (new.source.phase ≢ SourcePhase.Idle) × (new.source.phase ≢ SourcePhase.Released) = λ h. absurd (not_up h) in
     let forward_epoch : AreOf new.source.epoch new.forward.frames = (refl, (refl, tt)) in
     let back_epoch : AreOf new.source.epoch new.back.frames = kept.epochs.back_epoch.1 in
@@ -219,8 +219,8 @@ recv_running owed epoch rest world kept requests needed owed_present =
     λ h. absurd (let e : SourcePhase.Stopped ≡ SourcePhase.Idle = h in cc) in
     let released_empty : new.source.phase ≡ SourcePhase.Released → (space_of new.source ≡ fresh_space) × (new.source.remaining ≡ no_pages) = λ h. absurd (let e : SourcePhase.Stopped ≡ SourcePhase.Released = h in cc) in
     let remaining_present : (page : ℕ) → contains new.source.remaining page ≡ true → is_present (space_of new.source) page ≡ true = owed_present in
-    let flowing : IsFlowing new.source new.destination new.forward.frames = record { whereabouts = λ page origin h. ap (λ b. b || false || has_copy world.destination.arrivals origin) (needed page origin h) } in
-    let wires : new.up ≡ true → Wires new.source new.destination new.forward.frames new.back.frames = λ u. (flow_pushed world.source fresh, requests, flowing) in
+    let flowing : IsFlowing new.source new.destination new.forward.frames new.urgent.frames = record { whereabouts = λ page origin h. ap (λ b. (b || has_copy (copies_of world.urgent.frames) origin) || false || has_copy world.destination.arrivals origin) (needed page origin h) } in
+    let wires : new.up ≡ true → Wires new.source new.destination new.forward.frames new.back.frames new.urgent.frames = λ u. (flow_pushed world.source fresh, requests, flowing) in
     let down : new.up ≡ false → (new.forward.frames ≡ []) × (new.back.frames ≡ []) × (new.source.phase ≢ SourcePhase.Idle) × (new.source.phase ≢ SourcePhase.Released) = λ h. absurd (not_up h) in
     let back_epoch : AreOf new.source.epoch new.back.frames = kept.epochs.back_epoch.1 in
     let held : AreSoundWires new.forward new.back = record { forward_held = kept.held.forward_held; back_held = fits-none rest } in

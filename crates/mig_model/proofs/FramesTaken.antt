@@ -21,7 +21,7 @@ use Rattle.mig_model.specs.Space.{Space}
 use Rattle.mig_model.specs.Wire.{Frame, Sent}
 use Rattle.mig_model.specs.Wire.Frame.{Advise, Page, Zero, Discard, Package, End, Resume, Request, Recv, Done}
 use Rattle.mig_model.specs.Migration.{World}
-use Rattle.mig_model.specs.Invariant.{IsSoundWorld, IsSwitching, IsFlowing, IsReceiving, EpochAt, AreOf, flow_of, is_request, is_done, are_requests, are_requests_and_done}
+use Rattle.mig_model.specs.Invariant.{IsSoundWorld, IsSwitching, IsFlowing, IsReceiving, EpochAt, AreOf, flow_of, is_request, is_done, are_requests, are_requests_and_done, AreSoundUrgent}
 use Rattle.mig_model.specs.Promises.{is_in_place, IsOwnEpoch, IsGood, IsTaken, IsInPlaceBack}
 use Rattle.mig_model.proofs.Stopping.{no_member}
 use Rattle.mig_model.proofs.FirstFrame.{comes, first_in_place, nothing_behind}
@@ -31,6 +31,7 @@ use Rattle.mig_model.specs.Log.{no_pages, present}
 use Rattle.mig_model.specs.Source.{Source, commands_of, is_source_paused, is_stopped, space_of}
 use Rattle.mig_model.specs.Destination.{Destination}
 use Rattle.mig_model.proofs.Facts.{none_absurd, and_left}
+use Rattle.mig_model.proofs.UrgentWire.{EndTells, end_tells}
 
 -- In place
 
@@ -45,7 +46,7 @@ place_of SourcePhase.Stopped DestPhase.Advised (Discard pages) h = refl
 place_of SourcePhase.Stopped DestPhase.Discarding (Package areas owed commands) h = refl
 place_of SourcePhase.Stopped DestPhase.Running (Page page bytes) h = refl
 place_of SourcePhase.Stopped DestPhase.Running (Zero page) h = refl
-place_of SourcePhase.Stopped DestPhase.Running End h = refl
+place_of SourcePhase.Stopped DestPhase.Running (End count) h = refl
 place_of SourcePhase.Paused DestPhase.Paused Resume h = refl
 place_of _ _ _ h = none_absurd h
 
@@ -59,7 +60,7 @@ epoch_of DestPhase.Advised node epoch source_epoch (Discard pages) h e at = e �
 epoch_of DestPhase.Discarding node epoch source_epoch (Package areas owed commands) h e at = e ∙ sym at
 epoch_of DestPhase.Running node epoch source_epoch (Page page bytes) h e at = e ∙ sym at
 epoch_of DestPhase.Running node epoch source_epoch (Zero page) h e at = e ∙ sym at
-epoch_of DestPhase.Running node epoch source_epoch End h e at = e ∙ sym at
+epoch_of DestPhase.Running node epoch source_epoch (End count) h e at = e ∙ sym at
 epoch_of DestPhase.Paused node epoch source_epoch Resume h e at = omega (arith, e, at)
 epoch_of _ node epoch source_epoch _ h e at = none_absurd h
 
@@ -88,10 +89,10 @@ kept_unless : (owed : Bool) (bytes : Option (List ℕ)) → is_some (cond owed N
 kept_unless true bytes h = none_absurd h
 kept_unless false bytes h = h
 
-package_good : (source : Source) (node : Destination) (epoch : ℕ) (areas : FinMap nat_cmp Prot) (owed : FinSet nat_cmp) (commands : List (Option Command)) (rest : List Sent) → IsSound (space_of source).host →
-    IsSwitching source node.kept (record { epoch = epoch; frame = Package areas owed commands } ∷ rest) → length node.guest.cpus ≡ length source.guest.cpus → IsGood node (Package areas owed commands)
+package_good : (source : Source) (node : Destination) (epoch : ℕ) (areas : FinMap nat_cmp Prot) (owed : FinSet nat_cmp) (commands : List (Option Command)) (rest urgent : List Sent) → IsSound (space_of source).host →
+    IsSwitching source node.kept (record { epoch = epoch; frame = Package areas owed commands } ∷ rest) urgent → length node.guest.cpus ≡ length source.guest.cpus → IsGood node (Package areas owed commands)
 unfolding areas_in owed_in commands_in
-package_good source node epoch areas owed commands rest sound told many =
+package_good source node epoch areas owed commands rest urgent sound told many =
     let plan = same_Some (Package areas owed commands) (Package (space_of source).host.areas told.owed (commands_of source.guest.cpus)) told.plan in
     let same_areas : areas ≡ (space_of source).host.areas = ap (λ f. areas_in f areas) plan in
     let same_owed : owed ≡ told.owed = ap (λ f. owed_in f owed) plan in
@@ -110,47 +111,47 @@ with_first from to epoch frame rest world = record world { source = record world
 abbrev pub AreAsMany : World → Type 0
 AreAsMany world = length world.destination.guest.cpus ≡ length world.source.guest.cpus
 
-end_good : (epoch : ℕ) (rest : List Sent) (world : World) → world.up ≡ true → IsSoundWorld (with_first SourcePhase.Stopped DestPhase.Running epoch End rest world) → world.destination.arrivals ≡ [] → world.destination.owed ≡ finmap.empty
-end_good epoch rest world up kept free =
-    let old = with_first SourcePhase.Stopped DestPhase.Running epoch End rest world in
+end_good : (epoch count : ℕ) (rest : List Sent) (world : World) → world.up ≡ true → IsSoundWorld (with_first SourcePhase.Stopped DestPhase.Running epoch (End count) rest world) → world.destination.arrivals ≡ [] → world.urgent.frames ≡ [] → world.destination.owed ≡ finmap.empty
+end_good epoch count rest world up kept free came =
+    let old = with_first SourcePhase.Stopped DestPhase.Running epoch (End count) rest world in
     let w = kept.flight.wires up in
     let last = nothing_behind rest (flow_of old.source) w.0 in
     let ended : old.source.end_epoch ≡ old.source.epoch = ended_now old.source last.1 in
-    let flowing : IsFlowing old.source old.destination old.forward.frames = w.2 in
+    let flowing : IsFlowing old.source old.destination old.forward.frames old.urgent.frames = w.2 in
     same_pages world.destination.owed finmap.empty (λ page.
-    none_owed (get world.destination.owed page) (λ origin h. nowhere world.source.remaining rest world.destination.arrivals origin (kept.pushing.end_sent ended) last.0 free (flowing.whereabouts page origin h))
+    none_owed (get world.destination.owed page) (λ origin h. nowhere world.source.remaining rest world.urgent.frames world.destination.arrivals origin (kept.pushing.end_sent ended) last.0 came free (flowing.whereabouts page origin h))
     ∙ sym (get-empty nat_cmp page))
 
-good_of : (from : SourcePhase) (to : DestPhase) (epoch : ℕ) (frame : Frame) (rest : List Sent) (world : World) → comes from to frame ≡ true → world.up ≡ true → IsSoundWorld (with_first from to epoch frame rest world) → AreAsMany world → IsGood (with_first from to epoch frame rest world).destination frame
-good_of SourcePhase.Stopped DestPhase.Discarding epoch (Package areas owed commands) rest world h up kept many =
+good_of : (from : SourcePhase) (to : DestPhase) (epoch : ℕ) (frame : Frame) (rest : List Sent) (world : World) → comes from to frame ≡ true → world.up ≡ true → IsSoundWorld (with_first from to epoch frame rest world) → AreAsMany world → EndTells frame world → IsGood (with_first from to epoch frame rest world).destination frame
+good_of SourcePhase.Stopped DestPhase.Discarding epoch (Package areas owed commands) rest world h up kept many tells =
     let old = with_first SourcePhase.Stopped DestPhase.Discarding epoch (Package areas owed commands) rest world in
-    package_good old.source old.destination epoch areas owed commands rest kept.spaces.source_space.host (kept.flight.wires up).2 many
-good_of SourcePhase.Stopped DestPhase.Running epoch End rest world h up kept many = λ free. end_good epoch rest world up kept free
-good_of SourcePhase.Precopy DestPhase.Idle epoch End rest world h up kept many = none_absurd h
-good_of SourcePhase.Precopy DestPhase.Idle epoch (Package areas owed commands) rest world h up kept many = none_absurd h
-good_of SourcePhase.Paused DestPhase.Paused epoch End rest world h up kept many = none_absurd h
-good_of SourcePhase.Paused DestPhase.Paused epoch (Package areas owed commands) rest world h up kept many = none_absurd h
-good_of from to epoch Advise rest world h up kept many = tt
-good_of from to epoch (Page page bytes) rest world h up kept many = tt
-good_of from to epoch (Zero page) rest world h up kept many = tt
-good_of from to epoch (Discard pages) rest world h up kept many = tt
-good_of from to epoch Resume rest world h up kept many = tt
-good_of from to epoch (Request page) rest world h up kept many = tt
-good_of from to epoch (Recv state owed) rest world h up kept many = tt
-good_of from to epoch Done rest world h up kept many = tt
-good_of _ _ epoch _ rest world h up kept many = none_absurd h
+    package_good old.source old.destination epoch areas owed commands rest world.urgent.frames kept.spaces.source_space.host (kept.flight.wires up).2 many
+good_of SourcePhase.Stopped DestPhase.Running epoch (End count) rest world h up kept many tells = let told = tells count refl in (told.0, λ free all. end_good epoch count rest world up kept free (told.1 all))
+good_of SourcePhase.Precopy DestPhase.Idle epoch (End count) rest world h up kept many tells = none_absurd h
+good_of SourcePhase.Precopy DestPhase.Idle epoch (Package areas owed commands) rest world h up kept many tells = none_absurd h
+good_of SourcePhase.Paused DestPhase.Paused epoch (End count) rest world h up kept many tells = none_absurd h
+good_of SourcePhase.Paused DestPhase.Paused epoch (Package areas owed commands) rest world h up kept many tells = none_absurd h
+good_of from to epoch Advise rest world h up kept many tells = tt
+good_of from to epoch (Page page bytes) rest world h up kept many tells = tt
+good_of from to epoch (Zero page) rest world h up kept many tells = tt
+good_of from to epoch (Discard pages) rest world h up kept many tells = tt
+good_of from to epoch Resume rest world h up kept many tells = tt
+good_of from to epoch (Request page) rest world h up kept many tells = tt
+good_of from to epoch (Recv state owed) rest world h up kept many tells = tt
+good_of from to epoch Done rest world h up kept many tells = tt
+good_of _ _ epoch _ rest world h up kept many tells = none_absurd h
 
-taken_in : (from : SourcePhase) (to : DestPhase) (epoch : ℕ) (frame : Frame) (rest : List Sent) (world : World) → world.up ≡ true → IsSoundWorld (with_first from to epoch frame rest world) → AreAsMany world → IsTaken (with_first from to epoch frame rest world).destination (record { epoch = epoch; frame = frame })
-taken_in from to epoch frame rest world up kept many =
+taken_in : (from : SourcePhase) (to : DestPhase) (epoch : ℕ) (frame : Frame) (rest : List Sent) (world : World) → world.up ≡ true → IsSoundWorld (with_first from to epoch frame rest world) → AreAsMany world → EndTells frame world → IsTaken (with_first from to epoch frame rest world).destination (record { epoch = epoch; frame = frame })
+taken_in from to epoch frame rest world up kept many tells =
     let old = with_first from to epoch frame rest world in
-    let is = first_in_place old.source old.destination (record { epoch = epoch; frame = frame }) rest old.back.frames (kept.flight.wires up) in
+    let is = first_in_place old.source old.destination (record { epoch = epoch; frame = frame }) rest old.back.frames old.urgent.frames (kept.flight.wires up) in
     let placed = place_of from to frame is in
-    record { in_place = placed; own_epoch = epoch_of to old.destination epoch world.source.epoch frame placed kept.epochs.forward_epoch.0 (kept.epochs.epoch_at up); good = good_of from to epoch frame rest world is up kept many }
+    record { in_place = placed; own_epoch = epoch_of to old.destination epoch world.source.epoch frame placed kept.epochs.forward_epoch.0 (kept.epochs.epoch_at up); good = good_of from to epoch frame rest world is up kept many tells }
 
 -- the first frame on the wire to the destination
-pub is_taken : (world : World) (sent : Sent) (rest : List Sent) → IsSoundWorld world → AreAsMany world → world.up ≡ true → world.forward.frames ≡ sent ∷ rest → IsTaken world.destination sent
-is_taken world sent rest kept many up first =
-    taken_in world.source.phase world.destination.phase sent.epoch sent.frame rest world up (subst (λ w. IsSoundWorld (record world { forward = record world.forward { frames = w } })) first kept) many
+pub is_taken : (world : World) (sent : Sent) (rest : List Sent) → IsSoundWorld world → AreSoundUrgent world → AreAsMany world → world.up ≡ true → world.forward.frames ≡ sent ∷ rest → IsTaken world.destination sent
+is_taken world sent rest kept urgent many up first =
+    taken_in world.source.phase world.destination.phase sent.epoch sent.frame rest world up (subst (λ w. IsSoundWorld (record world { forward = record world.forward { frames = w } })) first kept) many (end_tells world sent rest kept urgent first up)
 
 -- The wire back
 

@@ -58,6 +58,9 @@ pub mod Delivering
 pub mod Every
 pub mod Taking
 pub mod Completing
+pub mod UrgentWire
+pub mod UrgentKept
+pub mod UrgentSteps
 pub mod EveryStep
 pub mod FramesTaken
 pub mod WaitingCommands

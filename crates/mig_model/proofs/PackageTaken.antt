@@ -23,7 +23,7 @@ use Rattle.mig_model.specs.Guest.{is_present}
 use Rattle.mig_model.specs.Wire.{Sent}
 use Rattle.mig_model.specs.Wire.Frame.{Package}
 use Rattle.mig_model.specs.Migration.{World}
-use Rattle.mig_model.specs.Invariant.{Wires, IsSoundWorld, IsSwitching, AreOf, AreRight, AreFaults, AreFaithful, copies_of, has_copy, RanAt, are_requests, seen_host, seen_bytes, current_host, AreSoundWires}
+use Rattle.mig_model.specs.Invariant.{Wires, IsSoundWorld, IsSwitching, AreOf, AreRight, AreFaults, AreFaithful, copies_of, has_copy, RanAt, are_requests, seen_host, seen_bytes, current_host, AreSoundWires, is_urgent_or_left}
 use Rattle.mig_model.proofs.FirstFrame.{at_state, delivered}
 use Rattle.mig_model.specs.Log.{no_pages}
 use Rattle.mig_model.specs.Owed.{own_places}
@@ -149,23 +149,23 @@ has_areas host page sound h =
     ] refl
 
 -- what the Package says, where it is the first frame
-record IsPlan (source : Source) (kept : FinMap nat_cmp (List ℕ)) (rest : List Sent) (areas : FinMap nat_cmp Prot) (owed : FinSet nat_cmp) : Type 0 where
+record IsPlan (source : Source) (kept : FinMap nat_cmp (List ℕ)) (rest urgent : List Sent) (areas : FinMap nat_cmp Prot) (owed : FinSet nat_cmp) : Type 0 where
   same : areas ≡ (space_of source).host.areas
   owed_present : (page : ℕ) → contains owed page ≡ true → is_present (space_of source) page ≡ true
   kept_rest : IsRest (space_of source).host owed kept
-  whereabouts : (page : ℕ) → contains owed page ≡ true → (contains source.remaining page || has_copy (copies_of rest) page) ≡ true
+  whereabouts : (page : ℕ) → contains owed page ≡ true → (is_urgent_or_left source.remaining urgent page || has_copy (copies_of rest) page) ≡ true
   faithful : AreFaithful (space_of source).host.bytes (copies_of rest)
 
-plan_of : (source : Source) (kept : FinMap nat_cmp (List ℕ)) (rest : List Sent) (epoch : ℕ) (areas : FinMap nat_cmp Prot) (owed : FinSet nat_cmp) (commands : List (Option Command)) →
-    IsSwitching source kept (record { epoch = epoch; frame = Package areas owed commands } ∷ rest) → IsPlan source kept rest areas owed
-plan_of source kept rest epoch areas owed commands w =
+plan_of : (source : Source) (kept : FinMap nat_cmp (List ℕ)) (rest urgent : List Sent) (epoch : ℕ) (areas : FinMap nat_cmp Prot) (owed : FinSet nat_cmp) (commands : List (Option Command)) →
+    IsSwitching source kept (record { epoch = epoch; frame = Package areas owed commands } ∷ rest) urgent → IsPlan source kept rest urgent areas owed
+plan_of source kept rest urgent epoch areas owed commands w =
     let plan : Some (Package areas owed commands) ≡ Some (Package (space_of source).host.areas w.owed (commands_of source.guest.cpus)) = w.plan in
     let same_owed : w.owed ≡ owed = cc in
     record {
       same = cc;
       owed_present = subst (λ (o : FinSet nat_cmp). (page : ℕ) → contains o page ≡ true → is_present (space_of source) page ≡ true) same_owed w.owed_present;
       kept_rest = subst (λ (o : FinSet nat_cmp). IsRest (space_of source).host o kept) same_owed w.kept_rest;
-      whereabouts = subst (λ (o : FinSet nat_cmp). (page : ℕ) → contains o page ≡ true → (contains source.remaining page || has_copy (copies_of rest) page) ≡ true) same_owed w.whereabouts;
+      whereabouts = subst (λ (o : FinSet nat_cmp). (page : ℕ) → contains o page ≡ true → (is_urgent_or_left source.remaining urgent page || has_copy (copies_of rest) page) ≡ true) same_owed w.whereabouts;
       faithful = w.faithful;
     }
 
@@ -179,7 +179,7 @@ package_taken epoch areas owed commands rest world kept =
     let pages : FinMap nat_cmp (List ℕ) = world.destination.kept in
     let w = kept.flight.wires refl in
     let sound : IsSound host = kept.spaces.source_space.host in
-    let plan : IsPlan old.source pages rest areas owed = plan_of old.source pages rest epoch areas owed commands w.2 in
+    let plan : IsPlan old.source pages rest world.urgent.frames areas owed = plan_of old.source pages rest world.urgent.frames epoch areas owed commands w.2 in
     let not_ended : world.destination.ended ≡ false = false_from_ne_true world.destination.ended (λ e. false≢true (kept.phases.ended_after_run e)) in
     let holds : memory (current_host new) ≡ memory_of new.transcript = ap memory (seen_source host owed areas pages plan.same plan.kept_rest sound) ∙ kept.memory.holds in
     let destination_space : IsSoundSpace new.destination.guest.space = IsSoundSpace-assembled areas pages (sound_rest host owed areas pages plan.same plan.kept_rest sound kept.copies.kept_whole) in
@@ -210,15 +210,15 @@ package_taken epoch areas owed commands rest world kept =
     λ h. subst (AreFaithful host.bytes) (sym (kept.owing.not_run refl).2) tt in
     let flight_faithful : new.destination.has_run ≡ true → AreFaithful new.source.guest.space.host.bytes (copies_of new.forward.frames) = λ h. plan.faithful in
     let ended_empty : new.destination.ended ≡ true → (new.destination.owed ≡ finmap.empty) × (new.destination.arrivals ≡ []) = λ h. absurd (false≢true (sym not_ended ∙ h)) in
-    let wires : new.up ≡ true → Wires new.source new.destination new.forward.frames new.back.frames =
+    let wires : new.up ≡ true → Wires new.source new.destination new.forward.frames new.back.frames new.urgent.frames =
     λ u. (
       w.0,
       ap are_requests w.1,
       record {
         whereabouts = λ page origin h.
             let own = own_place owed page origin h in
-            or_more (contains world.source.remaining origin) (has_copy (copies_of rest) origin) (has_copy world.destination.arrivals origin)
-            (ap (λ q. contains world.source.remaining q || has_copy (copies_of rest) q) own.2 ∙ plan.whereabouts page own.1);
+            or_more (is_urgent_or_left world.source.remaining world.urgent.frames origin) (has_copy (copies_of rest) origin) (has_copy world.destination.arrivals origin)
+            (ap (λ q. is_urgent_or_left world.source.remaining world.urgent.frames q || has_copy (copies_of rest) q) own.2 ∙ plan.whereabouts page own.1);
       },
     ) in
     let down : new.up ≡ false → (new.forward.frames ≡ []) × (new.back.frames ≡ []) × (new.source.phase ≢ SourcePhase.Idle) × (new.source.phase ≢ SourcePhase.Released) = λ h. absurd (false≢true (sym h)) in

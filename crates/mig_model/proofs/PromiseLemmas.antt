@@ -20,7 +20,7 @@ use Rattle.mig_model.specs.Userfault.{Noted}
 use Rattle.mig_model.specs.Guest.{Fault, is_present}
 use Rattle.mig_model.specs.Guest.Act.{Zeroed}
 use Rattle.mig_model.specs.Migration.{World, runs, start}
-use Rattle.mig_model.specs.Invariant.{IsSoundWorld, IsPrecopying, IsSwitching, IsReceiving, RanAt, seen_bytes, seen_host, current_by, copies_of, has_copy}
+use Rattle.mig_model.specs.Invariant.{IsSoundWorld, IsPrecopying, IsSwitching, IsReceiving, RanAt, seen_bytes, seen_host, current_by, copies_of, has_copy, is_urgent_or_left, AreSoundUrgent}
 use Rattle.mig_model.specs.Promises.{IsComplete, IsAlone, ArePaired, AreUnderWay}
 use Rattle.mig_model.proofs.Stopping.{in_phases}
 use Rattle.mig_model.proofs.SettledLemmas.{IsOneToOne-settled, values-settled}
@@ -123,7 +123,7 @@ are_paired world kept =
 -- Whereabouts
 
 whereabouts_in : (from : SourcePhase) (to : DestPhase) (world : World) → is_stopped from ≡ true → world.destination.has_run ≡ true → world.up ≡ true → IsSoundWorld (in_phases from to world) → (page origin : ℕ) → get world.destination.owed page ≡ Some origin →
-    (contains world.source.remaining origin || has_copy (copies_of world.forward.frames) origin || has_copy world.destination.arrivals origin) ≡ true
+    (is_urgent_or_left world.source.remaining world.urgent.frames origin || has_copy (copies_of world.forward.frames) origin || has_copy world.destination.arrivals origin) ≡ true
 whereabouts_in SourcePhase.Stopped DestPhase.Running world stopped ran up kept page origin owed = (kept.flight.wires up).2.whereabouts page origin owed
 whereabouts_in SourcePhase.Stopped DestPhase.Idle world stopped ran up kept page origin owed = absurd (false≢true (sym kept.phases.destination_phase ∙ ran))
 whereabouts_in SourcePhase.Stopped DestPhase.Advised world stopped ran up kept page origin owed = absurd (false≢true (sym kept.phases.destination_phase ∙ ran))
@@ -135,11 +135,12 @@ whereabouts_in SourcePhase.Precopy to world stopped ran up kept page origin owed
 whereabouts_in SourcePhase.Paused to world stopped ran up kept page origin owed = none_absurd stopped
 whereabouts_in SourcePhase.Released to world stopped ran up kept page origin owed = none_absurd stopped
 
-pub are_under_way : (world : World) → IsSoundWorld world → world.destination.has_run ≡ true → AreUnderWay world
-are_under_way world kept ran =
+pub are_under_way : (world : World) → IsSoundWorld world → AreSoundUrgent world → world.destination.has_run ≡ true → AreUnderWay world
+are_under_way world kept urgent ran =
     record {
       whereabouts = λ up stopped. whereabouts_in world.source.phase world.destination.phase world stopped ran up kept;
       in_flight = kept.flight.flight_faithful ran;
+      urgent = urgent.faithful;
       arrived = kept.owing.arrivals_faithful ran;
     }
 
@@ -160,7 +161,7 @@ precopying_in SourcePhase.Released to world precopy up kept = none_absurd precop
 pub is_precopying : (world : World) → IsSoundWorld world → world.up ≡ true → is_precopy world.source.phase ≡ true → IsPrecopying world.source world.destination.kept world.forward.frames
 is_precopying world kept up precopy = precopying_in world.source.phase world.destination.phase world precopy up kept
 
-switching_in : (from : SourcePhase) (to : DestPhase) (world : World) → is_stopped from ≡ true → world.up ≡ true → world.destination.has_run ≡ false → IsSoundWorld (in_phases from to world) → IsSwitching (in_phases from to world).source world.destination.kept world.forward.frames
+switching_in : (from : SourcePhase) (to : DestPhase) (world : World) → is_stopped from ≡ true → world.up ≡ true → world.destination.has_run ≡ false → IsSoundWorld (in_phases from to world) → IsSwitching (in_phases from to world).source world.destination.kept world.forward.frames world.urgent.frames
 switching_in SourcePhase.Stopped DestPhase.Idle world stopped up ran kept = (kept.flight.wires up).2
 switching_in SourcePhase.Stopped DestPhase.Advised world stopped up ran kept = (kept.flight.wires up).2
 switching_in SourcePhase.Stopped DestPhase.Discarding world stopped up ran kept = (kept.flight.wires up).2
@@ -172,7 +173,7 @@ switching_in SourcePhase.Precopy to world stopped up ran kept = none_absurd stop
 switching_in SourcePhase.Paused to world stopped up ran kept = none_absurd stopped
 switching_in SourcePhase.Released to world stopped up ran kept = none_absurd stopped
 
-pub is_switching : (world : World) → IsSoundWorld world → world.up ≡ true → is_stopped world.source.phase ≡ true → world.destination.has_run ≡ false → IsSwitching world.source world.destination.kept world.forward.frames
+pub is_switching : (world : World) → IsSoundWorld world → world.up ≡ true → is_stopped world.source.phase ≡ true → world.destination.has_run ≡ false → IsSwitching world.source world.destination.kept world.forward.frames world.urgent.frames
 is_switching world kept up stopped ran = switching_in world.source.phase world.destination.phase world stopped up ran kept
 
 receiving_in : (from : SourcePhase) (to : DestPhase) (world : World) → is_source_paused from ≡ true → is_running to ≡ true → world.up ≡ true → IsSoundWorld (in_phases from to world) →

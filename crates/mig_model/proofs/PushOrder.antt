@@ -10,7 +10,7 @@ use Rattle.mig_model.specs.Wire.{Frame, Sent}
 use Rattle.mig_model.specs.Wire.Frame.{Advise, Page, Zero, Discard, Package, End, Resume, Request, Recv, Done}
 use Rattle.mig_model.specs.Guest.{Act, Guest}
 use Rattle.mig_model.specs.Guest.Act.{Unprotected, Zeroed, Woke, Forgot, Requested}
-use Rattle.mig_model.specs.Invariant.{IsSoundWorld, SwitchedAt}
+use Rattle.mig_model.specs.Invariant.{IsSoundWorld, SwitchedAt, AreSoundUrgent}
 use Rattle.mig_model.proofs.EveryStep.{kept-next}
 use Rattle.mig_model.proofs.FramesTaken.{is_taken_back}
 use Rattle.mig_model.proofs.SourceRounds.{precopy_unswitched}
@@ -19,7 +19,8 @@ use Rattle.mig_model.proofs.StepLemmas.{Leaves, leaves-next, leaves-ok}
 use Rattle.mig_model.specs.Source.{Source, is_source_idle, is_source_paused, is_stopped, source_act, source_acted_by, source_took}
 use Rattle.mig_model.specs.Migration.{World, after_steps, answer, next, outcome, with_guest_by}
 use Rattle.mig_model.specs.Promises.{IsInPlaceBack, is_recv}
-use Rattle.mig_model.proofs.StepCases.{made-break, made-deliver, made-deliver_back, made-dest_act, made-dest_read, made-end, made-install, made-issue, made-notice, made-push, made-resume, made-retry, made-round, made-send, made-serve, made-source_act, made-source_read, made-start, made-switch}
+use Rattle.mig_model.proofs.StepCases.{made-break, made-deliver, made-deliver_back, made-dest_act, made-dest_read, made-end, made-install, made-issue, made-notice, made-push, made-resume, made-retry, made-round, made-send, made-serve, made-source_act, made-source_read, made-start, made-switch, made-deliver_urgent, made-push_urgent}
+use Rattle.mig_model.proofs.UrgentSteps.{urgent-next}
 
 -- what tells that the source has switched in an epoch, and is not to be told again what the destination needs: its epoch, whether it
 -- has switched, its phase, and whether the link is up
@@ -92,7 +93,7 @@ taken_pushed (Page page bytes) pushed node up linked paused h = h
 taken_pushed (Zero page) pushed node up linked paused h = h
 taken_pushed (Discard pages) pushed node up linked paused h = h
 taken_pushed (Package areas owed commands) pushed node up linked paused h = h
-taken_pushed End pushed node up linked paused h = h
+taken_pushed (End count) pushed node up linked paused h = h
 taken_pushed Resume pushed node up linked paused h = h
 
 recv_paused : (frame : Frame) (node : Source) → IsInPlaceBack node frame → is_recv frame ≡ true → is_source_paused node.phase ≡ true
@@ -117,7 +118,7 @@ pushed_answer pushed world Step.SourceAct kept h =
 pushed_answer pushed world Step.Switch kept h =
     made-switch _ world (λ precopy up quiet.
     later pushed world.source.epoch world.source.switched world.source.phase world.up (precopy_unswitched world.source.phase world.source.switched precopy kept.phases.source_phase) h (λ more. inl more))
-pushed_answer pushed world (Step.Deliver n) kept h = made-deliver _ world n (λ sent rest is short. h) (λ sent rest is full started up free. h)
+pushed_answer pushed world (Step.Deliver n) kept h = made-deliver _ world n (λ sent rest is short. h) (λ sent rest is full started up free early. h)
 pushed_answer pushed world (Step.DeliverBack n) kept h =
     made-deliver_back _ world n (λ sent rest is short. h)
     (λ sent rest is full started up. taken_pushed sent.frame pushed world.source world.up up (recv_paused sent.frame world.source (is_taken_back world sent rest kept up is)) h)
@@ -125,6 +126,8 @@ pushed_answer pushed world Step.DestRead kept h = made-dest_read _ world (λ not
 pushed_answer pushed world Step.DestAct kept h = made-dest_act _ world (λ fault rest is ran quiet. h)
 pushed_answer pushed world Step.Install kept h = made-install _ world (λ copy rest is ran quiet. h)
 pushed_answer pushed world (Step.Push ticket) kept h = made-push _ world ticket (λ stopped up own present remains. h)
+pushed_answer pushed world (Step.PushUrgent ticket) kept h = made-push_urgent _ world ticket (λ stopped up own present remains. h)
+pushed_answer pushed world (Step.DeliverUrgent n) kept h = made-deliver_urgent _ world n (λ sent rest is short. h) (λ sent rest is full ran up. h)
 pushed_answer pushed world Step.Serve kept h = made-serve _ world (λ page pages is stopped up. h)
 pushed_answer pushed world Step.End kept h = made-end _ world (λ stopped other up none. h)
 pushed_answer pushed world Step.Break kept h = made-break _ world (λ started unreleased up. down_pushed pushed world.source.epoch world.source.switched world.source.phase world.source.phase world.up h)
@@ -137,9 +140,9 @@ pushed_answer pushed world Step.Resume kept h =
     ⊎_elim (λ (more : pushed < world.source.epoch). inl (one_later pushed world.source.epoch more))
     (λ (one : (world.source.epoch ≡ pushed) × (world.source.switched ≡ true) × (world.up ≡ true → is_source_paused world.source.phase ≡ false)). inl (next_later pushed world.source.epoch one.0)) h)
 
-pushed_steps : (pushed : ℕ) (world : World) (steps : List Step) → IsSoundWorld world → PushedIn pushed world → PushedIn pushed (after_steps world steps)
-pushed_steps pushed world [] kept h = h
-pushed_steps pushed world (step ∷ steps) kept h = pushed_steps pushed (next world step) steps (kept-next world step kept) (leaves-next (PushedIn pushed) world step h (pushed_answer pushed world step kept h))
+pushed_steps : (pushed : ℕ) (world : World) (steps : List Step) → IsSoundWorld world → AreSoundUrgent world → PushedIn pushed world → PushedIn pushed (after_steps world steps)
+pushed_steps pushed world [] kept urgent h = h
+pushed_steps pushed world (step ∷ steps) kept urgent h = pushed_steps pushed (next world step) steps (kept-next world step kept urgent) (urgent-next world step kept urgent) (leaves-next (PushedIn pushed) world step h (pushed_answer pushed world step kept h))
 
 stopped_not_paused : (phase : SourcePhase) → is_stopped phase ≡ true → is_source_paused phase ≡ false
 stopped_not_paused SourcePhase.Stopped h = refl
@@ -149,11 +152,19 @@ stopped_not_paused SourcePhase.Paused h = absurd (false≢true h)
 stopped_not_paused SourcePhase.Released h = absurd (false≢true h)
 
 -- an accepted Push, and any steps behind it
-pub pushed_before : (world : World) (ticket : Ticket) (steps : List Step) → IsSoundWorld world → IsOk (outcome world (Step.Push ticket)) → PushedIn world.source.epoch (after_steps (next world (Step.Push ticket)) steps)
-pushed_before world ticket steps kept ok =
-    pushed_steps world.source.epoch (next world (Step.Push ticket)) steps (kept-next world (Step.Push ticket) kept)
+pub pushed_before : (world : World) (ticket : Ticket) (steps : List Step) → IsSoundWorld world → AreSoundUrgent world → IsOk (outcome world (Step.Push ticket)) → PushedIn world.source.epoch (after_steps (next world (Step.Push ticket)) steps)
+pushed_before world ticket steps kept urgent ok =
+    pushed_steps world.source.epoch (next world (Step.Push ticket)) steps (kept-next world (Step.Push ticket) kept urgent) (urgent-next world (Step.Push ticket) kept urgent)
     (leaves-ok (PushedIn world.source.epoch) world (Step.Push ticket)
     (made-push _ world ticket (λ stopped up own present remains.
+    inr (refl, stopped_switched world.source.phase world.source.switched stopped kept.phases.source_phase, λ u. stopped_not_paused world.source.phase stopped))) ok)
+
+-- an accepted PushUrgent, and any steps behind it
+pub urgent_before : (world : World) (ticket : Ticket) (steps : List Step) → IsSoundWorld world → AreSoundUrgent world → IsOk (outcome world (Step.PushUrgent ticket)) → PushedIn world.source.epoch (after_steps (next world (Step.PushUrgent ticket)) steps)
+urgent_before world ticket steps kept urgent ok =
+    pushed_steps world.source.epoch (next world (Step.PushUrgent ticket)) steps (kept-next world (Step.PushUrgent ticket) kept urgent) (urgent-next world (Step.PushUrgent ticket) kept urgent)
+    (leaves-ok (PushedIn world.source.epoch) world (Step.PushUrgent ticket)
+    (made-push_urgent _ world ticket (λ stopped up own present remains.
     inr (refl, stopped_switched world.source.phase world.source.switched stopped kept.phases.source_phase, λ u. stopped_not_paused world.source.phase stopped))) ok)
 
 not_later : (pushed epoch : ℕ) → epoch ≡ pushed → pushed < epoch → ⊥

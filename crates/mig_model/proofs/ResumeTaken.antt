@@ -100,7 +100,7 @@ resume_waiting epoch rest world kept =
     let kept_whole : (page : ℕ) (bytes : List ℕ) → get new.destination.kept page ≡ Some bytes → length bytes ≡ 4096 = λ page bytes h. absurd (none-some bytes (sym (get-empty nat_cmp page) ∙ h)) in
     let answered : new.back.frames ≡ record { epoch = world.source.epoch; frame = Recv Received.NotRun no_pages } ∷ [] =
     answer_first world.back.frames epoch (Recv Received.NotRun no_pages) [] w.1 ∙ ap (λ e. record { epoch = e; frame = Recv Received.NotRun no_pages } ∷ []) same in
-    let wires : new.up ≡ true → Wires new.source new.destination new.forward.frames new.back.frames = λ u. (resume_alone epoch world.source.epoch rest w.0, answered, refl, refl) in
+    let wires : new.up ≡ true → Wires new.source new.destination new.forward.frames new.back.frames new.urgent.frames = λ u. (resume_alone epoch world.source.epoch rest w.0, answered, refl, refl) in
     let down : new.up ≡ false → (new.forward.frames ≡ []) × (new.back.frames ≡ []) × (new.source.phase ≢ SourcePhase.Idle) × (new.source.phase ≢ SourcePhase.Released) = λ h. absurd (false≢true (sym h)) in
     let forward_epoch : AreOf new.source.epoch new.forward.frames = kept.epochs.forward_epoch.1 in
     let back_epoch : AreOf new.source.epoch new.back.frames = subst (λ e. AreOf e new.back.frames) same (AreOf-sending epoch world.back.frames (Recv Received.NotRun no_pages ∷ []) (subst (λ e. AreOf e world.back.frames) (sym same) kept.epochs.back_epoch)) in
@@ -134,7 +134,7 @@ resume_running epoch rest world kept =
       needed = λ page origin h. origins-pair owed page origin h (kept.owing.owed_below page origin h) (present_low world.source.guest.space.host origin kept.spaces.source_space.host (kept.owing.origins_present page origin h));
       owed_present = λ origin h. let pair = pair-origins owed origin h in kept.owing.origins_present pair.0 origin pair.1;
     } in
-    let wires : new.up ≡ true → Wires new.source new.destination new.forward.frames new.back.frames = λ u. (resume_alone epoch world.source.epoch rest w.0, receiving) in
+    let wires : new.up ≡ true → Wires new.source new.destination new.forward.frames new.back.frames new.urgent.frames = λ u. (resume_alone epoch world.source.epoch rest w.0, receiving) in
     let down : new.up ≡ false → (new.forward.frames ≡ []) × (new.back.frames ≡ []) × (new.source.phase ≢ SourcePhase.Idle) × (new.source.phase ≢ SourcePhase.Released) = λ h. absurd (false≢true (sym h)) in
     let forward_epoch : AreOf new.source.epoch new.forward.frames = kept.epochs.forward_epoch.1 in
     let back_epoch : AreOf new.source.epoch new.back.frames = subst (λ e. AreOf e new.back.frames) same (AreOf-sending epoch world.back.frames (Recv Received.Running (origins owed) ∷ frames) (subst (λ e. AreOf e world.back.frames) (sym same) kept.epochs.back_epoch)) in
@@ -166,7 +166,7 @@ resume_ended epoch rest world kept =
       needed = λ page origin h. absurd (none-some origin (sym (get-empty nat_cmp page) ∙ sym (ap (λ o. get o page) (kept.owing.ended_empty refl).0) ∙ h));
       owed_present = λ page h. absurd (false≢true (sym (contains-empty nat_cmp page) ∙ h));
     } in
-    let wires : new.up ≡ true → Wires new.source new.destination new.forward.frames new.back.frames = λ u. (resume_alone epoch world.source.epoch rest w.0, receiving) in
+    let wires : new.up ≡ true → Wires new.source new.destination new.forward.frames new.back.frames new.urgent.frames = λ u. (resume_alone epoch world.source.epoch rest w.0, receiving) in
     let down : new.up ≡ false → (new.forward.frames ≡ []) × (new.back.frames ≡ []) × (new.source.phase ≢ SourcePhase.Idle) × (new.source.phase ≢ SourcePhase.Released) = λ h. absurd (false≢true (sym h)) in
     let forward_epoch : AreOf new.source.epoch new.forward.frames = kept.epochs.forward_epoch.1 in
     let back_epoch : AreOf new.source.epoch new.back.frames = subst (λ e. AreOf e new.back.frames) same (AreOf-sending epoch world.back.frames (Recv Received.Ended no_pages ∷ []) (subst (λ e. AreOf e world.back.frames) (sym same) kept.epochs.back_epoch)) in

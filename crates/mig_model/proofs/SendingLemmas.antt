@@ -106,7 +106,7 @@ late_next Copies frame next late h = absurd (false≢true (sym late))
 late_next BeforePackage (Package areas owed commands) next late h = ap is_early (sym (same_Some Pushed next h))
 late_next Pushed (Page page bytes) next late h = ap is_early (sym (same_Some Pushed next h))
 late_next Pushed (Zero page) next late h = ap is_early (sym (same_Some Pushed next h))
-late_next Pushed End next late h = ap is_early (sym (same_Some AfterEnd next h))
+late_next Pushed (End count) next late h = ap is_early (sym (same_Some AfterEnd next h))
 late_next _ _ next late h = absurd (none-some next h)
 
 late_not_copies : (flow : Flow) → is_early flow ≡ false → Some flow ≡ Some Copies → ⊥
@@ -139,7 +139,7 @@ no_package_first Copies kept epoch (Discard pages) wire more rest h = absurd (no
 no_package_first BeforePackage kept epoch (Package areas owed commands) wire more rest h = absurd (not_back Pushed wire refl h)
 no_package_first Pushed kept epoch (Page page bytes) wire more rest h = absurd (not_back Pushed wire refl h)
 no_package_first Pushed kept epoch (Zero page) wire more rest h = absurd (not_back Pushed wire refl h)
-no_package_first Pushed kept epoch End wire more rest h = absurd (not_back AfterEnd wire refl h)
+no_package_first Pushed kept epoch (End count) wire more rest h = absurd (not_back AfterEnd wire refl h)
 no_package_first _ kept epoch _ wire more rest h = absurd (none-some Copies h)
 
 -- a wire of copies alone, or of Advise and copies, has no Package

@@ -35,11 +35,11 @@ use Rattle.mig_model.proofs.FirstFrame.{first_in_place}
 use Rattle.mig_model.proofs.FramesTaken.{with_first}
 use Rattle.mig_model.proofs.WaitingCommands.{package_told}
 use Rattle.mig_model.proofs.StepLemmas.{Leaves, holds-effect, leaves-next, leaves-ok}
-use Rattle.mig_model.proofs.StepCases.{made-break, made-deliver, made-deliver_back, made-dest_act, made-dest_read, made-end, made-install, made-issue, made-notice, made-push, made-resume, made-retry, made-round, made-send, made-serve, made-source_act, made-source_read, made-start, made-switch}
+use Rattle.mig_model.proofs.StepCases.{made-break, made-deliver, made-deliver_back, made-dest_act, made-dest_read, made-end, made-install, made-issue, made-notice, made-push, made-resume, made-retry, made-round, made-send, made-serve, made-source_act, made-source_read, made-start, made-switch, made-deliver_urgent, made-push_urgent}
 use Rattle.mig_model.proofs.DestinationRead.{none_is}
 use Rattle.mig_model.specs.Cpus.{outstanding, processor_at}
 use Rattle.mig_model.specs.Owed.{home, settled_by}
-use Rattle.mig_model.specs.Destination.{Destination, copy_came, destination_act, destination_acted_by, destination_took, install_by, received_of, resumed_by, settled}
+use Rattle.mig_model.specs.Destination.{Destination, copy_came, destination_act, destination_acted_by, destination_took, install_by, received_of, resumed_by, settled, urgent_took}
 use Rattle.mig_model.proofs.Facts.{some_is, dropped_not, page_again, no_event}
 
 -- A map call at the destination
@@ -169,7 +169,7 @@ took_settled (Page number bytes) node epoch page h = came_settled node.has_run n
 took_settled (Zero number) node epoch page h = came_settled node.has_run node _ page
 took_settled (Discard pages) node epoch page h = refl
 took_settled (Package areas owed commands) node epoch page h = absurd (false≢true (sym h))
-took_settled End node epoch page h = refl
+took_settled (End count) node epoch page h = refl
 took_settled Resume node epoch page h = resumed_settled (received_of node) _ page
 took_settled (Request number) node epoch page h = refl
 took_settled (Recv state owed) node epoch page h = refl
@@ -188,17 +188,29 @@ frame_settled : (frame : Frame) (epoch : ℕ) (rest : List Sent) (world : World)
 frame_settled (Package areas owed commands) epoch rest world kept up ran first page =
     let again = subst (λ w. IsSoundWorld (record world { forward = record world.forward { frames = w } })) first kept in
     let old = with_first world.source.phase world.destination.phase epoch (Package areas owed commands) rest world in
-    let is = first_in_place old.source old.destination (record { epoch = epoch; frame = Package areas owed commands }) rest old.back.frames (again.flight.wires up) in
+    let is = first_in_place old.source old.destination (record { epoch = epoch; frame = Package areas owed commands }) rest old.back.frames old.urgent.frames (again.flight.wires up) in
     absurd (false≢true (sym (package_told world.source.phase world.destination.phase epoch areas owed commands rest world is up again).1 ∙ ran))
 frame_settled Advise epoch rest world kept up ran first page = took_settled Advise world.destination epoch page refl
 frame_settled (Page number bytes) epoch rest world kept up ran first page = took_settled (Page number bytes) world.destination epoch page refl
 frame_settled (Zero number) epoch rest world kept up ran first page = took_settled (Zero number) world.destination epoch page refl
 frame_settled (Discard pages) epoch rest world kept up ran first page = took_settled (Discard pages) world.destination epoch page refl
-frame_settled End epoch rest world kept up ran first page = took_settled End world.destination epoch page refl
+frame_settled (End count) epoch rest world kept up ran first page = took_settled (End count) world.destination epoch page refl
 frame_settled Resume epoch rest world kept up ran first page = took_settled Resume world.destination epoch page refl
 frame_settled (Request number) epoch rest world kept up ran first page = took_settled (Request number) world.destination epoch page refl
 frame_settled (Recv state owed) epoch rest world kept up ran first page = took_settled (Recv state owed) world.destination epoch page refl
 frame_settled Done epoch rest world kept up ran first page = took_settled Done world.destination epoch page refl
+
+urgent_settled : (frame : Frame) (node : Destination) (page : ℕ) → settled (urgent_took node frame) page ≡ settled node page
+urgent_settled (Page number bytes) node page = refl
+urgent_settled (Zero number) node page = refl
+urgent_settled Advise node page = refl
+urgent_settled (Discard pages) node page = refl
+urgent_settled (Package areas owed commands) node page = refl
+urgent_settled (End count) node page = refl
+urgent_settled Resume node page = refl
+urgent_settled (Request number) node page = refl
+urgent_settled (Recv state owed) node page = refl
+urgent_settled Done node page = refl
 
 same_node : (old new : World) (page : ℕ) → new.destination ≡ old.destination → settled new.destination page ≡ settled old.destination page
 same_node old new page h = ap (λ node. settled node page) h
@@ -214,12 +226,14 @@ settled_answer world Step.Send kept waits ran leaves page = made-send _ world (�
 settled_answer world Step.SourceRead kept waits ran leaves page = made-source_read _ world (λ noted is started unswitched. refl)
 settled_answer world Step.SourceAct kept waits ran leaves page = made-source_act _ world (λ fault rest is started unswitched quiet. refl)
 settled_answer world Step.Switch kept waits ran leaves page = made-switch _ world (λ precopy up quiet. refl)
-settled_answer world (Step.Deliver n) kept waits ran leaves page = made-deliver _ world n (λ sent rest is short. refl) (λ sent rest is full started up free. frame_settled sent.frame sent.epoch rest world kept up ran is page)
+settled_answer world (Step.Deliver n) kept waits ran leaves page = made-deliver _ world n (λ sent rest is short. refl) (λ sent rest is full started up free early. frame_settled sent.frame sent.epoch rest world kept up ran is page)
 settled_answer world (Step.DeliverBack n) kept waits ran leaves page = made-deliver_back _ world n (λ sent rest is short. refl) (λ sent rest is full started up. refl)
 settled_answer world Step.DestRead kept waits ran leaves page =
     made-dest_read _ world (λ noted is runs. read_settled world.destination.guest.space.object.faults world.destination.guest.space.object.events noted world is kept.spaces.destination_faults kept.spaces.destination_events page)
 settled_answer world Step.DestAct kept waits ran leaves page = made-dest_act _ world (λ fault rest is runs quiet. acted_settled (destination_act world.destination fault) world.destination fault.page page)
 settled_answer world (Step.Push ticket) kept waits ran leaves page = made-push _ world ticket (λ stopped up own present remains. refl)
+settled_answer world (Step.PushUrgent ticket) kept waits ran leaves page = made-push_urgent _ world ticket (λ stopped up own present remains. refl)
+settled_answer world (Step.DeliverUrgent n) kept waits ran leaves page = made-deliver_urgent _ world n (λ sent rest is short. refl) (λ sent rest is full runs up. urgent_settled sent.frame world.destination page)
 settled_answer world Step.Serve kept waits ran leaves page = made-serve _ world (λ number pages is stopped up. refl)
 settled_answer world Step.End kept waits ran leaves page = made-end _ world (λ stopped other up none. refl)
 settled_answer world Step.Break kept waits ran leaves page = made-break _ world (λ started unreleased up. refl)

@@ -84,7 +84,7 @@ next_late BeforePackage (Package areas owed commands) next late h = let same : P
 next_late BeforePackage _ next late h = absurd (cc)
 next_late Pushed (Page page bytes) next late h = let same : Pushed ≡ next = cc in ap is_late (sym same)
 next_late Pushed (Zero page) next late h = let same : Pushed ≡ next = cc in ap is_late (sym same)
-next_late Pushed End next late h = let same : AfterEnd ≡ next = cc in ap is_late (sym same)
+next_late Pushed (End count) next late h = let same : AfterEnd ≡ next = cc in ap is_late (sym same)
 next_late Pushed _ next late h = absurd (cc)
 next_late AfterEnd _ next late h = absurd (cc)
 

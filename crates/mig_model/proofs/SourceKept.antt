@@ -44,7 +44,7 @@ pub record IsNext (world : World) (source : Source) (forward : List Sent) (trans
   pub protected : (page : ℕ) → contains source.log.clean page ≡ true → is_unread (space_of source).object.events page ≡ false → contains (space_of source).protected page ≡ true
   pub sendable : (page : ℕ) → contains source.log.todo page ≡ true → is_unread (space_of source).object.events page ≡ false → (is_present (space_of source) page ≡ true) × (contains (space_of source).object.protect page ≡ true)
   pub down : world.up ≡ false → (forward ≡ []) × (world.back.frames ≡ []) × (source.phase ≢ SourcePhase.Idle) × (source.phase ≢ SourcePhase.Released)
-  pub wires : world.up ≡ true → Wires source world.destination forward world.back.frames
+  pub wires : world.up ≡ true → Wires source world.destination forward world.back.frames world.urgent.frames
   pub forward_epoch : AreOf source.epoch forward
   pub back_epoch : AreOf source.epoch world.back.frames
   pub epochs : world.destination.epoch ≤ source.epoch
@@ -164,28 +164,28 @@ precopying source guest clean todo held rounds faults kept forward stay old =
     }
 
 -- before the switch the destination has not run: while the source is paused, it is paused too, or has answered Resume
-wires_changed : (from : SourcePhase) (to : DestPhase) (source : Source) (guest : Guest) (clean todo : FinSet nat_cmp) (held : List Fault) (rounds faults : ℕ) (destination : Destination) (forward back : List Sent) →
+wires_changed : (from : SourcePhase) (to : DestPhase) (source : Source) (guest : Guest) (clean todo : FinSet nat_cmp) (held : List Fault) (rounds faults : ℕ) (destination : Destination) (forward back urgent : List Sent) →
     RanAt to destination.has_run destination.ended → destination.has_run ≡ false → (destination.ended ≡ true → destination.has_run ≡ true) → SwitchedAt from source.switched → source.switched ≡ false →
-    CopiesStay source guest clean → Wires (record source { phase = from }) (record destination { phase = to }) forward back →
-    Wires (with_parts (record source { phase = from }) guest clean todo held rounds faults) (record destination { phase = to }) forward back
-wires_changed SourcePhase.Idle to source guest clean todo held rounds faults destination forward back ran bare after at unswitched stay wires = wires
-wires_changed SourcePhase.Precopy DestPhase.Idle source guest clean todo held rounds faults destination forward back ran bare after at unswitched stay wires =
+    CopiesStay source guest clean → Wires (record source { phase = from }) (record destination { phase = to }) forward back urgent →
+    Wires (with_parts (record source { phase = from }) guest clean todo held rounds faults) (record destination { phase = to }) forward back urgent
+wires_changed SourcePhase.Idle to source guest clean todo held rounds faults destination forward back urgent ran bare after at unswitched stay wires = wires
+wires_changed SourcePhase.Precopy DestPhase.Idle source guest clean todo held rounds faults destination forward back urgent ran bare after at unswitched stay wires =
     (wires.0, wires.1, precopying (record source { phase = SourcePhase.Precopy }) guest clean todo held rounds faults destination.kept forward stay wires.2)
-wires_changed SourcePhase.Precopy DestPhase.Advised source guest clean todo held rounds faults destination forward back ran bare after at unswitched stay wires =
+wires_changed SourcePhase.Precopy DestPhase.Advised source guest clean todo held rounds faults destination forward back urgent ran bare after at unswitched stay wires =
     (wires.0, wires.1, precopying (record source { phase = SourcePhase.Precopy }) guest clean todo held rounds faults destination.kept forward stay wires.2)
-wires_changed SourcePhase.Precopy DestPhase.Discarding source guest clean todo held rounds faults destination forward back ran bare after at unswitched stay wires = wires
-wires_changed SourcePhase.Precopy DestPhase.Running source guest clean todo held rounds faults destination forward back ran bare after at unswitched stay wires = wires
-wires_changed SourcePhase.Precopy DestPhase.Paused source guest clean todo held rounds faults destination forward back ran bare after at unswitched stay wires = wires
-wires_changed SourcePhase.Precopy DestPhase.Ended source guest clean todo held rounds faults destination forward back ran bare after at unswitched stay wires = wires
-wires_changed SourcePhase.Stopped to source guest clean todo held rounds faults destination forward back ran bare after at unswitched stay wires = none_absurd (sym unswitched ∙ at)
-wires_changed SourcePhase.Released to source guest clean todo held rounds faults destination forward back ran bare after at unswitched stay wires = wires
-wires_changed SourcePhase.Paused DestPhase.Idle source guest clean todo held rounds faults destination forward back ran bare after at unswitched stay wires = wires
-wires_changed SourcePhase.Paused DestPhase.Advised source guest clean todo held rounds faults destination forward back ran bare after at unswitched stay wires =
+wires_changed SourcePhase.Precopy DestPhase.Discarding source guest clean todo held rounds faults destination forward back urgent ran bare after at unswitched stay wires = wires
+wires_changed SourcePhase.Precopy DestPhase.Running source guest clean todo held rounds faults destination forward back urgent ran bare after at unswitched stay wires = wires
+wires_changed SourcePhase.Precopy DestPhase.Paused source guest clean todo held rounds faults destination forward back urgent ran bare after at unswitched stay wires = wires
+wires_changed SourcePhase.Precopy DestPhase.Ended source guest clean todo held rounds faults destination forward back urgent ran bare after at unswitched stay wires = wires
+wires_changed SourcePhase.Stopped to source guest clean todo held rounds faults destination forward back urgent ran bare after at unswitched stay wires = none_absurd (sym unswitched ∙ at)
+wires_changed SourcePhase.Released to source guest clean todo held rounds faults destination forward back urgent ran bare after at unswitched stay wires = wires
+wires_changed SourcePhase.Paused DestPhase.Idle source guest clean todo held rounds faults destination forward back urgent ran bare after at unswitched stay wires = wires
+wires_changed SourcePhase.Paused DestPhase.Advised source guest clean todo held rounds faults destination forward back urgent ran bare after at unswitched stay wires =
     wires
-wires_changed SourcePhase.Paused DestPhase.Discarding source guest clean todo held rounds faults destination forward back ran bare after at unswitched stay wires = wires
-wires_changed SourcePhase.Paused DestPhase.Running source guest clean todo held rounds faults destination forward back ran bare after at unswitched stay wires = none_absurd (sym bare ∙ ran.0)
-wires_changed SourcePhase.Paused DestPhase.Paused source guest clean todo held rounds faults destination forward back ran bare after at unswitched stay wires = wires
-wires_changed SourcePhase.Paused DestPhase.Ended source guest clean todo held rounds faults destination forward back ran bare after at unswitched stay wires = none_absurd (sym bare ∙ after ran)
+wires_changed SourcePhase.Paused DestPhase.Discarding source guest clean todo held rounds faults destination forward back urgent ran bare after at unswitched stay wires = wires
+wires_changed SourcePhase.Paused DestPhase.Running source guest clean todo held rounds faults destination forward back urgent ran bare after at unswitched stay wires = none_absurd (sym bare ∙ ran.0)
+wires_changed SourcePhase.Paused DestPhase.Paused source guest clean todo held rounds faults destination forward back urgent ran bare after at unswitched stay wires = wires
+wires_changed SourcePhase.Paused DestPhase.Ended source guest clean todo held rounds faults destination forward back urgent ran bare after at unswitched stay wires = none_absurd (sym bare ∙ after ran)
 
 pub changed : (world : World) (guest : Guest) (clean todo : FinSet nat_cmp) (held : List Fault) (rounds faults : ℕ) (transcript : List Entry) → IsSoundWorld world → world.destination.has_run ≡ false → world.source.switched ≡ false →
     IsChanged world.source guest clean todo transcript →
@@ -211,7 +211,7 @@ changed world guest clean todo held rounds faults transcript kept bare unswitche
       protected = new.protected;
       sendable = new.sendable;
       down = kept.flight.down;
-      wires = λ up. wires_changed source.phase world.destination.phase source guest clean todo held rounds faults world.destination world.forward.frames world.back.frames
+      wires = λ up. wires_changed source.phase world.destination.phase source guest clean todo held rounds faults world.destination world.forward.frames world.back.frames world.urgent.frames
           kept.phases.destination_phase bare kept.phases.ended_after_run kept.phases.source_phase unswitched new.copies (kept.flight.wires up);
       forward_epoch = kept.epochs.forward_epoch;
       back_epoch = kept.epochs.back_epoch;

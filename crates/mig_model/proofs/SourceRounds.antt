@@ -123,9 +123,9 @@ record IsQuiet (to : DestPhase) (forward back : List Sent) : Type 0 where
   forward_none : forward ≡ []
   back_none : back ≡ []
 
-idle_wires : (from : SourcePhase) (source : Source) (destination : Destination) (forward back : List Sent) → from ≡ SourcePhase.Idle → Wires (record source { phase = from }) destination forward back → IsQuiet destination.phase forward back
-idle_wires from source destination forward back idle wires =
-    let now = subst (λ p. Wires (record source { phase = p }) destination forward back) idle wires in
+idle_wires : (from : SourcePhase) (source : Source) (destination : Destination) (forward back urgent : List Sent) → from ≡ SourcePhase.Idle → Wires (record source { phase = from }) destination forward back urgent → IsQuiet destination.phase forward back
+idle_wires from source destination forward back urgent idle wires =
+    let now = subst (λ p. Wires (record source { phase = p }) destination forward back urgent) idle wires in
     record { not_advised = now.0; forward_none = now.1; back_none = now.2 }
 
 no_copy : {A : Type 0} (kept : FinMap nat_cmp (List ℕ)) (page : ℕ) → kept ≡ finmap.empty → contains_key kept page ≡ true → A
@@ -181,10 +181,17 @@ started_next world kept idle unswitched up quiet =
       held = fits-more world.forward.frames world.forward.held (source.epoch + 1) (Advise ∷ []) kept.held.forward_held;
     }
 
+-- nothing is in flight before Start
+pub idle_forward : (world : World) → IsSoundWorld world → is_source_idle world.source.phase ≡ true → world.forward.frames ≡ []
+idle_forward world kept is_idle =
+    let idle = idle_is world.source.phase is_idle in
+    let up = true_from_ne_false world.up (λ down. (kept.flight.down down).2 idle) in
+    (idle_wires world.source.phase world.source world.destination world.forward.frames world.back.frames world.urgent.frames idle (kept.flight.wires up)).forward_none
+
 pub kept-start : (world : World) → IsSoundWorld world → is_source_idle world.source.phase ≡ true → IsSoundWorld (after_start world)
 kept-start world kept is_idle =
     let idle = idle_is world.source.phase is_idle in
     let unswitched = idle_unswitched world.source.phase world.source.switched idle kept.phases.source_phase in
     let up = true_from_ne_false world.up (λ down. (kept.flight.down down).2 idle) in
     renewed world (source_started world.source) (start_wire world) world.transcript kept (has_not_run world kept unswitched)
-    (started_next world kept idle unswitched up (idle_wires world.source.phase world.source world.destination world.forward.frames world.back.frames idle (kept.flight.wires up)))
+    (started_next world kept idle unswitched up (idle_wires world.source.phase world.source world.destination world.forward.frames world.back.frames world.urgent.frames idle (kept.flight.wires up)))

@@ -118,8 +118,8 @@ flow_sent flow wire epoch page bytes right =
     ∙ flow_next-page_frame page bytes
 
 wires_sent : (from : SourcePhase) (to : DestPhase) (world : World) (page : ℕ) → is_precopy from ≡ true → IsSent world page →
-    Wires (record world.source { phase = from }) (record world.destination { phase = to }) world.forward.frames world.back.frames →
-    Wires (record (page_sent world.source page) { phase = from }) (record world.destination { phase = to }) (page_wire world page) world.back.frames
+    Wires (record world.source { phase = from }) (record world.destination { phase = to }) world.forward.frames world.back.frames world.urgent.frames →
+    Wires (record (page_sent world.source page) { phase = from }) (record world.destination { phase = to }) (page_wire world page) world.back.frames world.urgent.frames
 wires_sent SourcePhase.Precopy DestPhase.Idle world page now is wires = (
   flow_sent BeforeAdvise world.forward.frames world.source.epoch page (bytes_of world.source page) wires.0,
   wires.1,

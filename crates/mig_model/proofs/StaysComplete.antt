@@ -15,7 +15,7 @@ use Rattle.mig_model.specs.Invariant.{IsSoundWorld}
 use Rattle.mig_model.specs.Promises.{IsComplete}
 use Rattle.mig_model.proofs.Stopping.{in_phases}
 use Rattle.mig_model.proofs.StepLemmas.{Leaves, leaves-next}
-use Rattle.mig_model.proofs.StepCases.{made-break, made-deliver, made-deliver_back, made-dest_act, made-dest_read, made-end, made-install, made-issue, made-notice, made-push, made-resume, made-retry, made-round, made-send, made-serve, made-source_act, made-source_read, made-start, made-switch}
+use Rattle.mig_model.proofs.StepCases.{made-break, made-deliver, made-deliver_back, made-dest_act, made-dest_read, made-end, made-install, made-issue, made-notice, made-push, made-resume, made-retry, made-round, made-send, made-serve, made-source_act, made-source_read, made-start, made-switch, made-deliver_urgent, made-push_urgent}
 use Rattle.mig_model.specs.Source.{is_precopy, is_released, is_source_idle, is_source_paused, is_stopped, released, source_act, source_acted_by}
 use Rattle.mig_model.proofs.Facts.{none_absurd}
 
@@ -89,12 +89,14 @@ complete-answer world Step.Send kept done = made-send _ world (λ page is precop
 complete-answer world Step.SourceRead kept done = made-source_read _ world (λ noted is started unswitched. done)
 complete-answer world Step.SourceAct kept done = made-source_act _ world (λ fault rest is started unswitched quiet. still world.source.phase _ (worked_phase (source_act world.source fault) world fault.page) done)
 complete-answer world Step.Switch kept done = made-switch _ world (λ precopy up quiet. absurd (not_precopy world.source.phase done precopy))
-complete-answer world (Step.Deliver n) kept done = made-deliver _ world n (λ sent rest is short. done) (λ sent rest is full started up free. done)
+complete-answer world (Step.Deliver n) kept done = made-deliver _ world n (λ sent rest is short. done) (λ sent rest is full started up free early. done)
 complete-answer world (Step.DeliverBack n) kept done = made-deliver_back _ world n (λ sent rest is short. done) (λ sent rest is full started up. absurd (nothing_back world sent rest kept done is))
 complete-answer world Step.DestRead kept done = made-dest_read _ world (λ noted is ran. done)
 complete-answer world Step.DestAct kept done = made-dest_act _ world (λ fault rest is ran quiet. done)
 complete-answer world Step.Install kept done = made-install _ world (λ copy rest is ran quiet. done)
 complete-answer world (Step.Push ticket) kept done = made-push _ world ticket (λ stopped up own present remains. absurd (not_stopped world.source.phase done stopped))
+complete-answer world (Step.PushUrgent ticket) kept done = made-push_urgent _ world ticket (λ stopped up own present remains. absurd (not_stopped world.source.phase done stopped))
+complete-answer world (Step.DeliverUrgent n) kept done = made-deliver_urgent _ world n (λ sent rest is short. done) (λ sent rest is full ran up. done)
 complete-answer world Step.Serve kept done = made-serve _ world (λ page pages is stopped up. done)
 complete-answer world Step.End kept done = made-end _ world (λ stopped other up none. done)
 complete-answer world Step.Break kept done = made-break _ world (λ started unreleased up. done)

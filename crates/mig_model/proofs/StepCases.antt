@@ -14,7 +14,7 @@ use Rattle.mig_base.specs.Commands.{is_access}
 use Rattle.mig_model.specs.Userfault.{Noted, next_message}
 use Rattle.mig_model.specs.Guest.{Fault, is_present, took_by}
 use Rattle.mig_model.specs.Wire.{Sent, Copy}
-use Rattle.mig_model.specs.Migration.{World, Made, answer, guest_of, runs, has_started, is_changing, is_end, is_paused_at, try_effect, page_effect, read_effect, act_effect, frame_effect, install_effect, retry_command, send_page, source_read_next, source_act_first, deliver_first, deliver_back_first, destination_read_next, destination_act_first, install_first, serve_first, after_command, after_start, after_round, after_send, after_source_read, after_source_act, after_switch, after_deliver, after_deliver_back, after_dest_read, after_dest_act, after_install, after_push, after_serve, after_end, after_break, after_notice, after_resume, after_move, after_move_back, is_short, has_no_cpu}
+use Rattle.mig_model.specs.Migration.{World, Made, answer, guest_of, runs, has_started, is_changing, is_end, is_paused_at, try_effect, page_effect, read_effect, act_effect, frame_effect, install_effect, retry_command, send_page, source_read_next, source_act_first, deliver_first, deliver_back_first, destination_read_next, destination_act_first, install_first, serve_first, after_command, after_start, after_round, after_send, after_source_read, after_source_act, after_switch, after_deliver, after_deliver_back, after_dest_read, after_dest_act, after_install, after_push, after_serve, after_end, after_break, after_notice, after_resume, after_move, after_move_back, is_short, has_no_cpu, after_deliver_urgent, after_move_urgent, after_push_urgent, deliver_urgent_first, is_early}
 use Rattle.mig_model.proofs.StepLemmas.{Holds, holds-unless, holds-either}
 use Rattle.mig_model.specs.Cpus.{is_idle, is_woken, outstanding, processor_at}
 use Rattle.mig_model.specs.Log.{least_of, less}
@@ -106,6 +106,11 @@ pub made-push : (Q : Made → Type 0) (world : World) (ticket : Ticket) →
     Q (record { effect = page_effect ticket.page (bytes_of world.source ticket.page); world = after_push world ticket.page })) → Holds Q (answer world (Step.Push ticket))
 made-push Q world ticket h = holds-unless Q _ _ (λ t. h (not-false _ t.0) (not-false _ t.1.0) (not-false _ t.1.1.0) (not-false _ t.1.1.1.0) (not-false _ t.1.1.1.1.0))
 
+pub made-push_urgent : (Q : Made → Type 0) (world : World) (ticket : Ticket) →
+    (is_stopped world.source.phase ≡ true → world.up ≡ true → eqb ticket.epoch world.source.epoch ≡ true → is_present (space_of world.source) ticket.page ≡ true → contains world.source.remaining ticket.page ≡ true →
+    Q (record { effect = page_effect ticket.page (bytes_of world.source ticket.page); world = after_push_urgent world ticket.page })) → Holds Q (answer world (Step.PushUrgent ticket))
+made-push_urgent Q world ticket h = holds-unless Q _ _ (λ t. h (not-false _ t.0) (not-false _ t.1.0) (not-false _ t.1.1.0) (not-false _ t.1.1.1.0) (not-false _ t.1.1.1.1.0))
+
 serve_by : (Q : Made → Type 0) (world : World) (asked : List ℕ) →
     ((page : ℕ) (pages : List ℕ) → asked ≡ page ∷ pages → Q (record { effect = Effect.Asked (PAGE_SIZE * page); world = after_serve world pages })) → Holds Q (serve_first world asked)
 serve_by Q world [] h = tt
@@ -127,19 +132,19 @@ made-end Q world h =
 
 deliver_by : (Q : Made → Type 0) (world : World) (n : ℕ) (wire : List Sent) →
     ((sent : Sent) (rest : List Sent) → wire ≡ sent ∷ rest → is_short world.forward sent.frame n ≡ true → Q (record { effect = Effect.Moved n; world = after_move world n })) →
-    ((sent : Sent) (rest : List Sent) → wire ≡ sent ∷ rest → is_short world.forward sent.frame n ≡ false → (is_end sent.frame && not (is_empty world.destination.arrivals)) ≡ false →
+    ((sent : Sent) (rest : List Sent) → wire ≡ sent ∷ rest → is_short world.forward sent.frame n ≡ false → (is_end sent.frame && not (is_empty world.destination.arrivals)) ≡ false → is_early world.destination sent.frame ≡ false →
     Q (record { effect = frame_effect sent.frame; world = after_deliver world sent rest })) → Holds Q (deliver_first world n wire)
 deliver_by Q world n [] moved taken = tt
 deliver_by Q world n (sent ∷ rest) moved taken =
-    holds-either Q (is_short world.forward sent.frame n) _ _ (λ short. moved sent rest refl short) (λ full. holds-unless Q _ _ (λ t. taken sent rest refl full t.0))
+    holds-either Q (is_short world.forward sent.frame n) _ _ (λ short. moved sent rest refl short) (λ full. holds-unless Q _ _ (λ t. taken sent rest refl full t.0 t.1.0))
 
 -- bytes are moved, or a frame is taken
 pub made-deliver : (Q : Made → Type 0) (world : World) (n : ℕ) →
     ((sent : Sent) (rest : List Sent) → world.forward.frames ≡ sent ∷ rest → is_short world.forward sent.frame n ≡ true → Q (record { effect = Effect.Moved n; world = after_move world n })) →
-    ((sent : Sent) (rest : List Sent) → world.forward.frames ≡ sent ∷ rest → is_short world.forward sent.frame n ≡ false → has_started world ≡ true → world.up ≡ true → (is_end sent.frame && not (is_empty world.destination.arrivals)) ≡ false →
+    ((sent : Sent) (rest : List Sent) → world.forward.frames ≡ sent ∷ rest → is_short world.forward sent.frame n ≡ false → has_started world ≡ true → world.up ≡ true → (is_end sent.frame && not (is_empty world.destination.arrivals)) ≡ false → is_early world.destination sent.frame ≡ false →
     Q (record { effect = frame_effect sent.frame; world = after_deliver world sent rest })) → Holds Q (answer world (Step.Deliver n))
 made-deliver Q world n moved taken =
-    holds-unless Q _ _ (λ t. deliver_by Q world n world.forward.frames moved (λ sent rest is full free. taken sent rest is full (not-false _ t.0) (not-false _ t.1.0) free))
+    holds-unless Q _ _ (λ t. deliver_by Q world n world.forward.frames moved (λ sent rest is full free came. taken sent rest is full (not-false _ t.0) (not-false _ t.1.0) free came))
 
 deliver_back_by : (Q : Made → Type 0) (world : World) (n : ℕ) (wire : List Sent) →
     ((sent : Sent) (rest : List Sent) → wire ≡ sent ∷ rest → is_short world.back sent.frame n ≡ true → Q (record { effect = Effect.Moved n; world = after_move_back world n })) →
@@ -154,6 +159,20 @@ pub made-deliver_back : (Q : Made → Type 0) (world : World) (n : ℕ) →
     Q (record { effect = frame_effect sent.frame; world = after_deliver_back world sent rest })) → Holds Q (answer world (Step.DeliverBack n))
 made-deliver_back Q world n moved taken =
     holds-unless Q _ _ (λ t. deliver_back_by Q world n world.back.frames moved (λ sent rest is full. taken sent rest is full (not-false _ t.0) (not-false _ t.1.0)))
+
+deliver_urgent_by : (Q : Made → Type 0) (world : World) (n : ℕ) (wire : List Sent) →
+    ((sent : Sent) (rest : List Sent) → wire ≡ sent ∷ rest → is_short world.urgent sent.frame n ≡ true → Q (record { effect = Effect.Moved n; world = after_move_urgent world n })) →
+    ((sent : Sent) (rest : List Sent) → wire ≡ sent ∷ rest → is_short world.urgent sent.frame n ≡ false → Q (record { effect = frame_effect sent.frame; world = after_deliver_urgent world sent rest })) →
+    Holds Q (deliver_urgent_first world n wire)
+deliver_urgent_by Q world n [] moved taken = tt
+deliver_urgent_by Q world n (sent ∷ rest) moved taken = holds-either Q (is_short world.urgent sent.frame n) _ _ (λ short. moved sent rest refl short) (λ full. taken sent rest refl full)
+
+pub made-deliver_urgent : (Q : Made → Type 0) (world : World) (n : ℕ) →
+    ((sent : Sent) (rest : List Sent) → world.urgent.frames ≡ sent ∷ rest → is_short world.urgent sent.frame n ≡ true → Q (record { effect = Effect.Moved n; world = after_move_urgent world n })) →
+    ((sent : Sent) (rest : List Sent) → world.urgent.frames ≡ sent ∷ rest → is_short world.urgent sent.frame n ≡ false → world.destination.has_run ≡ true → world.up ≡ true →
+    Q (record { effect = frame_effect sent.frame; world = after_deliver_urgent world sent rest })) → Holds Q (answer world (Step.DeliverUrgent n))
+made-deliver_urgent Q world n moved taken =
+    holds-unless Q _ _ (λ t. deliver_urgent_by Q world n world.urgent.frames moved (λ sent rest is full. taken sent rest is full (not-false _ t.0) (not-false _ t.1.0)))
 
 -- The destination
 

@@ -22,7 +22,7 @@ use Rattle.mig_model.specs.Promises.{IsZeroed, keeps_remaining}
 use Rattle.mig_model.proofs.IoctlLemmas.{get-put_pages}
 use Rattle.mig_model.proofs.PromiseLemmas.{source_zero, destination_zero}
 use Rattle.mig_model.proofs.StepLemmas.{Leaves, holds-effect, leaves-next, leaves-ok}
-use Rattle.mig_model.proofs.StepCases.{made-break, made-deliver, made-dest_act, made-dest_read, made-end, made-install, made-issue, made-notice, made-push, made-resume, made-retry, made-round, made-send, made-serve, made-source_act, made-source_read, made-start}
+use Rattle.mig_model.proofs.StepCases.{made-break, made-deliver, made-dest_act, made-dest_read, made-end, made-install, made-issue, made-notice, made-push, made-resume, made-retry, made-round, made-send, made-serve, made-source_act, made-source_read, made-start, made-deliver_urgent, made-push_urgent}
 use Rattle.mig_model.specs.Cpus.{entries_of, outstanding, processor_at}
 use Rattle.mig_model.specs.Source.{Source, source_act, source_acted_by, space_of}
 use Rattle.mig_model.specs.Destination.{destination_act, destination_acted_by}
@@ -85,6 +85,11 @@ remaining_push world ticket q ok =
     leaves-ok (λ new. contains new.source.remaining q ≡ (not (eqb q ticket.page) && contains world.source.remaining q)) world (Step.Push ticket)
     (made-push _ world ticket (λ stopped up own present remains. member_removed world.source.remaining ticket.page q)) ok
 
+pub remaining_push_urgent : (world : World) (ticket : Ticket) (q : ℕ) → IsOk (outcome world (Step.PushUrgent ticket)) → contains (next world (Step.PushUrgent ticket)).source.remaining q ≡ (not (eqb q ticket.page) && contains world.source.remaining q)
+remaining_push_urgent world ticket q ok =
+    leaves-ok (λ new. contains new.source.remaining q ≡ (not (eqb q ticket.page) && contains world.source.remaining q)) world (Step.PushUrgent ticket)
+    (made-push_urgent _ world ticket (λ stopped up own present remains. member_removed world.source.remaining ticket.page q)) ok
+
 guest_remaining : (ran : Bool) (world : World) (guest : Guest) (q : ℕ) → contains (with_guest_by ran world guest).source.remaining q ≡ contains world.source.remaining q
 guest_remaining true world guest q = refl
 guest_remaining false world guest q = refl
@@ -112,13 +117,15 @@ remaining_answer world Step.Send q keeps = made-send _ world (λ page is precopy
 remaining_answer world Step.SourceRead q keeps = made-source_read _ world (λ noted is started unswitched h. h)
 remaining_answer world Step.SourceAct q keeps = made-source_act _ world (λ fault rest is started unswitched quiet h. sym (worked_remaining (source_act world.source fault) world.source fault.page q) ∙ h)
 remaining_answer world Step.Switch q keeps = absurd (false≢true keeps)
-remaining_answer world (Step.Deliver n) q keeps = made-deliver _ world n (λ sent rest is short h. h) (λ sent rest is full started up free h. h)
+remaining_answer world (Step.Deliver n) q keeps = made-deliver _ world n (λ sent rest is short h. h) (λ sent rest is full started up free early h. h)
 remaining_answer world (Step.DeliverBack n) q keeps = absurd (false≢true keeps)
 remaining_answer world Step.DestRead q keeps = made-dest_read _ world (λ noted is ran h. h)
 remaining_answer world Step.DestAct q keeps = made-dest_act _ world (λ fault rest is ran quiet h. h)
 remaining_answer world Step.Install q keeps = made-install _ world (λ copy rest is ran quiet h. h)
 remaining_answer world (Step.Push ticket) q keeps =
     made-push _ world ticket (λ stopped up own present remains h. and_second (not (eqb q ticket.page)) (contains world.source.remaining q) (sym (member_removed world.source.remaining ticket.page q) ∙ h))
+remaining_answer world (Step.PushUrgent ticket) q keeps = made-push_urgent _ world ticket (λ stopped up own present remains h. and_second (not (eqb q ticket.page)) (contains world.source.remaining q) (sym (member_removed world.source.remaining ticket.page q) ∙ h))
+remaining_answer world (Step.DeliverUrgent n) q keeps = made-deliver_urgent _ world n (λ sent rest is short h. h) (λ sent rest is full ran up h. h)
 remaining_answer world Step.Serve q keeps = made-serve _ world (λ page pages is stopped up h. h)
 remaining_answer world Step.End q keeps = made-end _ world (λ stopped other up none h. h)
 remaining_answer world Step.Break q keeps = made-break _ world (λ started unreleased up h. h)

@@ -17,7 +17,7 @@ use Rattle.mig_model.specs.Wire.{Sent, Copy, page_frame}
 use Rattle.mig_model.specs.Wire.Frame.{End}
 use Rattle.mig_model.specs.Guest.{is_present}
 use Rattle.mig_model.specs.Migration.{World, after_end, after_push, after_serve}
-use Rattle.mig_model.specs.Invariant.{IsSoundWorld, StoppedWires, IsSwitching, Flow, flow_after, flow_of, copies_of, has_copy, AreFaithful, AreWhole, behind}
+use Rattle.mig_model.specs.Invariant.{IsSoundWorld, StoppedWires, IsSwitching, Flow, flow_after, flow_of, copies_of, has_copy, AreFaithful, AreWhole, behind, is_urgent_or_left}
 use Rattle.mig_model.specs.Invariant.Flow.{BeforeAdvise, Copies, BeforePackage, Pushed, AfterEnd}
 use Rattle.mig_model.proofs.SendingLemmas.{flow_sent, has_copy-append, has_package, copies_of-page, page_flow}
 use Rattle.mig_model.specs.Log.{least_of, no_pages, present}
@@ -33,52 +33,63 @@ pub no_member : (page : ℕ) → contains no_pages page ≡ false
 no_member page = contains-empty nat_cmp page
 
 -- as long as a page remains End was not sent
-not_ended : (source : Source) (page : ℕ) → (source.end_epoch ≡ source.epoch → source.remaining ≡ no_pages) → contains source.remaining page ≡ true → source.end_epoch ≢ source.epoch
+pub not_ended : (source : Source) (page : ℕ) → (source.end_epoch ≡ source.epoch → source.remaining ≡ no_pages) → contains source.remaining page ≡ true → source.end_epoch ≢ source.epoch
 not_ended source page rest remains ended = false≢true (sym (ap (λ s. contains s page) (rest ended) ∙ no_member page) ∙ remains)
 
 pub flow_open : (source : Source) → source.end_epoch ≢ source.epoch → flow_of source ≡ Pushed
 flow_open source other = ap (λ b. cond b AfterEnd Pushed) (eqb_other source.end_epoch source.epoch other)
 
-present_bytes : (o : Option (List ℕ)) → is_some o ≡ true → o ≡ Some (unwrap_or o zero_page)
+pub present_bytes : (o : Option (List ℕ)) → is_some o ≡ true → o ≡ Some (unwrap_or o zero_page)
 present_bytes None h = none_absurd h
 present_bytes (Some bytes) h = refl
 
 -- One copy more
 
-or_true : (a : Bool) → (a || true) ≡ true
+pub or_true : (a : Bool) → (a || true) ≡ true
 or_true true = refl
 or_true false = refl
 
-still_there : (remains in_flight more : Bool) → (remains || in_flight) ≡ true → (remains || (in_flight || more)) ≡ true
-still_there true in_flight more h = refl
-still_there false true more h = refl
-still_there false false more h = none_absurd h
+or_last : (a b : Bool) → (a || (b || true)) ≡ true
+or_last true b = refl
+or_last false b = or_true b
+
+still_there : (remains urgent in_flight more : Bool) → ((remains || urgent) || in_flight) ≡ true → ((remains || urgent) || (in_flight || more)) ≡ true
+still_there true urgent in_flight more h = refl
+still_there false true in_flight more h = refl
+still_there false false true more h = refl
+still_there false false false more h = none_absurd h
 
 -- a page that was pushed is in flight where it remained
-pushed_whereabouts : (remaining : FinSet nat_cmp) (copies : List Copy) (page q : ℕ) (bytes : List ℕ) → (contains remaining q || has_copy copies q) ≡ true →
-    (contains (finset.remove remaining page) q || has_copy (copies ++ record { page = page; bytes = bytes } ∷ []) q) ≡ true
-pushed_whereabouts remaining copies page q bytes h =
-    ap (λ b. b || has_copy (copies ++ record { page = page; bytes = bytes } ∷ []) q) (member_removed remaining page q)
-    ∙ ap (λ b. (not (eqb q page) && contains remaining q) || b) (has_copy-append copies (record { page = page; bytes = bytes } ∷ []) q)
+pushed_whereabouts : (remaining : FinSet nat_cmp) (urgent : List Sent) (copies : List Copy) (page q : ℕ) (bytes : List ℕ) → (is_urgent_or_left remaining urgent q || has_copy copies q) ≡ true →
+    (is_urgent_or_left (finset.remove remaining page) urgent q || has_copy (copies ++ record { page = page; bytes = bytes } ∷ []) q) ≡ true
+pushed_whereabouts remaining urgent copies page q bytes h =
+    ap (λ b. (b || has_copy (copies_of urgent) q) || has_copy (copies ++ record { page = page; bytes = bytes } ∷ []) q) (member_removed remaining page q)
+    ∙ ap (λ b. ((not (eqb q page) && contains remaining q) || has_copy (copies_of urgent) q) || b) (has_copy-append copies (record { page = page; bytes = bytes } ∷ []) q)
     ∙ ⊎_elim
-    (λ (same : q ≡ page). rw (same, eqb-self page) (or_true (has_copy copies page)))
-    (λ (other : eqb q page ≡ false). rw other (still_there (contains remaining q) (has_copy copies q) (eqb page q || false) h))
+    (λ (same : q ≡ page). rw (same, eqb-self page) (or_last (has_copy (copies_of urgent) page) (has_copy copies page)))
+    (λ (other : eqb q page ≡ false). rw other (still_there (contains remaining q) (has_copy (copies_of urgent) q) (has_copy copies q) (eqb page q || false) h))
     (same_or_other q page)
 
-three_there : (remains in_flight here more : Bool) → (remains || in_flight || here) ≡ true → ((remains || (in_flight || more)) || here) ≡ true
-three_there true in_flight here more h = refl
-three_there false true here more h = refl
-three_there false false here true h = refl
-three_there false false here false h = h
+three_there : (remains urgent in_flight here more : Bool) → ((remains || urgent) || in_flight || here) ≡ true → ((remains || urgent) || (in_flight || more) || here) ≡ true
+three_there true urgent in_flight here more h = refl
+three_there false true in_flight here more h = refl
+three_there false false true here more h = refl
+three_there false false false here true h = refl
+three_there false false false here false h = h
 
-pushed_flowing : (remaining : FinSet nat_cmp) (copies arrivals : List Copy) (page q : ℕ) (bytes : List ℕ) → (contains remaining q || has_copy copies q || has_copy arrivals q) ≡ true →
-    (contains (finset.remove remaining page) q || has_copy (copies ++ record { page = page; bytes = bytes } ∷ []) q || has_copy arrivals q) ≡ true
-pushed_flowing remaining copies arrivals page q bytes h =
-    ap (λ b. b || has_copy (copies ++ record { page = page; bytes = bytes } ∷ []) q || has_copy arrivals q) (member_removed remaining page q)
-    ∙ ap (λ b. (not (eqb q page) && contains remaining q) || b || has_copy arrivals q) (has_copy-append copies (record { page = page; bytes = bytes } ∷ []) q)
+or_middle : (a b c : Bool) → (a || (b || true) || c) ≡ true
+or_middle true b c = refl
+or_middle false true c = refl
+or_middle false false c = refl
+
+pushed_flowing : (remaining : FinSet nat_cmp) (urgent : List Sent) (copies arrivals : List Copy) (page q : ℕ) (bytes : List ℕ) → (is_urgent_or_left remaining urgent q || has_copy copies q || has_copy arrivals q) ≡ true →
+    (is_urgent_or_left (finset.remove remaining page) urgent q || has_copy (copies ++ record { page = page; bytes = bytes } ∷ []) q || has_copy arrivals q) ≡ true
+pushed_flowing remaining urgent copies arrivals page q bytes h =
+    ap (λ b. (b || has_copy (copies_of urgent) q) || has_copy (copies ++ record { page = page; bytes = bytes } ∷ []) q || has_copy arrivals q) (member_removed remaining page q)
+    ∙ ap (λ b. ((not (eqb q page) && contains remaining q) || has_copy (copies_of urgent) q) || b || has_copy arrivals q) (has_copy-append copies (record { page = page; bytes = bytes } ∷ []) q)
     ∙ ⊎_elim
-    (λ (same : q ≡ page). rw (same, eqb-self page) (ap (λ b. b || has_copy arrivals page) (or_true (has_copy copies page))))
-    (λ (other : eqb q page ≡ false). rw other (three_there (contains remaining q) (has_copy copies q) (has_copy arrivals q) (eqb page q || false) h))
+    (λ (same : q ≡ page). rw (same, eqb-self page) (or_middle (has_copy (copies_of urgent) page) (has_copy copies page) (has_copy arrivals page)))
+    (λ (other : eqb q page ≡ false). rw other (three_there (contains remaining q) (has_copy (copies_of urgent) q) (has_copy copies q) (has_copy arrivals q) (eqb page q || false) h))
     (same_or_other q page)
 
 -- Push
@@ -86,9 +97,9 @@ pushed_flowing remaining copies arrivals page q bytes h =
 abbrev pushed_frame : Source → ℕ → Sent
 pushed_frame source page = record { epoch = source.epoch; frame = page_frame page (bytes_of source page) }
 
-pushed_switching : (source : Source) (kept : FinMap nat_cmp (List ℕ)) (forward : List Sent) (page : ℕ) → get (space_of source).host.bytes page ≡ Some (bytes_of source page) → length (bytes_of source page) ≡ 4096 →
-    IsSwitching source kept forward → IsSwitching (page_pushed source page) kept (forward ++ pushed_frame source page ∷ [])
-pushed_switching source kept forward page held whole old =
+pushed_switching : (source : Source) (kept : FinMap nat_cmp (List ℕ)) (forward urgent : List Sent) (page : ℕ) → get (space_of source).host.bytes page ≡ Some (bytes_of source page) → length (bytes_of source page) ≡ 4096 →
+    IsSwitching source kept forward urgent → IsSwitching (page_pushed source page) kept (forward ++ pushed_frame source page ∷ []) urgent
+pushed_switching source kept forward urgent page held whole old =
     let more = pushed_frame source page ∷ [] in
     let there = has_package kept forward more _ old.plan in
     let copies : copies_of (behind (forward ++ more)) ≡ copies_of (behind forward) ++ record { page = page; bytes = bytes_of source page } ∷ [] =
@@ -99,8 +110,8 @@ pushed_switching source kept forward page held whole old =
       owed_present = old.owed_present;
       kept_rest = λ q. ap (λ k. get k q) there.kept_same ∙ old.kept_rest q;
       whereabouts = λ q owes.
-          ap (λ c. contains (finset.remove source.remaining page) q || has_copy c q) copies
-          ∙ pushed_whereabouts source.remaining (copies_of (behind forward)) page q (bytes_of source page) (old.whereabouts q owes);
+          ap (λ c. is_urgent_or_left (finset.remove source.remaining page) urgent q || has_copy c q) copies
+          ∙ pushed_whereabouts source.remaining urgent (copies_of (behind forward)) page q (bytes_of source page) (old.whereabouts q owes);
       faithful = subst (λ c. AreFaithful (space_of source).host.bytes c) (sym copies) (AreFaithful-append (space_of source).host.bytes (copies_of (behind forward)) _ old.faithful (held, tt));
     }
 
@@ -110,10 +121,10 @@ stopped_at to world = in_phases SourcePhase.Stopped to world
 
 pushed_wires : (to : DestPhase) (world : World) (page : ℕ) → get (space_of world.source).host.bytes page ≡ Some (bytes_of world.source page) → length (bytes_of world.source page) ≡ 4096 → world.source.end_epoch ≢ world.source.epoch →
     ((flow : Flow) → flow_after flow world.forward.frames ≡ Some (flow_of world.source) → flow_after flow (world.forward.frames ++ pushed_frame world.source page ∷ []) ≡ Some (flow_of world.source)) →
-    StoppedWires (stopped_at to world).source (stopped_at to world).destination world.forward.frames world.back.frames → StoppedWires (page_pushed (stopped_at to world).source page) (stopped_at to world).destination (world.forward.frames ++ pushed_frame world.source page ∷ []) world.back.frames
-pushed_wires DestPhase.Idle world page held whole other flows old = (flows BeforeAdvise old.0, old.1, pushed_switching (stopped_at DestPhase.Idle world).source world.destination.kept world.forward.frames page held whole old.2)
-pushed_wires DestPhase.Advised world page held whole other flows old = (flows Copies old.0, old.1, pushed_switching (stopped_at DestPhase.Advised world).source world.destination.kept world.forward.frames page held whole old.2)
-pushed_wires DestPhase.Discarding world page held whole other flows old = (flows BeforePackage old.0, old.1, pushed_switching (stopped_at DestPhase.Discarding world).source world.destination.kept world.forward.frames page held whole old.2)
+    StoppedWires (stopped_at to world).source (stopped_at to world).destination world.forward.frames world.back.frames world.urgent.frames → StoppedWires (page_pushed (stopped_at to world).source page) (stopped_at to world).destination (world.forward.frames ++ pushed_frame world.source page ∷ []) world.back.frames world.urgent.frames
+pushed_wires DestPhase.Idle world page held whole other flows old = (flows BeforeAdvise old.0, old.1, pushed_switching (stopped_at DestPhase.Idle world).source world.destination.kept world.forward.frames world.urgent.frames page held whole old.2)
+pushed_wires DestPhase.Advised world page held whole other flows old = (flows Copies old.0, old.1, pushed_switching (stopped_at DestPhase.Advised world).source world.destination.kept world.forward.frames world.urgent.frames page held whole old.2)
+pushed_wires DestPhase.Discarding world page held whole other flows old = (flows BeforePackage old.0, old.1, pushed_switching (stopped_at DestPhase.Discarding world).source world.destination.kept world.forward.frames world.urgent.frames page held whole old.2)
 pushed_wires DestPhase.Running world page held whole other flows old =
     let more = pushed_frame world.source page ∷ [] in
     let copies : copies_of (world.forward.frames ++ more) ≡ copies_of world.forward.frames ++ record { page = page; bytes = bytes_of world.source page } ∷ [] =
@@ -122,8 +133,8 @@ pushed_wires DestPhase.Running world page held whole other flows old =
       old.1,
       record {
         whereabouts = λ q origin owed.
-            ap (λ c. contains (finset.remove world.source.remaining page) origin || has_copy c origin || has_copy world.destination.arrivals origin) copies
-            ∙ pushed_flowing world.source.remaining (copies_of world.forward.frames) world.destination.arrivals page origin (bytes_of world.source page) (old.2.whereabouts q origin owed);
+            ap (λ c. is_urgent_or_left (finset.remove world.source.remaining page) world.urgent.frames origin || has_copy c origin || has_copy world.destination.arrivals origin) copies
+            ∙ pushed_flowing world.source.remaining world.urgent.frames (copies_of world.forward.frames) world.destination.arrivals page origin (bytes_of world.source page) (old.2.whereabouts q origin owed);
       },
     )
 pushed_wires DestPhase.Paused world page held whole other flows old = absurd old
@@ -136,7 +147,7 @@ both_true : (a b : Bool) → (not a && b) ≡ true → b ≡ true
 both_true true b h = none_absurd h
 both_true false b h = h
 
-was_there : (remaining : FinSet nat_cmp) (page q : ℕ) → contains (finset.remove remaining page) q ≡ true → contains remaining q ≡ true
+pub was_there : (remaining : FinSet nat_cmp) (page q : ℕ) → contains (finset.remove remaining page) q ≡ true → contains remaining q ≡ true
 was_there remaining page q h = both_true (eqb q page) (contains remaining q) (sym (member_removed remaining page q) ∙ h)
 
 pushed_in : (from : SourcePhase) (to : DestPhase) (world : World) (page : ℕ) → is_stopped from ≡ true → world.up ≡ true → is_present (space_of world.source) page ≡ true → contains world.source.remaining page ≡ true →
@@ -195,8 +206,8 @@ kept-push world page kept stopped up present remains = pushed_in world.source.ph
 
 -- Serve
 
-served_wires : (to : DestPhase) (world : World) (pages : List ℕ) → StoppedWires (stopped_at to world).source (stopped_at to world).destination world.forward.frames world.back.frames →
-    StoppedWires (request_served (stopped_at to world).source pages) (stopped_at to world).destination world.forward.frames world.back.frames
+served_wires : (to : DestPhase) (world : World) (pages : List ℕ) → StoppedWires (stopped_at to world).source (stopped_at to world).destination world.forward.frames world.back.frames world.urgent.frames →
+    StoppedWires (request_served (stopped_at to world).source pages) (stopped_at to world).destination world.forward.frames world.back.frames world.urgent.frames
 served_wires DestPhase.Idle world pages old = (old.0, old.1, record { owed = old.2.owed; plan = old.2.plan; owed_present = old.2.owed_present; kept_rest = old.2.kept_rest; whereabouts = old.2.whereabouts; faithful = old.2.faithful })
 served_wires DestPhase.Advised world pages old = (old.0, old.1, record { owed = old.2.owed; plan = old.2.plan; owed_present = old.2.owed_present; kept_rest = old.2.kept_rest; whereabouts = old.2.whereabouts; faithful = old.2.faithful })
 served_wires DestPhase.Discarding world pages old = (old.0, old.1, record { owed = old.2.owed; plan = old.2.plan; owed_present = old.2.owed_present; kept_rest = old.2.kept_rest; whereabouts = old.2.whereabouts; faithful = old.2.faithful })
@@ -233,7 +244,7 @@ kept-serve world pages kept stopped = served_in world.source.phase world.destina
 -- End
 
 abbrev end_frame : Source → Sent
-end_frame source = record { epoch = source.epoch; frame = End }
+end_frame source = record { epoch = source.epoch; frame = End source.urgent_sent }
 
 abbrev end_sent_by : Source → Source
 end_sent_by source = record source { end_epoch = source.epoch }
@@ -274,8 +285,8 @@ nothing_remains world kept none =
     let low = present_below (space_of world.source) q kept.spaces.source_space.host (kept.pushing.remaining_present q remains) in
     some_least (contains world.source.remaining) HIGH_PAGE q low remains none) ∙ sym (no_member q))
 
-ended_switching : (source : Source) (kept : FinMap nat_cmp (List ℕ)) (forward : List Sent) → IsSwitching source kept forward → IsSwitching (end_sent_by source) kept (forward ++ end_frame source ∷ [])
-ended_switching source kept forward old =
+ended_switching : (source : Source) (kept : FinMap nat_cmp (List ℕ)) (forward urgent : List Sent) → IsSwitching source kept forward urgent → IsSwitching (end_sent_by source) kept (forward ++ end_frame source ∷ []) urgent
+ended_switching source kept forward urgent old =
     let more = end_frame source ∷ [] in
     let there = has_package kept forward more _ old.plan in
     let copies : copies_of (behind (forward ++ more)) ≡ copies_of (behind forward) = ap copies_of there.behind_more ∙ copies_of-append (behind forward) more ∙ append-nil (copies_of (behind forward)) in
@@ -284,22 +295,22 @@ ended_switching source kept forward old =
       plan = there.same ∙ old.plan;
       owed_present = old.owed_present;
       kept_rest = λ q. ap (λ k. get k q) there.kept_same ∙ old.kept_rest q;
-      whereabouts = λ q owes. ap (λ c. contains source.remaining q || has_copy c q) copies ∙ old.whereabouts q owes;
+      whereabouts = λ q owes. ap (λ c. is_urgent_or_left source.remaining urgent q || has_copy c q) copies ∙ old.whereabouts q owes;
       faithful = subst (λ c. AreFaithful (space_of source).host.bytes c) (sym copies) old.faithful;
     }
 
 ended_wires : (to : DestPhase) (world : World) → eqb world.source.end_epoch world.source.epoch ≡ false →
     ((flow : Flow) → flow_after flow world.forward.frames ≡ Some (flow_of world.source) → flow_after flow (world.forward.frames ++ end_frame world.source ∷ []) ≡ Some (flow_of (end_sent_by world.source))) →
-    StoppedWires (stopped_at to world).source (stopped_at to world).destination world.forward.frames world.back.frames → StoppedWires (end_sent_by (stopped_at to world).source) (stopped_at to world).destination (world.forward.frames ++ end_frame world.source ∷ []) world.back.frames
-ended_wires DestPhase.Idle world other flows old = (flows BeforeAdvise old.0, old.1, ended_switching (stopped_at DestPhase.Idle world).source world.destination.kept world.forward.frames old.2)
-ended_wires DestPhase.Advised world other flows old = (flows Copies old.0, old.1, ended_switching (stopped_at DestPhase.Advised world).source world.destination.kept world.forward.frames old.2)
-ended_wires DestPhase.Discarding world other flows old = (flows BeforePackage old.0, old.1, ended_switching (stopped_at DestPhase.Discarding world).source world.destination.kept world.forward.frames old.2)
+    StoppedWires (stopped_at to world).source (stopped_at to world).destination world.forward.frames world.back.frames world.urgent.frames → StoppedWires (end_sent_by (stopped_at to world).source) (stopped_at to world).destination (world.forward.frames ++ end_frame world.source ∷ []) world.back.frames world.urgent.frames
+ended_wires DestPhase.Idle world other flows old = (flows BeforeAdvise old.0, old.1, ended_switching (stopped_at DestPhase.Idle world).source world.destination.kept world.forward.frames world.urgent.frames old.2)
+ended_wires DestPhase.Advised world other flows old = (flows Copies old.0, old.1, ended_switching (stopped_at DestPhase.Advised world).source world.destination.kept world.forward.frames world.urgent.frames old.2)
+ended_wires DestPhase.Discarding world other flows old = (flows BeforePackage old.0, old.1, ended_switching (stopped_at DestPhase.Discarding world).source world.destination.kept world.forward.frames world.urgent.frames old.2)
 ended_wires DestPhase.Running world other flows old =
     let copies : copies_of (world.forward.frames ++ end_frame world.source ∷ []) ≡ copies_of world.forward.frames = copies_of-append world.forward.frames (end_frame world.source ∷ []) ∙ append-nil (copies_of world.forward.frames) in (
       flows Pushed old.0,
       old.1,
       record {
-        whereabouts = λ q origin owed. ap (λ c. contains world.source.remaining origin || has_copy c origin || has_copy world.destination.arrivals origin) copies ∙ old.2.whereabouts q origin owed;
+        whereabouts = λ q origin owed. ap (λ c. is_urgent_or_left world.source.remaining world.urgent.frames origin || has_copy c origin || has_copy world.destination.arrivals origin) copies ∙ old.2.whereabouts q origin owed;
       },
     )
 ended_wires DestPhase.Paused world other flows old = absurd old
@@ -340,12 +351,12 @@ ended_in SourcePhase.Stopped to world stopped up other none kept =
         wires = λ h. ended_wires to world other flows (kept.flight.wires h);
       };
       epochs = record {
-        forward_epoch = AreOf-one source.epoch world.forward.frames End kept.epochs.forward_epoch;
+        forward_epoch = AreOf-one source.epoch world.forward.frames (End source.urgent_sent) kept.epochs.forward_epoch;
         back_epoch = kept.epochs.back_epoch;
         not_ahead = kept.epochs.not_ahead;
         epoch_at = kept.epochs.epoch_at;
       };
-      held = record { forward_held = fits-more world.forward.frames world.forward.held source.epoch (End ∷ []) kept.held.forward_held; back_held = kept.held.back_held };
+      held = record { forward_held = fits-more world.forward.frames world.forward.held source.epoch (End source.urgent_sent ∷ []) kept.held.forward_held; back_held = kept.held.back_held };
     }
 ended_in SourcePhase.Idle to world stopped up other none kept = none_absurd stopped
 ended_in SourcePhase.Precopy to world stopped up other none kept = none_absurd stopped

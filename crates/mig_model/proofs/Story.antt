@@ -50,7 +50,7 @@ running cpus = after_deliver (discarding cpus) (package_sent cpus) []
 
 -- End is taken, and Done
 abbrev end_sent : Sent
-end_sent = record { epoch = 1; frame = End }
+end_sent = record { epoch = 1; frame = End 0 }
 
 abbrev done_sent : Sent
 done_sent = record { epoch = 1; frame = Done }
@@ -102,8 +102,8 @@ send_end_to cpus = ap (λ o. next_by (running cpus) (if is_some o then Err Refus
 take_end : (cpus : ℕ) → next (after_end (running cpus)) (Step.Deliver (enough cpus)) ≡ ended cpus
 unfolding next unless enough
 take_end cpus =
-    taken (after_end (running cpus)) (is_short (after_end (running cpus)).forward End (enough cpus)) (made (Effect.Moved (enough cpus)) (after_move (after_end (running cpus)) (enough cpus))) (made (frame_effect End) (ended cpus))
-    (completed (enough cpus) (text_len End) (omega arith))
+    taken (after_end (running cpus)) (is_short (after_end (running cpus)).forward (End 0) (enough cpus)) (made (Effect.Moved (enough cpus)) (after_move (after_end (running cpus)) (enough cpus))) (made (frame_effect (End 0)) (ended cpus))
+    (completed (enough cpus) (text_len (End 0)) (omega arith))
 
 take_done : (cpus : ℕ) → next (ended cpus) (Step.DeliverBack (enough cpus)) ≡ after_deliver_back (ended cpus) done_sent []
 unfolding next unless enough

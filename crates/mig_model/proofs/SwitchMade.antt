@@ -78,7 +78,7 @@ owed_is_present : (source : Source) (page : ℕ) → contains (not_clean source)
 owed_is_present source page h = and_second (ltb page HIGH_PAGE) _ (and_left (ltb page HIGH_PAGE && is_present (space_of source) page) _ (sym (member_not_clean source page) ∙ h))
 
 switching : (flow : Flow) (world : World) → IsSoundWorld world → (space_of world.source).object.events ≡ [] → flow_after flow world.forward.frames ≡ Some Copies → IsPrecopying world.source world.destination.kept world.forward.frames →
-    IsSwitching (switch_made world.source) world.destination.kept (switched_wire world.source world.forward.frames)
+    IsSwitching (switch_made world.source) world.destination.kept (switched_wire world.source world.forward.frames) world.urgent.frames
 switching flow world kept quiet flows old =
     let source = world.source in
     let more = discard_frame source ∷ package_frame source ∷ [] in
@@ -98,7 +98,7 @@ switching flow world kept quiet flows old =
           (λ clean. old.clean_copy page clean (ap (λ e. is_unread e page) quiet)) (old.copies_sent page) refl
           (λ is. low_true page (present_below (space_of source) page kept.spaces.source_space.host is))
           ∙ sym (ap (λ b. cond b None (get (space_of source).host.bytes page)) (member_not_clean source page));
-      whereabouts = λ page h. ap (λ b. b || has_copy (copies_of (behind (switched_wire source world.forward.frames))) page) h;
+      whereabouts = λ page h. ap (λ b. (b || has_copy (copies_of world.urgent.frames) page) || has_copy (copies_of (behind (switched_wire source world.forward.frames))) page) h;
       faithful = subst (λ c. AreFaithful (space_of source).host.bytes c) (sym nothing_behind) tt;
     }
 
@@ -109,7 +109,7 @@ flows_on flow world h other =
 
 switched_wires : (to : DestPhase) (world : World) → IsSoundWorld (in_phases SourcePhase.Precopy to world) → (space_of world.source).object.events ≡ [] → world.source.end_epoch ≢ world.source.epoch →
     PrecopyWires (in_phases SourcePhase.Precopy to world).source (in_phases SourcePhase.Precopy to world).destination world.forward.frames world.back.frames →
-    StoppedWires (switch_made (in_phases SourcePhase.Precopy to world).source) (in_phases SourcePhase.Precopy to world).destination (switched_wire world.source world.forward.frames) world.back.frames
+    StoppedWires (switch_made (in_phases SourcePhase.Precopy to world).source) (in_phases SourcePhase.Precopy to world).destination (switched_wire world.source world.forward.frames) world.back.frames world.urgent.frames
 switched_wires DestPhase.Idle world kept quiet other old =
     (flows_on BeforeAdvise world old.0 other, old.1, switching BeforeAdvise (in_phases SourcePhase.Precopy DestPhase.Idle world) kept quiet old.0 old.2)
 switched_wires DestPhase.Advised world kept quiet other old =

@@ -22,7 +22,7 @@ use Rattle.mig_model.specs.Wire.{Frame, Sent, Copy}
 use Rattle.mig_model.specs.Wire.Frame.{Advise, Page, Zero, Discard, Package, End, Resume, Request, Recv, Done}
 use Rattle.mig_model.specs.Guest.Act.{Unprotected, Zeroed, Woke, Forgot, Requested}
 use Rattle.mig_model.specs.Migration.{World, first_world_with, next, after_steps, guest_by, with_guest_by, after_command, answer, start}
-use Rattle.mig_model.specs.Invariant.{IsSoundWorld}
+use Rattle.mig_model.specs.Invariant.{IsSoundWorld, AreSoundUrgent}
 use Rattle.mig_model.specs.Promises.{IsReached, AllAccess, AreAccesses}
 use Rattle.mig_model.proofs.FirstFrame.{first_in_place}
 use Rattle.mig_model.proofs.FramesTaken.{with_first}
@@ -30,11 +30,12 @@ use Rattle.mig_model.proofs.WaitingCommands.{woken_keeps, taken_keeps, package_t
 use Rattle.mig_model.proofs.EveryStep.{kept-next}
 use Rattle.mig_model.proofs.FirstWorld.{kept-first}
 use Rattle.mig_model.proofs.StepLemmas.{Leaves, leaves-next}
-use Rattle.mig_model.proofs.StepCases.{made-break, made-deliver, made-deliver_back, made-dest_act, made-dest_read, made-end, made-install, made-issue, made-notice, made-push, made-resume, made-retry, made-round, made-send, made-serve, made-source_act, made-source_read, made-start, made-switch}
+use Rattle.mig_model.proofs.StepCases.{made-break, made-deliver, made-deliver_back, made-dest_act, made-dest_read, made-end, made-install, made-issue, made-notice, made-push, made-resume, made-retry, made-round, made-send, made-serve, made-source_act, made-source_read, made-start, made-switch, made-deliver_urgent, made-push_urgent}
 use Rattle.mig_model.specs.Cpus.{access_took, all_woken, call_took, idle_processors, message_less, outstanding, processor_after, processor_at, taken_over, woken_if}
 use Rattle.mig_model.specs.Owed.{home}
 use Rattle.mig_model.specs.Source.{Source, commands_of, source_act, source_acted_by, source_took}
-use Rattle.mig_model.specs.Destination.{Destination, copy_came, destination_act, destination_acted_by, destination_took, install_by, received_of, resumed_by}
+use Rattle.mig_model.specs.Destination.{Destination, copy_came, destination_act, destination_acted_by, destination_took, install_by, received_of, resumed_by, urgent_took}
+use Rattle.mig_model.proofs.UrgentSteps.{urgent-first, urgent-next}
 
 -- the second are as many as the first, and have to make what the first have to, and nothing else
 record IsLike (old new : List CpuState) : Type 0 where
@@ -139,12 +140,24 @@ took_like (Page page bytes) node = unchanged node.guest.cpus
 took_like (Zero page) node = unchanged node.guest.cpus
 took_like (Discard pages) node = unchanged node.guest.cpus
 took_like (Package areas owed commands) node = unchanged node.guest.cpus
-took_like End node = unchanged node.guest.cpus
+took_like (End count) node = unchanged node.guest.cpus
 took_like Resume node = unchanged node.guest.cpus
 
 came_like : (ran : Bool) (node : Destination) (copy : Copy) → IsLike node.guest.cpus (copy_came ran node copy).guest.cpus
 came_like true node copy = unchanged node.guest.cpus
 came_like false node copy = unchanged node.guest.cpus
+
+urgent_like : (frame : Frame) (node : Destination) → IsLike node.guest.cpus (urgent_took node frame).guest.cpus
+urgent_like (Page page bytes) node = unchanged node.guest.cpus
+urgent_like (Zero page) node = unchanged node.guest.cpus
+urgent_like Advise node = unchanged node.guest.cpus
+urgent_like (Discard pages) node = unchanged node.guest.cpus
+urgent_like (Package areas owed commands) node = unchanged node.guest.cpus
+urgent_like (End count) node = unchanged node.guest.cpus
+urgent_like Resume node = unchanged node.guest.cpus
+urgent_like (Request page) node = unchanged node.guest.cpus
+urgent_like (Recv state owed) node = unchanged node.guest.cpus
+urgent_like Done node = unchanged node.guest.cpus
 
 resumed_like : (state : Received) (node : Destination) → IsLike node.guest.cpus (resumed_by state node).guest.cpus
 resumed_like Received.NotRun node = unchanged node.guest.cpus
@@ -187,7 +200,7 @@ frame_all : (frame : Frame) (epoch : ℕ) (rest : List Sent) (world : World) →
 frame_all (Package areas owed commands) epoch rest world kept up first all =
     let again = subst (λ w. IsSoundWorld (record world { forward = record world.forward { frames = w } })) first kept in
     let old = with_first world.source.phase world.destination.phase epoch (Package areas owed commands) rest world in
-    let is = first_in_place old.source old.destination (record { epoch = epoch; frame = Package areas owed commands }) rest old.back.frames (again.flight.wires up) in
+    let is = first_in_place old.source old.destination (record { epoch = epoch; frame = Package areas owed commands }) rest old.back.frames old.urgent.frames (again.flight.wires up) in
     let told = package_told world.source.phase world.destination.phase epoch areas owed commands rest world is up again in
     let new = source_like world _ (taken_like world.source.guest.cpus) all in
     subst (λ cs. AfterFrame world (map taken_over cs)) (sym told.0) (new.0, taken_many world.source.guest.cpus)
@@ -196,7 +209,7 @@ frame_all (Zero page) epoch rest world kept up first all = destination_like worl
 frame_all Resume epoch rest world kept up first all = destination_like world _ (resumed_like (received_of world.destination) _) all
 frame_all Advise epoch rest world kept up first all = unmoved world all
 frame_all (Discard pages) epoch rest world kept up first all = unmoved world all
-frame_all End epoch rest world kept up first all = unmoved world all
+frame_all (End count) epoch rest world kept up first all = unmoved world all
 frame_all (Request page) epoch rest world kept up first all = unmoved world all
 frame_all (Recv state owed) epoch rest world kept up first all = unmoved world all
 frame_all Done epoch rest world kept up first all = unmoved world all
@@ -215,7 +228,7 @@ waits_answer world Step.SourceAct kept all =
     let new = source_like world _ (source_act_like (source_act world.source fault) world.source fault.page) all in record { source = new.0; destination = all.destination; many = new.1 })
 waits_answer world Step.Switch kept all = made-switch _ world (λ precopy up quiet. record { source = all.source; destination = all.destination; many = all.many })
 waits_answer world (Step.Deliver n) kept all =
-    made-deliver _ world n (λ sent rest is short. record { source = all.source; destination = all.destination; many = all.many }) (λ sent rest is full started up free.
+    made-deliver _ world n (λ sent rest is short. record { source = all.source; destination = all.destination; many = all.many }) (λ sent rest is full started up free early.
     let new = frame_all sent.frame sent.epoch rest world kept up is all in record { source = all.source; destination = new.0; many = new.1 })
 waits_answer world (Step.DeliverBack n) kept all =
     made-deliver_back _ world n (λ sent rest is short. record { source = all.source; destination = all.destination; many = all.many }) (λ sent rest is full started up.
@@ -230,6 +243,8 @@ waits_answer world Step.Install kept all =
     made-install _ world (λ copy rest is ran quiet.
     let new = destination_like world _ (install_like (home world.destination.owed copy.page) world.destination copy rest) all in record { source = all.source; destination = new.0; many = new.1 })
 waits_answer world (Step.Push ticket) kept all = made-push _ world ticket (λ stopped up own present remains. record { source = all.source; destination = all.destination; many = all.many })
+waits_answer world (Step.PushUrgent ticket) kept all = made-push_urgent _ world ticket (λ stopped up own present remains. record { source = all.source; destination = all.destination; many = all.many })
+waits_answer world (Step.DeliverUrgent n) kept all = made-deliver_urgent _ world n (λ sent rest is short. record { source = all.source; destination = all.destination; many = all.many }) (λ sent rest is full ran up. let new = destination_like world _ (urgent_like sent.frame world.destination) all in record { source = all.source; destination = new.0; many = new.1 })
 waits_answer world Step.Serve kept all = made-serve _ world (λ page pages is stopped up. record { source = all.source; destination = all.destination; many = all.many })
 waits_answer world Step.End kept all = made-end _ world (λ stopped other up none. record { source = all.source; destination = all.destination; many = all.many })
 waits_answer world Step.Break kept all = made-break _ world (λ started unreleased up. record { source = all.source; destination = all.destination; many = all.many })
@@ -245,14 +260,14 @@ idle_all (suc count) (suc k) command h = idle_all count k command h
 next_all : (world : World) (step : Step) → IsSoundWorld world → Wait world → Wait (next world step)
 next_all world step kept all = leaves-next Wait world step all (waits_answer world step kept all)
 
-steps_all : (world : World) (steps : List Step) → IsSoundWorld world → Wait world → Wait (after_steps world steps)
-steps_all world [] kept all = all
-steps_all world (step ∷ steps) kept all = steps_all (next world step) steps (kept-next world step kept) (next_all world step kept all)
+steps_all : (world : World) (steps : List Step) → IsSoundWorld world → AreSoundUrgent world → Wait world → Wait (after_steps world steps)
+steps_all world [] kept urgent all = all
+steps_all world (step ∷ steps) kept urgent all = steps_all (next world step) steps (kept-next world step kept urgent) (urgent-next world step kept urgent) (next_all world step kept all)
 
 waits : (world : World) → IsReached world → Wait world
 waits world reached =
     subst Wait (sym reached.is)
-    (steps_all (first_world_with reached.cpus reached.epoch reached.rounds) reached.steps (kept-first reached.cpus reached.epoch reached.rounds)
+    (steps_all (first_world_with reached.cpus reached.epoch reached.rounds) reached.steps (kept-first reached.cpus reached.epoch reached.rounds) (urgent-first reached.cpus reached.epoch reached.rounds)
     (record { source = idle_all reached.cpus; destination = idle_all reached.cpus; many = refl }))
 
 pub are_accesses : (world : World) → IsReached world → AreAccesses world

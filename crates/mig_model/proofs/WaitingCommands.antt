@@ -29,11 +29,11 @@ use Rattle.mig_model.specs.Promises.{is_retry_of, Slept}
 use Rattle.mig_model.proofs.FirstFrame.{comes, first_in_place, delivered}
 use Rattle.mig_model.proofs.FramesTaken.{with_first, commands_in}
 use Rattle.mig_model.proofs.StepLemmas.{Leaves, leaves-next, leaves-ok}
-use Rattle.mig_model.proofs.StepCases.{made-break, made-deliver, made-deliver_back, made-dest_act, made-dest_read, made-end, made-install, made-issue, made-notice, made-push, made-resume, made-retry, made-round, made-send, made-serve, made-source_act, made-source_read, made-start, made-switch}
+use Rattle.mig_model.proofs.StepCases.{made-break, made-deliver, made-deliver_back, made-dest_act, made-dest_read, made-end, made-install, made-issue, made-notice, made-push, made-resume, made-retry, made-round, made-send, made-serve, made-source_act, made-source_read, made-start, made-switch, made-deliver_urgent, made-push_urgent}
 use Rattle.mig_model.specs.Cpus.{all_woken, is_idle, message_less, outstanding, processor_after, processor_at, taken_over, woken_if, Took}
 use Rattle.mig_model.specs.Owed.{home}
 use Rattle.mig_model.specs.Source.{Source, commands_of, source_act, source_acted_by, source_took}
-use Rattle.mig_model.specs.Destination.{Destination, copy_came, destination_act, destination_acted, destination_acted_by, destination_read, destination_took, install_by, received_of, resumed_by}
+use Rattle.mig_model.specs.Destination.{Destination, copy_came, destination_act, destination_acted, destination_acted_by, destination_read, destination_took, install_by, received_of, resumed_by, urgent_took}
 use Rattle.mig_model.proofs.Facts.{some_command}
 
 -- Processors
@@ -216,11 +216,23 @@ same_took (Page page bytes) node epoch h = same_came node.has_run node _
 same_took (Zero page) node epoch h = same_came node.has_run node _
 same_took (Discard pages) node epoch h = record { guest = refl; ran = refl }
 same_took (Package areas owed commands) node epoch h = absurd (false≢true (sym h))
-same_took End node epoch h = record { guest = refl; ran = refl }
+same_took (End count) node epoch h = record { guest = refl; ran = refl }
 same_took Resume node epoch h = same_resumed (received_of node) node _ (record { guest = refl; ran = refl })
 same_took (Request page) node epoch h = record { guest = refl; ran = refl }
 same_took (Recv state owed) node epoch h = record { guest = refl; ran = refl }
 same_took Done node epoch h = record { guest = refl; ran = refl }
+
+same_urgent : (frame : Frame) (node : Destination) → IsSame node (urgent_took node frame)
+same_urgent (Page page bytes) node = record { guest = refl; ran = refl }
+same_urgent (Zero page) node = record { guest = refl; ran = refl }
+same_urgent Advise node = record { guest = refl; ran = refl }
+same_urgent (Discard pages) node = record { guest = refl; ran = refl }
+same_urgent (Package areas owed commands) node = record { guest = refl; ran = refl }
+same_urgent (End count) node = record { guest = refl; ran = refl }
+same_urgent Resume node = record { guest = refl; ran = refl }
+same_urgent (Request page) node = record { guest = refl; ran = refl }
+same_urgent (Recv state owed) node = record { guest = refl; ran = refl }
+same_urgent Done node = record { guest = refl; ran = refl }
 
 -- a Package that comes next has the outstanding commands of the source, and the destination has not run
 pub package_told : (from : SourcePhase) (to : DestPhase) (epoch : ℕ) (areas : FinMap nat_cmp Prot) (owed : FinSet nat_cmp) (commands : List (Option Command)) (rest : List Sent) (world : World) →
@@ -239,7 +251,7 @@ package_same : (epoch : ℕ) (areas : FinMap nat_cmp Prot) (owed : FinSet nat_cm
 package_same epoch areas owed commands rest world up first kept k =
     let again = subst (λ w. IsSoundWorld (record world { forward = record world.forward { frames = w } })) first kept in
     let old = with_first world.source.phase world.destination.phase epoch (Package areas owed commands) rest world in
-    let is = first_in_place old.source old.destination (record { epoch = epoch; frame = Package areas owed commands }) rest old.back.frames (again.flight.wires up) in
+    let is = first_in_place old.source old.destination (record { epoch = epoch; frame = Package areas owed commands }) rest old.back.frames old.urgent.frames (again.flight.wires up) in
     let told = package_told world.source.phase world.destination.phase epoch areas owed commands rest world is up again in
     ap (λ cs. outstanding (processor_at (map taken_over cs) k)) told.0
     ∙ taken_keeps world.source.guest.cpus k
@@ -256,7 +268,7 @@ delivered_first epoch Advise rest world up first kept k = same_node_waits world 
 delivered_first epoch (Page page bytes) rest world up first kept k = same_node_waits world _ (same_took (Page page bytes) world.destination epoch refl) k
 delivered_first epoch (Zero page) rest world up first kept k = same_node_waits world _ (same_took (Zero page) world.destination epoch refl) k
 delivered_first epoch (Discard pages) rest world up first kept k = same_node_waits world _ (same_took (Discard pages) world.destination epoch refl) k
-delivered_first epoch End rest world up first kept k = same_node_waits world _ (same_took End world.destination epoch refl) k
+delivered_first epoch (End count) rest world up first kept k = same_node_waits world _ (same_took (End count) world.destination epoch refl) k
 delivered_first epoch Resume rest world up first kept k = same_node_waits world _ (same_took Resume world.destination epoch refl) k
 delivered_first epoch (Request page) rest world up first kept k = same_node_waits world _ (same_took (Request page) world.destination epoch refl) k
 delivered_first epoch (Recv state owed) rest world up first kept k = same_node_waits world _ (same_took (Recv state owed) world.destination epoch refl) k
@@ -277,7 +289,7 @@ took_same (Page page bytes) node k = refl
 took_same (Zero page) node k = refl
 took_same (Discard pages) node k = refl
 took_same (Package areas owed commands) node k = refl
-took_same End node k = refl
+took_same (End count) node k = refl
 took_same Resume node k = refl
 
 same_source : (world : World) (new : Guest) → SameWaits world.source.guest new → SameWaits (guest_of world) (guest_by world.destination.has_run new world.destination.guest)
@@ -301,7 +313,7 @@ same_answer world Step.Send kept other = made-send _ world (λ page is precopy u
 same_answer world Step.SourceRead kept other = made-source_read _ world (λ noted is started unswitched. same_source world _ (waits_read world.source.guest noted.cpu noted.message))
 same_answer world Step.SourceAct kept other = made-source_act _ world (λ fault rest is started unswitched quiet. same_source world _ (waits_source_act (source_act world.source fault) world.source fault.page))
 same_answer world Step.Switch kept other = made-switch _ world (λ precopy up quiet. same_source world _ (λ i. refl))
-same_answer world (Step.Deliver n) kept other = made-deliver _ world n (λ sent rest is short k. refl) (λ sent rest is full started up free. delivered_first sent.epoch sent.frame rest world up is kept)
+same_answer world (Step.Deliver n) kept other = made-deliver _ world n (λ sent rest is short k. refl) (λ sent rest is full started up free early. delivered_first sent.epoch sent.frame rest world up is kept)
 same_answer world (Step.DeliverBack n) kept other = made-deliver_back _ world n (λ sent rest is short k. refl) (λ sent rest is full started up. same_source world _ (took_same sent.frame world.source))
 same_answer world Step.DestRead kept other =
     made-dest_read _ world (λ noted is ran.
@@ -309,6 +321,8 @@ same_answer world Step.DestRead kept other =
 same_answer world Step.DestAct kept other = made-dest_act _ world (λ fault rest is ran quiet. acted_same fault world)
 same_answer world Step.Install kept other = made-install _ world (λ copy rest is ran quiet. installed_same copy rest world)
 same_answer world (Step.Push ticket) kept other = made-push _ world ticket (λ stopped up own present remains. same_source world _ (λ i. refl))
+same_answer world (Step.PushUrgent ticket) kept other = made-push_urgent _ world ticket (λ stopped up own present remains. same_source world _ (λ i. refl))
+same_answer world (Step.DeliverUrgent n) kept other = made-deliver_urgent _ world n (λ sent rest is short. λ k. refl) (λ sent rest is full ran up. same_node_waits world _ (same_urgent sent.frame world.destination))
 same_answer world Step.Serve kept other = made-serve _ world (λ page pages is stopped up. same_source world _ (λ i. refl))
 same_answer world Step.End kept other = made-end _ world (λ stopped ended up none. same_source world _ (λ i. refl))
 same_answer world Step.Break kept other = made-break _ world (λ started unreleased up k. refl)

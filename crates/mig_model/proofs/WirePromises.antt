@@ -14,13 +14,13 @@ use Rattle.mig_model.specs.Wire.Frame.{Advise, Page, Zero, Discard, Package, End
 use Rattle.mig_model.specs.Owed.{home, Owed}
 use Rattle.mig_model.specs.Source.{Source, is_released, source_act, source_took}
 use Rattle.mig_model.specs.Destination.{Destination, destination_took, destination_answers, install_by}
-use Rattle.mig_model.specs.Migration.{World, answer, outcome, next, install_effect, after_deliver, after_deliver_back, after_move, after_move_back, is_short}
+use Rattle.mig_model.specs.Migration.{World, answer, outcome, next, install_effect, after_deliver, after_deliver_back, after_move, after_move_back, is_short, after_deliver_urgent, after_move_urgent}
 use Rattle.mig_model.specs.Invariant.{IsSoundWorld}
 use Rattle.mig_model.specs.Parts.{Grows}
-use Rattle.mig_model.specs.Promises.{IsComplete, IsDelivered, IsDeliveredBack, Completes, takes_forward, takes_back, is_break, is_recv, is_last}
+use Rattle.mig_model.specs.Promises.{IsComplete, IsDelivered, IsDeliveredBack, Completes, takes_forward, takes_back, is_break, is_recv, is_last, IsDeliveredUrgent, takes_urgent}
 use Rattle.mig_model.proofs.SettledLemmas.{home-is, home_tells}
 use Rattle.mig_model.proofs.StepLemmas.{Leaves, leaves-next, leaves-ok, outcome-ok}
-use Rattle.mig_model.proofs.StepCases.{made-issue, made-retry, made-start, made-round, made-send, made-source_read, made-source_act, made-switch, made-push, made-serve, made-end, made-deliver, made-deliver_back, made-dest_read, made-dest_act, made-install, made-break, made-notice, made-resume}
+use Rattle.mig_model.proofs.StepCases.{made-issue, made-retry, made-start, made-round, made-send, made-source_read, made-source_act, made-switch, made-push, made-serve, made-end, made-deliver, made-deliver_back, made-dest_read, made-dest_act, made-install, made-break, made-notice, made-resume, made-deliver_urgent, made-push_urgent}
 use Rattle.mig_model.proofs.StaysComplete.{worked_phase, command_phase}
 use Rattle.mig_model.proofs.PartsChanged.{changes_parts}
 use Rattle.mig_model.proofs.Facts.{no_page, as_it_was, tried_up}
@@ -53,15 +53,15 @@ pub delivered_first : (world : World) (n : ℕ) (sent : Sent) (rest : List Sent)
 delivered_first world n sent rest ok first full =
     leaves-ok (λ new. IsDelivered world new sent rest) world (Step.Deliver n)
     (made-deliver _ world n (λ other more is short. short_not world.forward n other sent (first_frame other sent more rest (sym is ∙ first)) short full)
-    (λ other more is whole started up free. first_is world other more (sent ∷ rest) (sym is ∙ first) up)) ok
+    (λ other more is whole started up free early. first_is world other more (sent ∷ rest) (sym is ∙ first) up)) ok
 
 pub moved_short : (world : World) (n : ℕ) (sent : Sent) (rest : List Sent) → IsOk (outcome world (Step.Deliver n)) → world.forward.frames ≡ sent ∷ rest → is_short world.forward sent.frame n ≡ true →
     (outcome world (Step.Deliver n) ≡ Ok (Effect.Moved n)) × (next world (Step.Deliver n) ≡ after_move world n)
 moved_short world n sent rest ok first short = (
   outcome-ok (Effect.Moved n) world (Step.Deliver n)
-      (made-deliver _ world n (λ other more is one. refl) (λ other more is whole started up free. short_not world.forward n sent other (sym (first_frame other sent more rest (sym is ∙ first))) short whole)) ok,
+      (made-deliver _ world n (λ other more is one. refl) (λ other more is whole started up free early. short_not world.forward n sent other (sym (first_frame other sent more rest (sym is ∙ first))) short whole)) ok,
   leaves-ok (λ new. new ≡ after_move world n) world (Step.Deliver n)
-      (made-deliver _ world n (λ other more is one. refl) (λ other more is whole started up free. short_not world.forward n sent other (sym (first_frame other sent more rest (sym is ∙ first))) short whole)) ok,
+      (made-deliver _ world n (λ other more is one. refl) (λ other more is whole started up free early. short_not world.forward n sent other (sym (first_frame other sent more rest (sym is ∙ first))) short whole)) ok,
 )
 
 abbrev FirstDeliveredBack : World → World → List Sent → Type 0
@@ -87,10 +87,33 @@ moved_back_short world n sent rest ok first short = (
       (made-deliver_back _ world n (λ other more is one. refl) (λ other more is whole started up. short_not world.back n sent other (sym (first_frame other sent more rest (sym is ∙ first))) short whole)) ok,
 )
 
+abbrev FirstDeliveredUrgent : World → World → List Sent → Type 0
+FirstDeliveredUrgent old new [] = ⊥
+FirstDeliveredUrgent old new (sent ∷ rest) = IsDeliveredUrgent old new sent rest
+
+first_urgent_is : (world : World) (sent : Sent) (rest wire : List Sent) → sent ∷ rest ≡ wire → FirstDeliveredUrgent world (after_deliver_urgent world sent rest) wire
+first_urgent_is world sent rest wire same = subst (FirstDeliveredUrgent world (after_deliver_urgent world sent rest)) same (record { destination = refl; urgent = refl })
+
+pub delivered_urgent_first : (world : World) (n : ℕ) (sent : Sent) (rest : List Sent) → IsOk (outcome world (Step.DeliverUrgent n)) → world.urgent.frames ≡ sent ∷ rest → is_short world.urgent sent.frame n ≡ false →
+    IsDeliveredUrgent world (next world (Step.DeliverUrgent n)) sent rest
+delivered_urgent_first world n sent rest ok first full =
+    leaves-ok (λ new. IsDeliveredUrgent world new sent rest) world (Step.DeliverUrgent n)
+    (made-deliver_urgent _ world n (λ other more is short. short_not world.urgent n other sent (first_frame other sent more rest (sym is ∙ first)) short full)
+    (λ other more is whole ran up. first_urgent_is world other more (sent ∷ rest) (sym is ∙ first))) ok
+
+pub moved_urgent_short : (world : World) (n : ℕ) (sent : Sent) (rest : List Sent) → IsOk (outcome world (Step.DeliverUrgent n)) → world.urgent.frames ≡ sent ∷ rest → is_short world.urgent sent.frame n ≡ true →
+    (outcome world (Step.DeliverUrgent n) ≡ Ok (Effect.Moved n)) × (next world (Step.DeliverUrgent n) ≡ after_move_urgent world n)
+moved_urgent_short world n sent rest ok first short = (
+  outcome-ok (Effect.Moved n) world (Step.DeliverUrgent n)
+      (made-deliver_urgent _ world n (λ other more is one. refl) (λ other more is whole ran up. short_not world.urgent n sent other (sym (first_frame other sent more rest (sym is ∙ first))) short whole)) ok,
+  leaves-ok (λ new. new ≡ after_move_urgent world n) world (Step.DeliverUrgent n)
+      (made-deliver_urgent _ world n (λ other more is one. refl) (λ other more is whole ran up. short_not world.urgent n sent other (sym (first_frame other sent more rest (sym is ∙ first))) short whole)) ok,
+)
+
 -- The wires
 
-pub wires_broken : (world : World) → IsOk (outcome world Step.Break) → ((next world Step.Break).forward ≡ empty_wire) × ((next world Step.Break).back ≡ empty_wire) × ((next world Step.Break).up ≡ false)
-wires_broken world ok = leaves-ok (λ new. (new.forward ≡ empty_wire) × (new.back ≡ empty_wire) × (new.up ≡ false)) world Step.Break (made-break _ world (λ started unreleased up. (refl, refl, refl))) ok
+pub wires_broken : (world : World) → IsOk (outcome world Step.Break) → ((next world Step.Break).forward ≡ empty_wire) × ((next world Step.Break).back ≡ empty_wire) × ((next world Step.Break).urgent ≡ empty_wire) × ((next world Step.Break).up ≡ false)
+wires_broken world ok = leaves-ok (λ new. (new.forward ≡ empty_wire) × (new.back ≡ empty_wire) × (new.urgent ≡ empty_wire) × (new.up ≡ false)) world Step.Break (made-break _ world (λ started unreleased up. (refl, refl, refl, refl))) ok
 
 same_wire : (old new : Wire) → new ≡ old → Grows old old → Grows old new
 same_wire old new same grows = record { more = grows.more; is = same ∙ grows.is }
@@ -110,6 +133,8 @@ forward_grows world Step.DestRead h = same_wire _ _ (changes_parts world Step.De
 forward_grows world Step.DestAct h = same_wire _ _ (changes_parts world Step.DestAct).forward (as_it_was world.forward)
 forward_grows world Step.Install h = same_wire _ _ (changes_parts world Step.Install).forward (as_it_was world.forward)
 forward_grows world (Step.Push ticket) h = (changes_parts world (Step.Push ticket)).forward
+forward_grows world (Step.PushUrgent ticket) h = same_wire _ _ (changes_parts world (Step.PushUrgent ticket)).forward (as_it_was world.forward)
+forward_grows world (Step.DeliverUrgent n) h = same_wire _ _ (changes_parts world (Step.DeliverUrgent n)).forward (as_it_was world.forward)
 forward_grows world Step.Serve h = (changes_parts world Step.Serve).forward
 forward_grows world Step.End h = (changes_parts world Step.End).forward
 forward_grows world Step.Break h = absurd (false≢true (sym h))
@@ -132,12 +157,38 @@ back_grows world Step.DestRead h = (changes_parts world Step.DestRead).back
 back_grows world Step.DestAct h = (changes_parts world Step.DestAct).back
 back_grows world Step.Install h = (changes_parts world Step.Install).back
 back_grows world (Step.Push ticket) h = same_wire _ _ (changes_parts world (Step.Push ticket)).back (as_it_was world.back)
+back_grows world (Step.PushUrgent ticket) h = same_wire _ _ (changes_parts world (Step.PushUrgent ticket)).back (as_it_was world.back)
+back_grows world (Step.DeliverUrgent n) h = same_wire _ _ (changes_parts world (Step.DeliverUrgent n)).back (as_it_was world.back)
 back_grows world Step.Serve h = same_wire _ _ (changes_parts world Step.Serve).back (as_it_was world.back)
 back_grows world Step.End h = same_wire _ _ (changes_parts world Step.End).back (as_it_was world.back)
 back_grows world Step.Break h = absurd (false≢true (sym h))
 back_grows world (Step.Notice Side.Source) h = same_wire _ _ (ap (λ w. w.back) (changes_parts world (Step.Notice Side.Source)).is) (as_it_was world.back)
 back_grows world (Step.Notice Side.Destination) h = same_wire _ _ (ap (λ w. w.back) (changes_parts world (Step.Notice Side.Destination)).is) (as_it_was world.back)
 back_grows world Step.Resume h = same_wire _ _ (changes_parts world Step.Resume).back (as_it_was world.back)
+
+pub urgent_grows : (world : World) (step : Step) → takes_urgent step ≡ false → Grows world.urgent (next world step).urgent
+urgent_grows world (Step.Issue cpu command) h = same_wire _ _ (changes_parts world (Step.Issue cpu command)).urgent (as_it_was world.urgent)
+urgent_grows world (Step.Retry cpu) h = same_wire _ _ (changes_parts world (Step.Retry cpu)).urgent (as_it_was world.urgent)
+urgent_grows world Step.Start h = same_wire _ _ (changes_parts world Step.Start).urgent (as_it_was world.urgent)
+urgent_grows world Step.Round h = same_wire _ _ (changes_parts world Step.Round).urgent (as_it_was world.urgent)
+urgent_grows world Step.Send h = same_wire _ _ (changes_parts world Step.Send).urgent (as_it_was world.urgent)
+urgent_grows world Step.SourceRead h = same_wire _ _ (changes_parts world Step.SourceRead).urgent (as_it_was world.urgent)
+urgent_grows world Step.SourceAct h = same_wire _ _ (changes_parts world Step.SourceAct).urgent (as_it_was world.urgent)
+urgent_grows world Step.Switch h = same_wire _ _ (changes_parts world Step.Switch).urgent (as_it_was world.urgent)
+urgent_grows world (Step.Deliver n) h = same_wire _ _ (changes_parts world (Step.Deliver n)).urgent (as_it_was world.urgent)
+urgent_grows world (Step.DeliverBack n) h = same_wire _ _ (changes_parts world (Step.DeliverBack n)).urgent (as_it_was world.urgent)
+urgent_grows world Step.DestRead h = same_wire _ _ (changes_parts world Step.DestRead).urgent (as_it_was world.urgent)
+urgent_grows world Step.DestAct h = same_wire _ _ (changes_parts world Step.DestAct).urgent (as_it_was world.urgent)
+urgent_grows world Step.Install h = same_wire _ _ (changes_parts world Step.Install).urgent (as_it_was world.urgent)
+urgent_grows world (Step.Push ticket) h = same_wire _ _ (changes_parts world (Step.Push ticket)).urgent (as_it_was world.urgent)
+urgent_grows world (Step.PushUrgent ticket) h = (changes_parts world (Step.PushUrgent ticket)).urgent
+urgent_grows world (Step.DeliverUrgent n) h = absurd (false≢true (sym h))
+urgent_grows world Step.Serve h = same_wire _ _ (changes_parts world Step.Serve).urgent (as_it_was world.urgent)
+urgent_grows world Step.End h = same_wire _ _ (changes_parts world Step.End).urgent (as_it_was world.urgent)
+urgent_grows world Step.Break h = absurd (false≢true (sym h))
+urgent_grows world (Step.Notice Side.Source) h = same_wire _ _ (ap (λ w. w.urgent) (changes_parts world (Step.Notice Side.Source)).is) (as_it_was world.urgent)
+urgent_grows world (Step.Notice Side.Destination) h = same_wire _ _ (ap (λ w. w.urgent) (changes_parts world (Step.Notice Side.Destination)).is) (as_it_was world.urgent)
+urgent_grows world Step.Resume h = same_wire _ _ (changes_parts world Step.Resume).urgent (as_it_was world.urgent)
 
 -- the link is up
 abbrev IsUp : World → Type 0
@@ -152,12 +203,14 @@ up_answer world Step.Send h up = made-send _ world (λ page is precopy linked qu
 up_answer world Step.SourceRead h up = made-source_read _ world (λ noted is started unswitched. up)
 up_answer world Step.SourceAct h up = made-source_act _ world (λ fault rest is started unswitched quiet. up)
 up_answer world Step.Switch h up = made-switch _ world (λ precopy linked quiet. up)
-up_answer world (Step.Deliver n) h up = made-deliver _ world n (λ sent rest is short. up) (λ sent rest is full started linked free. up)
+up_answer world (Step.Deliver n) h up = made-deliver _ world n (λ sent rest is short. up) (λ sent rest is full started linked free early. up)
 up_answer world (Step.DeliverBack n) h up = made-deliver_back _ world n (λ sent rest is short. up) (λ sent rest is full started linked. up)
 up_answer world Step.DestRead h up = made-dest_read _ world (λ noted is ran. up)
 up_answer world Step.DestAct h up = made-dest_act _ world (λ fault rest is ran quiet. up)
 up_answer world Step.Install h up = made-install _ world (λ copy rest is ran quiet. up)
 up_answer world (Step.Push ticket) h up = made-push _ world ticket (λ stopped linked own present remains. up)
+up_answer world (Step.PushUrgent ticket) h up = made-push_urgent _ world ticket (λ stopped linked own present remains. up)
+up_answer world (Step.DeliverUrgent n) h up = made-deliver_urgent _ world n (λ sent rest is short. up) (λ sent rest is full ran linked. up)
 up_answer world Step.Serve h up = made-serve _ world (λ page pages is stopped linked. up)
 up_answer world Step.End h up = made-end _ world (λ stopped other linked none. up)
 up_answer world Step.Break h up = absurd (false≢true (sym h))
@@ -218,7 +271,7 @@ taken_remains (Page page bytes) node q h is = is
 taken_remains (Zero page) node q h is = is
 taken_remains (Discard pages) node q h is = is
 taken_remains (Package areas owed commands) node q h is = is
-taken_remains End node q h is = is
+taken_remains (End count) node q h is = is
 taken_remains Resume node q h is = is
 
 pub remaining_back : (world : World) (n : ℕ) (sent : Sent) (rest : List Sent) (q : ℕ) → world.back.frames ≡ sent ∷ rest → is_recv sent.frame ≡ false → contains (next world (Step.DeliverBack n)).source.remaining q ≡ true → contains world.source.remaining q ≡ true
@@ -258,7 +311,7 @@ released_by (Page page bytes) node not h = absurd (false≢true (sym not ∙ h))
 released_by (Zero page) node not h = absurd (false≢true (sym not ∙ h))
 released_by (Discard pages) node not h = absurd (false≢true (sym not ∙ h))
 released_by (Package areas owed commands) node not h = absurd (false≢true (sym not ∙ h))
-released_by End node not h = absurd (false≢true (sym not ∙ h))
+released_by (End count) node not h = absurd (false≢true (sym not ∙ h))
 released_by Resume node not h = absurd (false≢true (sym not ∙ h))
 
 -- if the new world is complete, the step has taken such a frame
@@ -278,7 +331,7 @@ completes_answer world Step.SourceRead not = made-source_read _ world (λ noted 
 completes_answer world Step.SourceAct not =
     made-source_act _ world (λ fault rest is started unswitched quiet h. still_not world.source.phase _ (worked_phase (source_act world.source fault) world fault.page) not h)
 completes_answer world Step.Switch not = made-switch _ world (λ precopy up quiet h. absurd (false≢true h))
-completes_answer world (Step.Deliver n) not = made-deliver _ world n (λ sent rest is short h. absurd (false≢true (sym not ∙ h))) (λ sent rest is full started up free h. absurd (false≢true (sym not ∙ h)))
+completes_answer world (Step.Deliver n) not = made-deliver _ world n (λ sent rest is short h. absurd (false≢true (sym not ∙ h))) (λ sent rest is full started up free early h. absurd (false≢true (sym not ∙ h)))
 completes_answer world (Step.DeliverBack n) not =
     made-deliver_back _ world n (λ sent rest is short h. absurd (false≢true (sym not ∙ h)))
     (λ one more is full started up h. record { n = n; step_is = refl; sent = one; rest = more; first = is; last = released_by one.frame world.source not h })
@@ -286,6 +339,8 @@ completes_answer world Step.DestRead not = made-dest_read _ world (λ noted is r
 completes_answer world Step.DestAct not = made-dest_act _ world (λ fault rest is ran quiet h. absurd (false≢true (sym not ∙ h)))
 completes_answer world Step.Install not = made-install _ world (λ copy rest is ran quiet h. absurd (false≢true (sym not ∙ h)))
 completes_answer world (Step.Push ticket) not = made-push _ world ticket (λ stopped up own present remains h. absurd (false≢true (sym not ∙ h)))
+completes_answer world (Step.PushUrgent ticket) not = made-push_urgent _ world ticket (λ stopped up own present remains h. absurd (false≢true (sym not ∙ h)))
+completes_answer world (Step.DeliverUrgent n) not = made-deliver_urgent _ world n (λ sent rest is short h. absurd (false≢true (sym not ∙ h))) (λ sent rest is full ran up h. absurd (false≢true (sym not ∙ h)))
 completes_answer world Step.Serve not = made-serve _ world (λ page pages is stopped up h. absurd (false≢true (sym not ∙ h)))
 completes_answer world Step.End not = made-end _ world (λ stopped other up none h. absurd (false≢true (sym not ∙ h)))
 completes_answer world Step.Break not = made-break _ world (λ started unreleased up h. absurd (false≢true (sym not ∙ h)))

@@ -43,6 +43,8 @@ pub record Destination : Type 0 where
   pub requests : List ℕ
   -- the copies that came and were not installed yet
   pub arrivals : List Copy
+  -- how many frames of the urgent wire it has taken in its epoch
+  pub urgent_taken : ℕ
   -- copies installed, copies given up, and fault messages read
   pub installed : ℕ
   pub dropped : ℕ
@@ -61,6 +63,7 @@ first_destination cpus =
       owed = finmap.empty;
       requests = [];
       arrivals = [];
+      urgent_taken = 0;
       installed = 0;
       dropped = 0;
       faults = 0;
@@ -131,18 +134,28 @@ copy_came false node copy = record node { kept = finmap.insert node.kept copy.pa
 
 -- the destination after a frame that is in place
 abbrev pub destination_took : Destination → ℕ → Frame → Destination
-destination_took node epoch Advise = record node { phase = DestPhase.Advised; epoch = epoch }
+destination_took node epoch Advise = record node { phase = DestPhase.Advised; epoch = epoch; urgent_taken = 0 }
 destination_took node epoch (Page page bytes) = copy_came node.has_run node (record { page = page; bytes = bytes })
 destination_took node epoch (Zero page) = copy_came node.has_run node (record { page = page; bytes = zero_page })
 destination_took node epoch (Discard pages) = record node { phase = DestPhase.Discarding; kept = kept_after node.kept (Discard pages) }
 destination_took node epoch (Package areas owed commands) = destination_ran node areas owed commands
-destination_took node epoch End = record node { phase = DestPhase.Ended; ended = true }
-destination_took node epoch Resume = resumed_by (received_of node) (record node { epoch = epoch })
+destination_took node epoch (End urgent) = record node { phase = DestPhase.Ended; ended = true }
+destination_took node epoch Resume = resumed_by (received_of node) (record node { epoch = epoch; urgent_taken = 0 })
 destination_took node epoch _ = node
+
+-- a copy that comes on the urgent wire waits to be installed, and is counted
+abbrev pub urgent_came : Destination → Copy → Destination
+urgent_came node copy = record (arrived node copy) { urgent_taken = node.urgent_taken + 1 }
+
+-- the destination after a frame of the urgent wire
+abbrev pub urgent_took : Destination → Frame → Destination
+urgent_took node (Page page bytes) = urgent_came node (record { page = page; bytes = bytes })
+urgent_took node (Zero page) = urgent_came node (record { page = page; bytes = zero_page })
+urgent_took node _ = node
 
 -- what it answers
 abbrev pub destination_answers : Destination → Frame → List Frame
-destination_answers node End = Done ∷ []
+destination_answers node (End urgent) = Done ∷ []
 destination_answers node Resume = recv_by (received_of node) node
 destination_answers node _ = []
 

@@ -1,6 +1,6 @@
 -- What every world of the whole migration keeps, clause by clause: a theorem is one clause or a few, and the others are there so that
 -- each step keeps all of them.
-use Rattle.std.specs.Prelude.{◌≡◌, ◌≢◌, ℕ, ◌+◌, ◌/◌, ◌%◌, ◌<◌, ◌≤◌, ◌==◌, ◌&&◌, ◌||◌, ◌⊎◌, Bool, true, false, if◌then◌else◌, Option, Some, None, List, [], ◌∷◌, length}
+use Rattle.std.specs.Prelude.{◌≡◌, ◌≢◌, ℕ, ◌+◌, ◌/◌, ◌%◌, ◌<◌, ◌≤◌, ◌==◌, ◌&&◌, ◌||◌, ◌⊎◌, Bool, true, false, if◌then◌else◌, Option, Some, None, is_some, List, [], ◌∷◌, length}
 use Rattle.std.specs.Option.{option_and_then}
 use Rattle.std.specs.Ordering.{nat_cmp}
 use Rattle.std.specs.FinMap as finmap
@@ -28,7 +28,7 @@ use Rattle.mig_model.specs.Cpus.{processor_at}
 use Rattle.mig_model.specs.Guest.{Guest, is_changed_by, is_present}
 use Rattle.mig_model.specs.Log.{no_pages}
 use Rattle.mig_model.specs.Owed.{Owed, settled_by}
-use Rattle.mig_model.specs.Source.{Source, commands_of, space_of}
+use Rattle.mig_model.specs.Source.{Source, commands_of, is_stopped, space_of}
 use Rattle.mig_model.specs.Destination.{Destination, settled}
 
 -- The memory that the guest sees
@@ -99,7 +99,7 @@ flow_next Copies (Discard pages) = Some BeforePackage
 flow_next BeforePackage (Package areas owed commands) = Some Pushed
 flow_next Pushed (Page page bytes) = Some Pushed
 flow_next Pushed (Zero page) = Some Pushed
-flow_next Pushed End = Some AfterEnd
+flow_next Pushed (End urgent) = Some AfterEnd
 flow_next flow frame = None
 
 -- after the frames of a wire
@@ -184,15 +184,19 @@ are_requests_and_done (sent ∷ rest) = is_request sent.frame && are_requests_an
 abbrev pub flow_of : Source → Flow
 flow_of source = if source.end_epoch == source.epoch then AfterEnd else Pushed
 
-pub record IsSwitching (source : Source) (kept : FinMap nat_cmp (List ℕ)) (forward : List Sent) : Type 0 where
+-- whether a page is still to be pushed, or is on the urgent wire
+abbrev pub is_urgent_or_left : FinSet nat_cmp → List Sent → ℕ → Bool
+is_urgent_or_left remaining urgent page = contains remaining page || has_copy (copies_of urgent) page
+
+pub record IsSwitching (source : Source) (kept : FinMap nat_cmp (List ℕ)) (forward urgent : List Sent) : Type 0 where
   pub owed : FinSet nat_cmp
   -- the Package tells the source's state
   pub plan : package_in forward ≡ Some (Package (space_of source).host.areas owed (commands_of source.guest.cpus))
   pub owed_present : (page : ℕ) → contains owed page ≡ true → is_present (space_of source) page ≡ true
   -- when it is taken the kept table is what it does not owe
   pub kept_rest : (page : ℕ) → get (kept_by kept forward) page ≡ (if contains owed page then None else get (space_of source).host.bytes page)
-  -- what it owes is still to be pushed, or is behind it
-  pub whereabouts : (page : ℕ) → contains owed page ≡ true → (contains source.remaining page || has_copy (copies_of (behind forward)) page) ≡ true
+  -- what it owes is still to be pushed, on the urgent wire, or behind it
+  pub whereabouts : (page : ℕ) → contains owed page ≡ true → (is_urgent_or_left source.remaining urgent page || has_copy (copies_of (behind forward)) page) ≡ true
   pub faithful : AreFaithful (space_of source).host.bytes (copies_of (behind forward))
 
 pub record IsPrecopying (source : Source) (kept : FinMap nat_cmp (List ℕ)) (forward : List Sent) : Type 0 where
@@ -202,17 +206,17 @@ pub record IsPrecopying (source : Source) (kept : FinMap nat_cmp (List ℕ)) (fo
   pub copies_sent : (page : ℕ) → contains_key (kept_by kept forward) page ≡ true → contains source.log.sent page ≡ true
 
 -- while the destination runs and the source is stopped
-pub record IsFlowing (source : Source) (destination : Destination) (forward : List Sent) : Type 0 where
-  -- each owed page is to be pushed, in flight, or arrived
-  pub whereabouts : (page origin : ℕ) → get destination.owed page ≡ Some origin → (contains source.remaining origin || has_copy (copies_of forward) origin || has_copy destination.arrivals origin) ≡ true
+pub record IsFlowing (source : Source) (destination : Destination) (forward urgent : List Sent) : Type 0 where
+  -- each owed page is to be pushed, in flight on either wire, or arrived
+  pub whereabouts : (page origin : ℕ) → get destination.owed page ≡ Some origin → (is_urgent_or_left source.remaining urgent origin || has_copy (copies_of forward) origin || has_copy destination.arrivals origin) ≡ true
 
 -- the wires of a stopped source, by the phase of the destination
-abbrev pub StoppedWires : Source → Destination → List Sent → List Sent → Type 0
-StoppedWires source destination forward back = elim destination.phase [
-  | DestPhase.Idle ↦ (flow_after BeforeAdvise forward ≡ Some (flow_of source)) × (back ≡ []) × IsSwitching source destination.kept forward
-  | DestPhase.Advised ↦ (flow_after Copies forward ≡ Some (flow_of source)) × (back ≡ []) × IsSwitching source destination.kept forward
-  | DestPhase.Discarding ↦ (flow_after BeforePackage forward ≡ Some (flow_of source)) × (back ≡ []) × IsSwitching source destination.kept forward
-  | DestPhase.Running ↦ (flow_after Pushed forward ≡ Some (flow_of source)) × (are_requests back ≡ true) × IsFlowing source destination forward
+abbrev pub StoppedWires : Source → Destination → (forward back urgent : List Sent) → Type 0
+StoppedWires source destination forward back urgent = elim destination.phase [
+  | DestPhase.Idle ↦ (flow_after BeforeAdvise forward ≡ Some (flow_of source)) × (back ≡ []) × IsSwitching source destination.kept forward urgent
+  | DestPhase.Advised ↦ (flow_after Copies forward ≡ Some (flow_of source)) × (back ≡ []) × IsSwitching source destination.kept forward urgent
+  | DestPhase.Discarding ↦ (flow_after BeforePackage forward ≡ Some (flow_of source)) × (back ≡ []) × IsSwitching source destination.kept forward urgent
+  | DestPhase.Running ↦ (flow_after Pushed forward ≡ Some (flow_of source)) × (are_requests back ≡ true) × IsFlowing source destination forward urgent
   | DestPhase.Paused ↦ ⊥
   | DestPhase.Ended ↦ (forward ≡ []) × (are_requests_and_done back ≡ true) × (source.end_epoch ≡ source.epoch)
 ]
@@ -254,11 +258,11 @@ PrecopyWires source destination forward back = elim destination.phase [
 ]
 
 -- every pair of phases that occurs while the link is up, with what is in flight then
-abbrev pub Wires : Source → Destination → List Sent → List Sent → Type 0
-Wires source destination forward back = elim source.phase [
+abbrev pub Wires : Source → Destination → (forward back urgent : List Sent) → Type 0
+Wires source destination forward back urgent = elim source.phase [
   | SourcePhase.Idle ↦ (destination.phase ≡ DestPhase.Idle) × (forward ≡ []) × (back ≡ [])
   | SourcePhase.Precopy ↦ PrecopyWires source destination forward back
-  | SourcePhase.Stopped ↦ StoppedWires source destination forward back
+  | SourcePhase.Stopped ↦ StoppedWires source destination forward back urgent
   | SourcePhase.Paused ↦ PausedWires source destination forward back
   | SourcePhase.Released ↦ (destination.phase ≡ DestPhase.Ended) × (forward ≡ []) × (back ≡ [])
 ]
@@ -367,12 +371,12 @@ pub record IsSoundOwing (bytes : FinMap nat_cmp (List ℕ)) (destination : Space
   pub ended_empty : ended ≡ true → (owed ≡ finmap.empty) × (arrivals ≡ [])
 
 -- what is in flight
-pub record IsSoundFlight (source : Source) (destination : Destination) (forward back : List Sent) (up : Bool) : Type 0 where
+pub record IsSoundFlight (source : Source) (destination : Destination) (forward back urgent : List Sent) (up : Bool) : Type 0 where
   -- from the run of the destination on the copies in flight have the source's bytes
   pub flight_faithful : destination.has_run ≡ true → AreFaithful (space_of source).host.bytes (copies_of forward)
   -- while the link is down nothing is, and a migration has begun and is not complete
   pub down : up ≡ false → (forward ≡ []) × (back ≡ []) × (source.phase ≢ SourcePhase.Idle) × (source.phase ≢ SourcePhase.Released)
-  pub wires : up ≡ true → Wires source destination forward back
+  pub wires : up ≡ true → Wires source destination forward back urgent
 
 -- every frame in flight is of the source's epoch, and the destination's is no later
 pub record AreSoundEpochs (epoch : ℕ) (to : DestPhase) (dest_epoch : ℕ) (forward back : List Sent) (up : Bool) : Type 0 where
@@ -389,6 +393,45 @@ HeldFits (sent ∷ rest) held = held < text_len sent.frame
 pub record AreSoundWires (forward back : Wire) : Type 0 where
   pub forward_held : HeldFits forward.frames forward.held
   pub back_held : HeldFits back.frames back.held
+
+-- The urgent wire
+
+-- each frame is a copy
+abbrev pub are_copies : List Sent → Bool
+are_copies [] = true
+are_copies (sent ∷ rest) = is_some (copy_in sent.frame) && are_copies rest
+
+-- an End was sent in the source's epoch, and tells how many urgent frames it sent in it
+abbrev pub IsTold : (epoch end_epoch count : ℕ) → Frame → Type 0
+IsTold epoch end_epoch count (End urgent) = (end_epoch ≡ epoch) × (urgent ≡ count)
+IsTold epoch end_epoch count frame = Unit {0}
+
+abbrev pub AreTold : (epoch end_epoch count : ℕ) → List Sent → Type 0
+AreTold epoch end_epoch count [] = Unit {0}
+AreTold epoch end_epoch count (sent ∷ rest) = IsTold epoch end_epoch count sent.frame × AreTold epoch end_epoch count rest
+
+-- what is on the urgent wire, and how many frames were sent on it and taken from it in this epoch
+pub record IsSoundUrgent (from : SourcePhase) (epoch end_epoch count : ℕ) (bytes : FinMap nat_cmp (List ℕ)) (to : DestPhase) (has_run : Bool) (taken : ℕ) (forward : List Sent) (urgent : Wire) (up : Bool) : Type 0 where
+  -- copies alone, of the source's epoch, with the source's bytes
+  pub copies : are_copies urgent.frames ≡ true
+  pub of_epoch : AreOf epoch urgent.frames
+  pub faithful : AreFaithful bytes (copies_of urgent.frames)
+  -- nothing unless the source is stopped and the link is up, and nothing once End was taken
+  pub stopped : is_stopped from ≡ false → urgent.frames ≡ []
+  pub down : up ≡ false → urgent.frames ≡ []
+  pub ended : to ≡ DestPhase.Ended → urgent.frames ≡ []
+  -- what was sent was taken or is on the wire, and End tells it
+  pub counted : up ≡ true → to ≢ DestPhase.Paused → count ≡ taken + length urgent.frames
+  pub told : AreTold epoch end_epoch count forward
+  -- an epoch begins with none sent, and a destination that has not run has taken none
+  pub fresh : up ≡ true → from ≡ SourcePhase.Paused → count ≡ 0
+  pub none_taken : has_run ≡ false → taken ≡ 0
+  pub fits : HeldFits urgent.frames urgent.held
+
+abbrev pub AreSoundUrgent : World → Type 0
+AreSoundUrgent world =
+    IsSoundUrgent world.source.phase world.source.epoch world.source.end_epoch world.source.urgent_sent (space_of world.source).host.bytes world.destination.phase world.destination.has_run
+    world.destination.urgent_taken world.forward.frames world.urgent world.up
 
 -- Calls
 
@@ -421,6 +464,6 @@ pub record IsSoundWorld (world : World) : Type 0 where
   pub pushing : IsSoundPushing world.source.phase world.source.switched world.up world.source.epoch world.source.end_epoch (space_of world.source) world.source.remaining
   pub copies : AreSoundCopies world.destination.phase world.destination.has_run world.destination.kept world.forward.frames
   pub owing : IsSoundOwing (space_of world.source).host.bytes world.destination.guest.space world.destination.has_run world.destination.ended world.destination.owed world.destination.arrivals
-  pub flight : IsSoundFlight world.source world.destination world.forward.frames world.back.frames world.up
+  pub flight : IsSoundFlight world.source world.destination world.forward.frames world.back.frames world.urgent.frames world.up
   pub epochs : AreSoundEpochs world.source.epoch world.destination.phase world.destination.epoch world.forward.frames world.back.frames world.up
   pub held : AreSoundWires world.forward world.back

@@ -28,25 +28,26 @@ use Rattle.mig_model.specs.Cpus.{Took, entries_of, handed_over, is_idle, is_woke
 use Rattle.mig_model.specs.Guest.{Act, Fault, Guest, is_present, took_by, tried}
 use Rattle.mig_model.specs.Log.{least_of, less}
 use Rattle.mig_model.specs.Owed.{home}
-use Rattle.mig_model.specs.Source.{Source, bytes_of, first_source, is_precopy, is_released, is_source_idle, is_source_paused, is_stopped, not_clean, page_pushed, page_sent, request_served, round_made, source_act, source_acted, source_answers, source_read, source_started, source_took, space_of, switch_frames, switch_made}
-use Rattle.mig_model.specs.Destination.{Destination, act_frames, destination_act, destination_acted, destination_answers, destination_read, destination_took, first_destination, install_by, is_dest_paused}
+use Rattle.mig_model.specs.Source.{Source, bytes_of, first_source, is_precopy, is_released, is_source_idle, is_source_paused, is_stopped, not_clean, page_pushed, page_sent, request_served, round_made, source_act, source_acted, source_answers, source_read, source_started, source_took, space_of, switch_frames, switch_made, urgent_pushed}
+use Rattle.mig_model.specs.Destination.{Destination, act_frames, destination_act, destination_acted, destination_answers, destination_read, destination_took, first_destination, install_by, is_dest_paused, urgent_took}
 
 -- A world
 
--- the two nodes, the wire to the destination and the wire back, whether the link is up, and the commands that took effect, in that
+-- the two nodes, the wire to the destination, the wire back, the urgent wire to the destination, whether the link is up, and the commands that took effect, in that
 -- order, with their replies
 pub record World : Type 0 where
   pub source : Source
   pub destination : Destination
   pub forward : Wire
   pub back : Wire
+  pub urgent : Wire
   pub up : Bool
   pub transcript : List Entry
 
 -- a world in which nothing has happened, whose counts stand at the numbers given
 abbrev pub first_world_with : ℕ → ℕ → ℕ → World
 first_world_with cpus epoch rounds =
-    record { source = first_source cpus epoch rounds; destination = first_destination cpus; forward = empty_wire; back = empty_wire; up = true; transcript = [] }
+    record { source = first_source cpus epoch rounds; destination = first_destination cpus; forward = empty_wire; back = empty_wire; urgent = empty_wire; up = true; transcript = [] }
 
 -- a world in which nothing has happened
 abbrev pub first_world : ℕ → World
@@ -93,8 +94,13 @@ abbrev pub is_changing : Guest → Bool
 is_changing guest = nat_lt 0 (changing guest.space.object)
 
 abbrev pub is_end : Frame → Bool
-is_end End = true
+is_end (End urgent) = true
 is_end frame = false
+
+-- whether frames of the urgent wire have to be taken before this one
+abbrev pub is_early : Destination → Frame → Bool
+is_early node (End urgent) = nat_lt node.urgent_taken urgent
+is_early node frame = false
 
 -- whether a side has noticed that the channel is broken
 abbrev pub is_paused_at : World → Side → Bool
@@ -255,7 +261,7 @@ frame_effect (Page page bytes) = Effect.TookPage (PAGE_SIZE * page)
 frame_effect (Zero page) = Effect.TookZero (PAGE_SIZE * page)
 frame_effect (Discard pages) = Effect.TookDiscard (finset.len pages)
 frame_effect (Package areas owed commands) = Effect.TookPackage (finset.len owed)
-frame_effect End = Effect.TookEnd
+frame_effect (End urgent) = Effect.TookEnd
 frame_effect Resume = Effect.TookResume
 frame_effect (Request page) = Effect.TookRequest (PAGE_SIZE * page)
 frame_effect (Recv state owed) = Effect.TookRecv state (finset.len owed)
@@ -276,7 +282,8 @@ abbrev pub deliver_first : World → ℕ → List Sent → Answer
 deliver_first world n [] = Err Refusal.NothingThere
 deliver_first world n (sent ∷ rest) =
     if is_short world.forward sent.frame n then made (Effect.Moved n) (after_move world n)
-    else unless ((is_end sent.frame && not (is_empty world.destination.arrivals), Refusal.InstallFirst) ∷ []) (made (frame_effect sent.frame) (after_deliver world sent rest))
+    else unless ((is_end sent.frame && not (is_empty world.destination.arrivals), Refusal.InstallFirst) ∷ (is_early world.destination sent.frame, Refusal.UrgentFirst) ∷ [])
+    (made (frame_effect sent.frame) (after_deliver world sent rest))
 
 abbrev pub deliver : World → ℕ → Answer
 deliver world n = unless ((not (has_started world), Refusal.Phase) ∷ (not world.up, Refusal.Broken) ∷ []) (deliver_first world n world.forward.frames)
@@ -295,6 +302,23 @@ deliver_back_first world n (sent ∷ rest) =
 
 abbrev pub deliver_back : World → ℕ → Answer
 deliver_back world n = unless ((not (has_started world), Refusal.Phase) ∷ (not world.up, Refusal.Broken) ∷ []) (deliver_back_first world n world.back.frames)
+
+-- DeliverUrgent: bytes of the urgent wire reach the destination, which takes the frame that they complete once it has run
+
+abbrev pub after_deliver_urgent : World → Sent → List Sent → World
+after_deliver_urgent world sent rest = record world { destination = urgent_took world.destination sent.frame; urgent = wire_behind rest }
+
+abbrev pub after_move_urgent : World → ℕ → World
+after_move_urgent world n = record world { urgent = wire_moved world.urgent n }
+
+abbrev pub deliver_urgent_first : World → ℕ → List Sent → Answer
+deliver_urgent_first world n [] = Err Refusal.NothingThere
+deliver_urgent_first world n (sent ∷ rest) =
+    if is_short world.urgent sent.frame n then made (Effect.Moved n) (after_move_urgent world n)
+    else made (frame_effect sent.frame) (after_deliver_urgent world sent rest)
+
+abbrev pub deliver_urgent : World → ℕ → Answer
+deliver_urgent world n = unless ((not world.destination.has_run, Refusal.Phase) ∷ (not world.up, Refusal.Broken) ∷ []) (deliver_urgent_first world n world.urgent.frames)
 
 -- DestRead and DestAct: the destination's handler
 
@@ -340,7 +364,7 @@ install_first world (copy ∷ rest) =
 abbrev pub install : World → Answer
 install world = unless ((not world.destination.has_run, Refusal.Phase) ∷ []) (install_first world world.destination.arrivals)
 
--- Push, Serve and End: a stopped source sends what is owed
+-- Push, PushUrgent, Serve and End: a stopped source sends what is owed
 
 abbrev pub after_push : World → ℕ → World
 after_push world page = source_sends world (page_pushed world.source page) (page_frame page (bytes_of world.source page) ∷ [])
@@ -351,6 +375,20 @@ push world ticket =
     ((not (is_stopped world.source.phase), Refusal.Phase) ∷ (not world.up, Refusal.Broken) ∷ (not (ticket.epoch == world.source.epoch), Refusal.StaleEpoch)
     ∷ (not (is_present (space_of world.source) ticket.page), Refusal.PageNotSendable) ∷ (not (contains world.source.remaining ticket.page), Refusal.NotRemaining) ∷ [])
     (made (page_effect ticket.page (bytes_of world.source ticket.page)) (after_push world ticket.page))
+
+abbrev pub after_push_urgent : World → ℕ → World
+after_push_urgent world page =
+    record world {
+      source = urgent_pushed world.source page;
+      urgent = wire_with world.urgent world.source.epoch (page_frame page (bytes_of world.source page) ∷ []);
+    }
+
+abbrev pub push_urgent : World → Ticket → Answer
+push_urgent world ticket =
+    unless
+    ((not (is_stopped world.source.phase), Refusal.Phase) ∷ (not world.up, Refusal.Broken) ∷ (not (ticket.epoch == world.source.epoch), Refusal.StaleEpoch)
+    ∷ (not (is_present (space_of world.source) ticket.page), Refusal.PageNotSendable) ∷ (not (contains world.source.remaining ticket.page), Refusal.NotRemaining) ∷ [])
+    (made (page_effect ticket.page (bytes_of world.source ticket.page)) (after_push_urgent world ticket.page))
 
 abbrev pub after_serve : World → List ℕ → World
 after_serve world pages = record world { source = request_served world.source pages }
@@ -363,7 +401,7 @@ abbrev pub serve : World → Answer
 serve world = unless ((not (is_stopped world.source.phase), Refusal.Phase) ∷ (not world.up, Refusal.Broken) ∷ []) (serve_first world world.source.asked)
 
 abbrev pub after_end : World → World
-after_end world = source_sends world (record world.source { end_epoch = world.source.epoch }) (End ∷ [])
+after_end world = source_sends world (record world.source { end_epoch = world.source.epoch }) (End world.source.urgent_sent ∷ [])
 
 abbrev pub send_end : World → Answer
 send_end world =
@@ -375,7 +413,7 @@ send_end world =
 -- Break, Notice and Resume: the channel breaks, both sides notice it, and they go on over a new one in a new epoch
 
 abbrev pub after_break : World → World
-after_break world = record world { forward = empty_wire; back = empty_wire; up = false }
+after_break world = record world { forward = empty_wire; back = empty_wire; urgent = empty_wire; up = false }
 
 abbrev pub break : World → Answer
 break world =
@@ -392,7 +430,7 @@ notice world side =
     (made (Effect.Noticed side) (after_notice world side))
 
 abbrev pub after_resume : World → World
-after_resume world = source_sends (record world { up = true }) (record world.source { epoch = world.source.epoch + 1 }) (Resume ∷ [])
+after_resume world = source_sends (record world { up = true }) (record world.source { epoch = world.source.epoch + 1; urgent_sent = 0 }) (Resume ∷ [])
 
 abbrev pub resume : World → Answer
 resume world =
@@ -417,6 +455,8 @@ answer world Step.DestRead = read_at_destination world
 answer world Step.DestAct = act_at_destination world
 answer world Step.Install = install world
 answer world (Step.Push ticket) = push world ticket
+answer world (Step.PushUrgent ticket) = push_urgent world ticket
+answer world (Step.DeliverUrgent n) = deliver_urgent world n
 answer world Step.Serve = serve world
 answer world Step.End = send_end world
 answer world Step.Break = break world

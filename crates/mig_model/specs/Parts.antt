@@ -22,6 +22,7 @@ pub record Shrinks (old new : Wire) : Type 0 where
 pub record GuestAlone (old new : World) : Type 0 where
   pub forward : new.forward ≡ old.forward
   pub back : new.back ≡ old.back
+  pub urgent : new.urgent ≡ old.urgent
   pub up : new.up ≡ old.up
   pub source : old.destination.has_run ≡ true → new.source ≡ old.source
   pub destination : old.destination.has_run ≡ false → new.destination ≡ old.destination
@@ -31,6 +32,7 @@ pub record SourceAlone (old new : World) : Type 0 where
   pub destination : new.destination ≡ old.destination
   pub forward : Grows old.forward new.forward
   pub back : new.back ≡ old.back
+  pub urgent : new.urgent ≡ old.urgent
   pub up : new.up ≡ old.up
   pub transcript : new.transcript ≡ old.transcript
 
@@ -39,6 +41,7 @@ pub record DestinationAlone (old new : World) : Type 0 where
   pub source : new.source ≡ old.source
   pub forward : new.forward ≡ old.forward
   pub back : Grows old.back new.back
+  pub urgent : new.urgent ≡ old.urgent
   pub up : new.up ≡ old.up
   pub transcript : new.transcript ≡ old.transcript
 
@@ -47,6 +50,7 @@ pub record Delivers (old new : World) : Type 0 where
   pub source : new.source ≡ old.source
   pub forward : Shrinks old.forward new.forward
   pub back : Grows old.back new.back
+  pub urgent : new.urgent ≡ old.urgent
   pub up : new.up ≡ old.up
   pub transcript : new.transcript ≡ old.transcript
 
@@ -55,10 +59,29 @@ pub record DeliversBack (old new : World) : Type 0 where
   pub destination : new.destination ≡ old.destination
   pub forward : Grows old.forward new.forward
   pub back : Shrinks old.back new.back
+  pub urgent : new.urgent ≡ old.urgent
   pub up : new.up ≡ old.up
   pub transcript : new.transcript ≡ old.transcript
 
--- both wires, and the link
+-- the source, and the end of the urgent wire
+pub record UrgentAlone (old new : World) : Type 0 where
+  pub destination : new.destination ≡ old.destination
+  pub forward : new.forward ≡ old.forward
+  pub back : new.back ≡ old.back
+  pub urgent : Grows old.urgent new.urgent
+  pub up : new.up ≡ old.up
+  pub transcript : new.transcript ≡ old.transcript
+
+-- the front of the urgent wire, and the destination
+pub record DeliversUrgent (old new : World) : Type 0 where
+  pub source : new.source ≡ old.source
+  pub forward : new.forward ≡ old.forward
+  pub back : new.back ≡ old.back
+  pub urgent : Shrinks old.urgent new.urgent
+  pub up : new.up ≡ old.up
+  pub transcript : new.transcript ≡ old.transcript
+
+-- all wires, and the link
 pub record WiresAlone (old new : World) : Type 0 where
   pub source : new.source ≡ old.source
   pub destination : new.destination ≡ old.destination
@@ -73,12 +96,13 @@ pub record DestinationPhaseAlone (old new : World) : Type 0 where
   pub phase : DestPhase
   pub is : new ≡ record old { destination = record old.destination { phase = phase } }
 
--- the link, the source's epoch, and the end of the wire to the destination
+-- the link, the source's epoch with its count of urgent frames, and the end of the wire to the destination
 pub record LinkAlone (old new : World) : Type 0 where
-  pub source : new.source ≡ record old.source { epoch = new.source.epoch }
+  pub source : new.source ≡ record old.source { epoch = new.source.epoch; urgent_sent = new.source.urgent_sent }
   pub destination : new.destination ≡ old.destination
   pub forward : Grows old.forward new.forward
   pub back : new.back ≡ old.back
+  pub urgent : new.urgent ≡ old.urgent
   pub transcript : new.transcript ≡ old.transcript
 
 -- the parts that a step may change
@@ -97,6 +121,8 @@ ChangesParts old Step.DestRead new = DestinationAlone old new
 ChangesParts old Step.DestAct new = DestinationAlone old new
 ChangesParts old Step.Install new = DestinationAlone old new
 ChangesParts old (Step.Push ticket) new = SourceAlone old new
+ChangesParts old (Step.PushUrgent ticket) new = UrgentAlone old new
+ChangesParts old (Step.DeliverUrgent n) new = DeliversUrgent old new
 ChangesParts old Step.Serve new = SourceAlone old new
 ChangesParts old Step.End new = SourceAlone old new
 ChangesParts old Step.Break new = WiresAlone old new

@@ -1,5 +1,5 @@
 -- The promises of the whole migration, as words for its laws.
-use Rattle.std.specs.Prelude.{length, ◌≢◌, ◌≡◌, ℕ, ◌+◌, ◌-◌, ◌/◌, ◌<◌, ◌||◌, nat_lt, ◌==◌, if◌then◌else◌, Bool, true, false, Some, None, List, [], Option, ◌∷◌}
+use Rattle.std.specs.Prelude.{length, ◌≢◌, ◌≡◌, ℕ, ◌+◌, ◌-◌, ◌/◌, ◌<◌, ◌≤◌, ◌||◌, nat_lt, ◌==◌, if◌then◌else◌, Bool, true, false, Some, None, is_some, List, [], Option, ◌∷◌}
 use Rattle.std.specs.FinMap as finmap
 use Rattle.std.specs.FinMap.{get, contains_key}
 use Rattle.std.specs.FinSet.{contains}
@@ -19,16 +19,16 @@ use Rattle.mig_base.specs.Flat.{memory_of}
 use Rattle.mig_model.specs.Host.{memory}
 use Rattle.mig_base.specs.Commands.{is_access}
 use Rattle.mig_model.specs.Space.{Space, fresh_space}
-use Rattle.mig_model.specs.Wire.{Frame, Sent, wire_behind, wire_with}
+use Rattle.mig_model.specs.Wire.{Frame, Sent, copy_in, wire_behind, wire_with}
 use Rattle.mig_model.specs.Wire.Frame.{Advise, Page, Zero, Discard, Package, End, Resume, Request, Recv, Done}
 use Rattle.mig_model.specs.Migration.{World, guest_of, first_world_with, after_steps}
-use Rattle.mig_model.specs.Invariant.{copies_of, has_copy, AreFaithful}
+use Rattle.mig_model.specs.Invariant.{copies_of, has_copy, AreFaithful, is_urgent_or_left}
 use Rattle.mig_model.specs.Cpus.{outstanding, processor_at}
 use Rattle.mig_model.specs.Cpus.Took.{Sleep}
 use Rattle.mig_model.specs.Guest.{is_present, took_by}
 use Rattle.mig_model.specs.Log.{no_pages}
 use Rattle.mig_model.specs.Source.{Source, is_released, is_source_paused, is_stopped, source_answers, source_took, space_of}
-use Rattle.mig_model.specs.Destination.{Destination, destination_answers, destination_took, settled}
+use Rattle.mig_model.specs.Destination.{Destination, destination_answers, destination_took, is_running, settled, urgent_took}
 
 -- a world that some list of steps leads to, from a first world with some counts
 pub record IsReached (world : World) : Type 0 where
@@ -63,12 +63,13 @@ pub record ArePaired (world : World) : Type 0 where
   pub missing : (page origin : ℕ) → settled world.destination page ≡ Some origin → is_present world.destination.guest.space page ≡ false
   pub ended : world.destination.ended ≡ true → (world.destination.owed ≡ finmap.empty) × (world.destination.arrivals ≡ [])
 
--- where the destination has run: while the link is up and the source is stopped, each owed page is to be pushed, in flight, or
--- arrived; and each copy in flight or arrived has the bytes that the source holds for its page
+-- where the destination has run: while the link is up and the source is stopped, each owed page is to be pushed, in flight on either
+-- wire, or arrived; and each copy in flight or arrived has the bytes that the source holds for its page
 pub record AreUnderWay (world : World) : Type 0 where
   pub whereabouts : world.up ≡ true → is_stopped world.source.phase ≡ true → (page origin : ℕ) → get world.destination.owed page ≡ Some origin →
-      (contains world.source.remaining origin || has_copy (copies_of world.forward.frames) origin || has_copy world.destination.arrivals origin) ≡ true
+      (is_urgent_or_left world.source.remaining world.urgent.frames origin || has_copy (copies_of world.forward.frames) origin || has_copy world.destination.arrivals origin) ≡ true
   pub in_flight : AreFaithful (space_of world.source).host.bytes (copies_of world.forward.frames)
+  pub urgent : AreFaithful (space_of world.source).host.bytes (copies_of world.urgent.frames)
   pub arrived : AreFaithful (space_of world.source).host.bytes world.destination.arrivals
 
 -- a copy was installed: the page was missing, mapped and registered, it was owed from a page of the source, and it is present with
@@ -103,7 +104,7 @@ is_in_place DestPhase.Advised (Discard pages) = true
 is_in_place DestPhase.Discarding (Package areas owed commands) = true
 is_in_place DestPhase.Running (Page page bytes) = true
 is_in_place DestPhase.Running (Zero page) = true
-is_in_place DestPhase.Running End = true
+is_in_place DestPhase.Running (End urgent) = true
 is_in_place DestPhase.Paused Resume = true
 is_in_place phase frame = false
 
@@ -114,14 +115,15 @@ IsOwnEpoch node epoch Resume = node.epoch < epoch
 IsOwnEpoch node epoch frame = epoch ≡ node.epoch
 
 -- what a frame carries is right. Of a Package: no page that it owes is kept, all of both are mapped, and it has as many processors
--- as the destination. End does not come while a page is owed and no copy waits
+-- as the destination. End tells no fewer urgent frames than came, and does not come while a page is owed, no copy waits and all of them
+-- came
 abbrev pub IsGood : Destination → Frame → Type 0
 IsGood node (Package areas owed commands) =
     ((page : ℕ) → contains owed page ≡ true → contains_key node.kept page ≡ false)
     × ((page : ℕ) → contains owed page ≡ true → contains_key areas page ≡ true)
     × ((page : ℕ) → contains_key node.kept page ≡ true → contains_key areas page ≡ true)
     × (length commands ≡ length node.guest.cpus)
-IsGood node End = node.arrivals ≡ [] → node.owed ≡ finmap.empty
+IsGood node (End urgent) = (node.urgent_taken ≤ urgent) × (node.arrivals ≡ [] → urgent ≤ node.urgent_taken → node.owed ≡ finmap.empty)
 IsGood node frame = Unit {0}
 
 -- a destination takes a frame
@@ -129,6 +131,12 @@ pub record IsTaken (node : Destination) (sent : Sent) : Type 0 where
   pub in_place : is_in_place node.phase sent.frame ≡ true
   pub own_epoch : IsOwnEpoch node sent.epoch sent.frame
   pub good : IsGood node sent.frame
+
+-- a destination that runs takes a frame of the urgent wire: a copy, of its epoch
+pub record IsTakenUrgent (node : Destination) (sent : Sent) : Type 0 where
+  pub runs : is_running node.phase ≡ true
+  pub own_epoch : sent.epoch ≡ node.epoch
+  pub copy : is_some (copy_in sent.frame) ≡ true
 
 -- the frames that a source takes: a request while it is stopped, Done then once it has sent End, and while it is paused a Recv whose
 -- pages it has. Only a destination that runs lists pages, and one runs or has ended only after the switch
@@ -203,6 +211,17 @@ pub record IsDeliveredBack (old new : World) (sent : Sent) (rest : List Sent) : 
   pub source : new.source ≡ source_took old.source sent.frame
   pub back : new.back ≡ wire_behind rest
   pub forward : new.forward ≡ wire_with old.forward new.source.epoch (source_answers old.source sent.frame)
+
+-- the same of the urgent wire and the destination, which answers nothing
+pub record IsDeliveredUrgent (old new : World) (sent : Sent) (rest : List Sent) : Type 0 where
+  pub destination : new.destination ≡ urgent_took old.destination sent.frame
+  pub urgent : new.urgent ≡ wire_behind rest
+
+-- the steps that take from the urgent wire
+abbrev pub takes_urgent : Step → Bool
+takes_urgent (Step.DeliverUrgent n) = true
+takes_urgent Step.Break = true
+takes_urgent step = false
 
 -- the steps that take from the wire to the destination, and those that take from the wire back
 abbrev pub takes_forward : Step → Bool

@@ -35,6 +35,8 @@ pub record Source : Type 0 where
   -- owed pages that were not sent yet in this epoch, and pages that the destination has asked for, in that order
   pub remaining : FinSet nat_cmp
   pub asked : List ℕ
+  -- how many frames it has put on the urgent wire in this epoch
+  pub urgent_sent : ℕ
   -- how many pages the last Package owed
   pub packaged : ℕ
   -- rounds made, pages sent, and fault messages read
@@ -57,6 +59,7 @@ first_source cpus epoch rounds =
       log = empty_log;
       remaining = no_pages;
       asked = [];
+      urgent_sent = 0;
       packaged = 0;
       rounds = rounds;
       pages_sent = 0;
@@ -167,6 +170,10 @@ switch_frames node = package_frames node (less node.log.sent node.log.clean) (no
 
 abbrev pub page_pushed : Source → ℕ → Source
 page_pushed node page = record node { remaining = finset.remove node.remaining page; pages_sent = node.pages_sent + 1 }
+
+-- the same, where the page goes on the urgent wire
+abbrev pub urgent_pushed : Source → ℕ → Source
+urgent_pushed node page = record (page_pushed node page) { urgent_sent = node.urgent_sent + 1 }
 
 abbrev pub request_served : Source → List ℕ → Source
 request_served node pages = record node { asked = pages }

@@ -22,8 +22,8 @@ pub data Frame : Type 0 where
   Discard : (pages : FinSet nat_cmp) → Frame
   -- the mapped pages, which of the present ones are still to come, and each processor's outstanding command: the destination runs
   Package : (areas : FinMap nat_cmp Prot) → (owed : FinSet nat_cmp) → (commands : List (Option Command)) → Frame
-  -- nothing more is sent
-  End : Frame
+  -- nothing more is sent, and how many frames were put on the urgent wire in this epoch
+  End : (urgent : ℕ) → Frame
   -- the channel is up again
   Resume : Frame
   -- back to the source: a page is asked for

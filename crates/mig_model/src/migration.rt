@@ -19,12 +19,12 @@ ghost use Rattle.mig_model.specs.Guest.{is_present, took_by};
 ghost use Rattle.mig_model.specs.Source.{is_released, switch_frames, space_of, is_precopy, is_stopped, is_source_paused};
 ghost use Rattle.mig_model.specs.Destination.{settled, is_running};
 ghost use Rattle.mig_model.specs.Wire.{Sent, Copy, empty_wire, wire_with};
-ghost use Rattle.mig_model.specs.Migration.{World, guest_of, is_short, after_move, after_move_back, outcome, next, first_world, after_steps};
-ghost use Rattle.mig_model.specs.Invariant.{IsSoundWorld, AreSoundCalls, IsPrecopying, IsSwitching, IsReceiving, current_host, package_in};
+ghost use Rattle.mig_model.specs.Migration.{World, guest_of, is_short, after_move, after_move_back, after_move_urgent, outcome, next, first_world, after_steps};
+ghost use Rattle.mig_model.specs.Invariant.{IsSoundWorld, AreSoundUrgent, AreSoundCalls, IsPrecopying, IsSwitching, IsReceiving, current_host, package_in};
 ghost use Rattle.mig_base.specs.declared.step.WorldPhase.{WorldPhase};
 ghost use Rattle.mig_model.specs.Views.{phase_of, new_world_with};
 ghost use Rattle.mig_model.specs.Parts.{Grows, ChangesParts};
-ghost use Rattle.mig_model.specs.Promises.{AreAccesses, IsReached, IsComplete, IsAlone, ArePaired, AreUnderWay, IsPut, IsZeroed, IsTaken, keeps_remaining, IsInPlaceBack, owed_changed, leaves_settled, is_retry_of, IsDelivered, IsDeliveredBack, takes_forward, takes_back, is_break, is_recv, is_last, Completes, CanComplete, has_recv, Slept};
+ghost use Rattle.mig_model.specs.Promises.{AreAccesses, IsReached, IsComplete, IsAlone, ArePaired, AreUnderWay, IsPut, IsZeroed, IsTaken, IsTakenUrgent, keeps_remaining, IsInPlaceBack, owed_changed, leaves_settled, is_retry_of, IsDelivered, IsDeliveredBack, IsDeliveredUrgent, takes_forward, takes_back, takes_urgent, is_break, is_recv, is_last, Completes, CanComplete, has_recv, Slept};
 
 /// The commands in the transcript, made in turn on one flat memory, give the replies in it, and what the guest sees is that memory at
 /// the end. Before the destination runs it is the source's; from then on each page is the destination's own, or that of the source
@@ -61,10 +61,10 @@ pub fn clean_copies()
 {}
 
 /// While a Package is in flight, and so between Switch and the run of the destination as long as the link is up: what will be kept when the Package is taken is what the
-/// source has and does not owe, and each page that it owes is still to be pushed, or is behind it with the source's bytes.
+/// source has and does not owe, and each page that it owes is still to be pushed, on the urgent wire, or behind it with the source's bytes.
 pub fn a_package_tells_the_source()
-    ensures in_flight { (world : World) → IsReached world → is_some (package_in world.forward.frames) ≡ true → IsSwitching world.source world.destination.kept world.forward.frames }
-    ensures before_run { (world : World) → IsReached world → world.up ≡ true → is_stopped world.source.phase ≡ true → world.destination.has_run ≡ false → IsSwitching world.source world.destination.kept world.forward.frames }
+    ensures in_flight { (world : World) → IsReached world → is_some (package_in world.forward.frames) ≡ true → IsSwitching world.source world.destination.kept world.forward.frames world.urgent.frames }
+    ensures before_run { (world : World) → IsReached world → world.up ≡ true → is_stopped world.source.phase ≡ true → world.destination.has_run ≡ false → IsSwitching world.source world.destination.kept world.forward.frames world.urgent.frames }
 {}
 
 /// While a Recv of a destination that runs is in flight, and so after a resumption until the source has taken it: its list has each page that the destination still needs, and the source has
@@ -88,7 +88,7 @@ pub fn what_a_switch_owes()
     ensures sends { (world : World) → IsOk (outcome world Step.Switch) → (next world Step.Switch).forward ≡ wire_with world.forward world.source.epoch (switch_frames world.source) }
 {}
 
-/// Once the destination has run, each owed page is to be pushed, in flight, or arrived, and each copy of it has the bytes that the
+/// Once the destination has run, each owed page is to be pushed, in flight on either wire, or arrived, and each copy of it has the bytes that the
 /// source holds.
 pub fn owed_pages_are_under_way()
     ensures { (world : World) → IsReached world → world.destination.has_run ≡ true → AreUnderWay world }
@@ -119,11 +119,12 @@ pub fn no_page_is_installed_over_another()
 {}
 
 /// No frame is refused, after any number of resumptions: while the link is up the first frame of each wire is in place, of the right
-/// epoch, and right.
+/// epoch, and right. Those of the urgent wire are copies, and come while the destination runs.
 pub fn no_frame_is_refused()
     ensures forward { (world : World) (sent : Sent) (rest : List Sent) → IsReached world → world.up ≡ true → world.forward.frames ≡ sent ∷ rest → IsTaken world.destination sent }
     ensures back { (world : World) (sent : Sent) (rest : List Sent) → IsReached world → world.up ≡ true → world.back.frames ≡ sent ∷ rest → IsInPlaceBack world.source sent.frame }
     ensures back_epoch { (world : World) (sent : Sent) (rest : List Sent) → IsReached world → world.back.frames ≡ sent ∷ rest → sent.epoch ≡ world.source.epoch }
+    ensures urgent { (world : World) (sent : Sent) (rest : List Sent) → IsReached world → world.destination.has_run ≡ true → world.up ≡ true → world.urgent.frames ≡ sent ∷ rest → IsTakenUrgent world.destination sent }
 {}
 
 /// A command that waits is changed by no step but the Retry of its processor: the processor still has to make it, on whichever node it
@@ -161,17 +162,24 @@ pub fn what_is_entered()
         (next world (Step.Retry cpu)).transcript ≡ world.transcript ++ entries_of cpu command (took_by (is_access command) (guest_of world).space command) }
 {}
 
-/// A page that is pushed remains no longer, and no page comes to remain but by Switch and by the taking of a Recv. Neither comes behind
-/// a Push in its epoch: as long as the epoch is that of the Push no Switch is accepted, and no Recv is the next frame of the wire back.
+/// A page that is pushed, on either wire, remains no longer, and no page comes to remain but by Switch and by the taking of a Recv. Neither comes behind
+/// a Push or PushUrgent in its epoch: as long as the epoch is that of the push no Switch is accepted, and no Recv is the next frame of the wire back.
 pub fn pages_that_remain()
     ensures push { (world : World) (ticket : Ticket) (q : ℕ) → IsOk (outcome world (Step.Push ticket)) →
         contains (next world (Step.Push ticket)).source.remaining q ≡ (not (q == ticket.page) && contains world.source.remaining q) }
+    ensures push_urgent { (world : World) (ticket : Ticket) (q : ℕ) → IsOk (outcome world (Step.PushUrgent ticket)) →
+        contains (next world (Step.PushUrgent ticket)).source.remaining q ≡ (not (q == ticket.page) && contains world.source.remaining q) }
     ensures shrinks { (world : World) (step : Step) (q : ℕ) → keeps_remaining step ≡ true → contains (next world step).source.remaining q ≡ true → contains world.source.remaining q ≡ true }
     ensures no_switch { (world : World) (ticket : Ticket) (steps : List Step) → IsReached world → IsOk (outcome world (Step.Push ticket)) →
         (after_steps (next world (Step.Push ticket)) steps).source.epoch ≡ world.source.epoch → IsOk (outcome (after_steps (next world (Step.Push ticket)) steps) Step.Switch) → ⊥ }
     ensures no_recv { (world : World) (ticket : Ticket) (steps : List Step) (sent : Sent) (rest : List Sent) → IsReached world → IsOk (outcome world (Step.Push ticket)) →
         (after_steps (next world (Step.Push ticket)) steps).source.epoch ≡ world.source.epoch → (after_steps (next world (Step.Push ticket)) steps).up ≡ true →
         (after_steps (next world (Step.Push ticket)) steps).back.frames ≡ sent ∷ rest → is_recv sent.frame ≡ true → ⊥ }
+    ensures no_switch_urgent { (world : World) (ticket : Ticket) (steps : List Step) → IsReached world → IsOk (outcome world (Step.PushUrgent ticket)) →
+        (after_steps (next world (Step.PushUrgent ticket)) steps).source.epoch ≡ world.source.epoch → IsOk (outcome (after_steps (next world (Step.PushUrgent ticket)) steps) Step.Switch) → ⊥ }
+    ensures no_recv_urgent { (world : World) (ticket : Ticket) (steps : List Step) (sent : Sent) (rest : List Sent) → IsReached world → IsOk (outcome world (Step.PushUrgent ticket)) →
+        (after_steps (next world (Step.PushUrgent ticket)) steps).source.epoch ≡ world.source.epoch → (after_steps (next world (Step.PushUrgent ticket)) steps).up ≡ true →
+        (after_steps (next world (Step.PushUrgent ticket)) steps).back.frames ≡ sent ∷ rest → is_recv sent.frame ≡ true → ⊥ }
     ensures back { (world : World) (n : ℕ) (sent : Sent) (rest : List Sent) (q : ℕ) → world.back.frames ≡ sent ∷ rest → is_recv sent.frame ≡ false →
         contains (next world (Step.DeliverBack n)).source.remaining q ≡ true → contains world.source.remaining q ≡ true }
 {}
@@ -188,14 +196,19 @@ pub fn a_delivery_is_a_function()
         IsDeliveredBack world (next world (Step.DeliverBack n)) sent rest }
     ensures back_short { (world : World) (n : ℕ) (sent : Sent) (rest : List Sent) → IsOk (outcome world (Step.DeliverBack n)) → world.back.frames ≡ sent ∷ rest → is_short world.back sent.frame n ≡ true →
         (outcome world (Step.DeliverBack n) ≡ Ok (Effect.Moved n)) × (next world (Step.DeliverBack n) ≡ after_move_back world n) }
+    ensures urgent { (world : World) (n : ℕ) (sent : Sent) (rest : List Sent) → IsOk (outcome world (Step.DeliverUrgent n)) → world.urgent.frames ≡ sent ∷ rest → is_short world.urgent sent.frame n ≡ false →
+        IsDeliveredUrgent world (next world (Step.DeliverUrgent n)) sent rest }
+    ensures urgent_short { (world : World) (n : ℕ) (sent : Sent) (rest : List Sent) → IsOk (outcome world (Step.DeliverUrgent n)) → world.urgent.frames ≡ sent ∷ rest → is_short world.urgent sent.frame n ≡ true →
+        (outcome world (Step.DeliverUrgent n) ≡ Ok (Effect.Moved n)) × (next world (Step.DeliverUrgent n) ≡ after_move_urgent world n) }
 {}
 
 /// The wires keep the order of their frames, and lose them only by Break: every step but a delivery and Break only puts frames at the
-/// end of a wire. Break empties both wires and takes the link down, and no other step takes it down.
+/// end of a wire. Break empties all three wires and takes the link down, and no other step takes it down.
 pub fn the_wires()
     ensures forward { (world : World) (step : Step) → takes_forward step ≡ false → Grows world.forward (next world step).forward }
     ensures back { (world : World) (step : Step) → takes_back step ≡ false → Grows world.back (next world step).back }
-    ensures broken { (world : World) → IsOk (outcome world Step.Break) → ((next world Step.Break).forward ≡ empty_wire) × ((next world Step.Break).back ≡ empty_wire) × ((next world Step.Break).up ≡ false) }
+    ensures urgent { (world : World) (step : Step) → takes_urgent step ≡ false → Grows world.urgent (next world step).urgent }
+    ensures broken { (world : World) → IsOk (outcome world Step.Break) → ((next world Step.Break).forward ≡ empty_wire) × ((next world Step.Break).back ≡ empty_wire) × ((next world Step.Break).urgent ≡ empty_wire) × ((next world Step.Break).up ≡ false) }
     ensures up { (world : World) (step : Step) → is_break step ≡ false → world.up ≡ true → (next world step).up ≡ true }
 {}
 
@@ -218,5 +231,6 @@ pub fn each_step_changes_its_parts()
 
 /// What every world keeps, clause by clause.
 pub fn the_invariant()
-    ensures { (world : World) → IsReached world → IsSoundWorld world }
+    ensures world { (world : World) → IsReached world → IsSoundWorld world }
+    ensures urgent { (world : World) → IsReached world → AreSoundUrgent world }
 {}

@@ -1,5 +1,5 @@
 use Rattle.mig_model.specs.Migration.{after_steps}
-use Rattle.mig_model.proofs.EveryStep.{kept-reached, kept-after_steps, complete-after_steps}
+use Rattle.mig_model.proofs.EveryStep.{kept-reached, urgent-reached, kept-after_steps, complete-after_steps}
 use Rattle.mig_model.proofs.WirePromises.{completes_by, completes_only}
 use Rattle.mig_model.proofs.PromiseLemmas.{is_alone}
 use Rattle.mig_model.proofs.migration.completion.Goals as goal
@@ -10,8 +10,9 @@ returns-clause-alone c world reached done = is_alone world (kept-reached world r
 pub returns-clause-stays : goal.returns-clause-stays
 returns-clause-stays c world steps reached done =
     let kept = kept-reached world reached in
-    let still = complete-after_steps world steps kept done in
-    (still, is_alone (after_steps world steps) (kept-after_steps world steps kept) still)
+    let urgent = urgent-reached world reached in
+    let still = complete-after_steps world steps kept urgent done in
+    (still, is_alone (after_steps world steps) (kept-after_steps world steps kept urgent) still)
 
 pub returns-clause-taken : goal.returns-clause-taken
 returns-clause-taken c world n sent rest ok first full last = completes_by world n sent rest ok first full last

@@ -1,6 +1,6 @@
-use Rattle.mig_model.proofs.EveryStep.{kept-reached}
+use Rattle.mig_model.proofs.EveryStep.{kept-reached, urgent-reached}
 use Rattle.mig_model.proofs.PromiseLemmas.{are_under_way}
 use Rattle.mig_model.proofs.migration.owed_pages_are_under_way.Goals as goal
 
 pub returns : goal.returns
-returns c world reached ran = are_under_way world (kept-reached world reached) ran
+returns c world reached ran = are_under_way world (kept-reached world reached) (urgent-reached world reached) ran

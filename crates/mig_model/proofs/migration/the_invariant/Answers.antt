@@ -1,5 +1,8 @@
-use Rattle.mig_model.proofs.EveryStep.{kept-reached}
+use Rattle.mig_model.proofs.EveryStep.{kept-reached, urgent-reached}
 use Rattle.mig_model.proofs.migration.the_invariant.Goals as goal
 
-pub returns : goal.returns
-returns c world reached = kept-reached world reached
+pub returns-clause-world : goal.returns-clause-world
+returns-clause-world c world reached = kept-reached world reached
+
+pub returns-clause-urgent : goal.returns-clause-urgent
+returns-clause-urgent c world reached = urgent-reached world reached

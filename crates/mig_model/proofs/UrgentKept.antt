@@ -1,0 +1,257 @@
+-- PushUrgent and DeliverUrgent keep what every world keeps: a page goes from those that remain to the urgent wire, and from there to the
+-- copies that have arrived.
+use Rattle.std.proofs.Common.{◌≡◌, ◌≢◌, ℕ, ◌&&◌, ◌||◌, Bool, true, false, not, eqb, Some, is_some, List, [], ◌∷◌, ◌++◌, refl, sym, ap, ◌∙◌, subst, ⊎_elim, length}
+use Rattle.std.specs.Ordering.{nat_cmp}
+use Rattle.std.specs.FinMap.{FinMap, get}
+use Rattle.std.specs.FinSet as finset
+use Rattle.std.specs.FinSet.{FinSet, contains}
+use Rattle.std.proofs.lemmas.Bool.{false≢true}
+use Rattle.mig_base.specs.declared.phase.DestPhase.{DestPhase}
+use Rattle.mig_base.specs.declared.phase.SourcePhase.{SourcePhase}
+use Rattle.mig_base.specs.Bytes.{zero_page}
+use Rattle.mig_base.proofs.SetLemmas.{member_removed}
+use Rattle.mig_model.specs.Wire.{Frame, Sent, Copy, page_frame, wire_behind, copy_in}
+use Rattle.mig_model.specs.Wire.Frame.{Page, Zero}
+use Rattle.mig_model.specs.Migration.{World, after_deliver_urgent, after_push_urgent}
+use Rattle.mig_model.specs.Source.{Source, is_stopped, bytes_of, space_of, urgent_pushed}
+use Rattle.mig_model.specs.Invariant.{AreFaithful, AreSoundUrgent, IsSoundWorld, IsSwitching, StoppedWires, are_copies, behind, copies_of, has_copy, is_urgent_or_left, AreOf, EpochAt}
+use Rattle.mig_model.specs.Destination.{urgent_came, is_running}
+use Rattle.mig_model.specs.Log.{present}
+use Rattle.mig_model.specs.Guest.{is_present}
+use Rattle.mig_model.proofs.Facts.{AreFaithful-append, copies_of-append, eqb-self, none_absurd, not_up, same_or_other, and_left}
+use Rattle.mig_model.proofs.SendingLemmas.{copies_of-page, has_copy-append}
+use Rattle.mig_model.proofs.Stopping.{in_phases, not_ended, or_true, present_bytes, stopped_at, stopped_not_released, was_there}
+use Rattle.mig_model.specs.Promises.{IsTakenUrgent}
+
+-- PushUrgent
+
+moved_page : (left urgent more : Bool) → (left || urgent) ≡ true → (left || (urgent || more)) ≡ true
+moved_page true urgent more h = refl
+moved_page false true more h = refl
+moved_page false false more h = none_absurd h
+
+still_urgent : (remaining : FinSet nat_cmp) (urgent : List Sent) (sent : Sent) (page q : ℕ) (bytes : List ℕ) → copies_of (urgent ++ sent ∷ []) ≡ copies_of urgent ++ record { page = page; bytes = bytes } ∷ [] →
+    is_urgent_or_left remaining urgent q ≡ true → is_urgent_or_left (finset.remove remaining page) (urgent ++ sent ∷ []) q ≡ true
+still_urgent remaining urgent sent page q bytes copies h =
+    ap (λ b. b || has_copy (copies_of (urgent ++ sent ∷ [])) q) (member_removed remaining page q)
+    ∙ ap (λ c. (not (eqb q page) && contains remaining q) || has_copy c q) copies
+    ∙ ap (λ b. (not (eqb q page) && contains remaining q) || b) (has_copy-append (copies_of urgent) (record { page = page; bytes = bytes } ∷ []) q)
+    ∙ ⊎_elim
+    (λ (same : q ≡ page). rw (same, eqb-self page) (or_true (has_copy (copies_of urgent) page)))
+    (λ (other : eqb q page ≡ false). rw other (moved_page (contains remaining q) (has_copy (copies_of urgent) q) (eqb page q || false) h))
+    (same_or_other q page)
+
+first_by : (a new b : Bool) → (a ≡ true → new ≡ true) → (a || b) ≡ true → (new || b) ≡ true
+first_by true new b h k = ap (λ t. t || b) (h refl)
+first_by false true b h k = refl
+first_by false false b h k = k
+
+first_of_three : (a new b c : Bool) → (a ≡ true → new ≡ true) → (a || b || c) ≡ true → (new || b || c) ≡ true
+first_of_three true new b c h k = ap (λ t. t || b || c) (h refl)
+first_of_three false true b c h k = refl
+first_of_three false false b c h k = k
+
+urgent_switching : (source : Source) (kept : FinMap nat_cmp (List ℕ)) (forward urgent : List Sent) (sent : Sent) (page : ℕ) (bytes : List ℕ) → copies_of (urgent ++ sent ∷ []) ≡ copies_of urgent ++ record { page = page; bytes = bytes } ∷ [] →
+    IsSwitching source kept forward urgent → IsSwitching (urgent_pushed source page) kept forward (urgent ++ sent ∷ [])
+urgent_switching source kept forward urgent sent page bytes copies old =
+    record {
+      owed = old.owed;
+      plan = old.plan;
+      owed_present = old.owed_present;
+      kept_rest = old.kept_rest;
+      whereabouts = λ q owes.
+          first_by (is_urgent_or_left source.remaining urgent q) (is_urgent_or_left (finset.remove source.remaining page) (urgent ++ sent ∷ []) q) (has_copy (copies_of (behind forward)) q)
+          (still_urgent source.remaining urgent sent page q bytes copies) (old.whereabouts q owes);
+      faithful = old.faithful;
+    }
+
+urgent_wires : (to : DestPhase) (world : World) (sent : Sent) (page : ℕ) (bytes : List ℕ) → copies_of (world.urgent.frames ++ sent ∷ []) ≡ copies_of world.urgent.frames ++ record { page = page; bytes = bytes } ∷ [] →
+    StoppedWires (stopped_at to world).source (stopped_at to world).destination world.forward.frames world.back.frames world.urgent.frames →
+    StoppedWires (urgent_pushed (stopped_at to world).source page) (stopped_at to world).destination world.forward.frames world.back.frames (world.urgent.frames ++ sent ∷ [])
+urgent_wires DestPhase.Idle world sent page bytes copies old =
+    (old.0, old.1, urgent_switching (stopped_at DestPhase.Idle world).source world.destination.kept world.forward.frames world.urgent.frames sent page bytes copies old.2)
+urgent_wires DestPhase.Advised world sent page bytes copies old =
+    (old.0, old.1, urgent_switching (stopped_at DestPhase.Advised world).source world.destination.kept world.forward.frames world.urgent.frames sent page bytes copies old.2)
+urgent_wires DestPhase.Discarding world sent page bytes copies old =
+    (old.0, old.1, urgent_switching (stopped_at DestPhase.Discarding world).source world.destination.kept world.forward.frames world.urgent.frames sent page bytes copies old.2)
+urgent_wires DestPhase.Running world sent page bytes copies old = (
+  old.0,
+  old.1,
+  record {
+    whereabouts = λ q origin owed.
+        first_of_three (is_urgent_or_left world.source.remaining world.urgent.frames origin) (is_urgent_or_left (finset.remove world.source.remaining page) (world.urgent.frames ++ sent ∷ []) origin)
+        (has_copy (copies_of world.forward.frames) origin) (has_copy world.destination.arrivals origin)
+        (still_urgent world.source.remaining world.urgent.frames sent page origin bytes copies) (old.2.whereabouts q origin owed);
+  },
+)
+urgent_wires DestPhase.Paused world sent page bytes copies old = absurd old
+urgent_wires DestPhase.Ended world sent page bytes copies old = old
+
+urgent_in : (from : SourcePhase) (to : DestPhase) (world : World) (page : ℕ) → is_stopped from ≡ true → world.up ≡ true → is_present (space_of world.source) page ≡ true → contains world.source.remaining page ≡ true →
+    IsSoundWorld (in_phases from to world) → IsSoundWorld (after_push_urgent (in_phases from to world) page)
+urgent_in SourcePhase.Stopped to world page stopped up present remains kept =
+    let source = world.source in
+    let bytes = (space_of source).host.bytes in
+    let sent : Sent = record { epoch = source.epoch; frame = page_frame page (bytes_of source page) } in
+    let held : get bytes page ≡ Some (bytes_of source page) = present_bytes (get bytes page) present in
+    let whole : length (bytes_of source page) ≡ 4096 = kept.spaces.source_space.host.whole page (bytes_of source page) held in
+    let other = not_ended source page kept.pushing.end_sent remains in
+    let copies : copies_of (world.urgent.frames ++ sent ∷ []) ≡ copies_of world.urgent.frames ++ record { page = page; bytes = bytes_of source page } ∷ [] =
+    copies_of-append world.urgent.frames (sent ∷ []) ∙ ap (λ c. copies_of world.urgent.frames ++ c) (copies_of-page source.epoch page (bytes_of source page) whole) in
+    record {
+      memory = kept.memory;
+      spaces = kept.spaces;
+      phases = kept.phases;
+      precopy = kept.precopy;
+      pushing = record {
+        before_switch = λ h. absurd (false≢true (sym h ∙ kept.phases.source_phase));
+        end_sent = λ h. absurd (other h);
+        remaining_present = λ q h. kept.pushing.remaining_present q (was_there source.remaining page q h);
+        ended_before = kept.pushing.ended_before;
+        paused_fresh = kept.pushing.paused_fresh;
+        released_empty = λ h. absurd (stopped_not_released h);
+      };
+      copies = kept.copies;
+      owing = kept.owing;
+      flight = record {
+        flight_faithful = kept.flight.flight_faithful;
+        down = λ h. absurd (false≢true (sym h ∙ up));
+        wires = λ h. urgent_wires to world sent page (bytes_of source page) copies (kept.flight.wires h);
+      };
+      epochs = kept.epochs;
+      held = kept.held;
+    }
+urgent_in SourcePhase.Idle to world page stopped up present remains kept = none_absurd stopped
+urgent_in SourcePhase.Precopy to world page stopped up present remains kept = none_absurd stopped
+urgent_in SourcePhase.Paused to world page stopped up present remains kept = none_absurd stopped
+urgent_in SourcePhase.Released to world page stopped up present remains kept = none_absurd stopped
+
+pub kept-push_urgent : (world : World) (page : ℕ) → IsSoundWorld world → is_stopped world.source.phase ≡ true → world.up ≡ true → is_present (space_of world.source) page ≡ true → contains world.source.remaining page ≡ true → IsSoundWorld (after_push_urgent world page)
+kept-push_urgent world page kept stopped up present remains = urgent_in world.source.phase world.destination.phase world page stopped up present remains kept
+
+-- DeliverUrgent
+
+-- it is no longer on the urgent wire, and has arrived
+came_urgent : (remains here urgent flies waits : Bool) → ((remains || (here || urgent)) || flies || waits) ≡ true → ((remains || urgent) || flies || (waits || (here || false))) ≡ true
+came_urgent true here urgent flies waits h = refl
+came_urgent false here true flies waits h = refl
+came_urgent false here false true waits h = refl
+came_urgent false here false false true h = refl
+came_urgent false true false false false h = refl
+came_urgent false false false false false h = none_absurd h
+
+-- where a frame of the urgent wire is taken the source is stopped and the destination runs
+pub both_run : (from : SourcePhase) (to : DestPhase) (world : World) → is_stopped from ≡ true → world.destination.has_run ≡ true → world.up ≡ true → (to ≢ DestPhase.Ended) → IsSoundWorld (in_phases from to world) → (from ≡ SourcePhase.Stopped) × (to ≡ DestPhase.Running)
+both_run SourcePhase.Stopped DestPhase.Running world stopped ran up other kept = (refl, refl)
+both_run SourcePhase.Stopped DestPhase.Idle world stopped ran up other kept = none_absurd (sym kept.phases.destination_phase ∙ ran)
+both_run SourcePhase.Stopped DestPhase.Advised world stopped ran up other kept = none_absurd (sym kept.phases.destination_phase ∙ ran)
+both_run SourcePhase.Stopped DestPhase.Discarding world stopped ran up other kept = none_absurd (sym kept.phases.destination_phase ∙ ran)
+both_run SourcePhase.Stopped DestPhase.Paused world stopped ran up other kept = absurd (kept.flight.wires up)
+both_run SourcePhase.Stopped DestPhase.Ended world stopped ran up other kept = absurd (other refl)
+both_run SourcePhase.Idle to world stopped ran up other kept = none_absurd stopped
+both_run SourcePhase.Precopy to world stopped ran up other kept = none_absurd stopped
+both_run SourcePhase.Paused to world stopped ran up other kept = none_absurd stopped
+both_run SourcePhase.Released to world stopped ran up other kept = none_absurd stopped
+
+abbrev at_urgent : World → List Sent → World
+at_urgent world frames =
+    record world {
+      source = record world.source { phase = SourcePhase.Stopped };
+      destination = record world.destination { phase = DestPhase.Running; has_run = true };
+      urgent = record world.urgent { frames = frames };
+      up = true;
+    }
+
+urgent_arrives : (copy : Copy) (sent : Sent) (rest : List Sent) (world : World) → copies_of (sent ∷ rest) ≡ copy ∷ copies_of rest → get (space_of world.source).host.bytes copy.page ≡ Some copy.bytes →
+    IsSoundWorld (at_urgent world (sent ∷ rest)) → IsSoundWorld (record (at_urgent world (sent ∷ rest)) { destination = urgent_came (at_urgent world (sent ∷ rest)).destination copy; urgent = wire_behind rest })
+urgent_arrives copy sent rest world copies faithful kept =
+    let w = kept.flight.wires refl in
+    let bytes = (space_of world.source).host.bytes in
+    record {
+      memory = kept.memory;
+      spaces = kept.spaces;
+      phases = kept.phases;
+      precopy = kept.precopy;
+      pushing = kept.pushing;
+      copies = kept.copies;
+      owing = record {
+        not_run = λ h. none_absurd (sym h);
+        one_to_one = kept.owing.one_to_one;
+        owed_below = kept.owing.owed_below;
+        origins_present = kept.owing.origins_present;
+        pairs_missing = kept.owing.pairs_missing;
+        arrivals_faithful = λ r. AreFaithful-append bytes world.destination.arrivals (copy ∷ []) (kept.owing.arrivals_faithful refl) (faithful, tt);
+        ended_empty = λ h. none_absurd (sym kept.phases.destination_phase.1 ∙ h);
+      };
+      flight = record {
+        flight_faithful = kept.flight.flight_faithful;
+        down = λ h. absurd (not_up h);
+        wires = λ u. (
+          w.0,
+          w.1,
+          record {
+            whereabouts = λ q origin h.
+                ap (λ b. is_urgent_or_left world.source.remaining rest origin || has_copy (copies_of world.forward.frames) origin || b) (has_copy-append world.destination.arrivals (copy ∷ []) origin)
+                ∙ came_urgent (contains world.source.remaining origin) (eqb copy.page origin) (has_copy (copies_of rest) origin) (has_copy (copies_of world.forward.frames) origin) (has_copy world.destination.arrivals origin)
+                (sym (ap (λ c. (contains world.source.remaining origin || has_copy c origin) || has_copy (copies_of world.forward.frames) origin || has_copy world.destination.arrivals origin) copies) ∙ w.2.whereabouts q origin h);
+          },
+        );
+      };
+      epochs = kept.epochs;
+      held = kept.held;
+    }
+
+arrives_by : (frame : Frame) (epoch : ℕ) (rest : List Sent) (world : World) → are_copies (record { epoch = epoch; frame = frame } ∷ rest) ≡ true → AreFaithful (space_of world.source).host.bytes (copies_of (record { epoch = epoch; frame = frame } ∷ rest)) →
+    IsSoundWorld (at_urgent world (record { epoch = epoch; frame = frame } ∷ rest)) → IsSoundWorld (after_deliver_urgent (at_urgent world (record { epoch = epoch; frame = frame } ∷ rest)) (record { epoch = epoch; frame = frame }) rest)
+arrives_by (Page page bytes) epoch rest world are faithful kept = urgent_arrives (record { page = page; bytes = bytes }) (record { epoch = epoch; frame = Page page bytes }) rest world refl faithful.0 kept
+arrives_by (Zero page) epoch rest world are faithful kept = urgent_arrives (record { page = page; bytes = zero_page }) (record { epoch = epoch; frame = Zero page }) rest world refl faithful.0 kept
+arrives_by _ epoch rest world are faithful kept = none_absurd are
+
+in_place_urgent : (from : SourcePhase) (to : DestPhase) (ran up : Bool) (sent : Sent) (rest : List Sent) (world : World) → from ≡ SourcePhase.Stopped → to ≡ DestPhase.Running → ran ≡ true → up ≡ true →
+    are_copies (sent ∷ rest) ≡ true → AreFaithful (space_of world.source).host.bytes (copies_of (sent ∷ rest)) →
+    IsSoundWorld (record world { source = record world.source { phase = from }; destination = record world.destination { phase = to; has_run = ran }; urgent = record world.urgent { frames = sent ∷ rest }; up = up }) →
+    IsSoundWorld (after_deliver_urgent (record world { source = record world.source { phase = from }; destination = record world.destination { phase = to; has_run = ran }; urgent = record world.urgent { frames = sent ∷ rest }; up = up }) sent rest)
+in_place_urgent from to false up sent rest world f t r u are faithful kept = absurd (false≢true r)
+in_place_urgent from to true false sent rest world f t r u are faithful kept = absurd (false≢true u)
+in_place_urgent from to true true sent rest world f t r u are faithful kept =
+    subst (λ p. IsSoundWorld (record world { source = record world.source { phase = p }; destination = record world.destination { phase = to; has_run = true }; urgent = record world.urgent { frames = sent ∷ rest }; up = true }) →
+    IsSoundWorld (after_deliver_urgent (record world { source = record world.source { phase = p }; destination = record world.destination { phase = to; has_run = true }; urgent = record world.urgent { frames = sent ∷ rest }; up = true }) sent rest))
+    (sym f)
+    (subst (λ p. IsSoundWorld (record world { source = record world.source { phase = SourcePhase.Stopped }; destination = record world.destination { phase = p; has_run = true }; urgent = record world.urgent { frames = sent ∷ rest }; up = true }) →
+    IsSoundWorld (after_deliver_urgent (record world { source = record world.source { phase = SourcePhase.Stopped }; destination = record world.destination { phase = p; has_run = true }; urgent = record world.urgent { frames = sent ∷ rest }; up = true }) sent rest))
+    (sym t) (λ k. arrives_by sent.frame sent.epoch rest world are faithful k)) kept
+
+not_none : {A : Type 0} (frames : List Sent) (sent : Sent) (rest : List Sent) → frames ≡ sent ∷ rest → frames ≡ [] → A
+not_none frames sent rest first none = absurd (let e : sent ∷ rest ≡ [] = sym first ∙ none in cc)
+
+stopped_by : {A : Type 0} (stopped : Bool) → (stopped ≡ false → A) → (stopped ≡ true → A) → A
+stopped_by true other stopped = stopped refl
+stopped_by false other stopped = other refl
+
+pub running_urgent : (world : World) (sent : Sent) (rest : List Sent) → IsSoundWorld world → AreSoundUrgent world → world.urgent.frames ≡ sent ∷ rest → world.destination.has_run ≡ true → world.up ≡ true →
+    (world.source.phase ≡ SourcePhase.Stopped) × (world.destination.phase ≡ DestPhase.Running)
+running_urgent world sent rest kept h first ran up =
+    stopped_by (is_stopped world.source.phase) (λ not. not_none world.urgent.frames sent rest first (h.stopped not))
+    (λ stopped. both_run world.source.phase world.destination.phase world stopped ran up (λ e. not_none world.urgent.frames sent rest first (h.ended e)) kept)
+
+pub kept-deliver_urgent : (world : World) (sent : Sent) (rest : List Sent) → IsSoundWorld world → AreSoundUrgent world → world.urgent.frames ≡ sent ∷ rest → world.destination.has_run ≡ true → world.up ≡ true → IsSoundWorld (after_deliver_urgent world sent rest)
+kept-deliver_urgent world sent rest kept h first ran up =
+    let both = running_urgent world sent rest kept h first ran up in
+    in_place_urgent world.source.phase world.destination.phase world.destination.has_run world.up sent rest world both.0 both.1 ran up
+    (subst (λ f. are_copies f ≡ true) first h.copies) (subst (λ f. AreFaithful (space_of world.source).host.bytes (copies_of f)) first h.faithful)
+    (subst (λ f. IsSoundWorld (record world { urgent = record world.urgent { frames = f } })) first kept)
+
+running_epoch : (to : DestPhase) (epoch source_epoch : ℕ) → to ≡ DestPhase.Running → EpochAt to epoch source_epoch → epoch ≡ source_epoch
+running_epoch to epoch source_epoch is at = subst (λ p. EpochAt p epoch source_epoch) is at
+
+-- the destination takes the first frame of the urgent wire
+pub is_taken_urgent : (world : World) (sent : Sent) (rest : List Sent) → IsSoundWorld world → AreSoundUrgent world → world.destination.has_run ≡ true → world.up ≡ true → world.urgent.frames ≡ sent ∷ rest → IsTakenUrgent world.destination sent
+is_taken_urgent world sent rest kept h ran up first =
+    let both = running_urgent world sent rest kept h first ran up in
+    let own : AreOf world.source.epoch (sent ∷ rest) = subst (AreOf world.source.epoch) first h.of_epoch in
+    let are : are_copies (sent ∷ rest) ≡ true = subst (λ f. are_copies f ≡ true) first h.copies in
+    record {
+      runs = ap is_running both.1;
+      own_epoch = own.0 ∙ sym (running_epoch world.destination.phase world.destination.epoch world.source.epoch both.1 (kept.epochs.epoch_at up));
+      copy = and_left (is_some (copy_in sent.frame)) (are_copies rest) are;
+    }
