@@ -22,6 +22,7 @@ use Rattle.mig_model.proofs.Facts.{AreFaithful-append, copies_of-append, eqb-sel
 use Rattle.mig_model.proofs.SendingLemmas.{copies_of-page, has_copy-append}
 use Rattle.mig_model.proofs.Stopping.{in_phases, not_ended, or_true, present_bytes, stopped_at, stopped_not_released, was_there}
 use Rattle.mig_model.specs.Promises.{IsTakenUrgent}
+use Rattle.mig_model.proofs.UrgentWire.{not_none}
 
 -- PushUrgent
 
@@ -220,9 +221,6 @@ in_place_urgent from to true true sent rest world f t r u are faithful kept =
     (subst (λ p. IsSoundWorld (record world { source = record world.source { phase = SourcePhase.Stopped }; destination = record world.destination { phase = p; has_run = true }; urgent = record world.urgent { frames = sent ∷ rest }; up = true }) →
     IsSoundWorld (after_deliver_urgent (record world { source = record world.source { phase = SourcePhase.Stopped }; destination = record world.destination { phase = p; has_run = true }; urgent = record world.urgent { frames = sent ∷ rest }; up = true }) sent rest))
     (sym t) (λ k. arrives_by sent.frame sent.epoch rest world are faithful k)) kept
-
-not_none : {A : Type 0} (frames : List Sent) (sent : Sent) (rest : List Sent) → frames ≡ sent ∷ rest → frames ≡ [] → A
-not_none frames sent rest first none = absurd (let e : sent ∷ rest ≡ [] = sym first ∙ none in cc)
 
 stopped_by : {A : Type 0} (stopped : Bool) → (stopped ≡ false → A) → (stopped ≡ true → A) → A
 stopped_by true other stopped = stopped refl

@@ -31,7 +31,7 @@ use Rattle.mig_model.proofs.Stopping.{not_ended, present_bytes}
 use Rattle.mig_model.proofs.FirstFrame.{comes, empty_not}
 use Rattle.mig_model.proofs.Delivery.{AllCame}
 use Rattle.mig_model.proofs.SourceRounds.{idle_forward}
-use Rattle.mig_model.proofs.UrgentWire.{are_copies-push, comes_advise, comes_resume, comes_unpaused, idle_not_paused, idle_unstopped, is_copy_page, length-push, none_faithful, none_of_epoch, not_stopped, other_bytes, other_forward, paused_unstopped, placed, precopy_unstopped, stopped_unpaused, told-push, told-sending, told_ended, told_open, told_page, all_came}
+use Rattle.mig_model.proofs.UrgentWire.{are_copies-push, comes_advise, comes_resume, comes_unpaused, idle_not_paused, idle_unstopped, is_copy_page, length-push, none_faithful, none_of_epoch, not_stopped, other_bytes, other_forward, paused_unstopped, placed, precopy_unstopped, stopped_unpaused, told-push, told-sending, told_ended, told_open, told_page, all_came, not_none}
 use Rattle.mig_model.proofs.FramesTaken.{is_taken_back}
 
 pub urgent-first : (cpus epoch rounds : ℕ) → AreSoundUrgent (first_world_with cpus epoch rounds)
@@ -301,9 +301,6 @@ deliver_urgent_kept world sent rest kept first up early h =
 -- a frame of the urgent wire
 one_less : (count taken left : ℕ) → count ≡ taken + suc left → count ≡ (taken + 1) + left
 one_less count taken left h = omega (arith, h)
-
-not_none : {A : Type 0} (frames : List Sent) (sent : Sent) (rest : List Sent) → frames ≡ sent ∷ rest → frames ≡ [] → A
-not_none frames sent rest first none = absurd (let e : sent ∷ rest ≡ [] = sym first ∙ none in cc)
 
 abbrev UrgentFrames : World → List Sent → Type 0
 UrgentFrames world frames = AreSoundUrgent (record world { urgent = record world.urgent { frames = frames } })

@@ -29,6 +29,9 @@ pub are_copies-push : (frames : List Sent) (sent : Sent) → is_some (copy_in se
 are_copies-push [] sent is are = ap (λ b. b && true) is
 are_copies-push (first ∷ frames) sent is are = are_copies_by (is_some (copy_in first.frame)) (are_copies (frames ++ sent ∷ [])) (are_copies frames) are (are_copies-push frames sent is)
 
+pub not_none : {A : Type 0} (frames : List Sent) (sent : Sent) (rest : List Sent) → frames ≡ sent ∷ rest → frames ≡ [] → A
+not_none frames sent rest first none = absurd (let e : sent ∷ rest ≡ [] = sym first ∙ none in cc)
+
 pub length-push : (frames : List Sent) (sent : Sent) → length (frames ++ sent ∷ []) ≡ length frames + 1
 length-push [] sent = refl
 length-push (first ∷ frames) sent = let rest = length-push frames sent in omega (arith, rest)
