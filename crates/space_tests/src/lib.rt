@@ -1,4 +1,4 @@
-//! Tests of address spaces and of worlds: `uffd_ioctl` and `hosts`.
+//! Tests of address spaces and of hosts: `uffd_ioctl` and `hosts`.
 //!
 //! A test is a table of calls with the answers that are wanted, worked out by hand. One loop for each type plays a table; where
 //! memory is refused it looks that the object is as before, and makes the call again. So a test passes whichever allocation
@@ -15,5 +15,3 @@ mod objects;
 mod parts;
 #[cfg(test)]
 mod spaces;
-#[cfg(test)]
-mod worlds;
