@@ -5,7 +5,7 @@
 //!   and `specs/Ioctls.antt` what a userfault object is, and what loads, stores, map calls and the calls of the object do.
 //! - Stop and copy, which the crate `hosts` makes on real tables: `specs/Frame.antt`, `specs/Node.antt`, `specs/World.antt`, and
 //!   `specs/Kept.antt` for what every world keeps.
-//! - The whole migration, which no code makes yet: `specs/Cpus.antt` and `specs/Guest.antt` for the processors and their memory,
+//! - The whole migration, which no program makes: `specs/Cpus.antt` and `specs/Guest.antt` for the processors and their memory,
 //!   `specs/Log.antt` and `specs/Source.antt`, `specs/Owed.antt` and `specs/Destination.antt` for the two nodes, `specs/Wire.antt` for
 //!   what they tell each other, `specs/Migration.antt` for the world and its steps, and `specs/Invariant.antt`, `specs/Parts.antt` and
 //!   `specs/Promises.antt` for what holds of it.

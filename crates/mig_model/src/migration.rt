@@ -60,15 +60,16 @@ pub fn clean_copies()
     ensures { (world : World) → IsReached world → world.up ≡ true → is_precopy world.source.phase ≡ true → IsPrecopying world.source world.destination.kept world.forward.frames }
 {}
 
-/// While a Package is in flight, and so between Switch and the run of the destination as long as the link is up: what will be kept when the Package is taken is what the
-/// source has and does not owe, and each page that it owes is still to be pushed, on the urgent wire, or behind it with the source's bytes.
+/// While a Package is in flight, and so between Switch and the run of the destination as long as the link is up: what will be kept
+/// when the Package is taken is what the source has and does not owe, and each page that it owes is still to be pushed, on the urgent
+/// wire, or behind it with the source's bytes.
 pub fn a_package_tells_the_source()
     ensures in_flight { (world : World) → IsReached world → is_some (package_in world.forward.frames) ≡ true → IsSwitching world.source world.destination.kept world.forward.frames world.urgent.frames }
     ensures before_run { (world : World) → IsReached world → world.up ≡ true → is_stopped world.source.phase ≡ true → world.destination.has_run ≡ false → IsSwitching world.source world.destination.kept world.forward.frames world.urgent.frames }
 {}
 
-/// While a Recv of a destination that runs is in flight, and so after a resumption until the source has taken it: its list has each page that the destination still needs, and the source has
-/// all of them.
+/// While a Recv of a destination that runs is in flight, and so after a resumption until the source has taken it: its list has each
+/// page that the destination still needs, and the source has all of them.
 pub fn a_recv_lists_what_is_needed()
     ensures in_flight { (world : World) → IsReached world → has_recv world.back.frames ≡ true → IsReceiving world.source world.destination Received.Running world.back.frames }
     ensures paused { (world : World) → IsReached world → world.up ≡ true → is_source_paused world.source.phase ≡ true → is_running world.destination.phase ≡ true → IsReceiving world.source world.destination Received.Running world.back.frames }
