@@ -38,6 +38,11 @@ pub enum Effect {
     SentZero {
         addr: Addr,
     },
+    /// That many neighbouring pages were sent, the first of them at the address.
+    SentRun {
+        addr: Addr,
+        pages: u32,
+    },
     /// A page fault was read: a write-protect fault, or one of a missing page.
     ReadFault {
         addr: Addr,
@@ -92,6 +97,11 @@ pub enum Effect {
     /// The destination knows that a page is zeros.
     TookZero {
         addr: Addr,
+    },
+    /// The destination has the bytes of that many neighbouring pages, the first of them at the address.
+    TookRun {
+        addr: Addr,
+        pages: u32,
     },
     /// The destination has dropped its copies of that many pages.
     TookDiscard {

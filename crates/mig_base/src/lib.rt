@@ -66,6 +66,9 @@ pub const MAX_PAGES: u32 = 262_144;
 /// How many processors a guest may have.
 pub const MAX_CPUS: u8 = 16;
 
+/// How many pages may be sent in one run.
+pub const MAX_RUN: u8 = 64;
+
 /// What a mapping permits, as `prot` of mmap(2).
 #[derive(Clone, Copy, Debug, PartialEq, Eq)]
 pub enum Prot {

@@ -15,6 +15,9 @@ pub enum Step {
     Round,
     /// The source sends the least page of the round.
     Send,
+    /// The source sends the least page of the round and those that follow it in the round without a gap, at most `count` of them, in
+    /// one frame. A count of 0 is taken as 1, and one above [`MAX_RUN`](crate::MAX_RUN) as that.
+    SendRun { count: u8 },
     /// The source's handler reads a message.
     SourceRead,
     /// The source's handler resolves the first fault that it has read.

@@ -21,7 +21,7 @@ use Rattle.mig_model.specs.Userfault.{Noted, next_of, next_message}
 use Rattle.mig_model.specs.Space.{Space, access_of, call_messages, modes_after}
 use Rattle.mig_model.specs.Guest.Act.{Unprotected, Zeroed, Woke, Forgot, Requested}
 use Rattle.mig_model.specs.Wire.{Frame, Copy}
-use Rattle.mig_model.specs.Wire.Frame.{Advise, Page, Zero, Discard, Package, End, Resume, Request, Recv, Done}
+use Rattle.mig_model.specs.Wire.Frame.{Advise, Page, Zero, Run, Discard, Package, End, Resume, Request, Recv, Done}
 use Rattle.mig_model.specs.Invariant.{IsSoundWorld, AreRight, AreFaults, unread_of, CallFits, HasSoundCalls, AreSoundCalls, SwitchedAt, AreSoundUrgent}
 use Rattle.mig_model.proofs.SourceMessages.{noted_all, events_queued}
 use Rattle.mig_model.proofs.SettledPromises.{accessed_events}
@@ -39,7 +39,7 @@ use Rattle.mig_model.specs.Source.{Source, is_stopped, released, source_act, sou
 use Rattle.mig_model.specs.Destination.{Destination, copy_came, destination_act, destination_acted_by, destination_took, install_by, received_of, resumed_by, urgent_took}
 use Rattle.mig_model.specs.Migration.{World, after_command, after_steps, answer, first_world_with, guest_by, guest_of, has_no_cpu, next, start, with_guest_by}
 use Rattle.mig_model.specs.Promises.{IsInPlaceBack, IsReached, is_last}
-use Rattle.mig_model.proofs.StepCases.{made-break, made-deliver, made-deliver_back, made-dest_act, made-dest_read, made-end, made-install, made-issue, made-notice, made-push, made-resume, made-retry, made-round, made-send, made-serve, made-source_act, made-source_read, made-start, made-switch, made-deliver_urgent, made-push_urgent}
+use Rattle.mig_model.proofs.StepCases.{made-break, made-deliver, made-deliver_back, made-dest_act, made-dest_read, made-end, made-install, made-issue, made-notice, made-push, made-resume, made-retry, made-round, made-send, made-send_run, made-serve, made-source_act, made-source_read, made-start, made-switch, made-deliver_urgent, made-push_urgent}
 use Rattle.mig_model.proofs.Facts.{eqb-self, some_is, modes_events}
 use Rattle.mig_model.proofs.UrgentSteps.{urgent-first, urgent-next}
 
@@ -265,6 +265,7 @@ took_calls (Page page bytes) node epoch calls = came_calls node.has_run node _ c
 took_calls (Zero page) node epoch calls = came_calls node.has_run node _ calls
 took_calls Resume node epoch calls = resumed_calls (received_of node) _ calls
 took_calls Advise node epoch calls = calls
+took_calls (Run first pages) node epoch calls = calls
 took_calls (Discard pages) node epoch calls = calls
 took_calls (End count) node epoch calls = calls
 took_calls (Request page) node epoch calls = calls
@@ -275,6 +276,7 @@ urgent_calls : (frame : Frame) (node : Destination) → HasSoundCalls node.guest
 urgent_calls (Page page bytes) node calls = calls
 urgent_calls (Zero page) node calls = calls
 urgent_calls Advise node calls = calls
+urgent_calls (Run first pages) node calls = calls
 urgent_calls (Discard pages) node calls = calls
 urgent_calls (Package areas owed commands) node calls = calls
 urgent_calls (End count) node calls = calls
@@ -300,6 +302,7 @@ back_calls (Request page) node quiet calls = calls
 back_calls Advise node quiet calls = calls
 back_calls (Page page bytes) node quiet calls = calls
 back_calls (Zero page) node quiet calls = calls
+back_calls (Run first pages) node quiet calls = calls
 back_calls (Discard pages) node quiet calls = calls
 back_calls (Package areas owed commands) node quiet calls = calls
 back_calls (End count) node quiet calls = calls
@@ -343,6 +346,7 @@ calls_answer world (Step.Retry cpu) kept all =
 calls_answer world Step.Start kept all = made-start _ world (λ idle. record { source = record { fits = all.source.fits; faults = all.source.faults }; destination = all.destination })
 calls_answer world Step.Round kept all = made-round _ world (λ precopy quiet. record { source = record { fits = all.source.fits; faults = all.source.faults }; destination = all.destination })
 calls_answer world Step.Send kept all = made-send _ world (λ page is precopy up quiet. record { source = record { fits = all.source.fits; faults = all.source.faults }; destination = all.destination })
+calls_answer world (Step.SendRun count) kept all = made-send_run _ world count (λ first number is many precopy up quiet. record { source = record { fits = all.source.fits; faults = all.source.faults }; destination = all.destination })
 calls_answer world Step.SourceRead kept all =
     made-source_read _ world (λ noted is started unswitched. record { source = read_calls world.source.guest noted is kept.spaces.source_events all.source; destination = all.destination })
 calls_answer world Step.SourceAct kept all =

@@ -1,5 +1,5 @@
 -- The destination takes a frame: Advise, a copy, a Discard, Resume.
-use Rattle.std.proofs.Common.{◌≡◌, ◌≢◌, ℕ, ◌≤◌, ◌&&◌, ◌||◌, Bool, true, false, cond, not, eqb, Option, Some, None, List, [], ◌∷◌, refl, sym, ap, ◌∙◌, subst, arith, length, ◌<◌}
+use Rattle.std.proofs.Common.{◌≡◌, ◌≢◌, ℕ, ◌≤◌, ◌&&◌, ◌||◌, Bool, true, false, cond, not, eqb, Option, Some, None, List, [], ◌∷◌, ◌++◌, refl, sym, ap, ◌∙◌, subst, arith, length, ◌<◌}
 use Rattle.std.specs.Ordering.{nat_cmp}
 use Rattle.std.specs.FinMap as finmap
 use Rattle.std.specs.FinMap.{FinMap, get, insert, get-retain_keys, nat_cmp-IsAntisymmetric}
@@ -11,8 +11,8 @@ use Rattle.mig_base.specs.declared.phase.SourcePhase.{SourcePhase}
 use Rattle.mig_base.specs.Bytes.{zero_page}
 use Rattle.mig_base.specs.Tests.{is_empty}
 use Rattle.mig_model.specs.Space.{fresh_space}
-use Rattle.mig_model.specs.Wire.{Frame, Sent, Copy, kept_after}
-use Rattle.mig_model.specs.Wire.Frame.{Advise, Page, Zero, Discard, Package, End, Resume}
+use Rattle.mig_model.specs.Wire.{Frame, Sent, Copy, kept_after, kept_with, run_copies}
+use Rattle.mig_model.specs.Wire.Frame.{Advise, Page, Zero, Run, Discard, Package, End, Resume}
 use Rattle.mig_model.specs.Migration.{World, is_end, after_deliver}
 use Rattle.mig_model.specs.Invariant.{Wires, IsSoundWorld, AreOf, AreWhole, AreFaithful, copies_of, has_copy, flow_of, EpochAt, AreSoundWires, is_urgent_or_left}
 use Rattle.mig_model.specs.Invariant.Flow.{Copies}
@@ -63,6 +63,36 @@ copy_kept from epoch page bytes rest world kept on_wires =
     let kept_advised : new.destination.phase ≡ DestPhase.Idle → new.destination.kept ≡ finmap.empty = λ h. cc in
     let kept_whole : (q : ℕ) (held : List ℕ) → get new.destination.kept q ≡ Some held → length held ≡ 4096 = whole_put world.destination.kept page bytes kept.copies.copies_whole.0 kept.copies.kept_whole in
     let copies_whole : AreWhole (copies_of new.forward.frames) = kept.copies.copies_whole.1 in
+    let flight_faithful : new.destination.has_run ≡ true → AreFaithful new.source.guest.space.host.bytes (copies_of new.forward.frames) = λ h. absurd (false≢true h) in
+    let wires : new.up ≡ true → Wires new.source new.destination new.forward.frames new.back.frames new.urgent.frames = λ u. on_wires in
+    let down : new.up ≡ false → (new.forward.frames ≡ []) × (new.back.frames ≡ []) × (new.source.phase ≢ SourcePhase.Idle) × (new.source.phase ≢ SourcePhase.Released) = λ h. absurd (not_up h) in
+    let forward_epoch : AreOf new.source.epoch new.forward.frames = kept.epochs.forward_epoch.1 in
+    let held : AreSoundWires new.forward new.back = record { forward_held = fits-none rest; back_held = kept.held.back_held } in
+    assumption
+
+-- A run of them
+
+whole_parts : (a b : List Copy) → AreWhole (a ++ b) → AreWhole a × AreWhole b
+whole_parts [] b h = (tt, h)
+whole_parts (copy ∷ a) b h = let rest = whole_parts a b h.1 in ((h.0, rest.0), rest.1)
+
+whole_with : (copies : List Copy) (kept : FinMap nat_cmp (List ℕ)) → AreWhole copies → ((q : ℕ) (held : List ℕ) → get kept q ≡ Some held → length held ≡ 4096) →
+    (q : ℕ) (held : List ℕ) → get (kept_with kept copies) q ≡ Some held → length held ≡ 4096
+whole_with [] kept are whole = whole
+whole_with (copy ∷ copies) kept are whole = whole_with copies (insert kept copy.page copy.bytes) are.1 (whole_put kept copy.page copy.bytes are.0 whole)
+
+run_kept : (from : SourcePhase) (epoch first : ℕ) (pages : List (List ℕ)) (rest : List Sent) (world : World) →
+    let old : World = at_state from DestPhase.Advised false true (record { epoch = epoch; frame = Run first pages } ∷ rest) world in
+    let new : World = delivered old old.forward.frames in
+    IsSoundWorld old → Wires new.source new.destination new.forward.frames new.back.frames new.urgent.frames → IsSoundWorld new
+run_kept from epoch first pages rest world kept on_wires =
+    let old : World = at_state from DestPhase.Advised false true (record { epoch = epoch; frame = Run first pages } ∷ rest) world in
+    let new : World = delivered old old.forward.frames in
+    let both = whole_parts (run_copies first pages) (copies_of rest) kept.copies.copies_whole in
+    let kept_none : new.destination.has_run ≡ true → new.destination.kept ≡ finmap.empty = λ h. absurd (false≢true h) in
+    let kept_advised : new.destination.phase ≡ DestPhase.Idle → new.destination.kept ≡ finmap.empty = λ h. cc in
+    let kept_whole : (q : ℕ) (held : List ℕ) → get new.destination.kept q ≡ Some held → length held ≡ 4096 = whole_with (run_copies first pages) world.destination.kept both.0 kept.copies.kept_whole in
+    let copies_whole : AreWhole (copies_of new.forward.frames) = both.1 in
     let flight_faithful : new.destination.has_run ≡ true → AreFaithful new.source.guest.space.host.bytes (copies_of new.forward.frames) = λ h. absurd (false≢true h) in
     let wires : new.up ≡ true → Wires new.source new.destination new.forward.frames new.back.frames new.urgent.frames = λ u. on_wires in
     let down : new.up ≡ false → (new.forward.frames ≡ []) × (new.back.frames ≡ []) × (new.source.phase ≢ SourcePhase.Idle) × (new.source.phase ≢ SourcePhase.Released) = λ h. absurd (not_up h) in
@@ -207,6 +237,9 @@ precopy_advised : (epoch : ℕ) (frame : Frame) (rest : List Sent) (world : Worl
     IsSoundWorld old → IsSoundWorld (delivered old old.forward.frames)
 precopy_advised epoch (Page page bytes) rest world kept = precopy_copy epoch page bytes rest world kept
 precopy_advised epoch (Zero page) rest world kept = precopy_copy epoch page zero_page rest world (as_page SourcePhase.Precopy DestPhase.Advised false epoch page rest world kept)
+precopy_advised epoch (Run first pages) rest world kept =
+    let w = kept.flight.wires refl in
+    run_kept SourcePhase.Precopy epoch first pages rest world kept (w.0, w.1, record { clean_copy = w.2.clean_copy; copies_sent = w.2.copies_sent })
 precopy_advised epoch (Discard pages) rest world kept = absurd (ends_late rest (kept.flight.wires refl).0)
 precopy_advised epoch _ rest world kept = absurd (none-some Copies (kept.flight.wires refl).0)
 
@@ -215,6 +248,10 @@ stopped_advised : (epoch : ℕ) (frame : Frame) (rest : List Sent) (world : Worl
     IsSoundWorld old → IsSoundWorld (delivered old old.forward.frames)
 stopped_advised epoch (Page page bytes) rest world kept = stopped_copy epoch page bytes rest world kept
 stopped_advised epoch (Zero page) rest world kept = stopped_copy epoch page zero_page rest world (as_page SourcePhase.Stopped DestPhase.Advised false epoch page rest world kept)
+stopped_advised epoch (Run first pages) rest world kept =
+    let w = kept.flight.wires refl in
+    run_kept SourcePhase.Stopped epoch first pages rest world kept
+    (w.0, w.1, record { owed = w.2.owed; plan = w.2.plan; owed_present = w.2.owed_present; kept_rest = w.2.kept_rest; whereabouts = w.2.whereabouts; faithful = w.2.faithful })
 stopped_advised epoch (Discard pages) rest world kept = discard_taken epoch pages rest world kept
 stopped_advised epoch _ rest world kept = absurd (none-some (flow_of (record world.source { phase = SourcePhase.Stopped })) (kept.flight.wires refl).0)
 

@@ -14,6 +14,7 @@ use Rattle.mig_model.proofs.DestinationCommands.{kept-command_at_destination}
 use Rattle.mig_model.proofs.SourceCommands.{kept-command_at_source}
 use Rattle.mig_model.proofs.SourceRounds.{kept-start, kept-round}
 use Rattle.mig_model.proofs.SourceSending.{kept-send}
+use Rattle.mig_model.proofs.SourceRuns.{kept-run}
 use Rattle.mig_model.proofs.SourceHandler.{kept-source_read, kept-source_act}
 use Rattle.mig_model.proofs.Delivery.{kept-deliver}
 use Rattle.mig_model.proofs.DeliveryBack.{kept-deliver_back}
@@ -22,7 +23,7 @@ use Rattle.mig_model.proofs.DestinationAct.{kept-dest_act}
 use Rattle.mig_model.proofs.Installing.{kept-install}
 use Rattle.mig_model.proofs.StaysComplete.{complete-next}
 use Rattle.mig_model.proofs.StepLemmas.{Leaves, leaves-next}
-use Rattle.mig_model.proofs.StepCases.{made-break, made-deliver, made-deliver_back, made-dest_act, made-dest_read, made-end, made-install, made-issue, made-notice, made-push, made-resume, made-retry, made-round, made-send, made-serve, made-source_act, made-source_read, made-start, made-switch, made-deliver_urgent, made-push_urgent}
+use Rattle.mig_model.proofs.StepCases.{made-break, made-deliver, made-deliver_back, made-dest_act, made-dest_read, made-end, made-install, made-issue, made-notice, made-push, made-resume, made-retry, made-round, made-send, made-send_run, made-serve, made-source_act, made-source_read, made-start, made-switch, made-deliver_urgent, made-push_urgent}
 use Rattle.mig_model.specs.Wire.{Sent}
 use Rattle.mig_model.proofs.HeldLemmas.{fits-moved}
 use Rattle.mig_model.proofs.Facts.{none_absurd}
@@ -98,6 +99,7 @@ kept-answer world (Step.Retry cpu) kept urgent = made-retry _ world cpu (λ comm
 kept-answer world Step.Start kept urgent = made-start _ world (λ idle. kept-start world kept idle)
 kept-answer world Step.Round kept urgent = made-round _ world (λ precopy quiet. kept-round world kept precopy)
 kept-answer world Step.Send kept urgent = made-send _ world (λ page is precopy up quiet. kept-send world page kept is precopy up quiet)
+kept-answer world (Step.SendRun count) kept urgent = made-send_run _ world count (λ first number is many precopy up quiet. kept-run world first number count kept many precopy up quiet)
 kept-answer world Step.SourceRead kept urgent = made-source_read _ world (λ noted is started unswitched. kept-source_read world noted kept is started unswitched)
 kept-answer world Step.SourceAct kept urgent = made-source_act _ world (λ fault rest is started unswitched quiet. kept-source_act world fault kept started unswitched)
 kept-answer world Step.Switch kept urgent = made-switch _ world (λ precopy up quiet. kept-switch world kept precopy up quiet)

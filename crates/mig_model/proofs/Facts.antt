@@ -4,6 +4,7 @@ use Rattle.std.proofs.lemmas.Bool.Decides.{nat_tests}
 use Rattle.std.proofs.lemmas.Bool.{false≢true, and_parts, eqb-true}
 use Rattle.std.specs.Prelude.{replicate}
 use Rattle.std.proofs.Common.{append-nil}
+use Rattle.std.proofs.lemmas.List.{append_assoc}
 use Rattle.std.proofs.lemmas.Option.{same_Some}
 use Rattle.std.specs.List.{list_all}
 use Rattle.std.specs.Ordering.{nat_cmp}
@@ -25,7 +26,7 @@ use Rattle.mig_model.specs.Userfault.{Noted, Object, event_queued}
 use Rattle.mig_model.specs.Space.{all_queued, modes_after}
 use Rattle.mig_model.specs.Cpus.{call_took, entries_of}
 use Rattle.mig_model.specs.Guest.{Guest, is_present}
-use Rattle.mig_model.specs.Wire.{Copy, Frame, Sent, Wire, copy_in, kept_after}
+use Rattle.mig_model.specs.Wire.{Copy, Frame, Sent, Wire, copies_in, kept_after}
 use Rattle.mig_model.specs.Log.{no_pages, present}
 use Rattle.mig_model.specs.Owed.{owed_after, settled_by}
 use Rattle.mig_model.specs.Source.{Source, not_clean, space_of}
@@ -143,11 +144,7 @@ answered_as reply other h = cc
 
 pub copies_of-append : (a b : List Sent) → copies_of (a ++ b) ≡ copies_of a ++ copies_of b
 copies_of-append [] b = refl
-copies_of-append (sent ∷ a) b =
-    elim (copy_in sent.frame) as (λ o. elim o [ None ↦ copies_of (a ++ b) | Some copy ↦ copy ∷ copies_of (a ++ b) ] ≡ elim o [ None ↦ copies_of a | Some copy ↦ copy ∷ copies_of a ] ++ copies_of b) [
-      | None ↦ copies_of-append a b
-      | Some copy ↦ ap (λ copies. copy ∷ copies) (copies_of-append a b)
-    ]
+copies_of-append (sent ∷ a) b = ap (λ copies. copies_in sent.frame ++ copies) (copies_of-append a b) ∙ sym (append_assoc (copies_in sent.frame) (copies_of a) (copies_of b))
 
 pub AreWhole-append : (a b : List Copy) → AreWhole a → AreWhole b → AreWhole (a ++ b)
 AreWhole-append [] b x y = y

@@ -5,8 +5,8 @@ use Rattle.std.proofs.lemmas.Bool.{false≢true}
 use Rattle.std.proofs.lemmas.Option.{none-some}
 use Rattle.mig_base.specs.declared.phase.DestPhase.{DestPhase}
 use Rattle.mig_base.specs.declared.phase.SourcePhase.{SourcePhase}
-use Rattle.mig_model.specs.Wire.{Frame, Sent, copy_in}
-use Rattle.mig_model.specs.Wire.Frame.{Page, Zero, Discard, Package, End, Resume}
+use Rattle.mig_model.specs.Wire.{Frame, Sent}
+use Rattle.mig_model.specs.Wire.Frame.{Page, Zero, Run, Discard, Package, End, Resume}
 use Rattle.mig_model.specs.Migration.{World, after_deliver, after_deliver_back, next}
 use Rattle.mig_model.specs.Invariant.{Flow, flow_next, flow_after, Wires}
 use Rattle.mig_model.specs.Invariant.Flow.{BeforeAdvise, Copies, BeforePackage, Pushed, AfterEnd}
@@ -76,10 +76,17 @@ nothing_behind (sent ∷ wire) flow h = absurd (none-some flow h)
 
 -- The first frame
 
+-- whether a frame carries copies
+abbrev has_copies : Frame → Bool
+has_copies (Page page bytes) = true
+has_copies (Zero page) = true
+has_copies (Run first pages) = true
+has_copies frame = false
+
 -- whether a frame may be the first of the wire in these phases
 abbrev pub comes : SourcePhase → DestPhase → Frame → Bool
 comes SourcePhase.Precopy DestPhase.Idle frame = is_some (flow_next BeforeAdvise frame)
-comes SourcePhase.Precopy DestPhase.Advised frame = is_some (copy_in frame)
+comes SourcePhase.Precopy DestPhase.Advised frame = has_copies frame
 comes SourcePhase.Stopped DestPhase.Idle frame = is_some (flow_next BeforeAdvise frame)
 comes SourcePhase.Stopped DestPhase.Advised frame = is_some (flow_next Copies frame)
 comes SourcePhase.Stopped DestPhase.Discarding frame = is_some (flow_next BeforePackage frame)
@@ -87,9 +94,10 @@ comes SourcePhase.Stopped DestPhase.Running frame = is_some (flow_next Pushed fr
 comes SourcePhase.Paused DestPhase.Paused Resume = true
 comes from to frame = false
 
-copy_first : (frame : Frame) (rest : List Sent) → option_and_then (λ next. flow_after next rest) (flow_next Copies frame) ≡ Some Copies → is_some (copy_in frame) ≡ true
+copy_first : (frame : Frame) (rest : List Sent) → option_and_then (λ next. flow_after next rest) (flow_next Copies frame) ≡ Some Copies → has_copies frame ≡ true
 copy_first (Page page bytes) rest h = refl
 copy_first (Zero page) rest h = refl
+copy_first (Run first pages) rest h = refl
 copy_first (Discard pages) rest h = absurd (ends_late rest h)
 copy_first _ rest h = absurd (none-some Copies h)
 

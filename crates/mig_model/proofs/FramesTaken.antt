@@ -19,7 +19,7 @@ use lib.ListN.{length-map}
 use Rattle.mig_model.specs.Guest.{is_present}
 use Rattle.mig_model.specs.Space.{Space}
 use Rattle.mig_model.specs.Wire.{Frame, Sent}
-use Rattle.mig_model.specs.Wire.Frame.{Advise, Page, Zero, Discard, Package, End, Resume, Request, Recv, Done}
+use Rattle.mig_model.specs.Wire.Frame.{Advise, Page, Zero, Run, Discard, Package, End, Resume, Request, Recv, Done}
 use Rattle.mig_model.specs.Migration.{World}
 use Rattle.mig_model.specs.Invariant.{IsSoundWorld, IsSwitching, IsFlowing, IsReceiving, EpochAt, AreOf, flow_of, is_request, is_done, are_requests, are_requests_and_done, AreSoundUrgent}
 use Rattle.mig_model.specs.Promises.{is_in_place, IsOwnEpoch, IsGood, IsTaken, IsInPlaceBack}
@@ -39,9 +39,11 @@ place_of : (from : SourcePhase) (to : DestPhase) (frame : Frame) → comes from 
 place_of SourcePhase.Precopy DestPhase.Idle Advise h = refl
 place_of SourcePhase.Precopy DestPhase.Advised (Page page bytes) h = refl
 place_of SourcePhase.Precopy DestPhase.Advised (Zero page) h = refl
+place_of SourcePhase.Precopy DestPhase.Advised (Run first pages) h = refl
 place_of SourcePhase.Stopped DestPhase.Idle Advise h = refl
 place_of SourcePhase.Stopped DestPhase.Advised (Page page bytes) h = refl
 place_of SourcePhase.Stopped DestPhase.Advised (Zero page) h = refl
+place_of SourcePhase.Stopped DestPhase.Advised (Run first pages) h = refl
 place_of SourcePhase.Stopped DestPhase.Advised (Discard pages) h = refl
 place_of SourcePhase.Stopped DestPhase.Discarding (Package areas owed commands) h = refl
 place_of SourcePhase.Stopped DestPhase.Running (Page page bytes) h = refl
@@ -56,6 +58,7 @@ epoch_of : (to : DestPhase) (node : Destination) (epoch source_epoch : ℕ) (fra
 epoch_of DestPhase.Idle node epoch source_epoch Advise h e at = tt
 epoch_of DestPhase.Advised node epoch source_epoch (Page page bytes) h e at = e ∙ sym at
 epoch_of DestPhase.Advised node epoch source_epoch (Zero page) h e at = e ∙ sym at
+epoch_of DestPhase.Advised node epoch source_epoch (Run first pages) h e at = e ∙ sym at
 epoch_of DestPhase.Advised node epoch source_epoch (Discard pages) h e at = e ∙ sym at
 epoch_of DestPhase.Discarding node epoch source_epoch (Package areas owed commands) h e at = e ∙ sym at
 epoch_of DestPhase.Running node epoch source_epoch (Page page bytes) h e at = e ∙ sym at
@@ -134,6 +137,7 @@ good_of SourcePhase.Paused DestPhase.Paused epoch (Package areas owed commands) 
 good_of from to epoch Advise rest world h up kept many tells = tt
 good_of from to epoch (Page page bytes) rest world h up kept many tells = tt
 good_of from to epoch (Zero page) rest world h up kept many tells = tt
+good_of from to epoch (Run first pages) rest world h up kept many tells = tt
 good_of from to epoch (Discard pages) rest world h up kept many tells = tt
 good_of from to epoch Resume rest world h up kept many tells = tt
 good_of from to epoch (Request page) rest world h up kept many tells = tt

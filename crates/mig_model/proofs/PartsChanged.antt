@@ -10,13 +10,13 @@ use Rattle.mig_base.specs.declared.command.Command.{Command}
 use Rattle.mig_base.specs.Commands.{is_access}
 use Rattle.mig_model.specs.Guest.{Guest, Fault, tried}
 use Rattle.mig_model.specs.Wire.{Frame, Sent, page_frame, sending, Wire, wire_if, wire_with}
-use Rattle.mig_model.specs.Wire.Frame.{Advise, End, Resume}
+use Rattle.mig_model.specs.Wire.Frame.{Advise, Run, End, Resume}
 use Rattle.mig_model.specs.Migration.{World, next, guest_of, with_guest_by, after_command, source_sends, after_deliver, after_deliver_back, after_dest_act, answer, after_move, after_move_back}
 use Rattle.mig_model.specs.Parts.{Grows, Shrinks, GuestAlone, SourceAlone, DestinationAlone, Delivers, DeliversBack, ChangesParts}
 use Rattle.mig_model.proofs.Stopping.{append-nil}
 use Rattle.mig_model.proofs.StepLemmas.{Leaves, leaves-next}
-use Rattle.mig_model.proofs.StepCases.{made-break, made-deliver, made-deliver_back, made-dest_act, made-dest_read, made-end, made-install, made-issue, made-notice, made-push, made-resume, made-retry, made-round, made-send, made-serve, made-source_act, made-source_read, made-start, made-switch, made-deliver_urgent, made-push_urgent}
-use Rattle.mig_model.specs.Source.{Source, bytes_of, page_pushed, page_sent, source_answers, source_started, source_took, switch_frames, switch_made}
+use Rattle.mig_model.proofs.StepCases.{made-break, made-deliver, made-deliver_back, made-dest_act, made-dest_read, made-end, made-install, made-issue, made-notice, made-push, made-resume, made-retry, made-round, made-send, made-send_run, made-serve, made-source_act, made-source_read, made-start, made-switch, made-deliver_urgent, made-push_urgent}
+use Rattle.mig_model.specs.Source.{Source, bytes_of, page_pushed, page_sent, run_of, run_sent, source_answers, source_started, source_took, switch_frames, switch_made}
 use Rattle.mig_model.specs.Destination.{Destination}
 use Rattle.mig_model.proofs.Facts.{as_it_was, tried_up}
 
@@ -114,6 +114,7 @@ made_alone world (Step.Retry cpu) = made-retry _ world cpu (λ command waits wok
 made_alone world Step.Start = made-start _ world (λ idle. sending_source world (source_started world.source) (Advise ∷ []))
 made_alone world Step.Round = made-round _ world (λ precopy quiet. quiet_source world _)
 made_alone world Step.Send = made-send _ world (λ page is precopy up quiet. sending_source world (page_sent world.source page) (page_frame page (bytes_of world.source page) ∷ []))
+made_alone world (Step.SendRun count) = made-send_run _ world count (λ first number is many precopy up quiet. sending_source world (run_sent world.source first number) (Run first (run_of world.source first number) ∷ []))
 made_alone world Step.SourceRead = made-source_read _ world (λ noted is started unswitched. quiet_source world _)
 made_alone world Step.SourceAct = made-source_act _ world (λ fault rest is started unswitched quiet. quiet_source world _)
 made_alone world Step.Switch = made-switch _ world (λ precopy up quiet. sending_source world (switch_made world.source) (switch_frames world.source))

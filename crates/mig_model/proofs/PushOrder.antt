@@ -7,7 +7,7 @@ use Rattle.mig_base.specs.declared.schedule.Side.{Side}
 use Rattle.mig_base.specs.declared.schedule.Step.{Step}
 use Rattle.mig_base.specs.declared.schedule.Ticket.{Ticket}
 use Rattle.mig_model.specs.Wire.{Frame, Sent}
-use Rattle.mig_model.specs.Wire.Frame.{Advise, Page, Zero, Discard, Package, End, Resume, Request, Recv, Done}
+use Rattle.mig_model.specs.Wire.Frame.{Advise, Page, Zero, Run, Discard, Package, End, Resume, Request, Recv, Done}
 use Rattle.mig_model.specs.Guest.{Act, Guest}
 use Rattle.mig_model.specs.Guest.Act.{Unprotected, Zeroed, Woke, Forgot, Requested}
 use Rattle.mig_model.specs.Invariant.{IsSoundWorld, SwitchedAt, AreSoundUrgent}
@@ -19,7 +19,7 @@ use Rattle.mig_model.proofs.StepLemmas.{Leaves, leaves-next, leaves-ok}
 use Rattle.mig_model.specs.Source.{Source, is_source_idle, is_source_paused, is_stopped, source_act, source_acted_by, source_took}
 use Rattle.mig_model.specs.Migration.{World, after_steps, answer, next, outcome, with_guest_by}
 use Rattle.mig_model.specs.Promises.{IsInPlaceBack, is_recv}
-use Rattle.mig_model.proofs.StepCases.{made-break, made-deliver, made-deliver_back, made-dest_act, made-dest_read, made-end, made-install, made-issue, made-notice, made-push, made-resume, made-retry, made-round, made-send, made-serve, made-source_act, made-source_read, made-start, made-switch, made-deliver_urgent, made-push_urgent}
+use Rattle.mig_model.proofs.StepCases.{made-break, made-deliver, made-deliver_back, made-dest_act, made-dest_read, made-end, made-install, made-issue, made-notice, made-push, made-resume, made-retry, made-round, made-send, made-send_run, made-serve, made-source_act, made-source_read, made-start, made-switch, made-deliver_urgent, made-push_urgent}
 use Rattle.mig_model.proofs.UrgentSteps.{urgent-next}
 
 -- what tells that the source has switched in an epoch, and is not to be told again what the destination needs: its epoch, whether it
@@ -91,6 +91,7 @@ taken_pushed (Request page) pushed node up linked paused h = h
 taken_pushed Advise pushed node up linked paused h = h
 taken_pushed (Page page bytes) pushed node up linked paused h = h
 taken_pushed (Zero page) pushed node up linked paused h = h
+taken_pushed (Run first pages) pushed node up linked paused h = h
 taken_pushed (Discard pages) pushed node up linked paused h = h
 taken_pushed (Package areas owed commands) pushed node up linked paused h = h
 taken_pushed (End count) pushed node up linked paused h = h
@@ -112,6 +113,7 @@ pushed_answer pushed world Step.Start kept h =
     made-start _ world (λ idle. later pushed world.source.epoch world.source.switched world.source.phase world.up (idle_unswitched world.source.phase world.source.switched idle kept.phases.source_phase) h (λ more. inl (one_later pushed world.source.epoch more)))
 pushed_answer pushed world Step.Round kept h = made-round _ world (λ precopy quiet. h)
 pushed_answer pushed world Step.Send kept h = made-send _ world (λ page is precopy up quiet. h)
+pushed_answer pushed world (Step.SendRun count) kept h = made-send_run _ world count (λ first number is many precopy up quiet. h)
 pushed_answer pushed world Step.SourceRead kept h = made-source_read _ world (λ noted is started unswitched. h)
 pushed_answer pushed world Step.SourceAct kept h =
     made-source_act _ world (λ fault rest is started unswitched quiet. alike pushed world.source _ world.up (act_alike (source_act world.source fault) world.source fault.page) h)

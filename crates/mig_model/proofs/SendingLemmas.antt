@@ -7,8 +7,8 @@ use Rattle.std.specs.FinMap.{FinMap}
 use Rattle.std.proofs.lemmas.Bool.{false≢true}
 use Rattle.std.proofs.lemmas.Option.{same_Some, none-some}
 use Rattle.mig_base.specs.Bytes.{zero_page}
-use Rattle.mig_model.specs.Wire.{Frame, Sent, Copy, page_frame, copy_in, kept_after}
-use Rattle.mig_model.specs.Wire.Frame.{Advise, Page, Zero, Discard, Package, End}
+use Rattle.mig_model.specs.Wire.{Frame, Sent, Copy, page_frame, copies_in, kept_after}
+use Rattle.mig_model.specs.Wire.Frame.{Advise, Page, Zero, Run, Discard, Package, End}
 use Rattle.mig_model.specs.Invariant.{Flow, flow_next, flow_after, copies_of, has_copy, is_package, kept_by, behind, package_in}
 use Rattle.mig_model.specs.Invariant.Flow.{BeforeAdvise, Copies, BeforePackage, Pushed, AfterEnd}
 use Rattle.mig_model.proofs.FrameLemmas.{zero_bytes}
@@ -31,17 +31,6 @@ flow_after-one flow (first ∷ wire) sent = flow_after-by (flow_next flow first.
 
 pub flow_sent : (flow before after : Flow) (wire : List Sent) (sent : Sent) → flow_after flow wire ≡ Some before → flow_next before sent.frame ≡ Some after → flow_after flow (wire ++ sent ∷ []) ≡ Some after
 flow_sent flow before after wire sent h n = flow_after-one flow wire sent ∙ ap (λ o. option_and_then (λ next. flow_next next sent.frame) o) h ∙ n
-
-abbrev copies_by : Option Copy → List Copy → List Copy
-copies_by None rest = rest
-copies_by (Some copy) rest = copy ∷ rest
-
-copies_by-append : (o : Option Copy) (a b : List Copy) → copies_by o (a ++ b) ≡ copies_by o a ++ b
-copies_by-append None a b = refl
-copies_by-append (Some copy) a b = refl
-
-copies_step : (sent : Sent) (rest : List Sent) → copies_of (sent ∷ rest) ≡ copies_by (copy_in sent.frame) (copies_of rest)
-copies_step sent rest = elim (copy_in sent.frame) as (λ o. (elim o [ None ↦ copies_of rest | Some copy ↦ copy ∷ copies_of rest ]) ≡ copies_by o (copies_of rest)) [ None ↦ refl | Some copy ↦ refl ]
 
 or_assoc : (a b c : Bool) → (a || b || c) ≡ (a || (b || c))
 or_assoc true b c = refl
@@ -135,6 +124,7 @@ no_package_first : (flow : Flow) (kept : FinMap nat_cmp (List ℕ)) (epoch : ℕ
 no_package_first BeforeAdvise kept epoch Advise wire more rest h = not_package kept epoch Advise wire more refl (rest kept h)
 no_package_first Copies kept epoch (Page page bytes) wire more rest h = not_package kept epoch (Page page bytes) wire more refl (rest (kept_after kept (Page page bytes)) h)
 no_package_first Copies kept epoch (Zero page) wire more rest h = not_package kept epoch (Zero page) wire more refl (rest (kept_after kept (Zero page)) h)
+no_package_first Copies kept epoch (Run first pages) wire more rest h = not_package kept epoch (Run first pages) wire more refl (rest (kept_after kept (Run first pages)) h)
 no_package_first Copies kept epoch (Discard pages) wire more rest h = absurd (not_back BeforePackage wire refl h)
 no_package_first BeforePackage kept epoch (Package areas owed commands) wire more rest h = absurd (not_back Pushed wire refl h)
 no_package_first Pushed kept epoch (Page page bytes) wire more rest h = absurd (not_back Pushed wire refl h)
@@ -150,15 +140,15 @@ has_no_package flow kept (sent ∷ wire) more h = no_package_first flow kept sen
 -- The frame of a page
 
 -- the copy in it has the page's bytes
-page_copy : (zeros : Bool) (page : ℕ) (bytes : List ℕ) → (zeros ≡ true → bytes ≡ zero_page) → copy_in (cond zeros (Zero page) (Page page bytes)) ≡ Some (record { page = page; bytes = bytes })
-page_copy true page bytes h = ap (λ b. Some (record { page = page; bytes = b })) (sym (h refl))
+page_copy : (zeros : Bool) (page : ℕ) (bytes : List ℕ) → (zeros ≡ true → bytes ≡ zero_page) → copies_in (cond zeros (Zero page) (Page page bytes)) ≡ record { page = page; bytes = bytes } ∷ []
+page_copy true page bytes h = ap (λ b. record { page = page; bytes = b } ∷ []) (sym (h refl))
 page_copy false page bytes h = refl
 
-pub copy_in-page : (page : ℕ) (bytes : List ℕ) → length bytes ≡ 4096 → copy_in (page_frame page bytes) ≡ Some (record { page = page; bytes = bytes })
-copy_in-page page bytes whole = page_copy (list_all (λ byte. eqb byte 0) bytes) page bytes (λ e. zero_bytes bytes whole e)
+pub copies_in-page : (page : ℕ) (bytes : List ℕ) → length bytes ≡ 4096 → copies_in (page_frame page bytes) ≡ record { page = page; bytes = bytes } ∷ []
+copies_in-page page bytes whole = page_copy (list_all (λ byte. eqb byte 0) bytes) page bytes (λ e. zero_bytes bytes whole e)
 
 pub copies_of-page : (epoch page : ℕ) (bytes : List ℕ) → length bytes ≡ 4096 → copies_of (record { epoch = epoch; frame = page_frame page bytes } ∷ []) ≡ record { page = page; bytes = bytes } ∷ []
-copies_of-page epoch page bytes whole = copies_step (record { epoch = epoch; frame = page_frame page bytes }) [] ∙ ap (λ o. copies_by o []) (copy_in-page page bytes whole)
+copies_of-page epoch page bytes whole = ap (λ copies. copies ++ []) (copies_in-page page bytes whole)
 
 -- it is a copy in the order of frames
 frame_flow : (zeros : Bool) (page : ℕ) (bytes : List ℕ) → (flow_next Copies (cond zeros (Zero page) (Page page bytes)) ≡ Some Copies) × (flow_next Pushed (cond zeros (Zero page) (Page page bytes)) ≡ Some Pushed)

@@ -23,7 +23,7 @@ use Rattle.mig_model.specs.Userfault.{Noted, Object, waits_fault, next_of}
 use Rattle.mig_model.specs.Space.{Space, access_of, accessed_by}
 use Rattle.mig_model.specs.Guest.{tried, Act}
 use Rattle.mig_model.specs.Wire.{Frame, Sent, Copy}
-use Rattle.mig_model.specs.Wire.Frame.{Advise, Page, Zero, Discard, Package, End, Resume, Request, Recv, Done}
+use Rattle.mig_model.specs.Wire.Frame.{Advise, Page, Zero, Run, Discard, Package, End, Resume, Request, Recv, Done}
 use Rattle.mig_model.specs.Guest.Act.{Unprotected, Zeroed, Woke, Forgot, Requested}
 use Rattle.mig_model.specs.Migration.{World, with_guest_by, guest_by, next, outcome, install_effect, after_command, after_dest_read, answer, guest_of, runs, start}
 use Rattle.mig_model.specs.Invariant.{IsSoundWorld, AreFaults, AreRight, is_package}
@@ -35,7 +35,7 @@ use Rattle.mig_model.proofs.FirstFrame.{first_in_place}
 use Rattle.mig_model.proofs.FramesTaken.{with_first}
 use Rattle.mig_model.proofs.WaitingCommands.{package_told}
 use Rattle.mig_model.proofs.StepLemmas.{Leaves, holds-effect, leaves-next, leaves-ok}
-use Rattle.mig_model.proofs.StepCases.{made-break, made-deliver, made-deliver_back, made-dest_act, made-dest_read, made-end, made-install, made-issue, made-notice, made-push, made-resume, made-retry, made-round, made-send, made-serve, made-source_act, made-source_read, made-start, made-switch, made-deliver_urgent, made-push_urgent}
+use Rattle.mig_model.proofs.StepCases.{made-break, made-deliver, made-deliver_back, made-dest_act, made-dest_read, made-end, made-install, made-issue, made-notice, made-push, made-resume, made-retry, made-round, made-send, made-send_run, made-serve, made-source_act, made-source_read, made-start, made-switch, made-deliver_urgent, made-push_urgent}
 use Rattle.mig_model.proofs.DestinationRead.{none_is}
 use Rattle.mig_model.specs.Cpus.{outstanding, processor_at}
 use Rattle.mig_model.specs.Owed.{home, settled_by}
@@ -167,6 +167,7 @@ took_settled : (frame : Frame) (node : Destination) (epoch page : ℕ) → is_pa
 took_settled Advise node epoch page h = refl
 took_settled (Page number bytes) node epoch page h = came_settled node.has_run node _ page
 took_settled (Zero number) node epoch page h = came_settled node.has_run node _ page
+took_settled (Run from pages) node epoch page h = refl
 took_settled (Discard pages) node epoch page h = refl
 took_settled (Package areas owed commands) node epoch page h = absurd (false≢true (sym h))
 took_settled (End count) node epoch page h = refl
@@ -193,6 +194,7 @@ frame_settled (Package areas owed commands) epoch rest world kept up ran first p
 frame_settled Advise epoch rest world kept up ran first page = took_settled Advise world.destination epoch page refl
 frame_settled (Page number bytes) epoch rest world kept up ran first page = took_settled (Page number bytes) world.destination epoch page refl
 frame_settled (Zero number) epoch rest world kept up ran first page = took_settled (Zero number) world.destination epoch page refl
+frame_settled (Run from pages) epoch rest world kept up ran first page = took_settled (Run from pages) world.destination epoch page refl
 frame_settled (Discard pages) epoch rest world kept up ran first page = took_settled (Discard pages) world.destination epoch page refl
 frame_settled (End count) epoch rest world kept up ran first page = took_settled (End count) world.destination epoch page refl
 frame_settled Resume epoch rest world kept up ran first page = took_settled Resume world.destination epoch page refl
@@ -204,6 +206,7 @@ urgent_settled : (frame : Frame) (node : Destination) (page : ℕ) → settled (
 urgent_settled (Page number bytes) node page = refl
 urgent_settled (Zero number) node page = refl
 urgent_settled Advise node page = refl
+urgent_settled (Run from pages) node page = refl
 urgent_settled (Discard pages) node page = refl
 urgent_settled (Package areas owed commands) node page = refl
 urgent_settled (End count) node page = refl
@@ -223,6 +226,7 @@ settled_answer world Step.Install kept waits ran leaves page = absurd (false≢t
 settled_answer world Step.Start kept waits ran leaves page = made-start _ world (λ idle. refl)
 settled_answer world Step.Round kept waits ran leaves page = made-round _ world (λ precopy quiet. refl)
 settled_answer world Step.Send kept waits ran leaves page = made-send _ world (λ number is precopy up quiet. refl)
+settled_answer world (Step.SendRun count) kept waits ran leaves page = made-send_run _ world count (λ first number is many precopy up quiet. refl)
 settled_answer world Step.SourceRead kept waits ran leaves page = made-source_read _ world (λ noted is started unswitched. refl)
 settled_answer world Step.SourceAct kept waits ran leaves page = made-source_act _ world (λ fault rest is started unswitched quiet. refl)
 settled_answer world Step.Switch kept waits ran leaves page = made-switch _ world (λ precopy up quiet. refl)

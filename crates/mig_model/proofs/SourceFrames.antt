@@ -1,30 +1,24 @@
 -- A wire with one more frame behind those that are in flight, and the copy that the frame of a page carries.
-use Rattle.std.proofs.Common.{◌≡◌, ℕ, Bool, true, false, cond, eqb, if◌then◌else◌, Option, Some, None, List, [], ◌∷◌, ◌++◌, refl, sym, ap, ◌∙◌, length}
+use Rattle.std.proofs.Common.{◌≡◌, ℕ, zero, suc, ◌+◌, Bool, true, false, cond, eqb, if◌then◌else◌, Option, Some, None, List, [], ◌∷◌, ◌++◌, refl, sym, ap, ◌∙◌, length, subst, arith}
+use Rattle.std.proofs.lemmas.Bool.Decides.{nat_tests}
+use Rattle.mig_base.specs.Ranges.{in_range}
 use Rattle.std.specs.Option.{option_and_then}
 use Rattle.std.specs.List.{list_all}
 use Rattle.std.specs.Ordering.{nat_cmp}
 use Rattle.std.specs.FinMap.{FinMap, get, insert}
-use Rattle.std.proofs.lemmas.Bool.{false≢true}
-use Rattle.mig_base.specs.Bytes.{zero_page}
-use Rattle.mig_model.specs.Wire.{Frame, Sent, Copy, page_frame, copy_in, kept_after}
-use Rattle.mig_model.specs.Wire.Frame.{Page, Zero, Package, End}
+use Rattle.mig_model.specs.Wire.{Frame, Sent, page_frame, copies_in, kept_after, kept_with, run_copies}
+use Rattle.mig_model.specs.Wire.Frame.{Page, Zero, Run, Package}
 use Rattle.mig_model.specs.Invariant.{Flow, flow_next, flow_after, copies_of, AreWhole, is_package, kept_by}
 use Rattle.mig_model.specs.Invariant.Flow.{BeforeAdvise, Copies, BeforePackage, Pushed, AfterEnd}
+use Rattle.mig_model.specs.Source.{Source, bytes_of, run_of}
+use Rattle.mig_model.proofs.FirstFrame.{stays_late}
 use Rattle.mig_model.proofs.HostLemmas.{get-put}
 use Rattle.mig_model.specs.Migration.{next}
-use Rattle.mig_model.proofs.Facts.{none_absurd, zero_bytes, kept_page}
+use Rattle.mig_model.proofs.Facts.{none_absurd, zero_bytes, kept_page, copies_of-append, AreWhole-append}
 
 -- The frame of a page
 
-copy_by : (b : Bool) (page : ℕ) (bytes : List ℕ) → (b ≡ true → bytes ≡ zero_page) → copy_in (if b then Zero page else Page page bytes) ≡ Some (record { page = page; bytes = bytes })
-copy_by true page bytes h = ap (λ x. Some (record { page = page; bytes = x })) (sym (h refl))
-copy_by false page bytes h = refl
-
--- it carries the page's bytes
-pub copy_in-page_frame : (page : ℕ) (bytes : List ℕ) → length bytes ≡ 4096 → copy_in (page_frame page bytes) ≡ Some (record { page = page; bytes = bytes })
-copy_in-page_frame page bytes n = copy_by (list_all (λ byte. eqb byte 0) bytes) page bytes (zero_bytes bytes n)
-
--- and is kept as such
+-- it is kept as such
 pub kept_after-page_frame : (kept : FinMap nat_cmp (List ℕ)) (page : ℕ) (bytes : List ℕ) → length bytes ≡ 4096 → kept_after kept (page_frame page bytes) ≡ insert kept page bytes
 kept_after-page_frame kept page bytes n = kept_page (list_all (λ byte. eqb byte 0) bytes) kept page bytes (zero_bytes bytes n)
 
@@ -32,74 +26,16 @@ no_package_by : (b : Bool) (page : ℕ) (bytes : List ℕ) → is_package (if b 
 no_package_by true page bytes = refl
 no_package_by false page bytes = refl
 
-copies_by : (b : Bool) (page : ℕ) (bytes : List ℕ) → flow_next Copies (if b then Zero page else Page page bytes) ≡ Some Copies
-copies_by true page bytes = refl
-copies_by false page bytes = refl
-
--- it may come among copies
-pub flow_next-page_frame : (page : ℕ) (bytes : List ℕ) → flow_next Copies (page_frame page bytes) ≡ Some Copies
-flow_next-page_frame page bytes = copies_by (list_all (λ byte. eqb byte 0) bytes) page bytes
-
 -- One more frame
 
-push_by : (o : Option Flow) (rest : List Sent) (sent : Sent) → ((flow : Flow) → flow_after flow (rest ++ sent ∷ []) ≡ option_and_then (λ next. flow_next next sent.frame) (flow_after flow rest)) →
-    option_and_then (λ next. flow_after next (rest ++ sent ∷ [])) o ≡ option_and_then (λ next. flow_next next sent.frame) (option_and_then (λ next. flow_after next rest) o)
-push_by None rest sent h = refl
-push_by (Some flow) rest sent h = h flow
-
-last_flow : (o : Option Flow) → option_and_then (λ (next : Flow). Some next) o ≡ o
-last_flow None = refl
-last_flow (Some flow) = refl
-
-pub flow_after-push : (flow : Flow) (wire : List Sent) (sent : Sent) → flow_after flow (wire ++ sent ∷ []) ≡ option_and_then (λ next. flow_next next sent.frame) (flow_after flow wire)
-flow_after-push flow [] sent = last_flow (flow_next flow sent.frame)
-flow_after-push flow (first ∷ rest) sent = push_by (flow_next flow first.frame) rest sent (λ next. flow_after-push next rest sent)
-
-whole_one : (o : Option Copy) (copy : Copy) → o ≡ Some copy → length copy.bytes ≡ 4096 → AreWhole (elim o [ None ↦ [] | Some c ↦ c ∷ [] ])
-whole_one None copy is n = absurd (cc)
-whole_one (Some c) copy is n = let same : c ≡ copy = cc in (ap (λ x. length x.bytes) same ∙ n, tt)
-
-whole_more : (o : Option Copy) (rest more : List Copy) → AreWhole (elim o [ None ↦ rest | Some copy ↦ copy ∷ rest ]) → (AreWhole rest → AreWhole more) → AreWhole (elim o [ None ↦ more | Some copy ↦ copy ∷ more ])
-whole_more None rest more are h = h are
-whole_more (Some copy) rest more are h = (are.0, h are.1)
-
-pub copies_whole-push : (wire : List Sent) (sent : Sent) (copy : Copy) → copy_in sent.frame ≡ Some copy → length copy.bytes ≡ 4096 → AreWhole (copies_of wire) → AreWhole (copies_of (wire ++ sent ∷ []))
-copies_whole-push [] sent copy is n are = whole_one (copy_in sent.frame) copy is n
-copies_whole-push (first ∷ rest) sent copy is n are = whole_more (copy_in first.frame) (copies_of rest) (copies_of (rest ++ sent ∷ [])) are (copies_whole-push rest sent copy is n)
+pub copies_whole-push : (wire : List Sent) (sent : Sent) → AreWhole (copies_in sent.frame) → AreWhole (copies_of wire) → AreWhole (copies_of (wire ++ sent ∷ []))
+copies_whole-push wire sent whole are =
+    subst AreWhole (sym (copies_of-append wire (sent ∷ []))) (AreWhole-append (copies_of wire) (copies_of (sent ∷ [])) are (AreWhole-append (copies_in sent.frame) [] whole tt))
 
 -- No Package before the switch
 
--- whether a wire has come to its Discard
-abbrev is_late : Flow → Bool
-is_late BeforeAdvise = false
-is_late Copies = false
-is_late BeforePackage = true
-is_late Pushed = true
-is_late AfterEnd = true
-
-next_late : (flow : Flow) (frame : Frame) (next : Flow) → is_late flow ≡ true → flow_next flow frame ≡ Some next → is_late next ≡ true
-next_late BeforeAdvise frame next late h = none_absurd late
-next_late Copies frame next late h = none_absurd late
-next_late BeforePackage (Package areas owed commands) next late h = let same : Pushed ≡ next = cc in ap is_late (sym same)
-next_late BeforePackage _ next late h = absurd (cc)
-next_late Pushed (Page page bytes) next late h = let same : Pushed ≡ next = cc in ap is_late (sym same)
-next_late Pushed (Zero page) next late h = let same : Pushed ≡ next = cc in ap is_late (sym same)
-next_late Pushed (End count) next late h = let same : AfterEnd ≡ next = cc in ap is_late (sym same)
-next_late Pushed _ next late h = absurd (cc)
-next_late AfterEnd _ next late h = absurd (cc)
-
-late_by : {A : Type 0} (o : Option Flow) (rest : List Sent) → ((next : Flow) → o ≡ Some next → is_late next ≡ true) → ((next : Flow) → is_late next ≡ true → flow_after next rest ≡ Some Copies → A) →
-    option_and_then (λ next. flow_after next rest) o ≡ Some Copies → A
-late_by None rest late never h = absurd (cc)
-late_by (Some next) rest late never h = never next (late next refl) h
-
--- it does not come back to copies that are to be kept
-late_never : (wire : List Sent) (flow : Flow) → is_late flow ≡ true → flow_after flow wire ≡ Some Copies → ⊥
-late_never [] flow late h = let same : flow ≡ Copies = cc in false≢true (sym (ap is_late same) ∙ late)
-late_never (first ∷ rest) flow late h = late_by (flow_next flow first.frame) rest (λ next e. next_late flow first.frame next late e) (λ next l e. late_never rest next l e) h
-
 plain_head : (flow : Flow) (frame : Frame) (rest : List Sent) → option_and_then (λ next. flow_after next rest) (flow_next flow frame) ≡ Some Copies → is_package frame ≡ false
-plain_head BeforePackage (Package areas owed commands) rest h = absurd (late_never rest Pushed refl h)
+plain_head BeforePackage (Package areas owed commands) rest h = absurd (stays_late Pushed rest refl h)
 plain_head BeforeAdvise (Package areas owed commands) rest h = absurd (cc)
 plain_head Copies (Package areas owed commands) rest h = absurd (cc)
 plain_head Pushed (Package areas owed commands) rest h = absurd (cc)
@@ -129,3 +65,35 @@ kept_by-page wire flow kept epoch page bytes h n q =
     ∙ kept_one (is_package (page_frame page bytes)) (kept_by kept wire) (kept_after (kept_by kept wire) (page_frame page bytes)) (no_package_by (list_all (λ byte. eqb byte 0) bytes) page bytes)
     ∙ kept_after-page_frame (kept_by kept wire) page bytes n)
     ∙ get-put (kept_by kept wire) page q bytes
+
+-- A run of pages
+
+later_in : (first count q : ℕ) → in_range (1 + first) count q ≡ true → in_range first (suc count) q ≡ true
+later_in first count q h = grind (arith, nat_tests)
+
+first_in : (first count : ℕ) → in_range first (suc count) first ≡ true
+first_in first count = grind (arith, nat_tests)
+
+-- its copies are whole pages
+pub run_whole : (node : Source) (first count : ℕ) → ((q : ℕ) → in_range first count q ≡ true → length (bytes_of node q) ≡ 4096) → AreWhole (run_copies first (run_of node first count))
+run_whole node first zero whole = tt
+run_whole node first (suc count) whole = (whole first (first_in first count), run_whole node (1 + first) count (λ q h. whole q (later_in first count q h)))
+
+none_in : (first q : ℕ) (x o : Option (List ℕ)) → o ≡ cond (in_range first 0 q) x o
+none_in first q x o = grind (arith, nat_tests)
+
+one_in : (f : ℕ → Option (List ℕ)) (first count q : ℕ) (o : Option (List ℕ)) → cond (in_range (1 + first) count q) (f q) (cond (eqb q first) (f first) o) ≡ cond (in_range first (suc count) q) (f q) o
+one_in f first count q o = grind (arith, nat_tests)
+
+get-kept_with : (node : Source) (kept : FinMap nat_cmp (List ℕ)) (first count q : ℕ) → get (kept_with kept (run_copies first (run_of node first count))) q ≡ cond (in_range first count q) (Some (bytes_of node q)) (get kept q)
+get-kept_with node kept first zero q = none_in first q (Some (bytes_of node q)) (get kept q)
+get-kept_with node kept first (suc count) q =
+    get-kept_with node (insert kept first (bytes_of node first)) (1 + first) count q
+    ∙ ap (cond (in_range (1 + first) count q) (Some (bytes_of node q))) (get-put kept first q (bytes_of node first))
+    ∙ one_in (λ page. Some (bytes_of node page)) first count q (get kept q)
+
+-- its pages' own bytes are the newest then
+pub kept_by-run : (wire : List Sent) (flow : Flow) (kept : FinMap nat_cmp (List ℕ)) (epoch : ℕ) (node : Source) (first count : ℕ) → flow_after flow wire ≡ Some Copies → (q : ℕ) →
+    get (kept_by kept (wire ++ record { epoch = epoch; frame = Run first (run_of node first count) } ∷ [])) q ≡ cond (in_range first count q) (Some (bytes_of node q)) (get (kept_by kept wire) q)
+kept_by-run wire flow kept epoch node first count h q =
+    ap (λ m. get m q) (kept_by-push wire flow (record { epoch = epoch; frame = Run first (run_of node first count) }) kept h) ∙ get-kept_with node (kept_by kept wire) first count q

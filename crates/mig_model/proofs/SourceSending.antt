@@ -1,6 +1,5 @@
 -- The source sends the next page of a round, and keeps what every world keeps.
-use Rattle.std.proofs.Common.{◌≡◌, ℕ, ◌&&◌, ◌||◌, Bool, true, false, cond, not, eqb, ltb, Option, Some, None, List, [], ◌∷◌, ◌++◌, refl, sym, ap, ◌∙◌, ◌⊎◌, inl, inr, ⊎_elim, is_some, length, unwrap_or}
-use Rattle.std.specs.Option.{option_and_then}
+use Rattle.std.proofs.Common.{◌≡◌, ℕ, ◌&&◌, ◌||◌, Bool, true, false, cond, not, eqb, ltb, Option, Some, None, List, [], ◌∷◌, ◌++◌, refl, sym, ap, ◌∙◌, ◌⊎◌, inl, inr, ⊎_elim, is_some, length, unwrap_or, subst}
 use Rattle.std.specs.Ordering.{nat_cmp}
 use Rattle.std.specs.FinMap.{FinMap, get}
 use Rattle.std.specs.FinSet.{contains, insert}
@@ -17,11 +16,12 @@ use Rattle.mig_model.specs.Ioctls.{protected_in}
 use Rattle.mig_model.specs.Guest.{is_present}
 use Rattle.mig_model.specs.Wire.{Sent, page_frame}
 use Rattle.mig_model.specs.Migration.{World, after_send, is_changing}
-use Rattle.mig_model.specs.Invariant.{IsSoundWorld, IsPrecopying, Wires, Flow, flow_after, flow_next, kept_by, is_unread}
+use Rattle.mig_model.specs.Invariant.{IsSoundWorld, IsPrecopying, Wires, Flow, AreWhole, flow_after, kept_by, is_unread}
 use Rattle.mig_model.specs.Invariant.Flow.{BeforeAdvise, Copies}
 use Rattle.mig_model.proofs.IoctlLemmas.{IsSoundSpace-protected}
 use Rattle.mig_model.proofs.SourceKept.{source_holds, IsNext, renewed}
-use Rattle.mig_model.proofs.SourceFrames.{copy_in-page_frame, flow_next-page_frame, flow_after-push, copies_whole-push, kept_by-page}
+use Rattle.mig_model.proofs.SendingLemmas.{copies_in-page, page_flow, flow_sent as one_sent}
+use Rattle.mig_model.proofs.SourceFrames.{copies_whole-push, kept_by-page}
 use Rattle.mig_model.proofs.SourceHandler.{has_not_run}
 use Rattle.mig_model.proofs.SourceTests.{in_one_is}
 use Rattle.mig_model.proofs.SourceRounds.{precopy_unswitched, never_idle, watched_below}
@@ -30,11 +30,11 @@ use Rattle.mig_model.specs.Source.{bytes_of, is_precopy, page_sent, space_of}
 use Rattle.mig_model.proofs.HeldLemmas.{fits-append}
 use Rattle.mig_model.proofs.Facts.{none_absurd, either, only_one, AreOf-one, no_event}
 
-present_bytes : {X : Type 0} (o : Option X) (zeros : X) → is_some o ≡ true → Some (unwrap_or o zeros) ≡ o
+pub present_bytes : {X : Type 0} (o : Option X) (zeros : X) → is_some o ≡ true → Some (unwrap_or o zeros) ≡ o
 present_bytes None zeros h = none_absurd h
 present_bytes (Some x) zeros h = refl
 
-protected_now : (low here present old : Bool) → low ≡ true → present ≡ true → (here || old) ≡ true → (low && cond here (true && present) old) ≡ true
+pub protected_now : (low here present old : Bool) → low ≡ true → present ≡ true → (here || old) ≡ true → (low && cond here (true && present) old) ≡ true
 protected_now false here present old low is h = none_absurd low
 protected_now true true present old low is h = is
 protected_now true false present old low is h = h
@@ -46,7 +46,7 @@ record IsSent (world : World) (page : ℕ) : Type 0 where
   whole : length (bytes_of world.source page) ≡ 4096
   low : ltb page HIGH_PAGE ≡ true
 
-whole_bytes : (space : Space) (page : ℕ) (o : Option (List ℕ)) → IsSoundSpace space → get space.host.bytes page ≡ o → is_some o ≡ true → length (unwrap_or o zero_page) ≡ 4096
+pub whole_bytes : (space : Space) (page : ℕ) (o : Option (List ℕ)) → IsSoundSpace space → get space.host.bytes page ≡ o → is_some o ≡ true → length (unwrap_or o zero_page) ≡ 4096
 whole_bytes space page None sound e h = none_absurd h
 whole_bytes space page (Some bytes) sound e h = sound.host.whole page bytes e
 
@@ -80,15 +80,15 @@ still_after world page q kept unswitched is h u =
 abbrev page_wire : World → ℕ → List Sent
 page_wire world page = world.forward.frames ++ record { epoch = world.source.epoch; frame = page_frame page (bytes_of world.source page) } ∷ []
 
-here_or_before : (here : Bool) (bytes : List ℕ) (kept own : Option (List ℕ)) → (here ≡ true → Some bytes ≡ own) → (here ≡ false → kept ≡ own) → cond here (Some bytes) kept ≡ own
+pub here_or_before : (here : Bool) (bytes : List ℕ) (kept own : Option (List ℕ)) → (here ≡ true → Some bytes ≡ own) → (here ≡ false → kept ≡ own) → cond here (Some bytes) kept ≡ own
 here_or_before true bytes kept own first second = first refl
 here_or_before false bytes kept own first second = second refl
 
-copied_or_before : (here : Bool) (bytes : List ℕ) (kept : Option (List ℕ)) → is_some (cond here (Some bytes) kept) ≡ true → (here ≡ true) ⊎ (is_some kept ≡ true)
+pub copied_or_before : (here : Bool) (bytes : List ℕ) (kept : Option (List ℕ)) → is_some (cond here (Some bytes) kept) ≡ true → (here ≡ true) ⊎ (is_some kept ≡ true)
 copied_or_before true bytes kept h = inl refl
 copied_or_before false bytes kept h = inr h
 
-was_clean : (here clean : Bool) → (here || clean) ≡ true → here ≡ false → clean ≡ true
+pub was_clean : (here clean : Bool) → (here || clean) ≡ true → here ≡ false → clean ≡ true
 was_clean true clean h e = none_absurd (sym e)
 was_clean false clean h e = h
 
@@ -112,10 +112,7 @@ sent_copies world page flow kept is right old =
     }
 
 flow_sent : (flow : Flow) (wire : List Sent) (epoch page : ℕ) (bytes : List ℕ) → flow_after flow wire ≡ Some Copies → flow_after flow (wire ++ record { epoch = epoch; frame = page_frame page bytes } ∷ []) ≡ Some Copies
-flow_sent flow wire epoch page bytes right =
-    flow_after-push flow wire (record { epoch = epoch; frame = page_frame page bytes })
-    ∙ ap (λ o. option_and_then (λ next. flow_next next (page_frame page bytes)) o) right
-    ∙ flow_next-page_frame page bytes
+flow_sent flow wire epoch page bytes right = one_sent flow Copies Copies wire (record { epoch = epoch; frame = page_frame page bytes }) right (page_flow page bytes).0
 
 wires_sent : (from : SourcePhase) (to : DestPhase) (world : World) (page : ℕ) → is_precopy from ≡ true → IsSent world page →
     Wires (record world.source { phase = from }) (record world.destination { phase = to }) world.forward.frames world.back.frames world.urgent.frames →
@@ -160,8 +157,8 @@ sent_next world page kept precopy up unswitched is =
       before = kept.pushing.ended_before;
       fresh = kept.pushing.paused_fresh;
       idle = λ h. never_idle source.phase precopy h;
-      whole = copies_whole-push world.forward.frames (record { epoch = source.epoch; frame = page_frame page (bytes_of source page) }) (record { page = page; bytes = bytes_of source page })
-          (copy_in-page_frame page (bytes_of source page) is.whole) is.whole kept.copies.copies_whole;
+      whole = copies_whole-push world.forward.frames (record { epoch = source.epoch; frame = page_frame page (bytes_of source page) })
+          (subst AreWhole (sym (copies_in-page page (bytes_of source page) is.whole)) (is.whole, tt)) kept.copies.copies_whole;
       protected = λ q h u. still_after world page q kept unswitched is h u;
       sendable = λ q h u.
           kept.precopy.todo_sendable unswitched q (and_parts (not (eqb q page)) (contains source.log.todo q) (sym (member_removed source.log.todo page q) ∙ h)).1 u;

@@ -15,7 +15,7 @@ use Rattle.mig_model.specs.Invariant.{IsSoundWorld}
 use Rattle.mig_model.specs.Promises.{IsComplete}
 use Rattle.mig_model.proofs.Stopping.{in_phases}
 use Rattle.mig_model.proofs.StepLemmas.{Leaves, leaves-next}
-use Rattle.mig_model.proofs.StepCases.{made-break, made-deliver, made-deliver_back, made-dest_act, made-dest_read, made-end, made-install, made-issue, made-notice, made-push, made-resume, made-retry, made-round, made-send, made-serve, made-source_act, made-source_read, made-start, made-switch, made-deliver_urgent, made-push_urgent}
+use Rattle.mig_model.proofs.StepCases.{made-break, made-deliver, made-deliver_back, made-dest_act, made-dest_read, made-end, made-install, made-issue, made-notice, made-push, made-resume, made-retry, made-round, made-send, made-send_run, made-serve, made-source_act, made-source_read, made-start, made-switch, made-deliver_urgent, made-push_urgent}
 use Rattle.mig_model.specs.Source.{is_precopy, is_released, is_source_idle, is_source_paused, is_stopped, released, source_act, source_acted_by}
 use Rattle.mig_model.proofs.Facts.{none_absurd}
 
@@ -86,6 +86,7 @@ complete-answer world (Step.Retry cpu) kept done = made-retry _ world cpu (λ co
 complete-answer world Step.Start kept done = made-start _ world (λ idle. absurd (not_idle world.source.phase done idle))
 complete-answer world Step.Round kept done = made-round _ world (λ precopy quiet. absurd (not_precopy world.source.phase done precopy))
 complete-answer world Step.Send kept done = made-send _ world (λ page is precopy up quiet. absurd (not_precopy world.source.phase done precopy))
+complete-answer world (Step.SendRun count) kept done = made-send_run _ world count (λ first number is many precopy up quiet. absurd (not_precopy world.source.phase done precopy))
 complete-answer world Step.SourceRead kept done = made-source_read _ world (λ noted is started unswitched. done)
 complete-answer world Step.SourceAct kept done = made-source_act _ world (λ fault rest is started unswitched quiet. still world.source.phase _ (worked_phase (source_act world.source fault) world fault.page) done)
 complete-answer world Step.Switch kept done = made-switch _ world (λ precopy up quiet. absurd (not_precopy world.source.phase done precopy))

@@ -9,12 +9,13 @@ use Rattle.mig_base.specs.declared.effect.Effect.{Effect}
 use Rattle.mig_base.specs.declared.schedule.Side.{Side}
 use Rattle.mig_base.specs.declared.schedule.Step.{Step}
 use Rattle.mig_base.specs.declared.schedule.Ticket.{Ticket}
+use Rattle.mig_base.specs.Sets.{run_length}
 use Rattle.mig_base.specs.Tests.{is_empty}
 use Rattle.mig_base.specs.Commands.{is_access}
 use Rattle.mig_model.specs.Userfault.{Noted, next_message}
 use Rattle.mig_model.specs.Guest.{Fault, is_present, took_by}
 use Rattle.mig_model.specs.Wire.{Sent, Copy}
-use Rattle.mig_model.specs.Migration.{World, Made, answer, guest_of, runs, has_started, is_changing, is_end, is_paused_at, try_effect, page_effect, read_effect, act_effect, frame_effect, install_effect, retry_command, send_page, source_read_next, source_act_first, deliver_first, deliver_back_first, destination_read_next, destination_act_first, install_first, serve_first, after_command, after_start, after_round, after_send, after_source_read, after_source_act, after_switch, after_deliver, after_deliver_back, after_dest_read, after_dest_act, after_install, after_push, after_serve, after_end, after_break, after_notice, after_resume, after_move, after_move_back, is_short, has_no_cpu, after_deliver_urgent, after_move_urgent, after_push_urgent, deliver_urgent_first, is_early}
+use Rattle.mig_model.specs.Migration.{World, Made, answer, guest_of, runs, has_started, is_changing, is_end, is_paused_at, try_effect, page_effect, read_effect, act_effect, frame_effect, install_effect, retry_command, send_page, send_run_from, run_bound, after_run, source_read_next, source_act_first, deliver_first, deliver_back_first, destination_read_next, destination_act_first, install_first, serve_first, after_command, after_start, after_round, after_send, after_source_read, after_source_act, after_switch, after_deliver, after_deliver_back, after_dest_read, after_dest_act, after_install, after_push, after_serve, after_end, after_break, after_notice, after_resume, after_move, after_move_back, is_short, has_no_cpu, after_deliver_urgent, after_move_urgent, after_push_urgent, deliver_urgent_first, is_early}
 use Rattle.mig_model.proofs.StepLemmas.{Holds, holds-unless, holds-either}
 use Rattle.mig_model.specs.Cpus.{is_idle, is_woken, outstanding, processor_at}
 use Rattle.mig_model.specs.Log.{least_of, less}
@@ -69,6 +70,18 @@ pub made-send : (Q : Made → Type 0) (world : World) →
     ((page : ℕ) → least_of world.source.log.todo ≡ Some page → is_precopy world.source.phase ≡ true → world.up ≡ true → is_changing world.source.guest ≡ false →
     Q (record { effect = page_effect page (bytes_of world.source page); world = after_send world page })) → Holds Q (answer world Step.Send)
 made-send Q world h = holds-unless Q _ _ (λ t. send_by Q world (least_of world.source.log.todo) (λ page is quiet. h page is (not-false _ t.0) (not-false _ t.1.0) quiet))
+
+run_by : (Q : Made → Type 0) (world : World) (count : ℕ) (o : Option ℕ) →
+    ((first number : ℕ) → o ≡ Some first → number ≡ run_length world.source.log.todo first (run_bound count) → is_changing world.source.guest ≡ false → Q (record { effect = Effect.SentRun (PAGE_SIZE * first) number; world = after_run world first number })) →
+    Holds Q (send_run_from world count o)
+run_by Q world count None h = tt
+run_by Q world count (Some first) h = holds-unless Q _ _ (λ t. h first (run_length world.source.log.todo first (run_bound count)) refl refl t.0)
+
+pub made-send_run : (Q : Made → Type 0) (world : World) (count : ℕ) →
+    ((first number : ℕ) → least_of world.source.log.todo ≡ Some first → number ≡ run_length world.source.log.todo first (run_bound count) → is_precopy world.source.phase ≡ true → world.up ≡ true → is_changing world.source.guest ≡ false →
+    Q (record { effect = Effect.SentRun (PAGE_SIZE * first) number; world = after_run world first number })) → Holds Q (answer world (Step.SendRun count))
+made-send_run Q world count h =
+    holds-unless Q _ _ (λ t. run_by Q world count (least_of world.source.log.todo) (λ first number is many quiet. h first number is many (not-false _ t.0) (not-false _ t.1.0) quiet))
 
 source_read_by : (Q : Made → Type 0) (world : World) (o : Option Noted) →
     ((noted : Noted) → o ≡ Some noted → Q (record { effect = read_effect world.source.guest noted.cpu noted.message; world = after_source_read world noted })) → Holds Q (source_read_next world o)

@@ -22,7 +22,7 @@ use Rattle.mig_model.specs.Promises.{IsZeroed, keeps_remaining}
 use Rattle.mig_model.proofs.IoctlLemmas.{get-put_pages}
 use Rattle.mig_model.proofs.PromiseLemmas.{source_zero, destination_zero}
 use Rattle.mig_model.proofs.StepLemmas.{Leaves, holds-effect, leaves-next, leaves-ok}
-use Rattle.mig_model.proofs.StepCases.{made-break, made-deliver, made-dest_act, made-dest_read, made-end, made-install, made-issue, made-notice, made-push, made-resume, made-retry, made-round, made-send, made-serve, made-source_act, made-source_read, made-start, made-deliver_urgent, made-push_urgent}
+use Rattle.mig_model.proofs.StepCases.{made-break, made-deliver, made-dest_act, made-dest_read, made-end, made-install, made-issue, made-notice, made-push, made-resume, made-retry, made-round, made-send, made-send_run, made-serve, made-source_act, made-source_read, made-start, made-deliver_urgent, made-push_urgent}
 use Rattle.mig_model.specs.Cpus.{entries_of, outstanding, processor_at}
 use Rattle.mig_model.specs.Source.{Source, source_act, source_acted_by, space_of}
 use Rattle.mig_model.specs.Destination.{destination_act, destination_acted_by}
@@ -114,6 +114,7 @@ remaining_answer world (Step.Retry cpu) q keeps = made-retry _ world cpu (λ com
 remaining_answer world Step.Start q keeps = made-start _ world (λ idle h. h)
 remaining_answer world Step.Round q keeps = made-round _ world (λ precopy quiet h. h)
 remaining_answer world Step.Send q keeps = made-send _ world (λ page is precopy up quiet h. h)
+remaining_answer world (Step.SendRun count) q keeps = made-send_run _ world count (λ first number is many precopy up quiet h. h)
 remaining_answer world Step.SourceRead q keeps = made-source_read _ world (λ noted is started unswitched h. h)
 remaining_answer world Step.SourceAct q keeps = made-source_act _ world (λ fault rest is started unswitched quiet h. sym (worked_remaining (source_act world.source fault) world.source fault.page q) ∙ h)
 remaining_answer world Step.Switch q keeps = absurd (false≢true keeps)

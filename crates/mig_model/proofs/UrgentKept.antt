@@ -1,6 +1,6 @@
 -- PushUrgent and DeliverUrgent keep what every world keeps: a page goes from those that remain to the urgent wire, and from there to the
 -- copies that have arrived.
-use Rattle.std.proofs.Common.{◌≡◌, ◌≢◌, ℕ, ◌&&◌, ◌||◌, Bool, true, false, not, eqb, Some, is_some, List, [], ◌∷◌, ◌++◌, refl, sym, ap, ◌∙◌, subst, ⊎_elim, length}
+use Rattle.std.proofs.Common.{◌≡◌, ◌≢◌, ℕ, ◌&&◌, ◌||◌, Bool, true, false, not, eqb, Some, List, [], ◌∷◌, ◌++◌, refl, sym, ap, ◌∙◌, subst, ⊎_elim, length}
 use Rattle.std.specs.Ordering.{nat_cmp}
 use Rattle.std.specs.FinMap.{FinMap, get}
 use Rattle.std.specs.FinSet as finset
@@ -10,7 +10,7 @@ use Rattle.mig_base.specs.declared.phase.DestPhase.{DestPhase}
 use Rattle.mig_base.specs.declared.phase.SourcePhase.{SourcePhase}
 use Rattle.mig_base.specs.Bytes.{zero_page}
 use Rattle.mig_base.proofs.SetLemmas.{member_removed}
-use Rattle.mig_model.specs.Wire.{Frame, Sent, Copy, page_frame, wire_behind, copy_in}
+use Rattle.mig_model.specs.Wire.{Frame, Sent, Copy, page_frame, wire_behind, is_copy}
 use Rattle.mig_model.specs.Wire.Frame.{Page, Zero}
 use Rattle.mig_model.specs.Migration.{World, after_deliver_urgent, after_push_urgent}
 use Rattle.mig_model.specs.Source.{Source, is_stopped, bytes_of, space_of, urgent_pushed}
@@ -251,5 +251,5 @@ is_taken_urgent world sent rest kept h ran up first =
     record {
       runs = ap is_running both.1;
       own_epoch = own.0 ∙ sym (running_epoch world.destination.phase world.destination.epoch world.source.epoch both.1 (kept.epochs.epoch_at up));
-      copy = and_left (is_some (copy_in sent.frame)) (are_copies rest) are;
+      copy = and_left (is_copy sent.frame) (are_copies rest) are;
     }

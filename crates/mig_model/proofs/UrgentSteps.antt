@@ -1,5 +1,5 @@
 -- What every world keeps of the urgent wire is kept by every step.
-use Rattle.std.proofs.Common.{◌≡◌, ◌≢◌, ℕ, suc, ◌+◌, ◌||◌, Bool, true, false, not, Option, Some, None, is_some, List, [], ◌∷◌, ◌++◌, refl, sym, ap, ◌∙◌, subst, arith, length}
+use Rattle.std.proofs.Common.{◌≡◌, ◌≢◌, ℕ, suc, ◌+◌, ◌||◌, Bool, true, false, not, Option, Some, None, List, [], ◌∷◌, ◌++◌, refl, sym, ap, ◌∙◌, subst, arith, length}
 use Rattle.std.specs.FinMap.{get}
 use Rattle.std.specs.FinSet.{contains}
 use Rattle.std.proofs.lemmas.Bool.{false≢true}
@@ -11,12 +11,12 @@ use Rattle.mig_base.specs.declared.schedule.Step.{Step}
 use Rattle.mig_base.specs.declared.command.Command.{Command}
 use Rattle.mig_base.specs.Commands.{is_access}
 use Rattle.mig_base.specs.Bytes.{zero_page}
-use Rattle.mig_model.specs.Wire.{Frame, Sent, Wire, Copy, copy_in, page_frame, sending, wire_behind}
-use Rattle.mig_model.specs.Wire.Frame.{Advise, Page, Zero, Discard, Package, End, Resume, Request, Recv, Done}
+use Rattle.mig_model.specs.Wire.{Frame, Sent, Wire, Copy, is_copy, page_frame, sending, wire_behind}
+use Rattle.mig_model.specs.Wire.Frame.{Advise, Page, Zero, Run, Discard, Package, End, Resume, Request, Recv, Done}
 use Rattle.mig_model.specs.Migration.{World, after_break, after_command, after_deliver, after_deliver_back, after_deliver_urgent, after_end, after_move_urgent, after_notice, after_push_urgent, after_resume, after_start, after_switch, answer, first_world_with, guest_of, is_early, is_short, next, runs, source_sends, with_guest_by}
 use Rattle.mig_model.specs.Guest.{Guest, Act, is_present, tried}
 use Rattle.mig_model.specs.Guest.Act.{Unprotected, Zeroed, Woke, Forgot, Requested}
-use Rattle.mig_model.specs.Source.{Source, is_stopped, bytes_of, is_precopy, is_source_idle, package_frames, rebuild_frames, released, source_act, source_acted_by, source_rebuilt, space_of, switch_frames}
+use Rattle.mig_model.specs.Source.{Source, is_stopped, bytes_of, is_precopy, is_source_idle, package_frames, rebuild_frames, released, source_act, source_acted_by, source_rebuilt, space_of, switch_frames, run_of}
 use Rattle.mig_model.specs.Destination.{Destination, copy_came, destination_act, destination_acted_by, destination_took, install_by, is_dest_paused, received_of, resumed_by, urgent_came}
 use Rattle.mig_model.proofs.StepLemmas.{Leaves, leaves-next}
 use Rattle.mig_model.specs.Invariant.{AreFaithful, AreSoundUrgent, AreTold, IsSoundWorld, RanAt, SwitchedAt, Wires, are_copies, copies_of}
@@ -24,7 +24,7 @@ use Rattle.mig_model.specs.Promises.{IsInPlaceBack}
 use Rattle.mig_model.specs.Log.{no_pages, present}
 use Rattle.mig_model.specs.Owed.{home}
 use Rattle.mig_model.proofs.Facts.{AreFaithful-append, AreOf-one, and_second, copies_of-append}
-use Rattle.mig_model.proofs.StepCases.{made-break, made-deliver, made-deliver_back, made-deliver_urgent, made-dest_act, made-dest_read, made-end, made-install, made-issue, made-notice, made-push, made-push_urgent, made-resume, made-retry, made-round, made-send, made-serve, made-source_act, made-source_read, made-start, made-switch}
+use Rattle.mig_model.proofs.StepCases.{made-break, made-deliver, made-deliver_back, made-deliver_urgent, made-dest_act, made-dest_read, made-end, made-install, made-issue, made-notice, made-push, made-push_urgent, made-resume, made-retry, made-round, made-send, made-send_run, made-serve, made-source_act, made-source_read, made-start, made-switch}
 use Rattle.mig_model.proofs.HeldLemmas.{fits-more, fits-moved, fits-none}
 use Rattle.mig_model.proofs.SendingLemmas.{copies_of-page}
 use Rattle.mig_model.proofs.Stopping.{not_ended, present_bytes}
@@ -133,6 +133,9 @@ sent_urgent : (world : World) (page : ℕ) → AreSoundUrgent world → AreTold 
 sent_urgent world page h =
     told-sending world.source.epoch world.source.end_epoch world.source.urgent_sent world.forward.frames world.source.epoch (page_frame page (bytes_of world.source page) ∷ []) h.told
     (told_page world.source.epoch world.source.end_epoch world.source.urgent_sent page (bytes_of world.source page), tt)
+
+run_urgent : (world : World) (first count : ℕ) → AreSoundUrgent world → AreTold world.source.epoch world.source.end_epoch world.source.urgent_sent (sending world.forward.frames world.source.epoch (Run first (run_of world.source first count) ∷ []))
+run_urgent world first count h = told-sending world.source.epoch world.source.end_epoch world.source.urgent_sent world.forward.frames world.source.epoch (Run first (run_of world.source first count) ∷ []) h.told (tt, tt)
 
 end_urgent : (world : World) → AreSoundUrgent world → AreSoundUrgent (after_end world)
 end_urgent world h =
@@ -266,6 +269,7 @@ taken_urgent (Page page bytes) epoch rest world kept up comes came told h =
     let on = came_on world.destination.has_run world.destination (record { page = page; bytes = bytes }) in stays_on world (destination_took world.destination epoch (Page page bytes)) rest world.back on.0 on.1 on.2 told h
 taken_urgent (Zero page) epoch rest world kept up comes came told h =
     let on = came_on world.destination.has_run world.destination (record { page = page; bytes = zero_page }) in stays_on world (destination_took world.destination epoch (Zero page)) rest world.back on.0 on.1 on.2 told h
+taken_urgent (Run first pages) epoch rest world kept up comes came told h = stays_on world (destination_took world.destination epoch (Run first pages)) rest world.back refl refl refl told h
 taken_urgent (Discard pages) epoch rest world kept up comes came told h =
     moved_on world (destination_took world.destination epoch (Discard pages)) rest world.back (comes_unpaused world.source.phase world.destination.phase (Discard pages) comes refl) refl (λ r. r) (λ e. absurd (discarding_not_ended e)) told h
 taken_urgent (Package areas owed commands) epoch rest world kept up comes came told h =
@@ -305,11 +309,11 @@ one_less count taken left h = omega (arith, h)
 abbrev UrgentFrames : World → List Sent → Type 0
 UrgentFrames world frames = AreSoundUrgent (record world { urgent = record world.urgent { frames = frames } })
 
-arrived_urgent : (copy : Copy) (sent : Sent) (rest : List Sent) (world : World) → copy_in sent.frame ≡ Some copy → world.destination.has_run ≡ true → UrgentFrames world (sent ∷ rest) →
+arrived_urgent : (copy : Copy) (sent : Sent) (rest : List Sent) (world : World) → world.destination.has_run ≡ true → UrgentFrames world (sent ∷ rest) →
     AreFaithful (space_of world.source).host.bytes (copies_of rest) → AreSoundUrgent (record world { destination = urgent_came world.destination copy; urgent = wire_behind rest })
-arrived_urgent copy sent rest world is ran h faithful =
+arrived_urgent copy sent rest world ran h faithful =
     record {
-      copies = and_second (is_some (copy_in sent.frame)) (are_copies rest) h.copies;
+      copies = and_second (is_copy sent.frame) (are_copies rest) h.copies;
       of_epoch = h.of_epoch.1;
       faithful = faithful;
       stopped = λ s. not_none (sent ∷ rest) sent rest refl (h.stopped s);
@@ -324,8 +328,8 @@ arrived_urgent copy sent rest world is ran h faithful =
 
 urgent_taken_by : (frame : Frame) (epoch : ℕ) (rest : List Sent) (world : World) → world.destination.has_run ≡ true → UrgentFrames world (record { epoch = epoch; frame = frame } ∷ rest) →
     AreSoundUrgent (after_deliver_urgent world (record { epoch = epoch; frame = frame }) rest)
-urgent_taken_by (Page page bytes) epoch rest world ran h = arrived_urgent (record { page = page; bytes = bytes }) (record { epoch = epoch; frame = Page page bytes }) rest world refl ran h h.faithful.1
-urgent_taken_by (Zero page) epoch rest world ran h = arrived_urgent (record { page = page; bytes = zero_page }) (record { epoch = epoch; frame = Zero page }) rest world refl ran h h.faithful.1
+urgent_taken_by (Page page bytes) epoch rest world ran h = arrived_urgent (record { page = page; bytes = bytes }) (record { epoch = epoch; frame = Page page bytes }) rest world ran h h.faithful.1
+urgent_taken_by (Zero page) epoch rest world ran h = arrived_urgent (record { page = page; bytes = zero_page }) (record { epoch = epoch; frame = Zero page }) rest world ran h h.faithful.1
 urgent_taken_by _ epoch rest world ran h = absurd (false≢true h.copies)
 
 urgent_delivered : (world : World) (sent : Sent) (rest : List Sent) → world.urgent.frames ≡ sent ∷ rest → world.destination.has_run ≡ true → AreSoundUrgent world → AreSoundUrgent (after_deliver_urgent world sent rest)
@@ -486,6 +490,8 @@ urgent-answer world Step.Start kept h = made-start _ world (λ idle. start_urgen
 urgent-answer world Step.Round kept h = made-round _ world (λ precopy quiet. other_bytes _ (precopy_unstopped world.source.phase precopy) h)
 urgent-answer world Step.Send kept h =
     made-send _ world (λ page is precopy up quiet. other_bytes _ (precopy_unstopped world.source.phase precopy) (other_forward _ (sent_urgent world page h) h))
+urgent-answer world (Step.SendRun count) kept h =
+    made-send_run _ world count (λ first number is many precopy up quiet. other_bytes _ (precopy_unstopped world.source.phase precopy) (other_forward _ (run_urgent world first number h) h))
 urgent-answer world Step.SourceRead kept h = made-source_read _ world (λ noted is started unswitched. other_bytes _ (not_stopped world.source.phase world.source.switched kept.phases.source_phase unswitched) h)
 urgent-answer world Step.SourceAct kept h =
     made-source_act _ world (λ fault rest is started unswitched quiet.

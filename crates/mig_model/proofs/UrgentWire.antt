@@ -1,13 +1,13 @@
 -- The urgent wire: what each step keeps of it.
-use Rattle.std.proofs.Common.{◌≡◌, ◌≢◌, ℕ, ◌+◌, ◌≤◌, ◌&&◌, Bool, true, false, not, ltb, is_some, List, [], ◌∷◌, ◌++◌, refl, sym, ap, ◌∙◌, subst, arith, length, if◌then◌else◌}
+use Rattle.std.proofs.Common.{◌≡◌, ◌≢◌, ℕ, ◌+◌, ◌≤◌, ◌&&◌, Bool, true, false, not, ltb, List, [], ◌∷◌, ◌++◌, refl, sym, ap, ◌∙◌, subst, arith, length, if◌then◌else◌}
 use Rattle.std.specs.Ordering.{nat_cmp}
 use Rattle.std.specs.FinMap.{FinMap}
 use Rattle.std.proofs.lemmas.Bool.{false≢true}
 use Rattle.std.proofs.lemmas.Bool.Decides.{nat_tests}
 use Rattle.mig_base.specs.declared.phase.DestPhase.{DestPhase}
 use Rattle.mig_base.specs.declared.phase.SourcePhase.{SourcePhase}
-use Rattle.mig_model.specs.Wire.{Frame, Sent, Wire, copy_in, is_zeros, page_frame, sending}
-use Rattle.mig_model.specs.Wire.Frame.{Advise, Page, Zero, Discard, Package, End, Resume, Request, Recv, Done}
+use Rattle.mig_model.specs.Wire.{Frame, Sent, Wire, is_copy, is_zeros, page_frame, sending}
+use Rattle.mig_model.specs.Wire.Frame.{Advise, Page, Zero, Run, Discard, Package, End, Resume, Request, Recv, Done}
 use Rattle.mig_model.specs.Migration.{World, is_early}
 use Rattle.mig_model.specs.Source.{is_stopped, is_precopy, is_source_idle, is_source_paused}
 use Rattle.mig_model.specs.Invariant.{AreFaithful, AreOf, AreTold, IsSoundUrgent, IsSoundWorld, IsTold, SwitchedAt, Wires, are_copies, copies_of, AreSoundUrgent}
@@ -25,9 +25,9 @@ are_copies_by : (one more all : Bool) → (one && all) ≡ true → (all ≡ tru
 are_copies_by true more all h k = k h
 are_copies_by false more all h k = h
 
-pub are_copies-push : (frames : List Sent) (sent : Sent) → is_some (copy_in sent.frame) ≡ true → are_copies frames ≡ true → are_copies (frames ++ sent ∷ []) ≡ true
+pub are_copies-push : (frames : List Sent) (sent : Sent) → is_copy sent.frame ≡ true → are_copies frames ≡ true → are_copies (frames ++ sent ∷ []) ≡ true
 are_copies-push [] sent is are = ap (λ b. b && true) is
-are_copies-push (first ∷ frames) sent is are = are_copies_by (is_some (copy_in first.frame)) (are_copies (frames ++ sent ∷ [])) (are_copies frames) are (are_copies-push frames sent is)
+are_copies-push (first ∷ frames) sent is are = are_copies_by (is_copy first.frame) (are_copies (frames ++ sent ∷ [])) (are_copies frames) are (are_copies-push frames sent is)
 
 pub not_none : {A : Type 0} (frames : List Sent) (sent : Sent) (rest : List Sent) → frames ≡ sent ∷ rest → frames ≡ [] → A
 not_none frames sent rest first none = absurd (let e : sent ∷ rest ≡ [] = sym first ∙ none in cc)
@@ -36,11 +36,11 @@ pub length-push : (frames : List Sent) (sent : Sent) → length (frames ++ sent 
 length-push [] sent = refl
 length-push (first ∷ frames) sent = let rest = length-push frames sent in omega (arith, rest)
 
-copy_page_by : (zeros : Bool) (page : ℕ) (bytes : List ℕ) → is_some (copy_in (if zeros then Zero page else Page page bytes)) ≡ true
+copy_page_by : (zeros : Bool) (page : ℕ) (bytes : List ℕ) → is_copy (if zeros then Zero page else Page page bytes) ≡ true
 copy_page_by true page bytes = refl
 copy_page_by false page bytes = refl
 
-pub is_copy_page : (page : ℕ) (bytes : List ℕ) → is_some (copy_in (page_frame page bytes)) ≡ true
+pub is_copy_page : (page : ℕ) (bytes : List ℕ) → is_copy (page_frame page bytes) ≡ true
 is_copy_page page bytes = copy_page_by (is_zeros bytes) page bytes
 
 -- What End tells
@@ -71,6 +71,7 @@ open_one epoch end_epoch count new (End urgent) other told = absurd (other told.
 open_one epoch end_epoch count new Advise other told = tt
 open_one epoch end_epoch count new (Page page bytes) other told = tt
 open_one epoch end_epoch count new (Zero page) other told = tt
+open_one epoch end_epoch count new (Run first pages) other told = tt
 open_one epoch end_epoch count new (Discard pages) other told = tt
 open_one epoch end_epoch count new (Package areas owed commands) other told = tt
 open_one epoch end_epoch count new Resume other told = tt
@@ -87,6 +88,7 @@ ended_one epoch end_epoch count (End urgent) told = (refl, told.1)
 ended_one epoch end_epoch count Advise told = tt
 ended_one epoch end_epoch count (Page page bytes) told = tt
 ended_one epoch end_epoch count (Zero page) told = tt
+ended_one epoch end_epoch count (Run first pages) told = tt
 ended_one epoch end_epoch count (Discard pages) told = tt
 ended_one epoch end_epoch count (Package areas owed commands) told = tt
 ended_one epoch end_epoch count Resume told = tt

@@ -19,7 +19,7 @@ use Rattle.mig_model.specs.Host.{memory}
 use Rattle.mig_model.specs.Space.{Space, access_of, queued_by}
 use Rattle.mig_model.specs.Guest.{Guest, is_left_by, read_guest, took_by, tried, Act}
 use Rattle.mig_model.specs.Wire.{Frame, Sent, Copy}
-use Rattle.mig_model.specs.Wire.Frame.{Advise, Page, Zero, Discard, Package, End, Resume, Request, Recv, Done}
+use Rattle.mig_model.specs.Wire.Frame.{Advise, Page, Zero, Run, Discard, Package, End, Resume, Request, Recv, Done}
 use Rattle.mig_model.specs.Guest.Act.{Unprotected, Zeroed, Woke, Forgot, Requested}
 use Rattle.mig_model.specs.Migration.{World, first_world_with, next, after_steps, guest_by, with_guest_by, after_command, answer, start}
 use Rattle.mig_model.specs.Invariant.{IsSoundWorld, AreSoundUrgent}
@@ -30,7 +30,7 @@ use Rattle.mig_model.proofs.WaitingCommands.{woken_keeps, taken_keeps, package_t
 use Rattle.mig_model.proofs.EveryStep.{kept-next}
 use Rattle.mig_model.proofs.FirstWorld.{kept-first}
 use Rattle.mig_model.proofs.StepLemmas.{Leaves, leaves-next}
-use Rattle.mig_model.proofs.StepCases.{made-break, made-deliver, made-deliver_back, made-dest_act, made-dest_read, made-end, made-install, made-issue, made-notice, made-push, made-resume, made-retry, made-round, made-send, made-serve, made-source_act, made-source_read, made-start, made-switch, made-deliver_urgent, made-push_urgent}
+use Rattle.mig_model.proofs.StepCases.{made-break, made-deliver, made-deliver_back, made-dest_act, made-dest_read, made-end, made-install, made-issue, made-notice, made-push, made-resume, made-retry, made-round, made-send, made-send_run, made-serve, made-source_act, made-source_read, made-start, made-switch, made-deliver_urgent, made-push_urgent}
 use Rattle.mig_model.specs.Cpus.{access_took, all_woken, call_took, idle_processors, message_less, outstanding, processor_after, processor_at, taken_over, woken_if}
 use Rattle.mig_model.specs.Owed.{home}
 use Rattle.mig_model.specs.Source.{Source, commands_of, source_act, source_acted_by, source_took}
@@ -138,6 +138,7 @@ took_like (Request page) node = unchanged node.guest.cpus
 took_like Advise node = unchanged node.guest.cpus
 took_like (Page page bytes) node = unchanged node.guest.cpus
 took_like (Zero page) node = unchanged node.guest.cpus
+took_like (Run first pages) node = unchanged node.guest.cpus
 took_like (Discard pages) node = unchanged node.guest.cpus
 took_like (Package areas owed commands) node = unchanged node.guest.cpus
 took_like (End count) node = unchanged node.guest.cpus
@@ -151,6 +152,7 @@ urgent_like : (frame : Frame) (node : Destination) → IsLike node.guest.cpus (u
 urgent_like (Page page bytes) node = unchanged node.guest.cpus
 urgent_like (Zero page) node = unchanged node.guest.cpus
 urgent_like Advise node = unchanged node.guest.cpus
+urgent_like (Run first pages) node = unchanged node.guest.cpus
 urgent_like (Discard pages) node = unchanged node.guest.cpus
 urgent_like (Package areas owed commands) node = unchanged node.guest.cpus
 urgent_like (End count) node = unchanged node.guest.cpus
@@ -208,6 +210,7 @@ frame_all (Page page bytes) epoch rest world kept up first all = destination_lik
 frame_all (Zero page) epoch rest world kept up first all = destination_like world _ (came_like world.destination.has_run world.destination _) all
 frame_all Resume epoch rest world kept up first all = destination_like world _ (resumed_like (received_of world.destination) _) all
 frame_all Advise epoch rest world kept up first all = unmoved world all
+frame_all (Run from pages) epoch rest world kept up first all = unmoved world all
 frame_all (Discard pages) epoch rest world kept up first all = unmoved world all
 frame_all (End count) epoch rest world kept up first all = unmoved world all
 frame_all (Request page) epoch rest world kept up first all = unmoved world all
@@ -220,6 +223,7 @@ waits_answer world (Step.Retry cpu) kept all = made-retry _ world cpu (λ comman
 waits_answer world Step.Start kept all = made-start _ world (λ idle. record { source = all.source; destination = all.destination; many = all.many })
 waits_answer world Step.Round kept all = made-round _ world (λ precopy quiet. record { source = all.source; destination = all.destination; many = all.many })
 waits_answer world Step.Send kept all = made-send _ world (λ page is precopy up quiet. record { source = all.source; destination = all.destination; many = all.many })
+waits_answer world (Step.SendRun count) kept all = made-send_run _ world count (λ first number is many precopy up quiet. record { source = all.source; destination = all.destination; many = all.many })
 waits_answer world Step.SourceRead kept all =
     made-source_read _ world (λ noted is started unswitched.
     let new = source_like world _ (read_like world.source.guest noted.cpu noted.message) all in record { source = new.0; destination = all.destination; many = new.1 })

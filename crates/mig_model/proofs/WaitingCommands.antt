@@ -21,7 +21,7 @@ use Rattle.mig_base.specs.Commands.{is_access, page_of}
 use Rattle.mig_model.specs.Guest.{Guest, Fault, is_left_by, read_guest, took_by, tried, Act}
 use Rattle.mig_model.specs.Cpus.Took.{Sleep, Call}
 use Rattle.mig_model.specs.Wire.{Frame, Sent, Copy}
-use Rattle.mig_model.specs.Wire.Frame.{Advise, Page, Zero, Discard, Package, End, Resume, Request, Recv, Done}
+use Rattle.mig_model.specs.Wire.Frame.{Advise, Page, Zero, Run, Discard, Package, End, Resume, Request, Recv, Done}
 use Rattle.mig_model.specs.Guest.Act.{Unprotected, Zeroed, Woke, Forgot, Requested}
 use Rattle.mig_model.specs.Migration.{World, next, guest_by, guest_of, with_guest_by, after_command, after_dest_act, after_install, answer, outcome, start}
 use Rattle.mig_model.specs.Invariant.{IsSoundWorld, is_package}
@@ -29,7 +29,7 @@ use Rattle.mig_model.specs.Promises.{is_retry_of, Slept}
 use Rattle.mig_model.proofs.FirstFrame.{comes, first_in_place, delivered}
 use Rattle.mig_model.proofs.FramesTaken.{with_first, commands_in}
 use Rattle.mig_model.proofs.StepLemmas.{Leaves, leaves-next, leaves-ok}
-use Rattle.mig_model.proofs.StepCases.{made-break, made-deliver, made-deliver_back, made-dest_act, made-dest_read, made-end, made-install, made-issue, made-notice, made-push, made-resume, made-retry, made-round, made-send, made-serve, made-source_act, made-source_read, made-start, made-switch, made-deliver_urgent, made-push_urgent}
+use Rattle.mig_model.proofs.StepCases.{made-break, made-deliver, made-deliver_back, made-dest_act, made-dest_read, made-end, made-install, made-issue, made-notice, made-push, made-resume, made-retry, made-round, made-send, made-send_run, made-serve, made-source_act, made-source_read, made-start, made-switch, made-deliver_urgent, made-push_urgent}
 use Rattle.mig_model.specs.Cpus.{all_woken, is_idle, message_less, outstanding, processor_after, processor_at, taken_over, woken_if, Took}
 use Rattle.mig_model.specs.Owed.{home}
 use Rattle.mig_model.specs.Source.{Source, commands_of, source_act, source_acted_by, source_took}
@@ -214,6 +214,7 @@ same_took : (frame : Frame) (node : Destination) (epoch : ℕ) → is_package fr
 same_took Advise node epoch h = record { guest = refl; ran = refl }
 same_took (Page page bytes) node epoch h = same_came node.has_run node _
 same_took (Zero page) node epoch h = same_came node.has_run node _
+same_took (Run first pages) node epoch h = record { guest = refl; ran = refl }
 same_took (Discard pages) node epoch h = record { guest = refl; ran = refl }
 same_took (Package areas owed commands) node epoch h = absurd (false≢true (sym h))
 same_took (End count) node epoch h = record { guest = refl; ran = refl }
@@ -226,6 +227,7 @@ same_urgent : (frame : Frame) (node : Destination) → IsSame node (urgent_took 
 same_urgent (Page page bytes) node = record { guest = refl; ran = refl }
 same_urgent (Zero page) node = record { guest = refl; ran = refl }
 same_urgent Advise node = record { guest = refl; ran = refl }
+same_urgent (Run first pages) node = record { guest = refl; ran = refl }
 same_urgent (Discard pages) node = record { guest = refl; ran = refl }
 same_urgent (Package areas owed commands) node = record { guest = refl; ran = refl }
 same_urgent (End count) node = record { guest = refl; ran = refl }
@@ -267,6 +269,7 @@ delivered_first epoch (Package areas owed commands) rest world up first kept k =
 delivered_first epoch Advise rest world up first kept k = same_node_waits world _ (same_took Advise world.destination epoch refl) k
 delivered_first epoch (Page page bytes) rest world up first kept k = same_node_waits world _ (same_took (Page page bytes) world.destination epoch refl) k
 delivered_first epoch (Zero page) rest world up first kept k = same_node_waits world _ (same_took (Zero page) world.destination epoch refl) k
+delivered_first epoch (Run from pages) rest world up first kept k = same_node_waits world _ (same_took (Run from pages) world.destination epoch refl) k
 delivered_first epoch (Discard pages) rest world up first kept k = same_node_waits world _ (same_took (Discard pages) world.destination epoch refl) k
 delivered_first epoch (End count) rest world up first kept k = same_node_waits world _ (same_took (End count) world.destination epoch refl) k
 delivered_first epoch Resume rest world up first kept k = same_node_waits world _ (same_took Resume world.destination epoch refl) k
@@ -287,6 +290,7 @@ took_same Done node k = refl
 took_same Advise node k = refl
 took_same (Page page bytes) node k = refl
 took_same (Zero page) node k = refl
+took_same (Run first pages) node k = refl
 took_same (Discard pages) node k = refl
 took_same (Package areas owed commands) node k = refl
 took_same (End count) node k = refl
@@ -310,6 +314,7 @@ same_answer world (Step.Retry cpu) kept other = absurd (false≢true (sym other)
 same_answer world Step.Start kept other = made-start _ world (λ idle. same_source world _ (λ i. refl))
 same_answer world Step.Round kept other = made-round _ world (λ precopy quiet. same_source world _ (λ i. refl))
 same_answer world Step.Send kept other = made-send _ world (λ page is precopy up quiet. same_source world _ (λ i. refl))
+same_answer world (Step.SendRun count) kept other = made-send_run _ world count (λ first number is many precopy up quiet. same_source world _ (λ i. refl))
 same_answer world Step.SourceRead kept other = made-source_read _ world (λ noted is started unswitched. same_source world _ (waits_read world.source.guest noted.cpu noted.message))
 same_answer world Step.SourceAct kept other = made-source_act _ world (λ fault rest is started unswitched quiet. same_source world _ (waits_source_act (source_act world.source fault) world.source fault.page))
 same_answer world Step.Switch kept other = made-switch _ world (λ precopy up quiet. same_source world _ (λ i. refl))

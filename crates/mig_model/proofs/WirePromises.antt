@@ -10,7 +10,7 @@ use Rattle.mig_base.specs.declared.phase.SourcePhase.{SourcePhase}
 use Rattle.mig_base.specs.declared.schedule.Side.{Side}
 use Rattle.mig_base.specs.declared.schedule.Step.{Step}
 use Rattle.mig_model.specs.Wire.{Frame, Sent, Copy, Wire, empty_wire, wire_if}
-use Rattle.mig_model.specs.Wire.Frame.{Advise, Page, Zero, Discard, Package, End, Resume, Request, Recv, Done}
+use Rattle.mig_model.specs.Wire.Frame.{Advise, Page, Zero, Run, Discard, Package, End, Resume, Request, Recv, Done}
 use Rattle.mig_model.specs.Owed.{home, Owed}
 use Rattle.mig_model.specs.Source.{Source, is_released, source_act, source_took}
 use Rattle.mig_model.specs.Destination.{Destination, destination_took, destination_answers, install_by}
@@ -20,7 +20,7 @@ use Rattle.mig_model.specs.Parts.{Grows}
 use Rattle.mig_model.specs.Promises.{IsComplete, IsDelivered, IsDeliveredBack, Completes, takes_forward, takes_back, is_break, is_recv, is_last, IsDeliveredUrgent, takes_urgent}
 use Rattle.mig_model.proofs.SettledLemmas.{home-is, home_tells}
 use Rattle.mig_model.proofs.StepLemmas.{Leaves, leaves-next, leaves-ok, outcome-ok}
-use Rattle.mig_model.proofs.StepCases.{made-issue, made-retry, made-start, made-round, made-send, made-source_read, made-source_act, made-switch, made-push, made-serve, made-end, made-deliver, made-deliver_back, made-dest_read, made-dest_act, made-install, made-break, made-notice, made-resume, made-deliver_urgent, made-push_urgent}
+use Rattle.mig_model.proofs.StepCases.{made-issue, made-retry, made-start, made-round, made-send, made-send_run, made-source_read, made-source_act, made-switch, made-push, made-serve, made-end, made-deliver, made-deliver_back, made-dest_read, made-dest_act, made-install, made-break, made-notice, made-resume, made-deliver_urgent, made-push_urgent}
 use Rattle.mig_model.proofs.StaysComplete.{worked_phase, command_phase}
 use Rattle.mig_model.proofs.PartsChanged.{changes_parts}
 use Rattle.mig_model.proofs.Facts.{no_page, as_it_was, tried_up}
@@ -124,6 +124,7 @@ forward_grows world (Step.Retry cpu) h = same_wire _ _ (changes_parts world (Ste
 forward_grows world Step.Start h = (changes_parts world Step.Start).forward
 forward_grows world Step.Round h = (changes_parts world Step.Round).forward
 forward_grows world Step.Send h = (changes_parts world Step.Send).forward
+forward_grows world (Step.SendRun count) h = (changes_parts world (Step.SendRun count)).forward
 forward_grows world Step.SourceRead h = (changes_parts world Step.SourceRead).forward
 forward_grows world Step.SourceAct h = (changes_parts world Step.SourceAct).forward
 forward_grows world Step.Switch h = (changes_parts world Step.Switch).forward
@@ -148,6 +149,7 @@ back_grows world (Step.Retry cpu) h = same_wire _ _ (changes_parts world (Step.R
 back_grows world Step.Start h = same_wire _ _ (changes_parts world Step.Start).back (as_it_was world.back)
 back_grows world Step.Round h = same_wire _ _ (changes_parts world Step.Round).back (as_it_was world.back)
 back_grows world Step.Send h = same_wire _ _ (changes_parts world Step.Send).back (as_it_was world.back)
+back_grows world (Step.SendRun count) h = same_wire _ _ (changes_parts world (Step.SendRun count)).back (as_it_was world.back)
 back_grows world Step.SourceRead h = same_wire _ _ (changes_parts world Step.SourceRead).back (as_it_was world.back)
 back_grows world Step.SourceAct h = same_wire _ _ (changes_parts world Step.SourceAct).back (as_it_was world.back)
 back_grows world Step.Switch h = same_wire _ _ (changes_parts world Step.Switch).back (as_it_was world.back)
@@ -172,6 +174,7 @@ urgent_grows world (Step.Retry cpu) h = same_wire _ _ (changes_parts world (Step
 urgent_grows world Step.Start h = same_wire _ _ (changes_parts world Step.Start).urgent (as_it_was world.urgent)
 urgent_grows world Step.Round h = same_wire _ _ (changes_parts world Step.Round).urgent (as_it_was world.urgent)
 urgent_grows world Step.Send h = same_wire _ _ (changes_parts world Step.Send).urgent (as_it_was world.urgent)
+urgent_grows world (Step.SendRun count) h = same_wire _ _ (changes_parts world (Step.SendRun count)).urgent (as_it_was world.urgent)
 urgent_grows world Step.SourceRead h = same_wire _ _ (changes_parts world Step.SourceRead).urgent (as_it_was world.urgent)
 urgent_grows world Step.SourceAct h = same_wire _ _ (changes_parts world Step.SourceAct).urgent (as_it_was world.urgent)
 urgent_grows world Step.Switch h = same_wire _ _ (changes_parts world Step.Switch).urgent (as_it_was world.urgent)
@@ -200,6 +203,7 @@ up_answer world (Step.Retry cpu) h up = made-retry _ world cpu (λ command waits
 up_answer world Step.Start h up = made-start _ world (λ idle. up)
 up_answer world Step.Round h up = made-round _ world (λ precopy quiet. up)
 up_answer world Step.Send h up = made-send _ world (λ page is precopy linked quiet. up)
+up_answer world (Step.SendRun count) h up = made-send_run _ world count (λ first number is many precopy linked quiet. up)
 up_answer world Step.SourceRead h up = made-source_read _ world (λ noted is started unswitched. up)
 up_answer world Step.SourceAct h up = made-source_act _ world (λ fault rest is started unswitched quiet. up)
 up_answer world Step.Switch h up = made-switch _ world (λ precopy linked quiet. up)
@@ -269,6 +273,7 @@ taken_remains (Request page) node q h is = is
 taken_remains Advise node q h is = is
 taken_remains (Page page bytes) node q h is = is
 taken_remains (Zero page) node q h is = is
+taken_remains (Run first pages) node q h is = is
 taken_remains (Discard pages) node q h is = is
 taken_remains (Package areas owed commands) node q h is = is
 taken_remains (End count) node q h is = is
@@ -309,6 +314,7 @@ released_by (Request page) node not h = absurd (false≢true (sym not ∙ h))
 released_by Advise node not h = absurd (false≢true (sym not ∙ h))
 released_by (Page page bytes) node not h = absurd (false≢true (sym not ∙ h))
 released_by (Zero page) node not h = absurd (false≢true (sym not ∙ h))
+released_by (Run first pages) node not h = absurd (false≢true (sym not ∙ h))
 released_by (Discard pages) node not h = absurd (false≢true (sym not ∙ h))
 released_by (Package areas owed commands) node not h = absurd (false≢true (sym not ∙ h))
 released_by (End count) node not h = absurd (false≢true (sym not ∙ h))
@@ -327,6 +333,7 @@ completes_answer world (Step.Retry cpu) not = made-retry _ world cpu (λ command
 completes_answer world Step.Start not = made-start _ world (λ idle h. absurd (false≢true h))
 completes_answer world Step.Round not = made-round _ world (λ precopy quiet h. absurd (false≢true (sym not ∙ h)))
 completes_answer world Step.Send not = made-send _ world (λ page is precopy up quiet h. absurd (false≢true (sym not ∙ h)))
+completes_answer world (Step.SendRun count) not = made-send_run _ world count (λ first number is many precopy up quiet h. absurd (false≢true (sym not ∙ h)))
 completes_answer world Step.SourceRead not = made-source_read _ world (λ noted is started unswitched h. absurd (false≢true (sym not ∙ h)))
 completes_answer world Step.SourceAct not =
     made-source_act _ world (λ fault rest is started unswitched quiet h. still_not world.source.phase _ (worked_phase (source_act world.source fault) world fault.page) not h)

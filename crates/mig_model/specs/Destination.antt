@@ -20,7 +20,7 @@ use Rattle.mig_model.specs.Guest.Act.{Zeroed, Woke, Forgot, Requested}
 use Rattle.mig_model.specs.Log.{no_pages}
 use Rattle.mig_model.specs.Owed.{Owed, owed_table_after, settled_by, origins, own_places, is_requested, requesting, without_request}
 use Rattle.mig_model.specs.Wire.{Frame, Copy, kept_after}
-use Rattle.mig_model.specs.Wire.Frame.{Advise, Page, Zero, Discard, Package, End, Resume, Request, Recv, Done}
+use Rattle.mig_model.specs.Wire.Frame.{Advise, Page, Zero, Run, Discard, Package, End, Resume, Request, Recv, Done}
 
 -- registered for missing faults
 abbrev pub for_missing : Mode
@@ -137,6 +137,7 @@ abbrev pub destination_took : Destination → ℕ → Frame → Destination
 destination_took node epoch Advise = record node { phase = DestPhase.Advised; epoch = epoch; urgent_taken = 0 }
 destination_took node epoch (Page page bytes) = copy_came node.has_run node (record { page = page; bytes = bytes })
 destination_took node epoch (Zero page) = copy_came node.has_run node (record { page = page; bytes = zero_page })
+destination_took node epoch (Run first pages) = record node { kept = kept_after node.kept (Run first pages) }
 destination_took node epoch (Discard pages) = record node { phase = DestPhase.Discarding; kept = kept_after node.kept (Discard pages) }
 destination_took node epoch (Package areas owed commands) = destination_ran node areas owed commands
 destination_took node epoch (End urgent) = record node { phase = DestPhase.Ended; ended = true }

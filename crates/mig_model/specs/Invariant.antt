@@ -1,6 +1,6 @@
 -- What every world of the whole migration keeps, clause by clause: a theorem is one clause or a few, and the others are there so that
 -- each step keeps all of them.
-use Rattle.std.specs.Prelude.{◌≡◌, ◌≢◌, ℕ, ◌+◌, ◌/◌, ◌%◌, ◌<◌, ◌≤◌, ◌==◌, ◌&&◌, ◌||◌, ◌⊎◌, Bool, true, false, if◌then◌else◌, Option, Some, None, is_some, List, [], ◌∷◌, length}
+use Rattle.std.specs.Prelude.{◌≡◌, ◌≢◌, ℕ, ◌+◌, ◌/◌, ◌%◌, ◌<◌, ◌≤◌, ◌==◌, ◌&&◌, ◌||◌, ◌⊎◌, Bool, true, false, if◌then◌else◌, Option, Some, None, List, [], ◌∷◌, ◌++◌, length}
 use Rattle.std.specs.Option.{option_and_then}
 use Rattle.std.specs.Ordering.{nat_cmp}
 use Rattle.std.specs.FinMap as finmap
@@ -21,8 +21,8 @@ use Rattle.mig_model.specs.Host.{Host, memory}
 use Rattle.mig_model.specs.Userfault.{Noted}
 use Rattle.mig_model.specs.Space.{Space, fresh_space, IsSoundSpace}
 use Rattle.mig_model.specs.Texts.{text_len}
-use Rattle.mig_model.specs.Wire.{Wire, Frame, Sent, Copy, copy_in, kept_after}
-use Rattle.mig_model.specs.Wire.Frame.{Advise, Page, Zero, Discard, Package, End, Resume, Request, Recv, Done}
+use Rattle.mig_model.specs.Wire.{Wire, Frame, Sent, Copy, copies_in, is_copy, kept_after}
+use Rattle.mig_model.specs.Wire.Frame.{Advise, Page, Zero, Run, Discard, Package, End, Resume, Request, Recv, Done}
 use Rattle.mig_model.specs.Migration.{World}
 use Rattle.mig_model.specs.Cpus.{processor_at}
 use Rattle.mig_model.specs.Guest.{Guest, is_changed_by, is_present}
@@ -95,6 +95,7 @@ abbrev pub flow_next : Flow → Frame → Option Flow
 flow_next BeforeAdvise Advise = Some Copies
 flow_next Copies (Page page bytes) = Some Copies
 flow_next Copies (Zero page) = Some Copies
+flow_next Copies (Run first pages) = Some Copies
 flow_next Copies (Discard pages) = Some BeforePackage
 flow_next BeforePackage (Package areas owed commands) = Some Pushed
 flow_next Pushed (Page page bytes) = Some Pushed
@@ -119,7 +120,7 @@ flow_at DestPhase.Ended = Some AfterEnd
 -- the copies that frames carry
 abbrev pub copies_of : List Sent → List Copy
 copies_of [] = []
-copies_of (sent ∷ rest) = elim (copy_in sent.frame) [ None ↦ copies_of rest | Some copy ↦ copy ∷ copies_of rest ]
+copies_of (sent ∷ rest) = copies_in sent.frame ++ copies_of rest
 
 -- whether there is a copy of a page
 abbrev pub has_copy : List Copy → ℕ → Bool
@@ -396,10 +397,10 @@ pub record AreSoundWires (forward back : Wire) : Type 0 where
 
 -- The urgent wire
 
--- each frame is a copy
+-- each frame carries the copy of one page
 abbrev pub are_copies : List Sent → Bool
 are_copies [] = true
-are_copies (sent ∷ rest) = is_some (copy_in sent.frame) && are_copies rest
+are_copies (sent ∷ rest) = is_copy sent.frame && are_copies rest
 
 -- an End was sent in the source's epoch, and tells how many urgent frames it sent in it
 abbrev pub IsTold : (epoch end_epoch count : ℕ) → Frame → Type 0

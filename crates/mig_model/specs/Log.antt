@@ -7,7 +7,7 @@ use Rattle.std.specs.FinSet.{FinSet, contains}
 use Rattle.mig_base.specs.declared.TheConstants.{HIGH_PAGE}
 use Rattle.mig_base.specs.declared.message.Message.{Message}
 use Rattle.mig_base.specs.Ranges.{least_below}
-use Rattle.mig_base.specs.Sets.{pages_where}
+use Rattle.mig_base.specs.Sets.{pages_where, with_range, without}
 use Rattle.mig_model.specs.Space.{Space}
 use Rattle.mig_model.specs.Guest.{Fault, held_after, rest_held, is_changed_by, is_present}
 
@@ -59,6 +59,11 @@ dirty space log = less (present space) log.clean
 -- a page that is sent is clean
 abbrev pub log_sent : Log → ℕ → Log
 log_sent log page = record log { todo = finset.remove log.todo page; clean = finset.insert log.clean page; sent = finset.insert log.sent page }
+
+-- and so are pages that are sent in one run
+abbrev pub log_run_sent : Log → ℕ → ℕ → Log
+log_run_sent log first count =
+    record log { todo = without log.todo first count; clean = with_range log.clean first count; sent = with_range log.sent first count }
 
 -- a message is read: a fault is held, and an event's pages are neither clean nor to be sent
 abbrev pub log_read : Log → Message → Log

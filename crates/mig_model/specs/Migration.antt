@@ -10,25 +10,27 @@ use Rattle.mig_base.specs.declared.effect.Effect.{Effect}
 use Rattle.mig_base.specs.declared.refusal.Refusal.{Refusal}
 use Rattle.mig_base.specs.declared.phase.DestPhase.{DestPhase}
 use Rattle.mig_base.specs.declared.phase.SourcePhase.{SourcePhase}
-use Rattle.mig_base.specs.declared.TheConstants.{PAGE_SIZE}
+use Rattle.mig_base.specs.declared.TheConstants.{PAGE_SIZE, MAX_RUN}
 use Rattle.mig_base.specs.declared.command.Command.{Command}
 use Rattle.mig_base.specs.declared.command.Reply.{Reply}
 use Rattle.mig_base.specs.declared.command.Entry.{Entry}
 use Rattle.mig_base.specs.declared.message.Message.{Message}
 use Rattle.mig_base.specs.declared.message.Message.TheVariants.{PageFault}
 use Rattle.mig_base.specs.Commands.{is_access}
+use Rattle.mig_base.specs.Ranges.{lesser}
+use Rattle.mig_base.specs.Sets.{run_length}
 use Rattle.mig_base.specs.Tests.{first_by, is_empty}
 use Rattle.mig_model.specs.Userfault.{Noted, next_message, changing}
 use Rattle.mig_model.specs.Cpus.Took.{Sleep, Call}
 use Rattle.mig_model.specs.Wire.{Frame, Sent, Copy, Wire, empty_wire, is_zeros, page_frame, wire_behind, wire_if, wire_moved, wire_with}
 use Rattle.mig_model.specs.Texts.{text_len}
-use Rattle.mig_model.specs.Wire.Frame.{Advise, Page, Zero, Discard, Package, End, Resume, Request, Recv, Done}
+use Rattle.mig_model.specs.Wire.Frame.{Advise, Page, Zero, Run, Discard, Package, End, Resume, Request, Recv, Done}
 use Rattle.mig_model.specs.Guest.Act.{Unprotected, Zeroed, Woke, Forgot, Requested}
 use Rattle.mig_model.specs.Cpus.{Took, entries_of, handed_over, is_idle, is_woken, outstanding, processor_at}
 use Rattle.mig_model.specs.Guest.{Act, Fault, Guest, is_present, took_by, tried}
 use Rattle.mig_model.specs.Log.{least_of, less}
 use Rattle.mig_model.specs.Owed.{home}
-use Rattle.mig_model.specs.Source.{Source, bytes_of, first_source, is_precopy, is_released, is_source_idle, is_source_paused, is_stopped, not_clean, page_pushed, page_sent, request_served, round_made, source_act, source_acted, source_answers, source_read, source_started, source_took, space_of, switch_frames, switch_made, urgent_pushed}
+use Rattle.mig_model.specs.Source.{Source, bytes_of, first_source, is_precopy, is_released, is_source_idle, is_source_paused, is_stopped, not_clean, page_pushed, page_sent, request_served, round_made, run_of, run_sent, source_act, source_acted, source_answers, source_read, source_started, source_took, space_of, switch_frames, switch_made, urgent_pushed}
 use Rattle.mig_model.specs.Destination.{Destination, act_frames, destination_act, destination_acted, destination_answers, destination_read, destination_took, first_destination, install_by, is_dest_paused, urgent_took}
 
 -- A world
@@ -202,6 +204,27 @@ send_page world (Some page) =
 abbrev pub send : World → Answer
 send world = unless ((not (is_precopy world.source.phase), Refusal.Phase) ∷ (not world.up, Refusal.Broken) ∷ []) (send_page world (least_of world.source.log.todo))
 
+-- SendRun: so are the pages that follow it in the round without a gap, at most so many, in one frame
+
+-- how many pages a run may have: at least one
+abbrev pub run_bound : ℕ → ℕ
+run_bound count = if count == 0 then 1 else lesser count MAX_RUN
+
+abbrev pub after_run : World → ℕ → ℕ → World
+after_run world first count = source_sends world (run_sent world.source first count) (Run first (run_of world.source first count) ∷ [])
+
+abbrev pub send_run_of : World → ℕ → ℕ → Answer
+send_run_of world first count =
+    unless ((is_changing world.source.guest, Refusal.Changing) ∷ []) (made (Effect.SentRun (PAGE_SIZE * first) count) (after_run world first count))
+
+abbrev pub send_run_from : World → ℕ → Option ℕ → Answer
+send_run_from world count None = Err Refusal.NothingThere
+send_run_from world count (Some first) = send_run_of world first (run_length world.source.log.todo first (run_bound count))
+
+abbrev pub send_run : World → ℕ → Answer
+send_run world count =
+    unless ((not (is_precopy world.source.phase), Refusal.Phase) ∷ (not world.up, Refusal.Broken) ∷ []) (send_run_from world count (least_of world.source.log.todo))
+
 -- SourceRead and SourceAct: its handler reads the next message, and resolves the first fault that it has read
 
 -- an event that was read, with the reply of its call where it was the last of that
@@ -259,6 +282,7 @@ abbrev pub frame_effect : Frame → Effect
 frame_effect Advise = Effect.TookAdvise
 frame_effect (Page page bytes) = Effect.TookPage (PAGE_SIZE * page)
 frame_effect (Zero page) = Effect.TookZero (PAGE_SIZE * page)
+frame_effect (Run first pages) = Effect.TookRun (PAGE_SIZE * first) (length pages)
 frame_effect (Discard pages) = Effect.TookDiscard (finset.len pages)
 frame_effect (Package areas owed commands) = Effect.TookPackage (finset.len owed)
 frame_effect (End urgent) = Effect.TookEnd
@@ -446,6 +470,7 @@ answer world (Step.Retry cpu) = retry world cpu
 answer world Step.Start = start world
 answer world Step.Round = round world
 answer world Step.Send = send world
+answer world (Step.SendRun count) = send_run world count
 answer world Step.SourceRead = read_at_source world
 answer world Step.SourceAct = act_at_source world
 answer world Step.Switch = switch world

@@ -112,6 +112,7 @@ ChangesParts old (Step.Retry cpu) new = GuestAlone old new
 ChangesParts old Step.Start new = SourceAlone old new
 ChangesParts old Step.Round new = SourceAlone old new
 ChangesParts old Step.Send new = SourceAlone old new
+ChangesParts old (Step.SendRun count) new = SourceAlone old new
 ChangesParts old Step.SourceRead new = SourceAlone old new
 ChangesParts old Step.SourceAct new = SourceAlone old new
 ChangesParts old Step.Switch new = SourceAlone old new

@@ -1,5 +1,5 @@
 -- The promises of the whole migration, as words for its laws.
-use Rattle.std.specs.Prelude.{length, ◌≢◌, ◌≡◌, ℕ, ◌+◌, ◌-◌, ◌/◌, ◌<◌, ◌≤◌, ◌||◌, nat_lt, ◌==◌, if◌then◌else◌, Bool, true, false, Some, None, is_some, List, [], Option, ◌∷◌}
+use Rattle.std.specs.Prelude.{length, ◌≢◌, ◌≡◌, ℕ, ◌+◌, ◌-◌, ◌/◌, ◌<◌, ◌≤◌, ◌||◌, nat_lt, ◌==◌, if◌then◌else◌, Bool, true, false, Some, None, List, [], Option, ◌∷◌}
 use Rattle.std.specs.FinMap as finmap
 use Rattle.std.specs.FinMap.{get, contains_key}
 use Rattle.std.specs.FinSet.{contains}
@@ -19,8 +19,8 @@ use Rattle.mig_base.specs.Flat.{memory_of}
 use Rattle.mig_model.specs.Host.{memory}
 use Rattle.mig_base.specs.Commands.{is_access}
 use Rattle.mig_model.specs.Space.{Space, fresh_space}
-use Rattle.mig_model.specs.Wire.{Frame, Sent, copy_in, wire_behind, wire_with}
-use Rattle.mig_model.specs.Wire.Frame.{Advise, Page, Zero, Discard, Package, End, Resume, Request, Recv, Done}
+use Rattle.mig_model.specs.Wire.{Frame, Sent, is_copy, wire_behind, wire_with}
+use Rattle.mig_model.specs.Wire.Frame.{Advise, Page, Zero, Run, Discard, Package, End, Resume, Request, Recv, Done}
 use Rattle.mig_model.specs.Migration.{World, guest_of, first_world_with, after_steps}
 use Rattle.mig_model.specs.Invariant.{copies_of, has_copy, AreFaithful, is_urgent_or_left}
 use Rattle.mig_model.specs.Cpus.{outstanding, processor_at}
@@ -100,6 +100,7 @@ abbrev pub is_in_place : DestPhase → Frame → Bool
 is_in_place DestPhase.Idle Advise = true
 is_in_place DestPhase.Advised (Page page bytes) = true
 is_in_place DestPhase.Advised (Zero page) = true
+is_in_place DestPhase.Advised (Run first pages) = true
 is_in_place DestPhase.Advised (Discard pages) = true
 is_in_place DestPhase.Discarding (Package areas owed commands) = true
 is_in_place DestPhase.Running (Page page bytes) = true
@@ -136,7 +137,7 @@ pub record IsTaken (node : Destination) (sent : Sent) : Type 0 where
 pub record IsTakenUrgent (node : Destination) (sent : Sent) : Type 0 where
   pub runs : is_running node.phase ≡ true
   pub own_epoch : sent.epoch ≡ node.epoch
-  pub copy : is_some (copy_in sent.frame) ≡ true
+  pub copy : is_copy sent.frame ≡ true
 
 -- the frames that a source takes: a request while it is stopped, Done then once it has sent End, and while it is paused a Recv whose
 -- pages it has. Only a destination that runs lists pages, and one runs or has ended only after the switch

@@ -1,6 +1,6 @@
 -- The source, in the phases of QEMU's postcopy document (docs/devel/migration/postcopy.rst, "Postcopy states" and "Postcopy
 -- recovery"), and what each of its steps makes of it.
-use Rattle.std.specs.Prelude.{ℕ, ◌+◌, ◌&&◌, Bool, true, false, if◌then◌else◌, Option, List, [], ◌∷◌, ◌++◌, map}
+use Rattle.std.specs.Prelude.{ℕ, zero, suc, ◌+◌, ◌&&◌, Bool, true, false, if◌then◌else◌, Option, List, [], ◌∷◌, ◌++◌, map}
 use Rattle.std.specs.Ordering.{nat_cmp}
 use Rattle.std.specs.FinSet as finset
 use Rattle.std.specs.FinSet.{FinSet, contains}
@@ -15,7 +15,7 @@ use Rattle.mig_model.specs.Ioctls.{all_features, registered_in, protected_in}
 use Rattle.mig_model.specs.Cpus.{Cpus, idle_processors, outstanding}
 use Rattle.mig_model.specs.Guest.{Guest, Fault, Act, fault_count, read_guest, resolved, zero_installed, is_forgotten, is_present}
 use Rattle.mig_model.specs.Guest.Act.{Unprotected, Zeroed, Woke, Forgot}
-use Rattle.mig_model.specs.Log.{Log, empty_log, forgotten, dirty, log_sent, log_read, log_resolved, log_written, no_pages, less, present}
+use Rattle.mig_model.specs.Log.{Log, empty_log, forgotten, dirty, log_sent, log_run_sent, log_read, log_resolved, log_written, no_pages, less, present}
 use Rattle.mig_model.specs.Wire.{Frame}
 use Rattle.mig_model.specs.Wire.Frame.{Discard, Package, Request, Recv, Done}
 
@@ -115,6 +115,16 @@ bytes_of node page = contents (space_of node).host.bytes page
 abbrev pub page_sent : Source → ℕ → Source
 page_sent node page =
     record (in_space node (protected_in (space_of node) page 1 true)) { log = log_sent node.log page; pages_sent = node.pages_sent + 1 }
+
+-- the bytes of neighbouring pages, from the first on
+abbrev pub run_of : Source → ℕ → ℕ → List (List ℕ)
+run_of node first zero = []
+run_of node first (suc count) = bytes_of node first ∷ run_of node (1 + first) count
+
+-- neighbouring pages are protected, then read, and are clean
+abbrev pub run_sent : Source → ℕ → ℕ → Source
+run_sent node first count =
+    record (in_space node (protected_in (space_of node) first count true)) { log = log_run_sent node.log first count; pages_sent = node.pages_sent + count }
 
 -- a message is read: a fault is held, and an event's pages are neither clean nor to be sent
 abbrev pub source_read : Source → Noted → Source

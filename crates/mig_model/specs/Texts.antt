@@ -1,6 +1,6 @@
 -- How long the text of a frame is. A text is a header, which tells the kind of the frame, its epoch and the length of the rest, and a
 -- body of numbers.
-use Rattle.std.specs.Prelude.{ℕ, ◌+◌, ◌-◌, ◌*◌, ◌&&◌, not, nat_lt, Option, Some, None, List, [], ◌∷◌}
+use Rattle.std.specs.Prelude.{ℕ, ◌+◌, ◌-◌, ◌*◌, ◌&&◌, not, nat_lt, Option, Some, None, List, [], ◌∷◌, length}
 use Rattle.std.specs.Ordering.{nat_cmp}
 use Rattle.std.specs.FinMap.{FinMap, get, contains_key}
 use Rattle.std.specs.FinSet.{FinSet, contains}
@@ -11,7 +11,7 @@ use Rattle.mig_base.specs.declared.command.Command.TheVariants.{Store}
 use Rattle.mig_base.specs.Ranges.{count_below}
 use Rattle.mig_model.specs.Ioctls.{same_prot}
 use Rattle.mig_model.specs.Wire.{Frame}
-use Rattle.mig_model.specs.Wire.Frame.{Advise, Page, Zero, Discard, Package, End, Resume, Request, Recv, Done}
+use Rattle.mig_model.specs.Wire.Frame.{Advise, Page, Zero, Run, Discard, Package, End, Resume, Request, Recv, Done}
 
 -- how many runs of neighbours the pages of a set make
 unfoldable pub run_count : FinSet nat_cmp → ℕ
@@ -46,6 +46,7 @@ abbrev pub body_len : Frame → ℕ
 body_len Advise = 0
 body_len (Page page bytes) = 4 + PAGE_SIZE
 body_len (Zero page) = 4
+body_len (Run first pages) = 8 + PAGE_SIZE * length pages
 body_len (Discard pages) = runs_len pages
 body_len (Package areas owed commands) = areas_len areas + runs_len owed + (1 + commands_len commands)
 body_len (End urgent) = 4

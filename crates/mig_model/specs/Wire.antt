@@ -1,6 +1,6 @@
 -- What the two nodes of a whole migration tell each other, after the messages of QEMU's postcopy document
 -- (docs/devel/migration/postcopy.rst), and the copies of pages that are under way.
-use Rattle.std.specs.Prelude.{ℕ, ◌+◌, ◌==◌, not, Bool, true, false, Option, Some, None, if◌then◌else◌, List, [], ◌∷◌, ◌++◌}
+use Rattle.std.specs.Prelude.{ℕ, ◌+◌, ◌==◌, not, Bool, true, false, Option, if◌then◌else◌, List, [], ◌∷◌, ◌++◌}
 use Rattle.std.specs.List.{list_all}
 use Rattle.std.specs.Ordering.{nat_cmp}
 use Rattle.std.specs.FinMap.{FinMap, insert, retain_keys}
@@ -18,6 +18,8 @@ pub data Frame : Type 0 where
   Page : (page : ℕ) → (bytes : List ℕ) → Frame
   -- a page of zeros
   Zero : (page : ℕ) → Frame
+  -- the bytes of neighbouring pages, from the first on
+  Run : (first : ℕ) → (pages : List (List ℕ)) → Frame
   -- pages whose copies are out of date
   Discard : (pages : FinSet nat_cmp) → Frame
   -- the mapped pages, which of the present ones are still to come, and each processor's outstanding command: the destination runs
@@ -50,16 +52,34 @@ pub record Copy : Type 0 where
   pub page : ℕ
   pub bytes : List ℕ
 
--- the copy that a frame carries
-abbrev pub copy_in : Frame → Option Copy
-copy_in (Page page bytes) = Some (record { page = page; bytes = bytes })
-copy_in (Zero page) = Some (record { page = page; bytes = zero_page })
-copy_in _ = None
+-- the copies of neighbouring pages, from the first on
+abbrev pub run_copies : ℕ → List (List ℕ) → List Copy
+run_copies first [] = []
+run_copies first (bytes ∷ pages) = record { page = first; bytes = bytes } ∷ run_copies (1 + first) pages
 
--- the pages that a destination keeps once it has taken a frame: the newest copy of a page replaces an older one
+-- the copies that a frame carries
+abbrev pub copies_in : Frame → List Copy
+copies_in (Page page bytes) = record { page = page; bytes = bytes } ∷ []
+copies_in (Zero page) = record { page = page; bytes = zero_page } ∷ []
+copies_in (Run first pages) = run_copies first pages
+copies_in _ = []
+
+-- whether a frame carries the copy of one page
+abbrev pub is_copy : Frame → Bool
+is_copy (Page page bytes) = true
+is_copy (Zero page) = true
+is_copy _ = false
+
+-- the pages that a destination keeps once it has got copies: the newest copy of a page replaces an older one
+abbrev pub kept_with : FinMap nat_cmp (List ℕ) → List Copy → FinMap nat_cmp (List ℕ)
+kept_with kept [] = kept
+kept_with kept (copy ∷ copies) = kept_with (insert kept copy.page copy.bytes) copies
+
+-- the pages that it keeps once it has taken a frame
 abbrev pub kept_after : FinMap nat_cmp (List ℕ) → Frame → FinMap nat_cmp (List ℕ)
 kept_after kept (Page page bytes) = insert kept page bytes
 kept_after kept (Zero page) = insert kept page zero_page
+kept_after kept (Run first pages) = kept_with kept (run_copies first pages)
 kept_after kept (Discard pages) = retain_keys kept (λ page. not (contains pages page))
 kept_after kept _ = kept
 
