@@ -38,7 +38,8 @@ use Rattle.mig_model.specs.Owed.{home}
 use Rattle.mig_model.specs.Source.{Source, is_stopped, released, source_act, source_acted_by, source_took, space_of}
 use Rattle.mig_model.specs.Destination.{Destination, copy_came, destination_act, destination_acted_by, destination_took, install_by, received_of, resumed_by, urgent_took}
 use Rattle.mig_model.specs.Migration.{World, after_command, after_steps, answer, first_world_with, guest_by, guest_of, has_no_cpu, next, start, with_guest_by}
-use Rattle.mig_model.specs.Promises.{IsInPlaceBack, IsReached, is_last}
+use Rattle.mig_model.specs.Promises.{IsReached, is_last}
+use Rattle.mig_model.proofs.Taken.{IsInPlaceBack}
 use Rattle.mig_model.proofs.StepCases.{made-break, made-deliver, made-deliver_back, made-dest_act, made-dest_read, made-end, made-install, made-issue, made-notice, made-push, made-resume, made-retry, made-round, made-send, made-send_run, made-serve, made-source_act, made-source_read, made-start, made-switch, made-deliver_urgent, made-push_urgent}
 use Rattle.mig_model.proofs.Facts.{eqb-self, some_is, modes_events}
 use Rattle.mig_model.proofs.UrgentSteps.{urgent-first, urgent-next}

@@ -63,7 +63,9 @@ pub mod UrgentWire
 pub mod UrgentKept
 pub mod UrgentSteps
 pub mod EveryStep
+pub mod Taken
 pub mod FramesTaken
+pub mod FrameFaults
 pub mod WaitingCommands
 pub mod SettledPromises
 pub mod Story

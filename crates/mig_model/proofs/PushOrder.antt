@@ -18,7 +18,8 @@ use Rattle.mig_model.proofs.Calls.{stopped_switched}
 use Rattle.mig_model.proofs.StepLemmas.{Leaves, leaves-next, leaves-ok}
 use Rattle.mig_model.specs.Source.{Source, is_source_idle, is_source_paused, is_stopped, source_act, source_acted_by, source_took}
 use Rattle.mig_model.specs.Migration.{World, after_steps, answer, next, outcome, with_guest_by}
-use Rattle.mig_model.specs.Promises.{IsInPlaceBack, is_recv}
+use Rattle.mig_model.specs.Promises.{is_recv}
+use Rattle.mig_model.proofs.Taken.{IsInPlaceBack}
 use Rattle.mig_model.proofs.StepCases.{made-break, made-deliver, made-deliver_back, made-dest_act, made-dest_read, made-end, made-install, made-issue, made-notice, made-push, made-resume, made-retry, made-round, made-send, made-send_run, made-serve, made-source_act, made-source_read, made-start, made-switch, made-deliver_urgent, made-push_urgent}
 use Rattle.mig_model.proofs.UrgentSteps.{urgent-next}
 

@@ -20,7 +20,7 @@ use Rattle.mig_model.specs.Source.{Source, is_stopped, bytes_of, is_precopy, is_
 use Rattle.mig_model.specs.Destination.{Destination, copy_came, destination_act, destination_acted_by, destination_took, install_by, is_dest_paused, received_of, resumed_by, urgent_came}
 use Rattle.mig_model.proofs.StepLemmas.{Leaves, leaves-next}
 use Rattle.mig_model.specs.Invariant.{AreFaithful, AreSoundUrgent, AreTold, IsSoundWorld, RanAt, SwitchedAt, Wires, are_copies, copies_of}
-use Rattle.mig_model.specs.Promises.{IsInPlaceBack}
+use Rattle.mig_model.proofs.Taken.{IsInPlaceBack}
 use Rattle.mig_model.specs.Log.{no_pages, present}
 use Rattle.mig_model.specs.Owed.{home}
 use Rattle.mig_model.proofs.Facts.{AreFaithful-append, AreOf-one, and_second, copies_of-append}

@@ -1,10 +1,9 @@
 -- The promises of the whole migration, as words for its laws.
-use Rattle.std.specs.Prelude.{length, ◌≢◌, ◌≡◌, ℕ, ◌+◌, ◌-◌, ◌/◌, ◌<◌, ◌≤◌, ◌||◌, nat_lt, ◌==◌, if◌then◌else◌, Bool, true, false, Some, None, List, [], Option, ◌∷◌}
+use Rattle.std.specs.Prelude.{◌≡◌, ℕ, ◌+◌, ◌-◌, ◌/◌, ◌||◌, nat_lt, ◌==◌, if◌then◌else◌, Bool, true, false, Some, None, List, [], Option, ◌∷◌}
 use Rattle.std.specs.FinMap as finmap
 use Rattle.std.specs.FinMap.{get, contains_key}
 use Rattle.std.specs.FinSet.{contains}
 use Rattle.mig_base.specs.declared.cpu_state.CpuState.{CpuState}
-use Rattle.mig_base.specs.declared.phase.DestPhase.{DestPhase}
 use Rattle.mig_base.specs.declared.phase.Received.{Received}
 use Rattle.mig_base.specs.declared.schedule.Step.{Step}
 use Rattle.mig_base.specs.declared.TheConstants.{PAGE_SIZE}
@@ -19,16 +18,15 @@ use Rattle.mig_base.specs.Flat.{memory_of}
 use Rattle.mig_model.specs.Host.{memory}
 use Rattle.mig_base.specs.Commands.{is_access}
 use Rattle.mig_model.specs.Space.{Space, fresh_space}
-use Rattle.mig_model.specs.Wire.{Frame, Sent, is_copy, wire_behind, wire_with}
-use Rattle.mig_model.specs.Wire.Frame.{Advise, Page, Zero, Run, Discard, Package, End, Resume, Request, Recv, Done}
+use Rattle.mig_model.specs.Wire.{Frame, Sent, wire_behind, wire_with}
+use Rattle.mig_model.specs.Wire.Frame.{Recv, Done}
 use Rattle.mig_model.specs.Migration.{World, guest_of, first_world_with, after_steps}
 use Rattle.mig_model.specs.Invariant.{copies_of, has_copy, AreFaithful, is_urgent_or_left}
 use Rattle.mig_model.specs.Cpus.{outstanding, processor_at}
 use Rattle.mig_model.specs.Cpus.Took.{Sleep}
 use Rattle.mig_model.specs.Guest.{is_present, took_by}
-use Rattle.mig_model.specs.Log.{no_pages}
-use Rattle.mig_model.specs.Source.{Source, is_released, is_source_paused, is_stopped, source_answers, source_took, space_of}
-use Rattle.mig_model.specs.Destination.{Destination, destination_answers, destination_took, is_running, settled, urgent_took}
+use Rattle.mig_model.specs.Source.{is_released, is_stopped, source_answers, source_took, space_of}
+use Rattle.mig_model.specs.Destination.{destination_answers, destination_took, settled, urgent_took}
 
 -- a world that some list of steps leads to, from a first world with some counts
 pub record IsReached (world : World) : Type 0 where
@@ -92,63 +90,6 @@ abbrev pub keeps_remaining : Step → Bool
 keeps_remaining Step.Switch = false
 keeps_remaining (Step.DeliverBack n) = false
 keeps_remaining step = true
-
--- Frames
-
--- the frames that a destination takes in a phase; any other is out of place
-abbrev pub is_in_place : DestPhase → Frame → Bool
-is_in_place DestPhase.Idle Advise = true
-is_in_place DestPhase.Advised (Page page bytes) = true
-is_in_place DestPhase.Advised (Zero page) = true
-is_in_place DestPhase.Advised (Run first pages) = true
-is_in_place DestPhase.Advised (Discard pages) = true
-is_in_place DestPhase.Discarding (Package areas owed commands) = true
-is_in_place DestPhase.Running (Page page bytes) = true
-is_in_place DestPhase.Running (Zero page) = true
-is_in_place DestPhase.Running (End urgent) = true
-is_in_place DestPhase.Paused Resume = true
-is_in_place phase frame = false
-
--- the epoch that a frame has to be of: Advise may be of any, Resume of a later one than the destination's, and any other of its own
-abbrev pub IsOwnEpoch : Destination → ℕ → Frame → Type 0
-IsOwnEpoch node epoch Advise = Unit {0}
-IsOwnEpoch node epoch Resume = node.epoch < epoch
-IsOwnEpoch node epoch frame = epoch ≡ node.epoch
-
--- what a frame carries is right. Of a Package: no page that it owes is kept, all of both are mapped, and it has as many processors
--- as the destination. End tells no fewer urgent frames than came, and does not come while a page is owed, no copy waits and all of them
--- came
-abbrev pub IsGood : Destination → Frame → Type 0
-IsGood node (Package areas owed commands) =
-    ((page : ℕ) → contains owed page ≡ true → contains_key node.kept page ≡ false)
-    × ((page : ℕ) → contains owed page ≡ true → contains_key areas page ≡ true)
-    × ((page : ℕ) → contains_key node.kept page ≡ true → contains_key areas page ≡ true)
-    × (length commands ≡ length node.guest.cpus)
-IsGood node (End urgent) = (node.urgent_taken ≤ urgent) × (node.arrivals ≡ [] → urgent ≤ node.urgent_taken → node.owed ≡ finmap.empty)
-IsGood node frame = Unit {0}
-
--- a destination takes a frame
-pub record IsTaken (node : Destination) (sent : Sent) : Type 0 where
-  pub in_place : is_in_place node.phase sent.frame ≡ true
-  pub own_epoch : IsOwnEpoch node sent.epoch sent.frame
-  pub good : IsGood node sent.frame
-
--- a destination that runs takes a frame of the urgent wire: a copy, of its epoch
-pub record IsTakenUrgent (node : Destination) (sent : Sent) : Type 0 where
-  pub runs : is_running node.phase ≡ true
-  pub own_epoch : sent.epoch ≡ node.epoch
-  pub copy : is_copy sent.frame ≡ true
-
--- the frames that a source takes: a request while it is stopped, Done then once it has sent End, and while it is paused a Recv whose
--- pages it has. Only a destination that runs lists pages, and one runs or has ended only after the switch
-abbrev pub IsInPlaceBack : Source → Frame → Type 0
-IsInPlaceBack node (Request page) = is_stopped node.phase ≡ true
-IsInPlaceBack node Done = (is_stopped node.phase ≡ true) × (node.end_epoch ≡ node.epoch)
-IsInPlaceBack node (Recv state owed) =
-    (is_source_paused node.phase ≡ true) × ((page : ℕ) → contains owed page ≡ true → is_present (space_of node) page ≡ true)
-    × (state ≢ Received.Running → owed ≡ no_pages)
-    × (state ≢ Received.NotRun → node.switched ≡ true)
-IsInPlaceBack node frame = ⊥
 
 -- The settled relation
 

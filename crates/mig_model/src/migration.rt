@@ -4,8 +4,10 @@
 
 ghost use Rattle.std.specs.Prelude.{◌⊎◌, ◌≡◌, ◌≢◌, ℕ, ◌*◌, ◌/◌, [], ◌∷◌, ◌++◌, ◌==◌, ◌&&◌, not, true, false, if◌then◌else◌, is_some, Some, Ok, Err, IsOk, List};
 ghost use Rattle.std.specs.FinMap.{get};
-ghost use Rattle.std.specs.FinSet.{contains};
+ghost use Rattle.std.specs.Ordering.{nat_cmp};
+ghost use Rattle.std.specs.FinSet.{FinSet, contains};
 ghost use Rattle.mig_base.specs.declared.effect.Effect.{Effect};
+ghost use Rattle.mig_base.specs.declared.fault.TakeFault.{TakeFault};
 ghost use Rattle.mig_base.specs.declared.phase.Received.{Received};
 ghost use Rattle.mig_base.specs.declared.refusal.Refusal.{Refusal};
 ghost use Rattle.mig_base.specs.declared.schedule.Step.{Step};
@@ -19,12 +21,14 @@ ghost use Rattle.mig_model.specs.Guest.{is_present, took_by};
 ghost use Rattle.mig_model.specs.Source.{is_released, switch_frames, space_of, is_precopy, is_stopped, is_source_paused};
 ghost use Rattle.mig_model.specs.Destination.{settled, is_running};
 ghost use Rattle.mig_model.specs.Wire.{Sent, Copy, empty_wire, wire_with};
-ghost use Rattle.mig_model.specs.Migration.{World, guest_of, is_short, after_move, after_move_back, after_move_urgent, outcome, next, first_world, after_steps};
+ghost use Rattle.mig_model.specs.Wire.Frame.{Recv};
+ghost use Rattle.mig_model.specs.Migration.{World, guest_of, is_short, after_move, after_move_back, after_move_urgent, frame_effect, outcome, next, first_world, after_steps};
 ghost use Rattle.mig_model.specs.Invariant.{IsSoundWorld, AreSoundUrgent, AreSoundCalls, IsPrecopying, IsSwitching, IsReceiving, current_host, package_in};
 ghost use Rattle.mig_base.specs.declared.step.WorldPhase.{WorldPhase};
 ghost use Rattle.mig_model.specs.Views.{phase_of, new_world_with};
+ghost use Rattle.mig_model.specs.Faults.{back_fault, frame_fault, rebuild_fault, take_fault, urgent_fault};
 ghost use Rattle.mig_model.specs.Parts.{Grows, ChangesParts};
-ghost use Rattle.mig_model.specs.Promises.{AreAccesses, IsReached, IsComplete, IsAlone, ArePaired, AreUnderWay, IsPut, IsZeroed, IsTaken, IsTakenUrgent, keeps_remaining, IsInPlaceBack, owed_changed, leaves_settled, is_retry_of, IsDelivered, IsDeliveredBack, IsDeliveredUrgent, takes_forward, takes_back, takes_urgent, is_break, is_recv, is_last, Completes, CanComplete, has_recv, Slept};
+ghost use Rattle.mig_model.specs.Promises.{AreAccesses, IsReached, IsComplete, IsAlone, ArePaired, AreUnderWay, IsPut, IsZeroed, keeps_remaining, owed_changed, leaves_settled, is_retry_of, IsDelivered, IsDeliveredBack, IsDeliveredUrgent, takes_forward, takes_back, takes_urgent, is_break, is_recv, is_last, Completes, CanComplete, has_recv, Slept};
 
 /// The commands in the transcript, made in turn on one flat memory, give the replies in it, and what the guest sees is that memory at
 /// the end. Before the destination runs it is the source's; from then on each page is the destination's own, or that of the source
@@ -120,12 +124,19 @@ pub fn no_page_is_installed_over_another()
 {}
 
 /// No frame is refused, after any number of resumptions: while the link is up the first frame of each wire is in place, of the right
-/// epoch, and right. Those of the urgent wire are copies, and come while the destination runs.
+/// epoch, and fits. A Deliver that completes it is refused only where it has to wait, and then for that reason. A Recv lists what the
+/// source has.
 pub fn no_frame_is_refused()
-    ensures forward { (world : World) (sent : Sent) (rest : List Sent) → IsReached world → world.up ≡ true → world.forward.frames ≡ sent ∷ rest → IsTaken world.destination sent }
-    ensures back { (world : World) (sent : Sent) (rest : List Sent) → IsReached world → world.up ≡ true → world.back.frames ≡ sent ∷ rest → IsInPlaceBack world.source sent.frame }
-    ensures back_epoch { (world : World) (sent : Sent) (rest : List Sent) → IsReached world → world.back.frames ≡ sent ∷ rest → sent.epoch ≡ world.source.epoch }
-    ensures urgent { (world : World) (sent : Sent) (rest : List Sent) → IsReached world → world.destination.has_run ≡ true → world.up ≡ true → world.urgent.frames ≡ sent ∷ rest → IsTakenUrgent world.destination sent }
+    ensures forward { (world : World) (sent : Sent) (rest : List Sent) → IsReached world → world.up ≡ true → world.forward.frames ≡ sent ∷ rest → frame_fault world.destination sent.epoch sent.frame ≡ None }
+    ensures taken { (world : World) (n : ℕ) (sent : Sent) (rest : List Sent) → IsReached world → world.up ≡ true → world.forward.frames ≡ sent ∷ rest → is_short world.forward sent.frame n ≡ false →
+        take_fault world.destination sent.epoch sent.frame ≡ None → outcome world (Step.Deliver n) ≡ Ok (frame_effect sent.frame) }
+    ensures install_first { (world : World) (n : ℕ) (sent : Sent) (rest : List Sent) → IsReached world → world.up ≡ true → world.forward.frames ≡ sent ∷ rest → is_short world.forward sent.frame n ≡ false →
+        take_fault world.destination sent.epoch sent.frame ≡ Some TakeFault.InstallFirst → outcome world (Step.Deliver n) ≡ Err Refusal.InstallFirst }
+    ensures urgent_first { (world : World) (n : ℕ) (sent : Sent) (rest : List Sent) → IsReached world → world.up ≡ true → world.forward.frames ≡ sent ∷ rest → is_short world.forward sent.frame n ≡ false →
+        take_fault world.destination sent.epoch sent.frame ≡ Some TakeFault.UrgentFirst → outcome world (Step.Deliver n) ≡ Err Refusal.UrgentFirst }
+    ensures back { (world : World) (sent : Sent) (rest : List Sent) → IsReached world → world.up ≡ true → world.back.frames ≡ sent ∷ rest → back_fault world.source sent.epoch sent.frame ≡ None }
+    ensures recv { (world : World) (epoch : ℕ) (state : Received) (owed : FinSet nat_cmp) (rest : List Sent) → IsReached world → world.up ≡ true → world.back.frames ≡ record { epoch = epoch; frame = Recv state owed } ∷ rest → rebuild_fault world.source state owed ≡ None }
+    ensures urgent { (world : World) (sent : Sent) (rest : List Sent) → IsReached world → world.destination.has_run ≡ true → world.up ≡ true → world.urgent.frames ≡ sent ∷ rest → urgent_fault world.destination sent.epoch sent.frame ≡ None }
 {}
 
 /// A command that waits is changed by no step but the Retry of its processor: the processor still has to make it, on whichever node it

@@ -1,0 +1,304 @@
+-- A frame that is taken has no fault, but for having to wait.
+use Rattle.std.proofs.Common.{◌≡◌, ◌≢◌, ℕ, ◌≤◌, ◌&&◌, ◌||◌, Bool, true, false, not, eqb, leb, ltb, Option, Some, None, List, [], ◌∷◌, refl, sym, ap, ◌∙◌, length, arith, cond, is_some, subst, ◌<◌, if◌then◌else◌}
+use Rattle.std.specs.Prelude.{Ok, Err, Result}
+use Rattle.std.specs.Ordering.{nat_cmp}
+use Rattle.std.specs.FinMap as finmap
+use Rattle.std.specs.FinMap.{FinMap, contains_key, retain_keys, get, get-empty, get-retain_keys}
+use Rattle.std.specs.FinSet as finset
+use Rattle.std.specs.FinSet.{FinSet, contains, contains-empty, contains-retain, len-empty, nat_cmp-IsAntisymmetric}
+use Rattle.std.proofs.lemmas.Bool.{false≢true}
+use Rattle.std.proofs.lemmas.Bool.Decides.{nat_tests}
+use Rattle.mig_base.specs.declared.Prot.{Prot}
+use Rattle.mig_base.specs.declared.fault.BackFault.{BackFault}
+use Rattle.mig_base.specs.declared.fault.RebuildFault.{RebuildFault}
+use Rattle.mig_base.specs.declared.fault.TakeFault.{TakeFault}
+use Rattle.mig_base.specs.declared.phase.Received.{Received}
+use Rattle.mig_base.specs.Tests.{first_holding, is_empty}
+use Rattle.mig_base.proofs.PageLemmas.{same_pages}
+use Rattle.mig_base.proofs.SetLemmas.{member_below, same_members}
+use Rattle.mig_base.specs.declared.TheConstants.{HIGH_PAGE}
+use Rattle.mig_base.specs.declared.effect.Effect.{Effect}
+use Rattle.mig_base.specs.declared.refusal.Refusal.{Refusal}
+use Rattle.mig_base.specs.declared.schedule.Step.{Step}
+use Rattle.mig_model.specs.Space.{Space, IsSoundSpace}
+use Rattle.mig_model.specs.Migration.{World, Made, Answer, after_deliver, after_move, deliver_first, frame_effect, has_started, is_early, is_end, is_short, made, outcome, outcome_by, unless}
+use Rattle.mig_model.specs.Invariant.{IsSoundWorld}
+use Rattle.mig_model.proofs.SourceRounds.{idle_forward}
+use Rattle.mig_model.specs.Wire.{Frame, Sent, Copy, is_copy}
+use Rattle.mig_model.specs.Wire.Frame.{Advise, Page, Zero, Run, Discard, Package, End, Resume, Request, Recv, Done}
+use Rattle.mig_model.specs.Guest.{is_present}
+use Rattle.mig_model.specs.Log.{less, no_pages, present}
+use Rattle.mig_model.specs.Source.{Source, is_source_idle, is_stopped, space_of}
+use Rattle.mig_model.specs.Destination.{Destination, is_running}
+use Rattle.mig_model.specs.Faults.{frame_fault, back_fault, rebuild_fault, take_fault, urgent_fault, wait_fault, is_bad, is_bad_owed, is_in_place, is_in_place_back, is_of_epoch, is_too_soon, is_torn}
+use Rattle.mig_model.proofs.Taken.{IsTaken, IsTakenUrgent, IsGood, IsOwnEpoch, IsInPlaceBack}
+use Rattle.mig_model.proofs.Facts.{low_or, none_absurd}
+
+-- Tests that all fail
+
+none_first : {A : Type 0} (test : Bool) (value : A) (rest : Option A) → test ≡ false → rest ≡ None → (if test then Some value else rest) ≡ None
+none_first true value rest h none = none_absurd (sym h)
+none_first false value rest h none = none
+
+three_none : {A : Type 0} (a b c : Bool) (x y z : A) → a ≡ false → b ≡ false → c ≡ false → first_holding ((a, x) ∷ (b, y) ∷ (c, z) ∷ []) ≡ None
+three_none a b c x y z h k l = none_first a x _ h (none_first b y _ k (none_first c z None l refl))
+
+two_none : {A : Type 0} (a b : Bool) (x y : A) → a ≡ false → b ≡ false → first_holding ((a, x) ∷ (b, y) ∷ []) ≡ None
+two_none a b x y h k = none_first a x _ h (none_first b y None k refl)
+
+not_true : (b : Bool) → b ≡ true → not b ≡ false
+not_true b h = ap not h
+
+neither : (a b : Bool) → a ≡ false → b ≡ false → (a || b) ≡ false
+neither true b h k = none_absurd (sym h)
+neither false b h k = k
+
+both_true : (a b : Bool) → a ≡ true → b ≡ true → (a && b) ≡ true
+both_true true b h k = k
+both_true false b h k = none_absurd h
+
+same_number : (a b : ℕ) → a ≡ b → eqb a b ≡ true
+same_number a b h = grind (arith, nat_tests)
+
+-- Sets and maps without members
+
+none_empty : (set : FinSet nat_cmp) → ((q : ℕ) → contains set q ≡ false) → not (eqb (finset.len set) 0) ≡ false
+none_empty set h = ap (λ s. not (eqb (finset.len s) 0)) (same_members set finset.empty (λ q. h q ∙ sym (contains-empty nat_cmp q))) ∙ ap (λ n. not (eqb n 0)) (len-empty nat_cmp)
+
+and_none : (a b : Bool) → (a ≡ true → b ≡ false) → (a && b) ≡ false
+and_none true b h = h refl
+and_none false b h = refl
+
+no_member : (set : FinSet nat_cmp) (test : ℕ → Bool) → ((q : ℕ) → contains set q ≡ true → test q ≡ false) → (q : ℕ) → contains (finset.retain set test) q ≡ false
+no_member set test h q =
+    contains-retain set test q (λ x e. ap test (sym (nat_cmp-IsAntisymmetric q x e))) ∙ and_none (contains set q) (test q) (h q)
+
+gone : {X : Type 0} (keep : Bool) (o : Option X) → (is_some o ≡ true → keep ≡ false) → cond keep o None ≡ None
+gone true None h = refl
+gone true (Some x) h = none_absurd (sym (h refl))
+gone false o h = refl
+
+none_kept : {X : Type 0} (map : FinMap nat_cmp X) (keep : ℕ → Bool) → ((q : ℕ) → contains_key map q ≡ true → keep q ≡ false) → not (eqb (finmap.len (retain_keys map keep)) 0) ≡ false
+none_kept {X} map keep h =
+    ap (λ m. not (eqb (finmap.len m) 0))
+    (same_pages (retain_keys map keep) finmap.empty (λ q. get-retain_keys map keep q (λ x e. ap keep (sym (nat_cmp-IsAntisymmetric q x e))) ∙ gone (keep q) (get map q) (h q) ∙ sym (get-empty nat_cmp q)))
+    ∙ ap (λ n. not (eqb n 0)) (finmap.len-empty nat_cmp X)
+
+-- The destination
+
+empty_is : (arrivals : List Copy) → is_empty arrivals ≡ true → arrivals ≡ []
+empty_is [] h = refl
+empty_is (copy ∷ rest) h = none_absurd h
+
+all_came : (a b : ℕ) → leb a b ≡ true → a ≤ b
+all_came a b h = grind (arith, nat_tests)
+
+soon_by : (none free all : Bool) → (free ≡ true → all ≡ true → none ≡ true) → (not none && free && all) ≡ false
+soon_by true free all h = refl
+soon_by false true true h = absurd (false≢true (h refl refl))
+soon_by false true false h = refl
+soon_by false false all h = refl
+
+not_too_soon : (node : Destination) (frame : Frame) → IsGood node frame → is_too_soon node frame ≡ false
+not_too_soon node (End urgent) good =
+    soon_by (eqb (finmap.len node.owed) 0) (is_empty node.arrivals) (leb urgent node.urgent_taken) (λ free all.
+    ap (λ m. eqb (finmap.len m) 0) (good.1 (empty_is node.arrivals free) (all_came urgent node.urgent_taken all)) ∙ ap (λ n. eqb n 0) (finmap.len-empty nat_cmp ℕ))
+not_too_soon node Advise good = refl
+not_too_soon node (Page page bytes) good = refl
+not_too_soon node (Zero page) good = refl
+not_too_soon node (Run first pages) good = refl
+not_too_soon node (Discard pages) good = refl
+not_too_soon node (Package areas owed commands) good = refl
+not_too_soon node Resume good = refl
+not_too_soon node (Request page) good = refl
+not_too_soon node (Recv state owed) good = refl
+not_too_soon node Done good = refl
+
+later_epoch : (a b : ℕ) → a < b → ltb a b ≡ true
+later_epoch a b h = grind (arith, nat_tests)
+
+of_epoch : (own epoch : ℕ) (node : Destination) (frame : Frame) → own ≡ node.epoch → IsOwnEpoch node epoch frame → is_of_epoch own epoch frame ≡ true
+of_epoch own epoch node Advise is h = refl
+of_epoch own epoch node Resume is h = later_epoch own epoch (subst (λ e. e < epoch) (sym is) h)
+of_epoch own epoch node (Page page bytes) is h = same_number epoch own (h ∙ sym is)
+of_epoch own epoch node (Zero page) is h = same_number epoch own (h ∙ sym is)
+of_epoch own epoch node (Run first pages) is h = same_number epoch own (h ∙ sym is)
+of_epoch own epoch node (Discard pages) is h = same_number epoch own (h ∙ sym is)
+of_epoch own epoch node (Package areas owed commands) is h = same_number epoch own (h ∙ sym is)
+of_epoch own epoch node (End urgent) is h = same_number epoch own (h ∙ sym is)
+of_epoch own epoch node (Request page) is h = same_number epoch own (h ∙ sym is)
+of_epoch own epoch node (Recv state owed) is h = same_number epoch own (h ∙ sym is)
+of_epoch own epoch node Done is h = same_number epoch own (h ∙ sym is)
+
+torn_by : (kept mapped : Bool) → kept ≡ false → mapped ≡ true → (kept || not mapped) ≡ false
+torn_by kept mapped h k = neither kept (not mapped) h (not_true mapped k)
+
+not_torn : (kept : FinMap nat_cmp (List ℕ)) (areas : FinMap nat_cmp Prot) (owed : FinSet nat_cmp) → ((page : ℕ) → contains owed page ≡ true → contains_key kept page ≡ false) →
+    ((page : ℕ) → contains owed page ≡ true → contains_key areas page ≡ true) → ((page : ℕ) → contains_key kept page ≡ true → contains_key areas page ≡ true) → is_torn kept areas owed ≡ false
+not_torn kept areas owed apart mapped kept_mapped =
+    neither _ _
+    (none_empty _ (no_member owed (λ page. contains_key kept page || not (contains_key areas page)) (λ page h. torn_by (contains_key kept page) (contains_key areas page) (apart page h) (mapped page h))))
+    (none_kept kept (λ page. not (contains_key areas page)) (λ page h. not_true (contains_key areas page) (kept_mapped page h)))
+
+no_fewer : (came told : ℕ) → came ≤ told → ltb told came ≡ false
+no_fewer came told h = grind (arith, nat_tests)
+
+not_bad : (node : Destination) (frame : Frame) → IsGood node frame → is_bad node frame ≡ false
+not_bad node (Package areas owed commands) good =
+    neither (is_torn node.kept areas owed) (not (eqb (length commands) (length node.guest.cpus))) (not_torn node.kept areas owed good.0 good.1 good.2) (not_true _ (same_number (length commands) (length node.guest.cpus) good.3))
+not_bad node (End urgent) good = no_fewer node.urgent_taken urgent good.0
+not_bad node Advise good = refl
+not_bad node (Page page bytes) good = refl
+not_bad node (Zero page) good = refl
+not_bad node (Run first pages) good = refl
+not_bad node (Discard pages) good = refl
+not_bad node Resume good = refl
+not_bad node (Request page) good = refl
+not_bad node (Recv state owed) good = refl
+not_bad node Done good = refl
+
+-- a frame that is taken is not wrong
+pub no_frame_fault : (node : Destination) (sent : Sent) → IsTaken node sent → frame_fault node sent.epoch sent.frame ≡ None
+no_frame_fault node sent taken =
+    three_none (not (is_in_place node.phase sent.frame) || is_too_soon node sent.frame) (not (is_of_epoch node.epoch sent.epoch sent.frame)) (is_bad node sent.frame) TakeFault.OutOfPlace TakeFault.StaleEpoch TakeFault.BadFrame
+    (neither (not (is_in_place node.phase sent.frame)) (is_too_soon node sent.frame) (not_true (is_in_place node.phase sent.frame) taken.in_place) (not_too_soon node sent.frame taken.good))
+    (not_true (is_of_epoch node.epoch sent.epoch sent.frame) (of_epoch node.epoch sent.epoch node sent.frame refl taken.own_epoch)) (not_bad node sent.frame taken.good)
+
+pub no_urgent_fault : (node : Destination) (sent : Sent) → IsTakenUrgent node sent → urgent_fault node sent.epoch sent.frame ≡ None
+no_urgent_fault node sent taken =
+    two_none (not (is_running node.phase && is_copy sent.frame)) (not (eqb sent.epoch node.epoch)) TakeFault.OutOfPlace TakeFault.StaleEpoch
+    (not_true (is_running node.phase && is_copy sent.frame) (both_true (is_running node.phase) (is_copy sent.frame) taken.runs taken.copy)) (not_true (eqb sent.epoch node.epoch) (same_number sent.epoch node.epoch taken.own_epoch))
+
+-- The source
+
+in_place_back : (node : Source) (frame : Frame) → IsInPlaceBack node frame → is_in_place_back node frame ≡ true
+in_place_back node (Request page) place = place
+in_place_back node Done place = both_true (is_stopped node.phase) (eqb node.end_epoch node.epoch) place.0 (same_number node.end_epoch node.epoch place.1)
+in_place_back node (Recv state owed) place = place.0
+in_place_back node _ place = absurd place
+
+pub no_back_fault : (node : Source) (sent : Sent) → IsInPlaceBack node sent.frame → sent.epoch ≡ node.epoch → back_fault node sent.epoch sent.frame ≡ None
+no_back_fault node sent place own =
+    two_none (not (is_in_place_back node sent.frame)) (not (eqb sent.epoch node.epoch)) BackFault.OutOfPlace BackFault.StaleEpoch (not_true (is_in_place_back node sent.frame) (in_place_back node sent.frame place)) (not_true (eqb sent.epoch node.epoch) (same_number sent.epoch node.epoch own))
+
+none_listed : (owed : FinSet nat_cmp) → owed ≡ no_pages → not (eqb (finset.len owed) 0) ≡ false
+none_listed owed none = ap (λ s. not (eqb (finset.len s) 0)) none ∙ ap (λ n. not (eqb n 0)) (len-empty nat_cmp)
+
+not_run_other : Received.NotRun ≢ Received.Running
+not_run_other h = cc
+
+ended_other : Received.Ended ≢ Received.Running
+ended_other h = cc
+
+running_run : Received.Running ≢ Received.NotRun
+running_run h = cc
+
+ended_run : Received.Ended ≢ Received.NotRun
+ended_run h = cc
+
+-- a Recv that is taken lists what the source has
+pub no_rebuild_fault : (node : Source) (state : Received) (owed : FinSet nat_cmp) → ((page : ℕ) → is_present (space_of node) page ≡ true → contains (present (space_of node)) page ≡ true) → IsInPlaceBack node (Recv state owed) →
+    rebuild_fault node state owed ≡ None
+no_rebuild_fault node Received.NotRun owed below place = none_first (is_bad_owed node Received.NotRun owed) RebuildFault.BadOwed None (none_listed owed (place.2 not_run_other)) refl
+no_rebuild_fault node Received.Running owed below place =
+    none_first (is_bad_owed node Received.Running owed) RebuildFault.BadOwed None
+    (neither (not node.switched) (not (eqb (finset.len (less owed (present (space_of node)))) 0)) (not_true node.switched (place.3 running_run))
+    (none_empty (less owed (present (space_of node))) (no_member owed (λ page. not (contains (present (space_of node)) page)) (λ page h. not_true (contains (present (space_of node)) page) (below page (place.1 page h)))))) refl
+no_rebuild_fault node Received.Ended owed below place =
+    none_first (is_bad_owed node Received.Ended owed) RebuildFault.BadOwed None
+    (neither (not node.switched) (not (eqb (finset.len owed) 0)) (not_true node.switched (place.3 ended_run)) (none_listed owed (place.2 ended_other))) refl
+
+-- A Deliver that completes a frame
+
+passes : (started up : Bool) (answer : Answer) → started ≡ true → up ≡ true → unless ((not started, Refusal.Phase) ∷ (not up, Refusal.Broken) ∷ []) answer ≡ answer
+unfolding unless
+passes true true answer s u = refl
+passes false up answer s u = none_absurd s
+passes true false answer s u = none_absurd u
+
+-- the two reasons for which it may be refused
+abbrev waits : World → Sent → List (Bool × Refusal)
+waits world sent = (is_end sent.frame && not (is_empty world.destination.arrivals), Refusal.InstallFirst) ∷ (is_early world.destination sent.frame, Refusal.UrgentFirst) ∷ []
+
+completed : (world : World) (n : ℕ) (sent : Sent) (rest : List Sent) → has_started world ≡ true → world.up ≡ true → world.forward.frames ≡ sent ∷ rest → is_short world.forward sent.frame n ≡ false →
+    outcome world (Step.Deliver n) ≡ outcome_by (unless (waits world sent) (made (frame_effect sent.frame) (after_deliver world sent rest)))
+unfolding outcome
+completed world n sent rest started up first full =
+    ap outcome_by (passes (has_started world) world.up (deliver_first world n world.forward.frames) started up ∙ ap (deliver_first world n) first
+    ∙ ap (λ b. if b then made (Effect.Moved n) (after_move world n) else unless (waits world sent) (made (frame_effect sent.frame) (after_deliver world sent rest))) full)
+
+abbrev fault_by : (install early : Bool) → Option TakeFault
+fault_by install early = first_holding ((install, TakeFault.InstallFirst) ∷ (early, TakeFault.UrgentFirst) ∷ [])
+
+abbrev answer_by : (install early : Bool) → Made → Result Effect Refusal
+answer_by install early new = outcome_by (unless ((install, Refusal.InstallFirst) ∷ (early, Refusal.UrgentFirst) ∷ []) (Ok new))
+
+taken_by : (install early : Bool) (new : Made) → fault_by install early ≡ None → answer_by install early new ≡ Ok new.effect
+unfolding unless
+taken_by true early new h = absurd (cc)
+taken_by false true new h = absurd (cc)
+taken_by false false new h = refl
+
+install_by : (install early : Bool) (new : Made) → fault_by install early ≡ Some TakeFault.InstallFirst → answer_by install early new ≡ Err Refusal.InstallFirst
+unfolding unless
+install_by true early new h = refl
+install_by false true new h = absurd (cc)
+install_by false false new h = absurd (cc)
+
+urgent_by : (install early : Bool) (new : Made) → fault_by install early ≡ Some TakeFault.UrgentFirst → answer_by install early new ≡ Err Refusal.UrgentFirst
+unfolding unless
+urgent_by true early new h = absurd (cc)
+urgent_by false true new h = refl
+urgent_by false false new h = absurd (cc)
+
+-- a frame that is not wrong has no fault but for having to wait
+only_waits : (node : Destination) (sent : Sent) (fault : Option TakeFault) → frame_fault node sent.epoch sent.frame ≡ None → take_fault node sent.epoch sent.frame ≡ fault → wait_fault node sent.frame ≡ fault
+only_waits node sent fault none h = sym (ap (λ o. elim o [ None ↦ wait_fault node sent.frame | Some other ↦ Some other ]) none) ∙ h
+
+-- what is in flight, in a world whose first frame is this
+pub record IsFull (world : World) (n : ℕ) (sent : Sent) (rest : List Sent) : Type 0 where
+  pub started : has_started world ≡ true
+  pub up : world.up ≡ true
+  pub first : world.forward.frames ≡ sent ∷ rest
+  pub full : is_short world.forward sent.frame n ≡ false
+  pub right : frame_fault world.destination sent.epoch sent.frame ≡ None
+
+pub full_taken : (world : World) (n : ℕ) (sent : Sent) (rest : List Sent) → IsFull world n sent rest → take_fault world.destination sent.epoch sent.frame ≡ None → outcome world (Step.Deliver n) ≡ Ok (frame_effect sent.frame)
+full_taken world n sent rest is h =
+    completed world n sent rest is.started is.up is.first is.full
+    ∙ taken_by (is_end sent.frame && not (is_empty world.destination.arrivals)) (is_early world.destination sent.frame) (record { effect = frame_effect sent.frame; world = after_deliver world sent rest }) (only_waits world.destination sent None is.right h)
+
+pub full_install : (world : World) (n : ℕ) (sent : Sent) (rest : List Sent) → IsFull world n sent rest → take_fault world.destination sent.epoch sent.frame ≡ Some TakeFault.InstallFirst → outcome world (Step.Deliver n) ≡ Err Refusal.InstallFirst
+full_install world n sent rest is h =
+    completed world n sent rest is.started is.up is.first is.full
+    ∙ install_by (is_end sent.frame && not (is_empty world.destination.arrivals)) (is_early world.destination sent.frame) (record { effect = frame_effect sent.frame; world = after_deliver world sent rest }) (only_waits world.destination sent (Some TakeFault.InstallFirst) is.right h)
+
+pub full_urgent : (world : World) (n : ℕ) (sent : Sent) (rest : List Sent) → IsFull world n sent rest → take_fault world.destination sent.epoch sent.frame ≡ Some TakeFault.UrgentFirst → outcome world (Step.Deliver n) ≡ Err Refusal.UrgentFirst
+full_urgent world n sent rest is h =
+    completed world n sent rest is.started is.up is.first is.full
+    ∙ urgent_by (is_end sent.frame && not (is_empty world.destination.arrivals)) (is_early world.destination sent.frame) (record { effect = frame_effect sent.frame; world = after_deliver world sent rest }) (only_waits world.destination sent (Some TakeFault.UrgentFirst) is.right h)
+
+-- nothing is in flight before Start
+unstarted : (idle : Bool) (frames : List Sent) (sent : Sent) (rest : List Sent) → (idle ≡ true → frames ≡ []) → frames ≡ sent ∷ rest → not idle ≡ true
+unstarted false frames sent rest none first = refl
+unstarted true frames sent rest none first = absurd (let e : sent ∷ rest ≡ [] = sym first ∙ none refl in cc)
+
+pub is_full : (world : World) (n : ℕ) (sent : Sent) (rest : List Sent) → IsSoundWorld world → world.up ≡ true → world.forward.frames ≡ sent ∷ rest → is_short world.forward sent.frame n ≡ false → IsTaken world.destination sent → IsFull world n sent rest
+is_full world n sent rest kept up first full taken =
+    record {
+      started = unstarted (is_source_idle world.source.phase) world.forward.frames sent rest (idle_forward world kept) first;
+      up = up;
+      first = first;
+      full = full;
+      right = no_frame_fault world.destination sent taken;
+    }
+
+sound_below : (space : Space) → IsSoundSpace space → (page : ℕ) → is_present space page ≡ true → page < HIGH_PAGE
+sound_below space sound page h = low_or (λ high. false≢true (sym (ap is_some (sound.host.mapped page (sound.host.bound page high))) ∙ h))
+
+below_high : (page : ℕ) → page < HIGH_PAGE → ltb page HIGH_PAGE ≡ true
+below_high page h = grind (arith, nat_tests)
+
+-- the present pages of a source
+pub present_below : (space : Space) → IsSoundSpace space → (page : ℕ) → is_present space page ≡ true → contains (present space) page ≡ true
+present_below space sound page h = member_below _ HIGH_PAGE page ∙ both_true (ltb page HIGH_PAGE) (is_present space page) (below_high page (sound_below space sound page h)) h
