@@ -65,7 +65,9 @@ pub mod EveryStep
 pub mod FramesTaken
 pub mod WaitingCommands
 pub mod SettledPromises
-pub mod Story
+pub mod AcceptedSteps
+pub mod CompletionStopped
+pub mod Completion
 pub mod StepPromises
 pub mod WaitingAccesses
 pub mod Calls
