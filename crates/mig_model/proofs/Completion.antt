@@ -19,29 +19,24 @@ use Rattle.mig_model.proofs.Facts.{none_absurd}
 use Rattle.mig_model.proofs.FirstFrame.{empty_not}
 use Rattle.mig_model.proofs.EveryStep.{kept-reached, urgent-reached}
 use Rattle.mig_model.proofs.AcceptedSteps.{IsInOrder, complete_now, by_deliver, by_deliver_back, by_notice, by_resume, by_source_read, by_start, by_switch}
-use Rattle.mig_model.proofs.CompletionStopped.{next_some, read-less, read_object, stopped_completes, unread, wires_at}
+use Rattle.mig_model.proofs.CompletionStopped.{IsUpAt, next_some, read-less, read_object, stopped_completes, unread, wires_at}
 
 -- Pre-copy: the messages are read, until no event is unread, and the source switches
 
-record IsPrecopyUp (world : World) : Type 0 where
-  order : IsInOrder world
-  up : world.up ≡ true
-  precopy : world.source.phase ≡ SourcePhase.Precopy
-
-switch_step : (world : World) → (space_of world.source).object.events ≡ [] → IsPrecopyUp world → CanComplete world
+switch_step : (world : World) → (space_of world.source).object.events ≡ [] → IsUpAt SourcePhase.Precopy world → CanComplete world
 switch_step world quiet at =
-    by_switch world (ap is_precopy at.precopy) at.up (ap (λ events. ltb 0 (length events)) quiet) at.order (λ order. stopped_completes (after_switch world) (record { order = order; up = at.up; stopped = refl }))
+    by_switch world (ap is_precopy at.phase) at.up (ap (λ events. ltb 0 (length events)) quiet) at.order (λ order. stopped_completes (after_switch world) (record { order = order; up = at.up; phase = refl }))
 
-precopy_by : (n : ℕ) (events : List Noted) (world : World) → (space_of world.source).object.events ≡ events → unread (space_of world.source).object < n → IsPrecopyUp world → CanComplete world
+precopy_by : (n : ℕ) (events : List Noted) (world : World) → (space_of world.source).object.events ≡ events → unread (space_of world.source).object < n → IsUpAt SourcePhase.Precopy world → CanComplete world
 precopy_by n [] world quiet few at = switch_step world quiet at
 precopy_by zero (event ∷ events) world unquiet few at = absurd (omega (arith, few))
 precopy_by (suc n) (event ∷ events) world unquiet few at =
     let next = next_some (space_of world.source).object event events unquiet in
     let less = read-less (space_of world.source).object next.0 next.1 in
     let object = ap unread (read_object world.source.guest next.0.cpu next.0.message) in
-    let unswitched = subst (λ p. SwitchedAt p world.source.switched) at.precopy at.order.kept.phases.source_phase in
-    by_source_read world next.0 (ap is_source_idle at.precopy) unswitched next.1 at.order (λ order.
-    precopy_by n (space_of (after_source_read world next.0).source).object.events (after_source_read world next.0) refl (omega (arith, few, less, object)) (record { order = order; up = at.up; precopy = at.precopy }))
+    let unswitched = subst (λ p. SwitchedAt p world.source.switched) at.phase at.order.kept.phases.source_phase in
+    by_source_read world next.0 (ap is_source_idle at.phase) unswitched next.1 at.order (λ order.
+    precopy_by n (space_of (after_source_read world next.0).source).object.events (after_source_read world next.0) refl (omega (arith, few, less, object)) (record { order = order; up = at.up; phase = at.phase }))
 
 -- Paused, with the link up: the destination takes Resume, and the source its answer
 
@@ -54,8 +49,8 @@ is_going phase = false
 
 going_by : (from : SourcePhase) (world : World) → world.source.phase ≡ from → is_going from ≡ true → world.up ≡ true → IsInOrder world → CanComplete world
 going_by SourcePhase.Precopy world is going up order =
-    precopy_by (suc (unread (space_of world.source).object)) (space_of world.source).object.events world refl (omega arith) (record { order = order; up = up; precopy = is })
-going_by SourcePhase.Stopped world is going up order = stopped_completes world (record { order = order; up = up; stopped = is })
+    precopy_by (suc (unread (space_of world.source).object)) (space_of world.source).object.events world refl (omega arith) (record { order = order; up = up; phase = is })
+going_by SourcePhase.Stopped world is going up order = stopped_completes world (record { order = order; up = up; phase = is })
 going_by SourcePhase.Released world is going up order = complete_now world (ap is_released is)
 going_by _ world is going up order = none_absurd going
 
@@ -65,41 +60,36 @@ rebuilt_going Received.NotRun owed node =
 rebuilt_going Received.Running owed node = refl
 rebuilt_going Received.Ended owed node = refl
 
-record IsPausedUp (world : World) : Type 0 where
-  order : IsInOrder world
-  up : world.up ≡ true
-  paused : world.source.phase ≡ SourcePhase.Paused
-
-recv_step : (world : World) (state : Received) (owed : FinSet nat_cmp) (epoch : ℕ) (rest : List Sent) → world.back.frames ≡ record { epoch = epoch; frame = Recv state owed } ∷ rest → IsPausedUp world → CanComplete world
+recv_step : (world : World) (state : Received) (owed : FinSet nat_cmp) (epoch : ℕ) (rest : List Sent) → world.back.frames ≡ record { epoch = epoch; frame = Recv state owed } ∷ rest → IsUpAt SourcePhase.Paused world → CanComplete world
 recv_step world state owed epoch rest first at =
     let sent : Sent = record { epoch = epoch; frame = Recv state owed } in
-    by_deliver_back world sent rest first (ap is_source_idle at.paused) at.up at.order (λ order.
+    by_deliver_back world sent rest first (ap is_source_idle at.phase) at.up at.order (λ order.
     going_by (after_deliver_back world sent rest).source.phase (after_deliver_back world sent rest) refl (rebuilt_going state owed world.source) at.up order)
 
 -- where the destination has noticed too, it takes Resume first
-paused_by : (to : DestPhase) (world : World) → world.destination.phase ≡ to → (to ≡ DestPhase.Paused → CanComplete world) → IsPausedUp world → CanComplete world
-paused_by DestPhase.Advised world is resumes at = let w = wires_at SourcePhase.Paused DestPhase.Advised world at.paused is at.up at.order in recv_step world Received.NotRun _ _ _ w.1 at
-paused_by DestPhase.Running world is resumes at = let w = wires_at SourcePhase.Paused DestPhase.Running world at.paused is at.up at.order in recv_step world Received.Running w.1.owed w.1.epoch w.1.rest w.1.first at
-paused_by DestPhase.Ended world is resumes at = let w = wires_at SourcePhase.Paused DestPhase.Ended world at.paused is at.up at.order in recv_step world Received.Ended w.1.owed w.1.epoch w.1.rest w.1.first at
+paused_by : (to : DestPhase) (world : World) → world.destination.phase ≡ to → (to ≡ DestPhase.Paused → CanComplete world) → IsUpAt SourcePhase.Paused world → CanComplete world
+paused_by DestPhase.Advised world is resumes at = let w = wires_at SourcePhase.Paused DestPhase.Advised world is at in recv_step world Received.NotRun _ _ _ w.1 at
+paused_by DestPhase.Running world is resumes at = let w = wires_at SourcePhase.Paused DestPhase.Running world is at in recv_step world Received.Running w.1.owed w.1.epoch w.1.rest w.1.first at
+paused_by DestPhase.Ended world is resumes at = let w = wires_at SourcePhase.Paused DestPhase.Ended world is at in recv_step world Received.Ended w.1.owed w.1.epoch w.1.rest w.1.first at
 paused_by DestPhase.Paused world is resumes at = resumes refl
-paused_by DestPhase.Idle world is resumes at = absurd (wires_at SourcePhase.Paused DestPhase.Idle world at.paused is at.up at.order)
-paused_by DestPhase.Discarding world is resumes at = absurd (wires_at SourcePhase.Paused DestPhase.Discarding world at.paused is at.up at.order)
+paused_by DestPhase.Idle world is resumes at = absurd (wires_at SourcePhase.Paused DestPhase.Idle world is at)
+paused_by DestPhase.Discarding world is resumes at = absurd (wires_at SourcePhase.Paused DestPhase.Discarding world is at)
 
-resume_taken : (world : World) → world.destination.phase ≡ DestPhase.Paused → IsPausedUp world → CanComplete world
+resume_taken : (world : World) → world.destination.phase ≡ DestPhase.Paused → IsUpAt SourcePhase.Paused world → CanComplete world
 resume_taken world is at =
-    let first = (wires_at SourcePhase.Paused DestPhase.Paused world at.paused is at.up at.order).0 in
+    let first = (wires_at SourcePhase.Paused DestPhase.Paused world is at).0 in
     let sent : Sent = record { epoch = world.source.epoch; frame = Resume } in
     let new = after_deliver world sent [] in
-    by_deliver world sent [] first (ap is_source_idle at.paused) at.up refl refl at.order (λ order.
-    let new_at : IsPausedUp new = record { order = order; up = at.up; paused = at.paused } in
-    paused_by new.destination.phase new refl (λ again. absurd (empty_not sent [] (sym (wires_at SourcePhase.Paused DestPhase.Paused new at.paused again at.up order).0))) new_at)
+    by_deliver world sent [] first (ap is_source_idle at.phase) at.up refl refl at.order (λ order.
+    let new_at : IsUpAt SourcePhase.Paused new = record { order = order; up = at.up; phase = at.phase } in
+    paused_by new.destination.phase new refl (λ again. absurd (empty_not sent [] (sym (wires_at SourcePhase.Paused DestPhase.Paused new again new_at).0))) new_at)
 
 -- The link is up, and the migration has begun
 
 link_up_by : (from : SourcePhase) (world : World) → world.source.phase ≡ from → is_source_idle from ≡ false → world.up ≡ true → IsInOrder world → CanComplete world
 link_up_by SourcePhase.Idle world is started up order = none_absurd (sym started)
 link_up_by SourcePhase.Paused world is started up order =
-    let at : IsPausedUp world = record { order = order; up = up; paused = is } in
+    let at : IsUpAt SourcePhase.Paused world = record { order = order; up = up; phase = is } in
     paused_by world.destination.phase world refl (λ both. resume_taken world both at) at
 link_up_by from world is started up order = going_by from world is refl up order
 
