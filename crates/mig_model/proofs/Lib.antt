@@ -68,7 +68,9 @@ pub mod FramesTaken
 pub mod FrameFaults
 pub mod WaitingCommands
 pub mod SettledPromises
-pub mod Story
+pub mod AcceptedSteps
+pub mod CompletionStopped
+pub mod Completion
 pub mod StepPromises
 pub mod WaitingAccesses
 pub mod Calls

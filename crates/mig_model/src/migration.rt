@@ -22,7 +22,7 @@ ghost use Rattle.mig_model.specs.Source.{is_released, switch_frames, space_of, i
 ghost use Rattle.mig_model.specs.Destination.{settled, is_running};
 ghost use Rattle.mig_model.specs.Wire.{Sent, Copy, empty_wire, wire_with};
 ghost use Rattle.mig_model.specs.Wire.Frame.{Recv};
-ghost use Rattle.mig_model.specs.Migration.{World, guest_of, is_short, after_move, after_move_back, after_move_urgent, frame_effect, outcome, next, first_world, after_steps};
+ghost use Rattle.mig_model.specs.Migration.{World, guest_of, is_short, after_move, after_move_back, after_move_urgent, frame_effect, outcome, next, first_world, after_steps, has_started, is_used};
 ghost use Rattle.mig_model.specs.Invariant.{IsSoundWorld, AreSoundUrgent, AreSoundCalls, IsPrecopying, IsSwitching, IsReceiving, current_host, package_in};
 ghost use Rattle.mig_base.specs.declared.step.WorldPhase.{WorldPhase};
 ghost use Rattle.mig_model.specs.Views.{phase_of, new_world_with};
@@ -53,9 +53,12 @@ pub fn what_a_world_tells()
     ensures new { (cpus epoch rounds : ℕ) (world : World) → new_world_with cpus epoch rounds ≡ Ok world → IsReached world }
 {}
 
-/// A migration can be completed: some steps lead there, where there is nothing to move. So the laws of completion are not about nothing.
+/// A migration can be completed, whatever has happened: from every world some steps lead there, none of which is refused, as long as
+/// the epoch of the source is not its last. It may be the last where the migration has begun and the link is up.
 pub fn a_migration_can_complete()
-    ensures { (cpus : ℕ) → CanComplete (first_world cpus) }
+    ensures first { (cpus : ℕ) → CanComplete (first_world cpus) }
+    ensures epoch_left { (world : World) → IsReached world → is_used world.source.epoch ≡ false → CanComplete world }
+    ensures link_up { (world : World) → IsReached world → has_started world ≡ true → world.up ≡ true → CanComplete world }
 {}
 
 /// While the source makes rounds of pre-copy and the link is up, the newest copy of a clean page is the source's page, unless an
