@@ -69,5 +69,7 @@ pub mod Story
 pub mod StepPromises
 pub mod WaitingAccesses
 pub mod Calls
+pub mod ReachedLemmas
+pub mod CallReplies
 pub mod PushOrder
 pub mod ViewPromises

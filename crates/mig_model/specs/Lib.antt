@@ -18,5 +18,6 @@ pub mod Views
 pub mod Invariant
 pub mod Parts
 pub mod Promises
+pub mod Replies
 pub mod Kept
 pub mod Codes

@@ -6,6 +6,9 @@ ghost use Rattle.std.specs.Prelude.{◌⊎◌, ◌≡◌, ◌≢◌, ℕ, ◌*�
 ghost use Rattle.std.specs.FinMap.{get};
 ghost use Rattle.std.specs.FinSet.{contains};
 ghost use Rattle.mig_base.specs.declared.effect.Effect.{Effect};
+ghost use Rattle.mig_base.specs.declared.command.Reply.{Reply};
+ghost use Rattle.mig_base.specs.declared.cpu_state.CpuState.{CpuState};
+ghost use Rattle.mig_base.specs.declared.message.Message.{Message};
 ghost use Rattle.mig_base.specs.declared.phase.Received.{Received};
 ghost use Rattle.mig_base.specs.declared.refusal.Refusal.{Refusal};
 ghost use Rattle.mig_base.specs.declared.schedule.Step.{Step};
@@ -23,6 +26,7 @@ ghost use Rattle.mig_model.specs.Migration.{World, guest_of, is_short, after_mov
 ghost use Rattle.mig_model.specs.Invariant.{IsSoundWorld, AreSoundUrgent, AreSoundCalls, IsPrecopying, IsSwitching, IsReceiving, current_host, package_in};
 ghost use Rattle.mig_base.specs.declared.step.WorldPhase.{WorldPhase};
 ghost use Rattle.mig_model.specs.Views.{phase_of, new_world_with};
+ghost use Rattle.mig_model.specs.Replies.{HandsOver, call_reply, last_reply};
 ghost use Rattle.mig_model.specs.Parts.{Grows, ChangesParts};
 ghost use Rattle.mig_model.specs.Promises.{AreAccesses, IsReached, IsComplete, IsAlone, ArePaired, AreUnderWay, IsPut, IsZeroed, IsTaken, IsTakenUrgent, keeps_remaining, IsInPlaceBack, owed_changed, leaves_settled, is_retry_of, IsDelivered, IsDeliveredBack, IsDeliveredUrgent, takes_forward, takes_back, takes_urgent, is_break, is_recv, is_last, Completes, CanComplete, has_recv, Slept};
 
@@ -152,6 +156,17 @@ pub fn waiting_commands_are_accesses()
 /// a processor in a call. The queues of page faults hold page faults alone.
 pub fn calls_have_unread_events()
     ensures { (world : World) → IsReached world → AreSoundCalls world }
+{}
+
+/// The reply of a map call is fixed when it is made: a processor in a call has the reply of its last entry, every step but the read
+/// of its last message leaves it, and what that read hands over is this reply. How long it is in the call is what
+/// [`calls_have_unread_events`] says.
+pub fn replies_of_map_calls()
+    ensures entered { (world : World) (cpu : ℕ) (reply : Reply) → IsReached world → call_reply (processor_at (guest_of world).cpus cpu) ≡ Some reply → last_reply world.transcript cpu ≡ Some reply }
+    ensures kept { (world : World) (step : Step) (cpu : ℕ) (reply : Reply) → IsReached world → call_reply (processor_at (guest_of world).cpus cpu) ≡ Some reply →
+        (call_reply (processor_at (guest_of (next world step)).cpus cpu) ≡ Some reply) ⊎ HandsOver world step cpu reply }
+    ensures handed_over { (world : World) (step : Step) (event : Message) (cpu : ℕ) (reply : Reply) → IsReached world → outcome world step ≡ Ok (Effect.ReadLast event cpu reply) →
+        (processor_at (guest_of world).cpus cpu ≡ CpuState.InCall reply 1) × (processor_at (guest_of (next world step)).cpus cpu ≡ CpuState.Idle) × (last_reply world.transcript cpu ≡ Some reply) }
 {}
 
 /// A command that takes effect is entered with its processor and its reply, at its first try or at a Retry; one that sleeps is not. That
