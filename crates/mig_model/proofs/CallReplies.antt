@@ -37,7 +37,7 @@ use Rattle.mig_model.specs.Promises.{IsReached}
 use Rattle.mig_model.specs.Replies.{HandsOver, call_reply, last_reply}
 use Rattle.mig_model.proofs.Calls.{are_sound_calls, stopped_switched}
 use Rattle.mig_model.proofs.EveryStep.{kept-reached}
-use Rattle.mig_model.proofs.Facts.{eqb-self}
+use Rattle.mig_model.proofs.Facts.{by_test, eqb-self}
 use Rattle.mig_model.proofs.FirstFrame.{comes, delivered, first_in_place}
 use Rattle.mig_model.proofs.FramesTaken.{with_first}
 use Rattle.mig_model.proofs.ReachedLemmas.{reached-next}
@@ -501,13 +501,9 @@ holds_as : (Q R : Made → Type 0) (result : Answer) → ((made : Made) → Q ma
 holds_as Q R (Ok made) as_well h = as_well made h
 holds_as Q R (Err refusal) as_well h = h
 
-by_try : {A : Type 0} (here : Bool) → (here ≡ true → A) → (here ≡ false → A) → A
-by_try true tries others = tries refl
-by_try false tries others = others refl
-
 replies_answer : (world : World) (step : Step) → IsSoundWorld world → AreSoundCalls world → HasReplies world → Leaves HasReplies (answer world step)
 replies_answer world step kept all has =
-    by_try (is_try step)
+    by_test (is_try step)
     (λ tries. holds_as (Tries world) _ (answer world step) (λ made t. subst HasReplies (sym t.is) (tried_replies world t.cpu t.command t.free has)) (is_tried world step tries))
     (λ other. holds_as (GoesOn world) _ (answer world step) (λ made g k reply h. ap (λ e. last_reply e k) g.transcript ∙ has k reply (g.calls.was k reply h)) (goes_on world step kept all other))
 
@@ -532,7 +528,7 @@ GoesOnOr k reply made = (reply_at (guest_of made.world).cpus k ≡ Some reply) �
 
 call_answer : (world : World) (step : Step) (k : ℕ) (reply : Reply) → IsSoundWorld world → AreSoundCalls world → reply_at (guest_of world).cpus k ≡ Some reply → Holds (GoesOnOr k reply) (answer world step)
 call_answer world step k reply kept all h =
-    by_try (is_try step)
+    by_test (is_try step)
     (λ tries. holds_as (Tries world) _ (answer world step) (λ made t. inl (ap (λ w. reply_at (guest_of w).cpus k) t.is ∙ tried_keeps world t.cpu t.command k reply t.free h)) (is_tried world step tries))
     (λ other. holds_as (GoesOn world) _ (answer world step) (λ made g. g.calls.kept k reply h) (goes_on world step kept all other))
 
@@ -556,7 +552,7 @@ LastTold world effect new = (event : Message) (k : ℕ) (reply : Reply) → effe
 
 last_answer : (world : World) (step : Step) → IsSoundWorld world → AreSoundCalls world → Holds (λ made. LastTold world made.effect made.world) (answer world step)
 last_answer world step kept all =
-    by_try (is_try step)
+    by_test (is_try step)
     (λ tries. holds_as (Tries world) _ (answer world step)
     (λ made t event k reply is. not_last (try_effect t.cpu (took_by (is_access t.command) (guest_of world).space t.command)) event k reply (try_not_last _ t.cpu) (sym t.effect ∙ is)) (is_tried world step tries))
     (λ other. holds_as (GoesOn world) _ (answer world step) (λ made g event k reply is. g.calls.last event k reply is) (goes_on world step kept all other))

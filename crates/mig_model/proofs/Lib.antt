@@ -71,5 +71,6 @@ pub mod WaitingAccesses
 pub mod Calls
 pub mod ReachedLemmas
 pub mod CallReplies
+pub mod Unbroken
 pub mod PushOrder
 pub mod ViewPromises

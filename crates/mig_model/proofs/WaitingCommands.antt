@@ -142,7 +142,7 @@ pub same_guest : (ran : Bool) (world : World) (guest : Guest) → guest_by ran (
 same_guest true world guest = refl
 same_guest false world guest = refl
 
-same_ran : (ran : Bool) (world : World) (guest : Guest) → (with_guest_by ran world guest).destination.has_run ≡ world.destination.has_run
+pub same_ran : (ran : Bool) (world : World) (guest : Guest) → (with_guest_by ran world guest).destination.has_run ≡ world.destination.has_run
 same_ran true world guest = refl
 same_ran false world guest = refl
 

@@ -19,5 +19,6 @@ pub mod Invariant
 pub mod Parts
 pub mod Promises
 pub mod Replies
+pub mod Unbroken
 pub mod Kept
 pub mod Codes

@@ -27,6 +27,7 @@ ghost use Rattle.mig_model.specs.Invariant.{IsSoundWorld, AreSoundUrgent, AreSou
 ghost use Rattle.mig_base.specs.declared.step.WorldPhase.{WorldPhase};
 ghost use Rattle.mig_model.specs.Views.{phase_of, new_world_with};
 ghost use Rattle.mig_model.specs.Replies.{HandsOver, call_reply, last_reply};
+ghost use Rattle.mig_model.specs.Unbroken.{StaysUp, KeepsClean};
 ghost use Rattle.mig_model.specs.Parts.{Grows, ChangesParts};
 ghost use Rattle.mig_model.specs.Promises.{AreAccesses, IsReached, IsComplete, IsAlone, ArePaired, AreUnderWay, IsPut, IsZeroed, IsTaken, IsTakenUrgent, keeps_remaining, IsInPlaceBack, owed_changed, leaves_settled, is_retry_of, IsDelivered, IsDeliveredBack, IsDeliveredUrgent, takes_forward, takes_back, takes_urgent, is_break, is_recv, is_last, Completes, CanComplete, has_recv, Slept};
 
@@ -91,6 +92,13 @@ pub fn what_a_switch_owes()
     ensures owes { (world : World) (page : ℕ) → IsReached world → IsOk (outcome world Step.Switch) →
         contains (next world Step.Switch).source.remaining page ≡ (is_present (space_of world.source) page && not (contains world.source.log.clean page)) }
     ensures sends { (world : World) → IsOk (outcome world Step.Switch) → (next world Step.Switch).forward ≡ wire_with world.forward world.source.epoch (switch_frames world.source) }
+{}
+
+/// What a Switch keeps: if the link stays up until the Package of a Switch is taken, the pages that the destination keeps then are
+/// exactly those that were clean at the Switch, with the bytes that the source had. After a break the pages are sent again.
+pub fn what_a_switch_keeps()
+    ensures { (world : World) (steps : List Step) (n owed : ℕ) → IsReached world → IsOk (outcome world Step.Switch) → StaysUp (next world Step.Switch) steps →
+        outcome (after_steps (next world Step.Switch) steps) (Step.Deliver n) ≡ Ok (Effect.TookPackage owed) → KeepsClean world (after_steps (next world Step.Switch) steps) }
 {}
 
 /// Once the destination has run, each owed page is to be pushed, in flight on either wire, or arrived, and each copy of it has the bytes that the
