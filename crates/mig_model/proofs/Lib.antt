@@ -72,5 +72,6 @@ pub mod Calls
 pub mod ReachedLemmas
 pub mod CallReplies
 pub mod Unbroken
+pub mod Runs
 pub mod PushOrder
 pub mod ViewPromises

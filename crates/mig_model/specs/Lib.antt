@@ -20,5 +20,6 @@ pub mod Parts
 pub mod Promises
 pub mod Replies
 pub mod Unbroken
+pub mod Runs
 pub mod Kept
 pub mod Codes

@@ -25,9 +25,10 @@ ghost use Rattle.mig_model.specs.Wire.{Sent, Copy, empty_wire, wire_with};
 ghost use Rattle.mig_model.specs.Migration.{World, guest_of, is_short, after_move, after_move_back, after_move_urgent, outcome, next, first_world, after_steps};
 ghost use Rattle.mig_model.specs.Invariant.{IsSoundWorld, AreSoundUrgent, AreSoundCalls, IsPrecopying, IsSwitching, IsReceiving, current_host, package_in};
 ghost use Rattle.mig_base.specs.declared.step.WorldPhase.{WorldPhase};
-ghost use Rattle.mig_model.specs.Views.{phase_of, new_world_with};
+ghost use Rattle.mig_model.specs.Views.{counts_of, phase_of, new_world_with};
 ghost use Rattle.mig_model.specs.Replies.{HandsOver, call_reply, last_reply};
 ghost use Rattle.mig_model.specs.Unbroken.{StaysUp, KeepsClean};
+ghost use Rattle.mig_model.specs.Runs.{Happens, IsRun, Outcome, needs_memory, outcomes, results_of, steps_made};
 ghost use Rattle.mig_model.specs.Parts.{Grows, ChangesParts};
 ghost use Rattle.mig_model.specs.Promises.{AreAccesses, IsReached, IsComplete, IsAlone, ArePaired, AreUnderWay, IsPut, IsZeroed, IsTaken, IsTakenUrgent, keeps_remaining, IsInPlaceBack, owed_changed, leaves_settled, is_retry_of, IsDelivered, IsDeliveredBack, IsDeliveredUrgent, takes_forward, takes_back, takes_urgent, is_break, is_recv, is_last, Completes, CanComplete, has_recv, Slept};
 
@@ -48,10 +49,24 @@ pub fn completion()
     ensures only { (world : World) (step : Step) → is_released world.source.phase ≡ false → IsComplete (next world step) → Completes world step }
 {}
 
-/// What a world tells: its phase is Complete exactly where the migration is complete. A new world is one to which no step has led yet.
+/// What a world tells: its phase is Complete exactly where the migration is complete, and its counts have nothing left then. A new world is one to which no step has led yet.
 pub fn what_a_world_tells()
     ensures complete { (world : World) → (phase_of world ≡ WorldPhase.Complete → IsComplete world) × (IsComplete world → phase_of world ≡ WorldPhase.Complete) }
+    ensures left { (world : World) → IsReached world → IsComplete world → (counts_of world).left ≡ 0 }
     ensures new { (cpus epoch rounds : ℕ) (world : World) → new_world_with cpus epoch rounds ≡ Ok world → IsReached world }
+{}
+
+/// A run that may be short of memory: in place of an answer by which the world changes a step may answer NoMemory and change nothing, as
+/// may a Deliver whose frame would have to wait. Such a run is, in what it answers else and in its world at the end, the run of its
+/// other steps with memory enough, so every law about a reached world speaks of it. With memory enough each step does what the machine
+/// does, which never answers NoMemory; so do Break, Notice and Serve always.
+pub fn a_run_short_of_memory()
+    ensures world { (world new : World) (steps : List Step) (results : List Outcome) → IsRun world steps results new → new ≡ after_steps world (steps_made steps results) }
+    ensures results { (world new : World) (steps : List Step) (results : List Outcome) → IsRun world steps results new → results_of results ≡ outcomes world (steps_made steps results) }
+    ensures reached { (world new : World) (steps : List Step) (results : List Outcome) → IsReached world → IsRun world steps results new → IsReached new }
+    ensures enough { (world : World) (steps : List Step) → IsRun world steps (outcomes world steps) (after_steps world steps) }
+    ensures never { (world : World) (step : Step) → outcome world step ≢ Err Refusal.NoMemory }
+    ensures needs_none { (world new : World) (step : Step) (result : Outcome) → needs_memory step ≡ false → Happens world step result new → (result ≡ outcome world step) × (new ≡ next world step) }
 {}
 
 /// A migration can be completed: some steps lead there, where there is nothing to move. So the laws of completion are not about nothing.
