@@ -1,8 +1,9 @@
 //! The words of a migration that every crate shares.
 //!
 //! Addresses, pages and protections; the commands of processors and the replies to them; the steps of a world and their
-//! outcomes, and those of a whole migration in [`schedule`], [`effect`], [`refusal`], [`fault`], [`phase`] and [`cpu_state`]; [`Message`],
-//! what a userfault object tells, [`Wake`], whom it wakes, and [`flags`], the numbers of its calls; [`PageSet`], a set of pages.
+//! outcomes, and those of a whole migration in [`schedule`], [`effect`], [`refusal`], [`fault`], [`phase`], [`cpu_state`] and
+//! [`counts`]; [`Message`], what a userfault object tells, [`Wake`], whom it wakes, and [`flags`], the numbers of its calls;
+//! [`PageSet`], a set of pages.
 //! What the commands do to one flat memory is a definition, `specs/Flat.antt`, after mmap(2), munmap(2), mremap(2) and
 //! madvise(2): this crate executes no command.
 #![tactic(auto)]
@@ -14,6 +15,7 @@ ghost use Rattle.mig_base.specs.declared.TheConstants.{PAGE_SIZE};
 pub mod chunk;
 mod chunks;
 pub mod command;
+pub mod counts;
 pub mod cpu_state;
 pub mod effect;
 pub mod fault;

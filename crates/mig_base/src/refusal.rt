@@ -35,4 +35,6 @@ pub enum Refusal {
     PagesLeft = 14,
     /// A count is at its greatest value.
     CountUsed = 15,
+    /// Out of memory: a growth was refused.
+    NoMemory = 16,
 }

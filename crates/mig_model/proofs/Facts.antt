@@ -199,3 +199,8 @@ and_true false = refl
 pub some_either : {X : Type 0} (here : Bool) (value : X) (o : Option X) → is_some o ≡ true → is_some (cond here (Some value) o) ≡ true
 some_either true value o h = refl
 some_either false value o h = h
+
+-- by the answer of a test
+pub by_test : {A : Type 0} (here : Bool) → (here ≡ true → A) → (here ≡ false → A) → A
+by_test true holds fails = holds refl
+by_test false holds fails = fails refl

@@ -15,7 +15,7 @@ use Rattle.mig_base.specs.Tests.{is_empty}
 use Rattle.mig_model.specs.Wire.{Frame, Sent, wire_with}
 use Rattle.mig_model.specs.Wire.Frame.{Page, Zero, Package, End, Request, Done}
 use Rattle.mig_model.specs.Guest.{is_present}
-use Rattle.mig_model.specs.Source.{space_of, switch_frames}
+use Rattle.mig_model.specs.Source.{not_clean, space_of, switch_frames}
 use Rattle.mig_model.specs.Migration.{World, outcome, next}
 use Rattle.mig_model.specs.Invariant.{IsSoundWorld, IsSwitching, IsReceiving, Flow, flow_next, flow_after, package_in, is_package, is_request, is_done, are_requests, are_requests_and_done}
 use Rattle.mig_model.specs.Invariant.Flow.{BeforeAdvise, Copies, BeforePackage, Pushed, AfterEnd}
@@ -190,10 +190,13 @@ present_low world page kept =
       | false ↦ λ is. and_false (ltb page HIGH_PAGE)
     ] refl
 
+pub owed_at : (world : World) (page : ℕ) → IsSoundWorld world → contains (not_clean world.source) page ≡ (is_present (space_of world.source) page && not (contains world.source.log.clean page))
+owed_at world page kept = member_not_clean world.source page ∙ ap (λ b. b && not (contains world.source.log.clean page)) (present_low world page kept)
+
 pub switch_owes : (world : World) (page : ℕ) → IsSoundWorld world → IsOk (outcome world Step.Switch) → contains (next world Step.Switch).source.remaining page ≡ (is_present (space_of world.source) page && not (contains world.source.log.clean page))
 switch_owes world page kept ok =
     leaves-ok (λ new. contains new.source.remaining page ≡ (is_present (space_of world.source) page && not (contains world.source.log.clean page))) world Step.Switch
-    (made-switch _ world (λ precopy up quiet. member_not_clean world.source page ∙ ap (λ b. b && not (contains world.source.log.clean page)) (present_low world page kept))) ok
+    (made-switch _ world (λ precopy up quiet. owed_at world page kept)) ok
 
 pub switch_sends : (world : World) → IsOk (outcome world Step.Switch) → (next world Step.Switch).forward ≡ wire_with world.forward world.source.epoch (switch_frames world.source)
 switch_sends world ok =

@@ -78,7 +78,7 @@ unfoldable pub commands_in : Frame → List (Option Command) → List (Option Co
 commands_in (Package areas owed commands) other = commands
 commands_in frame other = other
 
-owed_in : Frame → FinSet nat_cmp → FinSet nat_cmp
+unfoldable pub owed_in : Frame → FinSet nat_cmp → FinSet nat_cmp
 owed_in (Package areas owed commands) other = owed
 owed_in frame other = other
 

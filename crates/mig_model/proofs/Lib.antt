@@ -74,5 +74,9 @@ pub mod Completion
 pub mod StepPromises
 pub mod WaitingAccesses
 pub mod Calls
+pub mod ReachedLemmas
+pub mod CallReplies
+pub mod Unbroken
+pub mod Runs
 pub mod PushOrder
 pub mod ViewPromises

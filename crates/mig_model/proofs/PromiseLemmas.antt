@@ -75,13 +75,25 @@ seen_own here there owed sound none =
 ended_told : (phase : DestPhase) (ran ended : Bool) → phase ≡ DestPhase.Ended → RanAt phase ran ended → ended ≡ true
 ended_told phase ran ended is told = subst (λ p. RanAt p ran ended) is told
 
+ran_in : (from : SourcePhase) (world : World) → is_released from ≡ true → IsSoundWorld (in_phases from world.destination.phase world) → (world.destination.ended ≡ true) × (world.destination.has_run ≡ true)
+ran_in SourcePhase.Released world released kept =
+    let up = true_from_ne_false world.up (λ h. (kept.flight.down h).3 refl) in
+    let ended = ended_told world.destination.phase world.destination.has_run world.destination.ended (kept.flight.wires up).0 kept.phases.destination_phase in
+    (ended, kept.phases.ended_after_run ended)
+ran_in SourcePhase.Idle world released kept = none_absurd released
+ran_in SourcePhase.Precopy world released kept = none_absurd released
+ran_in SourcePhase.Stopped world released kept = none_absurd released
+ran_in SourcePhase.Paused world released kept = none_absurd released
+
+-- the destination of a migration that is complete has run
+pub complete_ran : (world : World) → IsSoundWorld world → IsComplete world → world.destination.has_run ≡ true
+complete_ran world kept complete = (ran_in world.source.phase world complete kept).1
+
 complete_in : (from : SourcePhase) (world : World) → is_released from ≡ true → IsSoundWorld (in_phases from world.destination.phase world) → IsAlone (in_phases from world.destination.phase world)
 complete_in SourcePhase.Released world released kept =
-    let up = true_from_ne_false world.up (λ h. (kept.flight.down h).3 refl) in
-    let wires = kept.flight.wires up in
-    let ended = ended_told world.destination.phase world.destination.has_run world.destination.ended wires.0 kept.phases.destination_phase in
-    let ran = kept.phases.ended_after_run ended in
-    let empty_now = kept.owing.ended_empty ended in
+    let told = ran_in SourcePhase.Released world refl kept in
+    let ran = told.1 in
+    let empty_now = kept.owing.ended_empty told.0 in
     let none_owed = λ (page : ℕ). ap (λ m. get m page) empty_now.0 ∙ get-empty nat_cmp page in
     let none = settled_none world.destination.guest.space.object.events (get world.destination.owed) none_owed in
     let host = world.destination.guest.space.host in

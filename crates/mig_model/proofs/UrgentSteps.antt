@@ -56,7 +56,7 @@ guest_urgent : (ran : Bool) (world : World) (guest : Guest) → (ran ≡ false �
 guest_urgent true world guest not h = h
 guest_urgent false world guest not h = other_bytes guest.space.host.bytes (not refl) h
 
-runs_unstopped : (switched ran : Bool) (phase : SourcePhase) → (not switched || ran) ≡ true → SwitchedAt phase switched → ran ≡ false → is_stopped phase ≡ false
+pub runs_unstopped : (switched ran : Bool) (phase : SourcePhase) → (not switched || ran) ≡ true → SwitchedAt phase switched → ran ≡ false → is_stopped phase ≡ false
 runs_unstopped false ran phase may at bare = not_stopped phase false at refl
 runs_unstopped true true phase may at bare = absurd (false≢true (sym bare))
 runs_unstopped true false phase may at bare = absurd (false≢true may)

@@ -1,6 +1,8 @@
 -- The phase of a world is Complete exactly where the migration is complete, and a new world is a first world.
 use Rattle.std.proofs.Common.{◌≡◌, ℕ, ◌||◌, Bool, true, false, eqb, ltb, [], refl, sym, ap, ◌∙◌, if◌then◌else◌}
 use Rattle.std.specs.Prelude.{Ok, Err}
+use Rattle.std.specs.Ordering.{nat_cmp}
+use Rattle.std.specs.FinMap.{len, len-empty}
 use Rattle.std.proofs.lemmas.Bool.{false≢true}
 use Rattle.mig_base.specs.declared.TheConstants.{MAX_CPUS}
 use Rattle.mig_base.specs.declared.phase.SourcePhase.{SourcePhase}
@@ -8,8 +10,10 @@ use Rattle.mig_base.specs.declared.refusal.Refusal.{Refusal}
 use Rattle.mig_base.specs.declared.step.WorldPhase.{WorldPhase}
 use Rattle.mig_model.specs.Migration.{World, first_world_with}
 use Rattle.mig_model.specs.Source.{is_released}
-use Rattle.mig_model.specs.Views.{new_world_with, phase_by, phase_of}
+use Rattle.mig_model.specs.Views.{counts_of, new_world_with, phase_by, phase_of}
 use Rattle.mig_model.specs.Promises.{IsReached, IsComplete}
+use Rattle.mig_model.proofs.EveryStep.{kept-reached}
+use Rattle.mig_model.proofs.PromiseLemmas.{complete_ran, is_alone}
 
 is_complete : WorldPhase → Bool
 is_complete WorldPhase.Complete = true
@@ -51,3 +55,9 @@ made_new false cpus epoch rounds world h = cc
 
 pub new_reached : (cpus epoch rounds : ℕ) (world : World) → new_world_with cpus epoch rounds ≡ Ok world → IsReached world
 new_reached cpus epoch rounds world h = record { cpus = cpus; epoch = epoch; rounds = rounds; steps = []; is = made_new (eqb cpus 0 || ltb MAX_CPUS cpus) cpus epoch rounds world h }
+
+-- a migration that is complete has nothing left
+pub complete_left : (world : World) → IsReached world → IsComplete world → (counts_of world).left ≡ 0
+complete_left world reached done =
+    let kept = kept-reached world reached in
+    ap (λ b. if b then len world.destination.owed else world.source.packaged) (complete_ran world kept done) ∙ ap len (is_alone world kept done).none_owed ∙ len-empty nat_cmp ℕ

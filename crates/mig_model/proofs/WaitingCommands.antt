@@ -142,12 +142,12 @@ pub same_guest : (ran : Bool) (world : World) (guest : Guest) → guest_by ran (
 same_guest true world guest = refl
 same_guest false world guest = refl
 
-same_ran : (ran : Bool) (world : World) (guest : Guest) → (with_guest_by ran world guest).destination.has_run ≡ world.destination.has_run
+pub same_ran : (ran : Bool) (world : World) (guest : Guest) → (with_guest_by ran world guest).destination.has_run ≡ world.destination.has_run
 same_ran true world guest = refl
 same_ran false world guest = refl
 
 -- the guest once a command was tried
-tried_guest : (world : World) (cpu : ℕ) (command : Command) → guest_of (after_command world cpu command) ≡ tried (is_access command) (guest_of world) cpu command
+pub tried_guest : (world : World) (cpu : ℕ) (command : Command) → guest_of (after_command world cpu command) ≡ tried (is_access command) (guest_of world) cpu command
 tried_guest world cpu command =
     let ran = world.destination.has_run in
     let guest = tried (is_access command) (guest_of world) cpu command in
@@ -172,14 +172,14 @@ idle_none (CpuState.Asleep other) command h e = false≢true h
 idle_none (CpuState.Woken other) command h e = false≢true h
 idle_none (CpuState.InCall reply left) command h e = false≢true h
 
-acted_ran : (act : Act) (node : Destination) (page : ℕ) → (destination_acted_by act node page).has_run ≡ node.has_run
+pub acted_ran : (act : Act) (node : Destination) (page : ℕ) → (destination_acted_by act node page).has_run ≡ node.has_run
 acted_ran Unprotected node page = refl
 acted_ran Zeroed node page = refl
 acted_ran Woke node page = refl
 acted_ran Forgot node page = refl
 acted_ran (Requested source) node page = refl
 
-installed_ran : (o : Option ℕ) (node : Destination) (copy : Copy) (rest : List Copy) → (install_by o node copy rest).has_run ≡ node.has_run
+pub installed_ran : (o : Option ℕ) (node : Destination) (copy : Copy) (rest : List Copy) → (install_by o node copy rest).has_run ≡ node.has_run
 installed_ran None node copy rest = refl
 installed_ran (Some page) node copy rest = refl
 
@@ -197,9 +197,9 @@ acted_same fault world k =
 -- Deliveries
 
 -- a destination with the same guest, which runs if it ran
-record IsSame (old new : Destination) : Type 0 where
-  guest : new.guest ≡ old.guest
-  ran : new.has_run ≡ old.has_run
+pub record IsSame (old new : Destination) : Type 0 where
+  pub guest : new.guest ≡ old.guest
+  pub ran : new.has_run ≡ old.has_run
 
 same_came : (ran : Bool) (node : Destination) (copy : Copy) → IsSame node (copy_came ran node copy)
 same_came true node copy = record { guest = refl; ran = refl }
@@ -210,7 +210,7 @@ same_resumed Received.NotRun node new is = record { guest = is.guest; ran = is.r
 same_resumed Received.Running node new is = record { guest = is.guest; ran = is.ran }
 same_resumed Received.Ended node new is = record { guest = is.guest; ran = is.ran }
 
-same_took : (frame : Frame) (node : Destination) (epoch : ℕ) → is_package frame ≡ false → IsSame node (destination_took node epoch frame)
+pub same_took : (frame : Frame) (node : Destination) (epoch : ℕ) → is_package frame ≡ false → IsSame node (destination_took node epoch frame)
 same_took Advise node epoch h = record { guest = refl; ran = refl }
 same_took (Page page bytes) node epoch h = same_came node.has_run node _
 same_took (Zero page) node epoch h = same_came node.has_run node _
@@ -223,7 +223,7 @@ same_took (Request page) node epoch h = record { guest = refl; ran = refl }
 same_took (Recv state owed) node epoch h = record { guest = refl; ran = refl }
 same_took Done node epoch h = record { guest = refl; ran = refl }
 
-same_urgent : (frame : Frame) (node : Destination) → IsSame node (urgent_took node frame)
+pub same_urgent : (frame : Frame) (node : Destination) → IsSame node (urgent_took node frame)
 same_urgent (Page page bytes) node = record { guest = refl; ran = refl }
 same_urgent (Zero page) node = record { guest = refl; ran = refl }
 same_urgent Advise node = record { guest = refl; ran = refl }

@@ -19,5 +19,8 @@ pub mod Invariant
 pub mod Faults
 pub mod Parts
 pub mod Promises
+pub mod Replies
+pub mod Unbroken
+pub mod Runs
 pub mod Kept
 pub mod Codes

@@ -1,11 +1,13 @@
 -- What a world tells of itself, and which worlds there are at first.
-use Rattle.std.specs.Prelude.{ℕ, ◌==◌, ◌||◌, nat_lt, Bool, true, false, if◌then◌else◌, Result, Ok, Err}
+use Rattle.std.specs.Prelude.{ℕ, ◌+◌, ◌-◌, ◌^◌, ◌==◌, ◌||◌, nat_lt, Bool, true, false, if◌then◌else◌, Result, Ok, Err}
 use Rattle.std.specs.FinMap.{len}
 use Rattle.mig_base.specs.declared.TheConstants.{MAX_CPUS}
+use Rattle.mig_base.specs.declared.counts.Counts.{Counts}
 use Rattle.mig_base.specs.declared.cpu_state.CpuState.{CpuState}
 use Rattle.mig_base.specs.declared.phase.SourcePhase.{SourcePhase}
 use Rattle.mig_base.specs.declared.refusal.Refusal.{Refusal}
 use Rattle.mig_base.specs.declared.step.WorldPhase.{WorldPhase}
+use Rattle.mig_base.specs.Ranges.{lesser}
 use Rattle.mig_model.specs.Cpus.{processor_at}
 use Rattle.mig_model.specs.Migration.{World, first_world_with, guest_of, has_no_cpu}
 
@@ -29,6 +31,22 @@ phase_of world = phase_by world.source.phase world.source.switched world.destina
 -- the switch
 abbrev pub owed_left : World → ℕ
 owed_left world = if world.destination.has_run then len world.destination.owed else world.source.packaged
+
+-- a count of 64 bits, which stops at its greatest value
+abbrev pub counted : ℕ → ℕ
+counted count = lesser count (2 ^ 64 - 1)
+
+-- what a progress report prints
+abbrev pub counts_of : World → Counts
+counts_of world =
+    record {
+      rounds = world.source.rounds;
+      sent = counted world.source.pages_sent;
+      left = owed_left world;
+      installed = counted world.destination.installed;
+      dropped = counted world.destination.dropped;
+      faults = counted (world.source.faults + world.destination.faults);
+    }
 
 -- what a processor does, where the guest runs; while it runs nowhere, as at the switch
 abbrev pub cpu_state : World → ℕ → Result CpuState Refusal

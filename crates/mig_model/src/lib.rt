@@ -7,8 +7,9 @@
 //!   `specs/Kept.antt` for what every world keeps.
 //! - The whole migration, which no program makes: `specs/Cpus.antt` and `specs/Guest.antt` for the processors and their memory,
 //!   `specs/Log.antt` and `specs/Source.antt`, `specs/Owed.antt` and `specs/Destination.antt` for the two nodes, `specs/Wire.antt` for
-//!   what they tell each other, `specs/Migration.antt` for the world and its steps, and `specs/Invariant.antt`, `specs/Parts.antt` and
-//!   `specs/Promises.antt` for what holds of it.
+//!   what they tell each other, `specs/Migration.antt` for the world and its steps, and `specs/Invariant.antt`, `specs/Parts.antt`,
+//!   `specs/Promises.antt`, `specs/Replies.antt` and `specs/Unbroken.antt` for what holds of it, `specs/Views.antt` for what a world tells, and
+//!   `specs/Runs.antt` for runs that are short of memory.
 //!
 //! [`laws`] has what is proved of the first two, and [`migration`] what is proved of the third.
 #![tactic(auto)]

@@ -8,6 +8,9 @@ ghost use Rattle.std.specs.Ordering.{nat_cmp};
 ghost use Rattle.std.specs.FinSet.{FinSet, contains};
 ghost use Rattle.mig_base.specs.declared.effect.Effect.{Effect};
 ghost use Rattle.mig_base.specs.declared.fault.TakeFault.{TakeFault};
+ghost use Rattle.mig_base.specs.declared.command.Reply.{Reply};
+ghost use Rattle.mig_base.specs.declared.cpu_state.CpuState.{CpuState};
+ghost use Rattle.mig_base.specs.declared.message.Message.{Message};
 ghost use Rattle.mig_base.specs.declared.phase.Received.{Received};
 ghost use Rattle.mig_base.specs.declared.refusal.Refusal.{Refusal};
 ghost use Rattle.mig_base.specs.declared.schedule.Step.{Step};
@@ -25,8 +28,11 @@ ghost use Rattle.mig_model.specs.Wire.Frame.{Recv};
 ghost use Rattle.mig_model.specs.Migration.{World, guest_of, is_short, after_move, after_move_back, after_move_urgent, frame_effect, outcome, next, first_world, after_steps, has_started, is_used};
 ghost use Rattle.mig_model.specs.Invariant.{IsSoundWorld, AreSoundUrgent, AreSoundCalls, IsPrecopying, IsSwitching, IsReceiving, current_host, package_in};
 ghost use Rattle.mig_base.specs.declared.step.WorldPhase.{WorldPhase};
-ghost use Rattle.mig_model.specs.Views.{phase_of, new_world_with};
+ghost use Rattle.mig_model.specs.Views.{phase_of, new_world_with, counts_of};
 ghost use Rattle.mig_model.specs.Faults.{back_fault, frame_fault, rebuild_fault, take_fault, urgent_fault};
+ghost use Rattle.mig_model.specs.Replies.{HandsOver, call_reply, last_reply};
+ghost use Rattle.mig_model.specs.Unbroken.{StaysUp, KeepsClean};
+ghost use Rattle.mig_model.specs.Runs.{Happens, IsRun, Outcome, needs_memory, outcomes, results_of, steps_made};
 ghost use Rattle.mig_model.specs.Parts.{Grows, ChangesParts};
 ghost use Rattle.mig_model.specs.Promises.{AreAccesses, IsReached, IsComplete, IsAlone, ArePaired, AreUnderWay, IsPut, IsZeroed, keeps_remaining, owed_changed, leaves_settled, is_retry_of, IsDelivered, IsDeliveredBack, IsDeliveredUrgent, takes_forward, takes_back, takes_urgent, is_break, is_recv, is_last, Completes, CanComplete, has_recv, Slept};
 
@@ -47,10 +53,24 @@ pub fn completion()
     ensures only { (world : World) (step : Step) → is_released world.source.phase ≡ false → IsComplete (next world step) → Completes world step }
 {}
 
-/// What a world tells: its phase is Complete exactly where the migration is complete. A new world is one to which no step has led yet.
+/// What a world tells: its phase is Complete exactly where the migration is complete, and its counts have nothing left then. A new world is one to which no step has led yet.
 pub fn what_a_world_tells()
     ensures complete { (world : World) → (phase_of world ≡ WorldPhase.Complete → IsComplete world) × (IsComplete world → phase_of world ≡ WorldPhase.Complete) }
+    ensures left { (world : World) → IsReached world → IsComplete world → (counts_of world).left ≡ 0 }
     ensures new { (cpus epoch rounds : ℕ) (world : World) → new_world_with cpus epoch rounds ≡ Ok world → IsReached world }
+{}
+
+/// A run that may be short of memory: in place of an answer by which the world changes a step may answer NoMemory and change nothing, as
+/// may a Deliver whose frame would have to wait. Such a run is, in what it answers else and in its world at the end, the run of its
+/// other steps with memory enough, so every law about a reached world speaks of it. With memory enough each step does what the machine
+/// does, which never answers NoMemory; so do Break, Notice and Serve always.
+pub fn a_run_short_of_memory()
+    ensures world { (world new : World) (steps : List Step) (results : List Outcome) → IsRun world steps results new → new ≡ after_steps world (steps_made steps results) }
+    ensures results { (world new : World) (steps : List Step) (results : List Outcome) → IsRun world steps results new → results_of results ≡ outcomes world (steps_made steps results) }
+    ensures reached { (world new : World) (steps : List Step) (results : List Outcome) → IsReached world → IsRun world steps results new → IsReached new }
+    ensures enough { (world : World) (steps : List Step) → IsRun world steps (outcomes world steps) (after_steps world steps) }
+    ensures never { (world : World) (step : Step) → outcome world step ≢ Err Refusal.NoMemory }
+    ensures needs_none { (world new : World) (step : Step) (result : Outcome) → needs_memory step ≡ false → Happens world step result new → (result ≡ outcome world step) × (new ≡ next world step) }
 {}
 
 /// A migration can be completed, whatever has happened: from every world some steps lead there, none of which is refused, as long as
@@ -94,6 +114,13 @@ pub fn what_a_switch_owes()
     ensures owes { (world : World) (page : ℕ) → IsReached world → IsOk (outcome world Step.Switch) →
         contains (next world Step.Switch).source.remaining page ≡ (is_present (space_of world.source) page && not (contains world.source.log.clean page)) }
     ensures sends { (world : World) → IsOk (outcome world Step.Switch) → (next world Step.Switch).forward ≡ wire_with world.forward world.source.epoch (switch_frames world.source) }
+{}
+
+/// What a Switch keeps: if the link stays up until the Package of a Switch is taken, the pages that the destination keeps then are
+/// exactly those that were clean at the Switch, with the bytes that the source had. After a break the pages are sent again.
+pub fn what_a_switch_keeps()
+    ensures { (world : World) (steps : List Step) (n owed : ℕ) → IsReached world → IsOk (outcome world Step.Switch) → StaysUp (next world Step.Switch) steps →
+        outcome (after_steps (next world Step.Switch) steps) (Step.Deliver n) ≡ Ok (Effect.TookPackage owed) → KeepsClean world (after_steps (next world Step.Switch) steps) }
 {}
 
 /// Once the destination has run, each owed page is to be pushed, in flight on either wire, or arrived, and each copy of it has the bytes that the
@@ -166,6 +193,17 @@ pub fn waiting_commands_are_accesses()
 /// a processor in a call. The queues of page faults hold page faults alone.
 pub fn calls_have_unread_events()
     ensures { (world : World) → IsReached world → AreSoundCalls world }
+{}
+
+/// The reply of a map call is fixed when it is made: a processor in a call has the reply of its last entry, every step but the read
+/// of its last message leaves it, and what that read hands over is this reply. How long it is in the call is what
+/// [`calls_have_unread_events`] says.
+pub fn replies_of_map_calls()
+    ensures entered { (world : World) (cpu : ℕ) (reply : Reply) → IsReached world → call_reply (processor_at (guest_of world).cpus cpu) ≡ Some reply → last_reply world.transcript cpu ≡ Some reply }
+    ensures kept { (world : World) (step : Step) (cpu : ℕ) (reply : Reply) → IsReached world → call_reply (processor_at (guest_of world).cpus cpu) ≡ Some reply →
+        (call_reply (processor_at (guest_of (next world step)).cpus cpu) ≡ Some reply) ⊎ HandsOver world step cpu reply }
+    ensures handed_over { (world : World) (step : Step) (event : Message) (cpu : ℕ) (reply : Reply) → IsReached world → outcome world step ≡ Ok (Effect.ReadLast event cpu reply) →
+        (processor_at (guest_of world).cpus cpu ≡ CpuState.InCall reply 1) × (processor_at (guest_of (next world step)).cpus cpu ≡ CpuState.Idle) × (last_reply world.transcript cpu ≡ Some reply) }
 {}
 
 /// A command that takes effect is entered with its processor and its reply, at its first try or at a Retry; one that sleeps is not. That

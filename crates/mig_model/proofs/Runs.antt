@@ -1,0 +1,195 @@
+-- A run that may be short of memory is a run of those of its steps that were not.
+use Rattle.std.proofs.Common.{◌≡◌, ◌≢◌, ℕ, Bool, true, false, not, Option, Some, None, List, [], ◌∷◌, refl, sym, ap, ◌∙◌, subst, ◌⊎◌, inl, inr, ⊎_elim, if◌then◌else◌}
+use Rattle.std.specs.Prelude.{Ok, Err}
+use Rattle.std.specs.List.{list_all}
+use Rattle.std.proofs.lemmas.Bool.{false≢true, and_parts}
+use Rattle.mig_base.specs.declared.command.Command.{Command}
+use Rattle.mig_base.specs.declared.effect.Effect.{Effect}
+use Rattle.mig_base.specs.declared.refusal.Refusal.{Refusal}
+use Rattle.mig_base.specs.declared.schedule.Step.{Step}
+use Rattle.mig_model.specs.Cpus.{outstanding, processor_at}
+use Rattle.mig_model.specs.Guest.{Fault}
+use Rattle.mig_model.specs.Log.{least_of}
+use Rattle.mig_model.specs.Source.{space_of}
+use Rattle.mig_model.specs.Userfault.{Noted, next_message}
+use Rattle.mig_model.specs.Wire.{Copy, Sent}
+use Rattle.mig_model.specs.Migration.{Answer, World, after_steps, answer, deliver_back_first, deliver_first, deliver_urgent_first, destination_act_first, destination_read_next, guest_of, install_first, is_short, next, outcome, outcome_by, retry_command, send_page, send_run_from, serve_first, source_act_first, source_read_next, unless}
+use Rattle.mig_model.specs.Promises.{IsReached}
+use Rattle.mig_model.specs.Runs.{Happens, IsRun, Outcome, comes_later, is_lacking, may_lack, needs_memory, outcomes, results_of, steps_made}
+use Rattle.mig_model.proofs.Facts.{by_test}
+use Rattle.mig_model.proofs.ReachedLemmas.{reached-after_steps}
+use Rattle.mig_model.proofs.StepLemmas.{next-refused}
+
+-- Answers
+
+lacking_is : (result : Outcome) → is_lacking result ≡ true → result ≡ Err Refusal.NoMemory
+lacking_is (Err Refusal.NoMemory) h = refl
+lacking_is _ h = absurd (false≢true h)
+
+-- a step that answers NoMemory has changed nothing
+lacking_stays : (old : World) (step : Step) (result : Outcome) (new : World) → is_lacking result ≡ true → Happens old step result new → new ≡ old
+lacking_stays old step result new lacks happens =
+    ⊎_elim (λ (made : (result ≡ outcome old step) × (new ≡ next old step)). made.1 ∙ next-refused old step Refusal.NoMemory (sym made.0 ∙ lacking_is result lacks))
+    (λ (short : (result ≡ Err Refusal.NoMemory) × (may_lack step (outcome old step) ≡ true) × (new ≡ old)). short.2) happens
+
+-- any other does as the machine does
+other_made : (old : World) (step : Step) (result : Outcome) (new : World) → is_lacking result ≡ false → Happens old step result new → (result ≡ outcome old step) × (new ≡ next old step)
+other_made old step result new other happens =
+    ⊎_elim (λ (made : (result ≡ outcome old step) × (new ≡ next old step)). made)
+    (λ (short : (result ≡ Err Refusal.NoMemory) × (may_lack step (outcome old step) ≡ true) × (new ≡ old)). absurd (false≢true (sym other ∙ ap is_lacking short.0))) happens
+
+-- Runs
+
+pub run_world : (world : World) (steps : List Step) (results : List Outcome) (new : World) → IsRun world steps results new → new ≡ after_steps world (steps_made steps results)
+run_world world [] [] new run = run
+run_world world [] (result ∷ results) new run = absurd run
+run_world world (step ∷ steps) [] new run = absurd run
+run_world world (step ∷ steps) (result ∷ results) new run =
+    let mid = run.0 in
+    let rest = run_world mid steps results new run.2 in
+    by_test (is_lacking result)
+    (λ lacks. rest ∙ ap (λ w. after_steps w (steps_made steps results)) (lacking_stays world step result mid lacks run.1) ∙ sym (ap (λ b. after_steps world (if b then steps_made steps results else step ∷ steps_made steps results)) lacks))
+    (λ other.
+    rest ∙ ap (λ w. after_steps w (steps_made steps results)) (other_made world step result mid other run.1).1
+    ∙ sym (ap (λ b. after_steps world (if b then steps_made steps results else step ∷ steps_made steps results)) other))
+
+-- the answers of a step and of those behind it
+abbrev both_by : Bool → World → Step → Outcome → List Step → List Outcome → Type 0
+both_by lacks world step result steps results = (if lacks then results else result ∷ results) ≡ outcomes world (if lacks then steps else step ∷ steps)
+
+pub run_results : (world : World) (steps : List Step) (results : List Outcome) (new : World) → IsRun world steps results new → results_of results ≡ outcomes world (steps_made steps results)
+run_results world [] [] new run = refl
+run_results world [] (result ∷ results) new run = absurd run
+run_results world (step ∷ steps) [] new run = absurd run
+run_results world (step ∷ steps) (result ∷ results) new run =
+    let mid = run.0 in
+    let rest = run_results mid steps results new run.2 in
+    let made = steps_made steps results in
+    by_test (is_lacking result)
+    (λ lacks. subst (λ b. both_by b world step result made (results_of results)) (sym lacks) (rest ∙ ap (λ w. outcomes w made) (lacking_stays world step result mid lacks run.1)))
+    (λ other.
+    let told = other_made world step result mid other run.1 in
+    subst (λ b. both_by b world step result made (results_of results)) (sym other) (ap (λ r. r ∷ results_of results) told.0 ∙ ap (λ rs. outcome world step ∷ rs) (rest ∙ ap (λ w. outcomes w made) told.1)))
+
+pub run_reached : (world : World) (steps : List Step) (results : List Outcome) (new : World) → IsReached world → IsRun world steps results new → IsReached new
+run_reached world steps results new reached run = subst IsReached (sym (run_world world steps results new run)) (reached-after_steps world (steps_made steps results) reached)
+
+-- where memory is never short
+pub run_enough : (world : World) (steps : List Step) → IsRun world steps (outcomes world steps) (after_steps world steps)
+run_enough world [] = refl
+run_enough world (step ∷ steps) = (next world step, inl (refl, refl), run_enough (next world step) steps)
+
+-- Steps that need no memory
+
+lacks_not : (step : Step) (result : Outcome) → needs_memory step ≡ false → may_lack step result ≡ false
+lacks_not step (Ok effect) h = h
+lacks_not Step.Break (Err refusal) h = refl
+lacks_not (Step.Notice side) (Err refusal) h = refl
+lacks_not Step.Serve (Err refusal) h = refl
+lacks_not _ (Err refusal) h = absurd (false≢true (sym h))
+
+pub needs_none : (world : World) (step : Step) (result : Outcome) (new : World) → needs_memory step ≡ false → Happens world step result new → (result ≡ outcome world step) × (new ≡ next world step)
+needs_none world step result new none happens =
+    ⊎_elim (λ (made : (result ≡ outcome world step) × (new ≡ next world step)). made)
+    (λ (short : (result ≡ Err Refusal.NoMemory) × (may_lack step (outcome world step) ≡ true) × (new ≡ world)). absurd (false≢true (sym (lacks_not step (outcome world step) none) ∙ short.1))) happens
+
+-- The machine itself is never short
+
+-- an answer other than that
+abbrev is_other : Answer → Bool
+is_other result = not (is_lacking (outcome_by result))
+
+-- whether all refusals of a list are
+abbrev are_other : List (Bool × Refusal) → Bool
+are_other reasons = list_all (λ reason. not (is_lacking (Err reason.1))) reasons
+
+other_if : (test : Bool) (refusal : Refusal) (rest : Answer) → not (is_lacking (Err refusal)) ≡ true → is_other rest ≡ true → is_other (if test then Err refusal else rest) ≡ true
+other_if true refusal rest here behind = here
+other_if false refusal rest here behind = behind
+
+other-unless : (reasons : List (Bool × Refusal)) (rest : Answer) → are_other reasons ≡ true → is_other rest ≡ true → is_other (unless reasons rest) ≡ true
+unfolding unless
+other-unless [] rest all behind = behind
+other-unless (reason ∷ reasons) rest all behind =
+    let both = and_parts (not (is_lacking (Err reason.1))) (are_other reasons) all in
+    other_if reason.0 reason.1 (unless reasons rest) both.0 (other-unless reasons rest both.1 behind)
+
+other_either : (test : Bool) (one two : Answer) → is_other one ≡ true → is_other two ≡ true → is_other (if test then one else two) ≡ true
+other_either true one two a b = a
+other_either false one two a b = b
+
+other_retry : (world : World) (cpu : ℕ) (o : Option Command) → is_other (retry_command world cpu o) ≡ true
+other_retry world cpu None = refl
+other_retry world cpu (Some command) = other-unless _ _ refl refl
+
+other_send : (world : World) (o : Option ℕ) → is_other (send_page world o) ≡ true
+other_send world None = refl
+other_send world (Some page) = other-unless _ _ refl refl
+
+other_run : (world : World) (count : ℕ) (o : Option ℕ) → is_other (send_run_from world count o) ≡ true
+other_run world count None = refl
+other_run world count (Some first) = other-unless _ _ refl refl
+
+other_source_read : (world : World) (o : Option Noted) → is_other (source_read_next world o) ≡ true
+other_source_read world None = refl
+other_source_read world (Some noted) = refl
+
+other_source_act : (world : World) (held : List Fault) → is_other (source_act_first world held) ≡ true
+other_source_act world [] = refl
+other_source_act world (fault ∷ rest) = other-unless _ _ refl refl
+
+other_deliver : (world : World) (n : ℕ) (wire : List Sent) → is_other (deliver_first world n wire) ≡ true
+other_deliver world n [] = refl
+other_deliver world n (sent ∷ rest) = other_either (is_short world.forward sent.frame n) _ _ refl (other-unless _ _ refl refl)
+
+other_deliver_back : (world : World) (n : ℕ) (wire : List Sent) → is_other (deliver_back_first world n wire) ≡ true
+other_deliver_back world n [] = refl
+other_deliver_back world n (sent ∷ rest) = other_either (is_short world.back sent.frame n) _ _ refl refl
+
+other_deliver_urgent : (world : World) (n : ℕ) (wire : List Sent) → is_other (deliver_urgent_first world n wire) ≡ true
+other_deliver_urgent world n [] = refl
+other_deliver_urgent world n (sent ∷ rest) = other_either (is_short world.urgent sent.frame n) _ _ refl refl
+
+other_dest_read : (world : World) (o : Option Noted) → is_other (destination_read_next world o) ≡ true
+other_dest_read world None = refl
+other_dest_read world (Some noted) = refl
+
+other_dest_act : (world : World) (held : List Fault) → is_other (destination_act_first world held) ≡ true
+other_dest_act world [] = refl
+other_dest_act world (fault ∷ rest) = other-unless _ _ refl refl
+
+other_install : (world : World) (arrivals : List Copy) → is_other (install_first world arrivals) ≡ true
+other_install world [] = refl
+other_install world (copy ∷ rest) = other-unless _ _ refl refl
+
+other_serve : (world : World) (asked : List ℕ) → is_other (serve_first world asked) ≡ true
+other_serve world [] = refl
+other_serve world (page ∷ pages) = refl
+
+other_answer : (world : World) (step : Step) → is_other (answer world step) ≡ true
+other_answer world (Step.Issue cpu command) = other-unless _ _ refl refl
+other_answer world (Step.Retry cpu) = other-unless _ _ refl (other_retry world cpu (outstanding (processor_at (guest_of world).cpus cpu)))
+other_answer world Step.Start = other-unless _ _ refl refl
+other_answer world Step.Round = other-unless _ _ refl refl
+other_answer world Step.Send = other-unless _ _ refl (other_send world (least_of world.source.log.todo))
+other_answer world (Step.SendRun count) = other-unless _ _ refl (other_run world count (least_of world.source.log.todo))
+other_answer world Step.SourceRead = other-unless _ _ refl (other_source_read world (next_message (space_of world.source).object))
+other_answer world Step.SourceAct = other-unless _ _ refl (other_source_act world world.source.log.held)
+other_answer world Step.Switch = other-unless _ _ refl refl
+other_answer world (Step.Deliver n) = other-unless _ _ refl (other_deliver world n world.forward.frames)
+other_answer world (Step.DeliverBack n) = other-unless _ _ refl (other_deliver_back world n world.back.frames)
+other_answer world Step.DestRead = other-unless _ _ refl (other_dest_read world (next_message world.destination.guest.space.object))
+other_answer world Step.DestAct = other-unless _ _ refl (other_dest_act world world.destination.held)
+other_answer world Step.Install = other-unless _ _ refl (other_install world world.destination.arrivals)
+other_answer world (Step.Push ticket) = other-unless _ _ refl refl
+other_answer world (Step.PushUrgent ticket) = other-unless _ _ refl refl
+other_answer world (Step.DeliverUrgent n) = other-unless _ _ refl (other_deliver_urgent world n world.urgent.frames)
+other_answer world Step.Serve = other-unless _ _ refl (other_serve world world.source.asked)
+other_answer world Step.End = other-unless _ _ refl refl
+other_answer world Step.Break = other-unless _ _ refl refl
+other_answer world (Step.Notice side) = other-unless _ _ refl refl
+other_answer world Step.Resume = other-unless _ _ refl refl
+
+pub never_lacking : (world : World) (step : Step) → outcome world step ≢ Err Refusal.NoMemory
+unfolding outcome
+never_lacking world step h = false≢true (ap (λ result. not (is_lacking result)) (sym h) ∙ other_answer world step)

@@ -1,0 +1,61 @@
+-- Runs that may be short of memory: a step that needs some and gets none answers NoMemory, and changes nothing.
+use Rattle.std.specs.Prelude.{◌≡◌, ◌⊎◌, Bool, true, false, if◌then◌else◌, Result, Ok, Err, List, [], ◌∷◌}
+use Rattle.mig_base.specs.declared.effect.Effect.{Effect}
+use Rattle.mig_base.specs.declared.refusal.Refusal.{Refusal}
+use Rattle.mig_base.specs.declared.schedule.Step.{Step}
+use Rattle.mig_model.specs.Migration.{World, next, outcome}
+
+-- what a step answers
+abbrev pub Outcome : Type 0
+Outcome = Result Effect Refusal
+
+-- the steps that may need memory: all but Break, Notice and Serve
+abbrev pub needs_memory : Step → Bool
+needs_memory Step.Break = false
+needs_memory (Step.Notice side) = false
+needs_memory Step.Serve = false
+needs_memory step = true
+
+-- the refusals that come after NoMemory: a Deliver needs memory to read the frame, and sees only then that the frame has to wait
+abbrev pub comes_later : Step → Refusal → Bool
+comes_later (Step.Deliver n) Refusal.InstallFirst = true
+comes_later (Step.Deliver n) Refusal.UrgentFirst = true
+comes_later step refusal = false
+
+-- whether a step may answer NoMemory in the place of this answer
+abbrev pub may_lack : Step → Outcome → Bool
+may_lack step (Ok effect) = needs_memory step
+may_lack step (Err refusal) = comes_later step refusal
+
+-- whether a step may answer so and leave the new world
+abbrev pub Happens : World → Step → Outcome → World → Type 0
+Happens old step result new =
+    ((result ≡ outcome old step) × (new ≡ next old step))
+    ⊎ ((result ≡ Err Refusal.NoMemory) × (may_lack step (outcome old step) ≡ true) × (new ≡ old))
+
+-- the same for steps in turn
+abbrev pub IsRun : World → List Step → List Outcome → World → Type 0
+IsRun old [] [] new = new ≡ old
+IsRun old (step ∷ steps) (result ∷ results) new = (mid : World) × Happens old step result mid × IsRun mid steps results new
+IsRun old [] (result ∷ results) new = ⊥
+IsRun old (step ∷ steps) [] new = ⊥
+
+-- whether an answer is NoMemory
+abbrev pub is_lacking : Outcome → Bool
+is_lacking (Err Refusal.NoMemory) = true
+is_lacking result = false
+
+-- the steps of a run that did not answer so, and what they answered
+abbrev pub steps_made : List Step → List Outcome → List Step
+steps_made [] results = []
+steps_made (step ∷ steps) [] = []
+steps_made (step ∷ steps) (result ∷ results) = if is_lacking result then steps_made steps results else step ∷ steps_made steps results
+
+abbrev pub results_of : List Outcome → List Outcome
+results_of [] = []
+results_of (result ∷ results) = if is_lacking result then results_of results else result ∷ results_of results
+
+-- what steps made in turn answer where memory is never short
+abbrev pub outcomes : World → List Step → List Outcome
+outcomes world [] = []
+outcomes world (step ∷ steps) = outcome world step ∷ outcomes (next world step) steps

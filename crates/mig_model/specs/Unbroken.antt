@@ -1,0 +1,17 @@
+-- What is kept between a Switch and the run of the destination where the channel does not break.
+use Rattle.std.specs.Prelude.{◌≡◌, ℕ, true, List, [], ◌∷◌}
+use Rattle.std.specs.FinMap.{get, contains_key}
+use Rattle.std.specs.FinSet.{contains}
+use Rattle.mig_base.specs.declared.schedule.Step.{Step}
+use Rattle.mig_model.specs.Source.{space_of}
+use Rattle.mig_model.specs.Migration.{World, next}
+
+-- the link is up after each step of a list, so none of them is a Break that is accepted
+abbrev pub StaysUp : World → List Step → Type 0
+StaysUp world [] = Unit {0}
+StaysUp world (step ∷ steps) = ((next world step).up ≡ true) × StaysUp (next world step) steps
+
+-- the destination keeps exactly the pages that were clean at the source before, with the bytes that they had there
+pub record KeepsClean (before now : World) : Type 0 where
+  pub pages : (page : ℕ) → contains_key now.destination.kept page ≡ contains before.source.log.clean page
+  pub bytes : (page : ℕ) → contains before.source.log.clean page ≡ true → get now.destination.kept page ≡ get (space_of before.source).host.bytes page
