@@ -293,7 +293,7 @@ is_full world n sent rest kept up first full taken =
       right = no_frame_fault world.destination sent taken;
     }
 
-sound_below : (space : Space) → IsSoundSpace space → (page : ℕ) → is_present space page ≡ true → page < HIGH_PAGE
+pub sound_below : (space : Space) → IsSoundSpace space → (page : ℕ) → is_present space page ≡ true → page < HIGH_PAGE
 sound_below space sound page h = low_or (λ high. false≢true (sym (ap is_some (sound.host.mapped page (sound.host.bound page high))) ∙ h))
 
 below_high : (page : ℕ) → page < HIGH_PAGE → ltb page HIGH_PAGE ≡ true

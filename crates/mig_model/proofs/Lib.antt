@@ -66,6 +66,7 @@ pub mod EveryStep
 pub mod Taken
 pub mod FramesTaken
 pub mod FrameFaults
+pub mod EndRefused
 pub mod WaitingCommands
 pub mod SettledPromises
 pub mod AcceptedSteps

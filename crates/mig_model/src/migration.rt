@@ -217,6 +217,7 @@ pub fn what_is_entered()
 
 /// A page that is pushed, on either wire, remains no longer, and no page comes to remain but by Switch and by the taking of a Recv. Neither comes behind
 /// a Push or PushUrgent in its epoch: as long as the epoch is that of the push no Switch is accepted, and no Recv is the next frame of the wire back.
+/// An End that nothing else refuses is accepted exactly where no page remains.
 pub fn pages_that_remain()
     ensures push { (world : World) (ticket : Ticket) (q : ℕ) → IsOk (outcome world (Step.Push ticket)) →
         contains (next world (Step.Push ticket)).source.remaining q ≡ (not (q == ticket.page) && contains world.source.remaining q) }
@@ -233,6 +234,10 @@ pub fn pages_that_remain()
     ensures no_recv_urgent { (world : World) (ticket : Ticket) (steps : List Step) (sent : Sent) (rest : List Sent) → IsReached world → IsOk (outcome world (Step.PushUrgent ticket)) →
         (after_steps (next world (Step.PushUrgent ticket)) steps).source.epoch ≡ world.source.epoch → (after_steps (next world (Step.PushUrgent ticket)) steps).up ≡ true →
         (after_steps (next world (Step.PushUrgent ticket)) steps).back.frames ≡ sent ∷ rest → is_recv sent.frame ≡ true → ⊥ }
+    ensures end_left { (world : World) (q : ℕ) → IsReached world → is_stopped world.source.phase ≡ true → (world.source.end_epoch == world.source.epoch) ≡ false → world.up ≡ true →
+        contains world.source.remaining q ≡ true → outcome world Step.End ≡ Err Refusal.PagesLeft }
+    ensures end { (world : World) → is_stopped world.source.phase ≡ true → (world.source.end_epoch == world.source.epoch) ≡ false → world.up ≡ true →
+        ((q : ℕ) → contains world.source.remaining q ≡ false) → outcome world Step.End ≡ Ok Effect.EndSent }
     ensures back { (world : World) (n : ℕ) (sent : Sent) (rest : List Sent) (q : ℕ) → world.back.frames ≡ sent ∷ rest → is_recv sent.frame ≡ false →
         contains (next world (Step.DeliverBack n)).source.remaining q ≡ true → contains world.source.remaining q ≡ true }
 {}

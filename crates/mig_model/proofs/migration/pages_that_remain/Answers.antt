@@ -3,6 +3,7 @@ use Rattle.mig_model.specs.Migration.{next, after_steps}
 use Rattle.mig_model.proofs.EveryStep.{kept-reached, urgent-reached, kept-next, kept-after_steps}
 use Rattle.mig_model.proofs.PushOrder.{no_switch, no_recv_taken, pushed_before, urgent_before}
 use Rattle.mig_model.proofs.StepPromises.{remaining_push, remaining_push_urgent, remaining_shrinks}
+use Rattle.mig_model.proofs.EndRefused.{end_left, end_sent}
 use Rattle.mig_model.proofs.UrgentSteps.{urgent-next}
 use Rattle.mig_model.proofs.WirePromises.{remaining_back}
 use Rattle.mig_model.proofs.migration.pages_that_remain.Goals as goal
@@ -42,3 +43,9 @@ returns-clause-no_recv_urgent c world ticket steps sent rest reached ok same up 
     let kept = kept-reached world reached in
     let urgent = urgent-reached world reached in
     no_recv_taken world.source.epoch (after_steps (next world (Step.PushUrgent ticket)) steps) sent rest (kept-after_steps (next world (Step.PushUrgent ticket)) steps (kept-next world (Step.PushUrgent ticket) kept urgent) (urgent-next world (Step.PushUrgent ticket) kept urgent)) (urgent_before world ticket steps kept urgent ok) same up first is
+
+pub returns-clause-end_left : goal.returns-clause-end_left
+returns-clause-end_left c world q reached stopped unended up left = end_left world q (kept-reached world reached) stopped unended up left
+
+pub returns-clause-end : goal.returns-clause-end
+returns-clause-end c world stopped unended up none = end_sent world stopped unended up none
