@@ -61,6 +61,7 @@ pub mod Completing
 pub mod UrgentWire
 pub mod UrgentKept
 pub mod UrgentSteps
+pub mod SetSizes
 pub mod EveryStep
 pub mod FramesTaken
 pub mod WaitingCommands
@@ -70,4 +71,5 @@ pub mod StepPromises
 pub mod WaitingAccesses
 pub mod Calls
 pub mod PushOrder
+pub mod UrgentFew
 pub mod ViewPromises

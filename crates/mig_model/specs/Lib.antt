@@ -16,6 +16,7 @@ pub mod Destination
 pub mod Migration
 pub mod Views
 pub mod Invariant
+pub mod Bounds
 pub mod Parts
 pub mod Promises
 pub mod Kept

@@ -8,10 +8,11 @@
 //! - The whole migration, which no program makes: `specs/Cpus.antt` and `specs/Guest.antt` for the processors and their memory,
 //!   `specs/Log.antt` and `specs/Source.antt`, `specs/Owed.antt` and `specs/Destination.antt` for the two nodes, `specs/Wire.antt` for
 //!   what they tell each other, `specs/Migration.antt` for the world and its steps, and `specs/Invariant.antt`, `specs/Parts.antt` and
-//!   `specs/Promises.antt` for what holds of it.
+//!   `specs/Promises.antt` for what holds of it, with bounds in `specs/Bounds.antt`.
 //!
-//! [`laws`] has what is proved of the first two, and [`migration`] what is proved of the third.
+//! [`laws`] has what is proved of the first two, and [`migration`] and [`bounds`] what is proved of the third.
 #![tactic(auto)]
 
+pub mod bounds;
 pub mod laws;
 pub mod migration;
