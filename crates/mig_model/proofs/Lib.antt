@@ -62,6 +62,7 @@ pub mod UrgentWire
 pub mod UrgentKept
 pub mod UrgentSteps
 pub mod SetSizes
+pub mod FlatLimits
 pub mod EveryStep
 pub mod FramesTaken
 pub mod WaitingCommands
@@ -72,4 +73,11 @@ pub mod WaitingAccesses
 pub mod Calls
 pub mod PushOrder
 pub mod UrgentFew
+pub mod MappingLemmas
+pub mod ByteLemmas
+pub mod RightCommands
+pub mod FrameBounds
+pub mod CpuCount
+pub mod FrameSteps
+pub mod Bounded
 pub mod ViewPromises
