@@ -62,6 +62,8 @@ pub mod Completing
 pub mod UrgentWire
 pub mod UrgentKept
 pub mod UrgentSteps
+pub mod SetSizes
+pub mod FlatLimits
 pub mod EveryStep
 pub mod Taken
 pub mod FramesTaken
@@ -80,4 +82,12 @@ pub mod CallReplies
 pub mod Unbroken
 pub mod Runs
 pub mod PushOrder
+pub mod UrgentFew
+pub mod MappingLemmas
+pub mod ByteLemmas
+pub mod RightCommands
+pub mod FrameBounds
+pub mod CpuCount
+pub mod FrameSteps
+pub mod Bounded
 pub mod ViewPromises

@@ -53,7 +53,7 @@ act_alike Woke node page = record { epoch = refl; switched = refl; phase = refl 
 act_alike Forgot node page = record { epoch = refl; switched = refl; phase = refl }
 act_alike (Requested origin) node page = record { epoch = refl; switched = refl; phase = refl }
 
-idle_unswitched : (phase : SourcePhase) (switched : Bool) → is_source_idle phase ≡ true → SwitchedAt phase switched → switched ≡ false
+pub idle_unswitched : (phase : SourcePhase) (switched : Bool) → is_source_idle phase ≡ true → SwitchedAt phase switched → switched ≡ false
 idle_unswitched SourcePhase.Idle switched h at = at
 idle_unswitched SourcePhase.Precopy switched h at = absurd (false≢true h)
 idle_unswitched SourcePhase.Stopped switched h at = absurd (false≢true h)

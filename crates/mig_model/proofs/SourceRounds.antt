@@ -188,6 +188,12 @@ idle_forward world kept is_idle =
     let up = true_from_ne_false world.up (λ down. (kept.flight.down down).2 idle) in
     (idle_wires world.source.phase world.source world.destination world.forward.frames world.back.frames world.urgent.frames idle (kept.flight.wires up)).forward_none
 
+pub idle_back : (world : World) → IsSoundWorld world → is_source_idle world.source.phase ≡ true → world.back.frames ≡ []
+idle_back world kept is_idle =
+    let idle = idle_is world.source.phase is_idle in
+    let up = true_from_ne_false world.up (λ down. (kept.flight.down down).2 idle) in
+    (idle_wires world.source.phase world.source world.destination world.forward.frames world.back.frames world.urgent.frames idle (kept.flight.wires up)).back_none
+
 pub kept-start : (world : World) → IsSoundWorld world → is_source_idle world.source.phase ≡ true → IsSoundWorld (after_start world)
 kept-start world kept is_idle =
     let idle = idle_is world.source.phase is_idle in

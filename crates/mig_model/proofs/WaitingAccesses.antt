@@ -38,9 +38,9 @@ use Rattle.mig_model.specs.Destination.{Destination, copy_came, destination_act,
 use Rattle.mig_model.proofs.UrgentSteps.{urgent-first, urgent-next}
 
 -- the second are as many as the first, and have to make what the first have to, and nothing else
-record IsLike (old new : List CpuState) : Type 0 where
-  waits : (k : ℕ) → outstanding (processor_at new k) ≡ outstanding (processor_at old k)
-  many : length new ≡ length old
+pub record IsLike (old new : List CpuState) : Type 0 where
+  pub waits : (k : ℕ) → outstanding (processor_at new k) ≡ outstanding (processor_at old k)
+  pub many : length new ≡ length old
 
 all_like : (old new : List CpuState) → IsLike old new → AllAccess old → AllAccess new
 all_like old new like all k command h = all k command (sym (like.waits k) ∙ h)
@@ -78,7 +78,7 @@ guest_access guest cpu command all = set_access guest.cpus cpu _ (λ other h. tr
 woken_like : (test : ℕ → Bool) (processors : List CpuState) → IsLike processors (all_woken test processors)
 woken_like test processors = record { waits = woken_keeps test processors; many = length-map processors (woken_if test) }
 
-set_many : (processors : List CpuState) (i : ℕ) (new : CpuState) → length (set processors i new) ≡ length processors
+pub set_many : (processors : List CpuState) (i : ℕ) (new : CpuState) → length (set processors i new) ≡ length processors
 set_many [] i new = refl
 set_many (p ∷ ps) zero new = refl
 set_many (p ∷ ps) (suc i) new = ap suc (set_many ps i new)
@@ -92,7 +92,7 @@ event_like guest cpu message =
       many = woken.many ∙ set_many guest.cpus cpu less;
     }
 
-read_like : (guest : Guest) (cpu : ℕ) (message : Message) → IsLike guest.cpus (read_guest guest cpu message).cpus
+pub read_like : (guest : Guest) (cpu : ℕ) (message : Message) → IsLike guest.cpus (read_guest guest cpu message).cpus
 read_like guest cpu (PageFault addr write wp) = unchanged guest.cpus
 read_like guest cpu (Remap from to len) = event_like guest cpu (Remap from to len)
 read_like guest cpu (Remove start end) = event_like guest cpu (Remove start end)
@@ -107,7 +107,7 @@ taken_like processors = record { waits = taken_keeps processors; many = taken_ma
 
 -- The nodes
 
-source_act_like : (act : Act) (node : Source) (page : ℕ) → IsLike node.guest.cpus (source_acted_by act node page).guest.cpus
+pub source_act_like : (act : Act) (node : Source) (page : ℕ) → IsLike node.guest.cpus (source_acted_by act node page).guest.cpus
 source_act_like Unprotected node page = woken_like (λ q. eqb q page) node.guest.cpus
 source_act_like Zeroed node page = woken_like (λ q. eqb q page) node.guest.cpus
 source_act_like Woke node page = woken_like (λ q. eqb q page) node.guest.cpus
@@ -129,7 +129,7 @@ rebuilt_like : (switched : Bool) (a b node : Source) → IsLike node.guest.cpus 
 rebuilt_like true a b node one two = one
 rebuilt_like false a b node one two = two
 
-took_like : (frame : Frame) (node : Source) → IsLike node.guest.cpus (source_took node frame).guest.cpus
+pub took_like : (frame : Frame) (node : Source) → IsLike node.guest.cpus (source_took node frame).guest.cpus
 took_like (Recv Received.NotRun owed) node = rebuilt_like node.switched _ _ node (unchanged node.guest.cpus) (unchanged node.guest.cpus)
 took_like (Recv Received.Running owed) node = unchanged node.guest.cpus
 took_like (Recv Received.Ended owed) node = unchanged node.guest.cpus

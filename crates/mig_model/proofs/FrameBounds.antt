@@ -1,0 +1,220 @@
+-- Every frame that a node sends has a text: what its pages, counts and commands rest on, and the frames themselves.
+use Rattle.std.proofs.Common.{◌≡◌, ℕ, zero, suc, ◌+◌, ◌^◌, ◌<◌, ◌≤◌, ◌||◌, Bool, true, false, not, eqb, ltb, Option, Some, None, is_some, List, [], ◌∷◌, ◌++◌, refl, sym, ap, ◌∙◌, subst, arith, length, if◌then◌else◌}
+use Rattle.std.specs.Prelude.{map}
+use Rattle.std.specs.Ordering.{nat_cmp}
+use Rattle.std.specs.FinMap.{contains_key, get}
+use Rattle.std.specs.FinSet.{FinSet, contains, contains-retain, len, len-empty, nat_cmp-IsAntisymmetric}
+use Rattle.std.proofs.lemmas.Bool.{false≢true, and_parts}
+use lib.ListN.{length-map}
+use Rattle.mig_base.specs.declared.TheConstants.{LOW_PAGE, HIGH_PAGE, MAX_PAGES}
+use Rattle.mig_base.specs.declared.Prot.{Prot}
+use Rattle.mig_base.specs.declared.phase.Received.{Received}
+use Rattle.mig_base.proofs.PageLemmas.{count_below-contains_key}
+use Rattle.mig_base.proofs.SetLemmas.{member_below}
+use Rattle.mig_model.specs.Host.{Host, IsSound}
+use Rattle.mig_model.specs.Guest.{Act, is_present}
+use Rattle.mig_model.specs.Guest.Act.{Unprotected, Zeroed, Woke, Forgot, Requested}
+use Rattle.mig_model.specs.Log.{less, no_pages, present}
+use Rattle.mig_model.specs.Owed.{origins, is_requested, requesting, without_request}
+use Rattle.mig_model.specs.Space.{Space}
+use Rattle.mig_model.specs.Wire.{Frame, Sent, is_zeros, page_frame, sending, sending_if}
+use Rattle.mig_model.specs.Wire.Frame.{Page, Zero, Run, End, Resume, Request}
+use Rattle.mig_model.specs.Cpus.{outstanding}
+use Rattle.mig_model.specs.Source.{Source, bytes_of, is_released, not_clean, package_frames, rebuild_frames, run_of, space_of, switch_frames}
+use Rattle.mig_model.specs.Destination.{Destination, act_frames, destination_act_by, destination_acted_by, destination_answers, is_running, received_of, recv_by}
+use Rattle.mig_model.specs.Migration.{World}
+use Rattle.mig_model.specs.Bounds.{AreFewPages, ArePageBytes, ArePages, AreUrgentFew, IsCpuCount, IsFrame, IsMapping, IsPage}
+use Rattle.mig_model.proofs.ByteLemmas.{AreBytes, HasBytes, contents_bytes}
+use Rattle.mig_model.proofs.CommandLemmas.{length-contents}
+use Rattle.mig_model.proofs.Facts.{member_not_clean, no_page}
+use Rattle.mig_model.proofs.ResumeTaken.{pair-origins}
+use Rattle.mig_model.proofs.RightCommands.{AllRight, right_commands}
+use Rattle.mig_model.proofs.SetSizes.{count_below-few, len-below}
+
+-- Lists of frames
+
+-- each frame of a wire has a text, its epoch aside
+abbrev pub AreBodies : List Sent → Type 0
+AreBodies [] = Unit {0}
+AreBodies (sent ∷ rest) = IsFrame sent.frame × AreBodies rest
+
+abbrev pub AllFrames : List Frame → Type 0
+AllFrames [] = Unit {0}
+AllFrames (frame ∷ frames) = IsFrame frame × AllFrames frames
+
+bodies-push : (wire : List Sent) (sent : Sent) → AreBodies wire → IsFrame sent.frame → AreBodies (wire ++ sent ∷ [])
+bodies-push [] sent are is = (is, tt)
+bodies-push (first ∷ wire) sent are is = (are.0, bodies-push wire sent are.1 is)
+
+pub bodies-sending : (wire : List Sent) (epoch : ℕ) (frames : List Frame) → AreBodies wire → AllFrames frames → AreBodies (sending wire epoch frames)
+bodies-sending wire epoch [] are all = are
+bodies-sending wire epoch (frame ∷ frames) are all =
+    bodies-sending (wire ++ record { epoch = epoch; frame = frame } ∷ []) epoch frames (bodies-push wire (record { epoch = epoch; frame = frame }) are all.0) all.1
+
+pub bodies-sending_if : (up : Bool) (wire : List Sent) (epoch : ℕ) (frames : List Frame) → AreBodies wire → AllFrames frames → AreBodies (sending_if up wire epoch frames)
+bodies-sending_if true wire epoch frames are all = bodies-sending wire epoch frames are all
+bodies-sending_if false wire epoch frames are all = are
+
+-- each page of a list may be mapped
+abbrev pub AreListed : List ℕ → Type 0
+AreListed [] = Unit {0}
+AreListed (page ∷ pages) = IsPage page × AreListed pages
+
+listed-push : (pages : List ℕ) (page : ℕ) → AreListed pages → IsPage page → AreListed (pages ++ page ∷ [])
+listed-push [] page are is = (is, tt)
+listed-push (first ∷ pages) page are is = (are.0, listed-push pages page are.1 is)
+
+listed_or_more : (asked : Bool) (requests : List ℕ) (origin : ℕ) → AreListed requests → IsPage origin → AreListed (if asked then requests else requests ++ origin ∷ [])
+listed_or_more true requests origin are is = are
+listed_or_more false requests origin are is = listed-push requests origin are is
+
+pub listed-requesting : (requests : List ℕ) (origin : ℕ) → AreListed requests → IsPage origin → AreListed (requesting requests origin)
+listed-requesting requests origin are is = listed_or_more (is_requested requests origin) requests origin are is
+
+without_first : (here : Bool) (request : ℕ) (requests less : List ℕ) → IsPage request → AreListed requests → AreListed less → AreListed (if here then requests else request ∷ less)
+without_first true request requests less is are left = are
+without_first false request requests less is are left = (is, left)
+
+pub listed-without : (requests : List ℕ) (origin : ℕ) → AreListed requests → AreListed (without_request requests origin)
+listed-without [] origin are = tt
+listed-without (request ∷ requests) origin are = without_first (eqb request origin) request requests (without_request requests origin) are.0 are.1 (listed-without requests origin are.1)
+
+frames-requests : (requests : List ℕ) → AreListed requests → AllFrames (map Request requests)
+frames-requests [] are = tt
+frames-requests (request ∷ requests) are = (are.0, frames-requests requests are.1)
+
+-- Pages of the source
+
+has_area : (areas : Option Prot) (bytes : Option (List ℕ)) → (areas ≡ None → bytes ≡ None) → is_some bytes ≡ true → is_some areas ≡ true
+has_area (Some prot) bytes h is = refl
+has_area None bytes h is = absurd (false≢true (sym (ap is_some (h refl)) ∙ is))
+
+-- a present page is mapped, so it is one that may be
+present_mapped : (host : Host) (page : ℕ) → IsSound host → contains_key host.bytes page ≡ true → contains_key host.areas page ≡ true
+present_mapped host page sound h = has_area (get host.areas page) (get host.bytes page) (sound.mapped page) h
+
+pub present_page : (host : Host) (page : ℕ) → IsSound host → IsMapping host.areas → contains_key host.bytes page ≡ true → IsPage page
+present_page host page sound mapping h = mapping.pages page (present_mapped host page sound h)
+
+outside_none : (here mapped : Bool) → (here ≡ true → mapped ≡ true) → mapped ≡ false → here ≡ false
+outside_none true mapped h none = sym (h refl) ∙ none
+outside_none false mapped h none = refl
+
+few_of : (part all limit : ℕ) → part ≤ all → all ≤ limit → part ≤ limit
+few_of part all limit h k = omega (arith, h, k)
+
+-- a set of present pages
+pub present_pages : (host : Host) (set : FinSet nat_cmp) → IsSound host → IsMapping host.areas → ((page : ℕ) → contains set page ≡ true → contains_key host.bytes page ≡ true) → AreFewPages set
+present_pages host set sound mapping h =
+    let mapped : (page : ℕ) → contains set page ≡ true → contains_key host.areas page ≡ true = λ page m. present_mapped host page sound (h page m) in
+    let all = len-below set HIGH_PAGE (λ page l. outside_none (contains set page) (contains_key host.areas page) (mapped page) (ap is_some (sound.bound page l))) in
+    let few = count_below-few (contains set) (contains_key host.areas) HIGH_PAGE mapped in
+    let count = count_below-contains_key HIGH_PAGE host.areas sound.bound in
+    let most = mapping.few in (λ page m. mapping.pages page (mapped page m), omega (arith, all, few, count, most))
+
+page_or_zero : (zeros : Bool) (page : ℕ) (bytes : List ℕ) → IsPage page → length bytes ≡ 4096 → AreBytes bytes → IsFrame (if zeros then Zero page else Page page bytes)
+page_or_zero true page bytes is whole are = is
+page_or_zero false page bytes is whole are = (is, (whole, are))
+
+-- the frame of a present page
+pub page_good : (source : Source) (page : ℕ) → IsSound (space_of source).host → IsMapping (space_of source).host.areas → HasBytes (space_of source).host.bytes → is_present (space_of source) page ≡ true → IsFrame (page_frame page (bytes_of source page))
+page_good source page sound mapping bytes h =
+    page_or_zero (is_zeros (bytes_of source page)) page (bytes_of source page) (present_page (space_of source).host page sound mapping h) (length-contents (space_of source).host page sound) (contents_bytes (space_of source).host.bytes page bytes)
+
+-- the frame of a run of them
+length-run_of : (source : Source) (first number : ℕ) → length (run_of source first number) ≡ number
+length-run_of source first zero = refl
+length-run_of source first (suc number) = ap suc (length-run_of source (1 + first) number)
+
+run_bytes : (source : Source) (first number : ℕ) → IsSound (space_of source).host → HasBytes (space_of source).host.bytes → ArePageBytes (run_of source first number)
+run_bytes source first zero sound bytes = tt
+run_bytes source first (suc number) sound bytes =
+    ((length-contents (space_of source).host first sound, contents_bytes (space_of source).host.bytes first bytes), run_bytes source (1 + first) number sound bytes)
+
+pub run_good : (source : Source) (first number : ℕ) → IsSound (space_of source).host → HasBytes (space_of source).host.bytes → 0 < number → number ≤ 64 → LOW_PAGE ≤ first → first + number ≤ HIGH_PAGE → IsFrame (Run first (run_of source first number))
+run_good source first number sound bytes some few low end =
+    let many = length-run_of source first number in (omega (arith, many, some), omega (arith, many, few), low, omega (arith, many, end), run_bytes source first number sound bytes)
+
+-- Discard and Package
+
+less_pages : (set other : FinSet nat_cmp) → ArePages set → ArePages (less set other)
+less_pages set other are page h =
+    are page (and_parts (contains set page) (not (contains other page)) (sym (contains-retain set (λ q. not (contains other q)) page (λ x e. ap (λ q. not (contains other q)) (sym (nat_cmp-IsAntisymmetric page x e)))) ∙ h)).0
+
+few_none : AreFewPages no_pages
+few_none = (λ page h. no_page page h, let none = len-empty nat_cmp in omega (arith, none))
+
+pub package_good : (source : Source) (discarded owed : FinSet nat_cmp) → IsSound (space_of source).host → IsMapping (space_of source).host.areas → ArePages discarded → ((page : ℕ) → contains owed page ≡ true → is_present (space_of source) page ≡ true) →
+    AllRight source.guest.cpus → IsCpuCount (length source.guest.cpus) → AllFrames (package_frames source discarded owed)
+package_good source discarded owed sound mapping are here right count =
+    (are, ((mapping, present_pages (space_of source).host owed sound mapping here, right_commands source.guest.cpus right, subst IsCpuCount (sym (length-map source.guest.cpus outstanding)) count), tt))
+
+pub switch_good : (source : Source) → IsSound (space_of source).host → IsMapping (space_of source).host.areas → ArePages source.log.sent → AllRight source.guest.cpus → IsCpuCount (length source.guest.cpus) → AllFrames (switch_frames source)
+switch_good source sound mapping sent right count =
+    package_good source (less source.log.sent source.log.clean) (not_clean source) sound mapping (less_pages source.log.sent source.log.clean sent) (λ page h. member_not_clean source page h) right count
+
+member_present : (space : Space) (page : ℕ) → contains (present space) page ≡ true → is_present space page ≡ true
+member_present space page h = (and_parts (ltb page HIGH_PAGE) (is_present space page) (sym (member_below (λ q. is_present space q) HIGH_PAGE page) ∙ h)).1
+
+rebuilt_by : (switched : Bool) (source : Source) → IsSound (space_of source).host → IsMapping (space_of source).host.areas → (switched ≡ true → AllRight source.guest.cpus) → IsCpuCount (length source.guest.cpus) →
+    AllFrames (if switched then package_frames source no_pages (present (space_of source)) else [])
+rebuilt_by true source sound mapping right count = package_good source no_pages (present (space_of source)) sound mapping few_none.0 (λ page h. member_present (space_of source) page h) (right refl) count
+rebuilt_by false source sound mapping right count = tt
+
+pub rebuilt_good : (state : Received) (source : Source) → IsSound (space_of source).host → IsMapping (space_of source).host.areas → (state ≡ Received.NotRun → AllRight source.guest.cpus) → IsCpuCount (length source.guest.cpus) → AllFrames (rebuild_frames state source)
+rebuilt_good Received.NotRun source sound mapping right count = rebuilt_by source.switched source sound mapping (λ s. right refl) count
+rebuilt_good Received.Running source sound mapping right count = tt
+rebuilt_good Received.Ended source sound mapping right count = tt
+
+-- The answers of the destination
+
+abbrev pub OriginsPresent : World → Type 0
+OriginsPresent world = (page origin : ℕ) → get world.destination.owed page ≡ Some origin → contains_key (space_of world.source).host.bytes origin ≡ true
+
+recv_good : (state : Received) (world : World) → IsSound (space_of world.source).host → IsMapping (space_of world.source).host.areas → OriginsPresent world → AreListed world.destination.requests → AllFrames (recv_by state world.destination)
+recv_good Received.NotRun world sound mapping here asked = (few_none, tt)
+recv_good Received.Running world sound mapping here asked = (
+  present_pages (space_of world.source).host (origins world.destination.owed) sound mapping (λ origin h. let pair = pair-origins world.destination.owed origin h in here pair.0 origin pair.1),
+  frames-requests world.destination.requests asked,
+)
+recv_good Received.Ended world sound mapping here asked = (few_none, tt)
+
+pub answers_good : (frame : Frame) (world : World) → IsSound (space_of world.source).host → IsMapping (space_of world.source).host.areas → OriginsPresent world → AreListed world.destination.requests → AllFrames (destination_answers world.destination frame)
+answers_good (End urgent) world sound mapping here asked = (tt, tt)
+answers_good Resume world sound mapping here asked = recv_good (received_of world.destination) world sound mapping here asked
+answers_good _ world sound mapping here asked = tt
+
+asked_or_not : (quiet : Bool) (origin : ℕ) → IsPage origin → AllFrames (if quiet then [] else Request origin ∷ [])
+asked_or_not true origin is = tt
+asked_or_not false origin is = (is, tt)
+
+pub act_good : (act : Act) (node : Destination) → ((origin : ℕ) → act ≡ Requested origin → IsPage origin) → AllFrames (act_frames act node)
+act_good (Requested origin) node h = asked_or_not (is_requested node.requests origin || not (is_running node.phase)) origin (h origin refl)
+act_good Unprotected node h = tt
+act_good Zeroed node h = tt
+act_good Woke node h = tt
+act_good Forgot node h = tt
+
+pub act_listed : (act : Act) (node : Destination) (page : ℕ) → ((origin : ℕ) → act ≡ Requested origin → IsPage origin) → AreListed node.requests → AreListed (destination_acted_by act node page).requests
+act_listed (Requested origin) node page h asked = listed-requesting node.requests origin asked (h origin refl)
+act_listed Unprotected node page h asked = asked
+act_listed Zeroed node page h asked = asked
+act_listed Woke node page h asked = asked
+act_listed Forgot node page h asked = asked
+
+-- what is asked for is owed
+pub requested_owed : (gone here : Bool) (owed : Option ℕ) (origin : ℕ) → destination_act_by gone here owed ≡ Requested origin → owed ≡ Some origin
+requested_owed true here owed origin h = absurd (let other : Forgot ≡ Requested origin = h in cc)
+requested_owed false true owed origin h = absurd (let other : Woke ≡ Requested origin = h in cc)
+requested_owed false false None origin h = absurd (let other : Zeroed ≡ Requested origin = h in cc)
+requested_owed false false (Some other) origin h = let same : Requested other ≡ Requested origin = h in cc
+
+-- The count that End tells
+
+end_count : (count left all limit : ℕ) → count + left ≤ all → all ≤ limit → limit < 4294967296 → count < 4294967296
+end_count count left all limit h k l = omega (arith, h, k, l)
+
+pub end_good : (world : World) → IsSound (space_of world.source).host → IsMapping (space_of world.source).host.areas → world.source.switched ≡ true → is_released world.source.phase ≡ false → AreUrgentFew world → world.source.urgent_sent < 2 ^ 32
+end_good world sound mapping switched unreleased few =
+    end_count world.source.urgent_sent (len world.source.remaining) (len (present (space_of world.source))) MAX_PAGES (few.few switched unreleased)
+    (present_pages (space_of world.source).host (present (space_of world.source)) sound mapping (λ page h. member_present (space_of world.source) page h)).1 (omega arith)

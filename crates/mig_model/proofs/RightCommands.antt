@@ -1,0 +1,102 @@
+-- A command that waits is a load or store whose form is right, of a page that may be mapped.
+use Rattle.std.proofs.Common.{◌≡◌, ℕ, zero, suc, ◌/◌, ◌^◌, ◌<◌, ◌&&◌, Bool, true, false, not, ltb, Option, Some, None, is_some, List, [], ◌∷◌, refl, sym, ap, ◌∙◌, arith, ⊎_elim, if◌then◌else◌}
+use Rattle.std.proofs.lemmas.Bool.{false≢true, and_parts}
+use Rattle.std.proofs.lemmas.Bool.Decides.{nat_tests}
+use Rattle.std.proofs.lemmas.Option.{none-some}
+use Rattle.mig_base.specs.declared.Prot.{Prot}
+use Rattle.mig_base.specs.declared.cpu_state.CpuState.{CpuState}
+use Rattle.mig_base.specs.declared.command.Access.{Access}
+use Rattle.mig_base.specs.declared.command.Access.TheVariants.{Answered}
+use Rattle.mig_base.specs.declared.command.Command.{Command}
+use Rattle.mig_base.specs.declared.command.Command.TheVariants.{Load, Store, Mmap, Munmap, Mremap, DontNeed}
+use Rattle.mig_base.specs.declared.command.Reply.{Reply}
+use Rattle.mig_base.specs.declared.command.Reply.TheVariants.{BadAccess}
+use Rattle.mig_base.specs.declared.schedule.Step.{Step}
+use Rattle.mig_base.specs.Commands.{is_access}
+use Rattle.mig_base.specs.Flat.{Cell, access_reply, is_aligned, is_mapped, reply_of}
+use Rattle.mig_model.specs.Host.{memory}
+use Rattle.mig_model.specs.Space.{Space, is_made, queued_by}
+use Rattle.mig_model.specs.Cpus.{access_took, call_took, idle_processors, outstanding, processor_at}
+use Rattle.mig_model.specs.Cpus.Took.{Answer, Sleep, Call}
+use Rattle.mig_model.specs.Guest.{Guest, took_by}
+use Rattle.mig_model.specs.Migration.{World, first_world_with, guest_by, guest_of, next}
+use Rattle.mig_model.specs.Source.{commands_of}
+use Rattle.mig_model.specs.Invariant.{IsSoundWorld}
+use Rattle.mig_model.specs.Promises.{Slept}
+use Rattle.mig_model.specs.Bounds.{AreRightAccesses, IsMapping, IsPage, IsRightAccess}
+use Rattle.mig_model.proofs.HostLemmas.{is_mapped-memory}
+use Rattle.mig_model.proofs.MappingLemmas.{IsMapping-guest}
+use Rattle.mig_model.proofs.WaitingCommands.{waits_arise}
+
+-- A command that sleeps
+
+slept_made : (makes : Bool) (reply : Reply) (rest : Access) → access_took (if not makes then Answered reply else rest) ≡ Sleep → makes ≡ true
+slept_made true reply rest h = refl
+slept_made false reply rest h = absurd (let other : Answer reply ≡ Sleep = h in cc)
+
+call_answered : (reply : Reply) (left : ℕ) → call_took reply left ≡ Sleep → ⊥
+call_answered reply zero h = let other : Answer reply ≡ Sleep = h in cc
+call_answered reply (suc left) h = let other : Call reply (suc left) ≡ Sleep = h in cc
+
+access_form : (right : Bool) (o : Option Cell) (allows : Prot → Bool) (answer : Reply) → is_made (if right then access_reply o allows answer else BadAccess) ≡ true → (right ≡ true) × (is_some o ≡ true)
+access_form true (Some cell) allows answer h = (refl, refl)
+access_form true None allows answer h = absurd (false≢true h)
+access_form false o allows answer h = absurd (false≢true h)
+
+below : (value limit : ℕ) → ltb value limit ≡ true → value < limit
+below value limit h = grind (arith, nat_tests, h)
+
+page_of_access : (space : Space) (addr : ℕ) → IsMapping space.host.areas → is_mapped (memory space.host) addr ≡ true → IsPage (addr / 4096)
+page_of_access space addr mapping h = mapping.pages (addr / 4096) (sym (ap (λ test. test addr) (is_mapped-memory space.host)) ∙ h)
+
+right_by : (space : Space) (command : Command) → IsMapping space.host.areas → is_access command ≡ true → is_made (reply_of (memory space.host) command) ≡ true → IsRightAccess command
+right_by space (Load addr width) mapping is h = let form = access_form (is_aligned addr width) (memory space.host addr) _ _ h in (form.0, page_of_access space addr mapping form.1)
+right_by space (Store addr width value) mapping is h =
+    let form = access_form (is_aligned addr width && ltb value (256 ^ width)) (memory space.host addr) _ _ h in
+    let both = and_parts (is_aligned addr width) (ltb value (256 ^ width)) form.0 in
+    (both.0, below value (256 ^ width) both.1, page_of_access space addr mapping form.1)
+right_by space (Mmap len prot place) mapping is h = absurd (false≢true is)
+right_by space (Munmap addr len) mapping is h = absurd (false≢true is)
+right_by space (Mremap addr old_len new_len may_move fixed) mapping is h = absurd (false≢true is)
+right_by space (DontNeed addr len) mapping is h = absurd (false≢true is)
+
+right_slept : (access : Bool) (space : Space) (command : Command) → access ≡ is_access command → IsMapping space.host.areas → took_by access space command ≡ Sleep → IsRightAccess command
+right_slept true space command is mapping h = right_by space command mapping (sym is) (slept_made (is_made (reply_of (memory space.host) command)) _ _ h)
+right_slept false space command is mapping h = absurd (call_answered (reply_of (memory space.host) command) (queued_by space command) h)
+
+-- Where the guest runs
+
+abbrev pub AllRight : List CpuState → Type 0
+AllRight processors = (k : ℕ) (command : Command) → outstanding (processor_at processors k) ≡ Some command → IsRightAccess command
+
+abbrev pub AreRight : World → Type 0
+AreRight world = AllRight (guest_of world).cpus
+
+idle_right : (count : ℕ) → AllRight (idle_processors count)
+idle_right zero k command h = absurd (none-some command h)
+idle_right (suc count) zero command h = absurd (none-some command h)
+idle_right (suc count) (suc k) command h = idle_right count k command h
+
+pub right-first : (cpus epoch rounds : ℕ) → AreRight (first_world_with cpus epoch rounds)
+right-first cpus epoch rounds = idle_right cpus
+
+pub right-next : (world : World) (step : Step) → IsSoundWorld world → AreRight world → AreRight (next world step)
+right-next world step kept right k command h =
+    ⊎_elim
+    (λ (was : outstanding (processor_at (guest_of world).cpus k) ≡ Some command). right k command was)
+    (λ (slept : Slept world step k command). right_slept (is_access command) (guest_of world).space command refl (IsMapping-guest world kept) slept.sleeps)
+    (waits_arise world step k command kept h)
+
+-- the source's, until the destination has run
+pub right_source : (ran : Bool) (from to : Guest) → ran ≡ false → AllRight (guest_by ran from to).cpus → AllRight from.cpus
+right_source true from to bare right = absurd (false≢true (sym bare))
+right_source false from to bare right = right
+
+right_one : (o : Option Command) (rest : List (Option Command)) → ((command : Command) → o ≡ Some command → IsRightAccess command) → AreRightAccesses rest → AreRightAccesses (o ∷ rest)
+right_one None rest h right = right
+right_one (Some command) rest h right = (h command refl, right)
+
+-- so are the commands of a Package
+pub right_commands : (processors : List CpuState) → AllRight processors → AreRightAccesses (commands_of processors)
+right_commands [] right = tt
+right_commands (processor ∷ rest) right = right_one (outstanding processor) (commands_of rest) (λ command h. right 0 command h) (right_commands rest (λ k command h. right (suc k) command h))

@@ -1,0 +1,198 @@
+-- The frames that were put on the urgent wire in an epoch and the pages that remain are, together, no more than the pages of the source.
+use Rattle.std.proofs.Common.{◌≡◌, ℕ, ◌+◌, ◌-◌, ◌<◌, ◌≤◌, ◌&&◌, ◌||◌, not, Bool, true, false, List, [], ◌∷◌, refl, sym, ◌∙◌, subst, arith, ltb}
+use Rattle.std.specs.Ordering.{nat_cmp}
+use Rattle.std.specs.FinSet as finset
+use Rattle.std.specs.FinSet.{FinSet, contains, len}
+use Rattle.std.proofs.lemmas.Bool.{false≢true}
+use Rattle.std.proofs.lemmas.Bool.Decides.{nat_tests}
+use Rattle.mig_base.specs.declared.TheConstants.{HIGH_PAGE}
+use Rattle.mig_base.specs.declared.phase.Received.{Received}
+use Rattle.mig_base.specs.declared.phase.SourcePhase.{SourcePhase}
+use Rattle.mig_base.specs.declared.schedule.Side.{Side}
+use Rattle.mig_base.specs.declared.schedule.Step.{Step}
+use Rattle.mig_base.specs.declared.command.Command.{Command}
+use Rattle.mig_base.specs.Commands.{is_access}
+use Rattle.mig_base.proofs.SetLemmas.{member_below}
+use Rattle.mig_model.specs.Host.{IsSound}
+use Rattle.mig_model.specs.Space.{Space}
+use Rattle.mig_model.specs.Guest.{Guest, Act, is_present, tried}
+use Rattle.mig_model.specs.Guest.Act.{Unprotected, Zeroed, Woke, Forgot, Requested}
+use Rattle.mig_model.specs.Log.{present}
+use Rattle.mig_model.specs.Wire.{Frame, Sent}
+use Rattle.mig_model.specs.Wire.Frame.{Request, Recv, Done}
+use Rattle.mig_model.specs.Migration.{World, after_command, after_deliver_back, after_steps, after_switch, answer, first_world_with, guest_of, next, runs, with_guest_by}
+use Rattle.mig_model.specs.Source.{Source, is_precopy, is_released, is_stopped, not_clean, source_act, source_acted_by, source_rebuilt, space_of}
+use Rattle.mig_model.specs.Invariant.{AreSoundUrgent, IsSoundWorld}
+use Rattle.mig_model.specs.Promises.{IsReached}
+use Rattle.mig_model.proofs.Taken.{IsInPlaceBack}
+use Rattle.mig_model.specs.Bounds.{AreUrgentFew, IsUrgentFew}
+use Rattle.mig_model.proofs.Calls.{stopped_switched}
+use Rattle.mig_model.proofs.EveryStep.{kept-next}
+use Rattle.mig_model.proofs.Facts.{member_not_clean}
+use Rattle.mig_model.proofs.FirstWorld.{kept-first}
+use Rattle.mig_model.proofs.FramesTaken.{is_taken_back}
+use Rattle.mig_model.proofs.PushOrder.{idle_unswitched}
+use Rattle.mig_model.proofs.SetSizes.{len-part, len-removed, len-some}
+use Rattle.mig_model.proofs.SourceRounds.{precopy_unswitched}
+use Rattle.mig_model.proofs.StepCases.{made-break, made-deliver, made-deliver_back, made-deliver_urgent, made-dest_act, made-dest_read, made-end, made-install, made-issue, made-notice, made-push, made-push_urgent, made-resume, made-retry, made-round, made-send, made-send_run, made-serve, made-source_act, made-source_read, made-start, made-switch}
+use Rattle.mig_model.proofs.StepLemmas.{Leaves, leaves-next}
+use Rattle.mig_model.proofs.Stopping.{present_below}
+use Rattle.mig_model.proofs.UrgentSteps.{urgent-first, urgent-next}
+use Rattle.mig_model.proofs.UrgentWire.{is_paused}
+
+-- Sets of pages of the source
+
+past : (q bound : ℕ) (here : Bool) → bound ≤ q → (ltb q bound && here) ≡ false
+past q bound here l = grind (arith, nat_tests)
+
+inside : (q bound : ℕ) (here : Bool) → q < bound → here ≡ true → (ltb q bound && here) ≡ true
+inside q bound here l h = grind (arith, nat_tests)
+
+no_page_past : (space : Space) (q : ℕ) → HIGH_PAGE ≤ q → contains (present space) q ≡ false
+no_page_past space q l = member_below (λ page. is_present space page) HIGH_PAGE q ∙ past q HIGH_PAGE (is_present space q) l
+
+-- a set of present pages has no more than there are
+pub few_present : (space : Space) (set : FinSet nat_cmp) → IsSound space.host → ((page : ℕ) → contains set page ≡ true → is_present space page ≡ true) → len set ≤ len (present space)
+few_present space set sound h =
+    len-part set (present space)
+    (λ q m. member_below (λ page. is_present space page) HIGH_PAGE q ∙ inside q HIGH_PAGE (is_present space q) (present_below space q sound (h q m)) (h q m))
+    (no_page_past space)
+
+-- Sums
+
+sum_fresh : (count left all : ℕ) → count ≡ 0 → left ≤ all → count + left ≤ all
+sum_fresh count left all none few = omega (arith, none, few)
+
+sum_less : (count left less all : ℕ) → count + left ≤ all → less ≡ left - 1 → count + less ≤ all
+sum_less count left less all few is = omega (arith, few, is)
+
+sum_moved : (count left less all : ℕ) → count + left ≤ all → less ≡ left - 1 → 1 ≤ left → (count + 1) + less ≤ all
+sum_moved count left less all few is some = omega (arith, few, is, some)
+
+-- The source
+
+pub few-first : (cpus epoch rounds : ℕ) → AreUrgentFew (first_world_with cpus epoch rounds)
+few-first cpus epoch rounds = record { before_switch = λ h. refl; few = λ h. absurd (false≢true h) }
+
+-- before the switch nothing else is asked
+before : {from : SourcePhase} {switched : Bool} {count : ℕ} {space : Space} {remaining : FinSet nat_cmp} (to : SourcePhase) (new : Space) (left : FinSet nat_cmp) → switched ≡ false →
+    IsUrgentFew from switched count space remaining → IsUrgentFew to switched count new left
+before to new left not h = record { before_switch = h.before_switch; few = λ s. absurd (false≢true (sym not ∙ s)) }
+
+runs_unswitched : (switched ran : Bool) → (not switched || ran) ≡ true → ran ≡ false → switched ≡ false
+runs_unswitched false ran may bare = refl
+runs_unswitched true true may bare = absurd (false≢true (sym bare))
+runs_unswitched true false may bare = absurd (false≢true may)
+
+guest_few : (ran : Bool) (world : World) (guest : Guest) → (ran ≡ false → world.source.switched ≡ false) → AreUrgentFew world → AreUrgentFew (with_guest_by ran world guest)
+guest_few true world guest not h = h
+guest_few false world guest not h = before world.source.phase guest.space world.source.remaining (not refl) h
+
+command_few : (world : World) (cpu : ℕ) (command : Command) → runs world ≡ true → AreUrgentFew world → AreUrgentFew (after_command world cpu command)
+command_few world cpu command may h =
+    guest_few world.destination.has_run world (tried (is_access command) (guest_of world) cpu command) (runs_unswitched world.source.switched world.destination.has_run may) h
+
+acted_few : (act : Act) (world : World) (page : ℕ) → world.source.switched ≡ false → AreUrgentFew world → AreUrgentFew (record world { source = source_acted_by act world.source page })
+acted_few Unprotected world page not h = before _ _ _ not h
+acted_few Zeroed world page not h = before _ _ _ not h
+acted_few Woke world page not h = before _ _ _ not h
+acted_few Forgot world page not h = before _ _ _ not h
+acted_few (Requested origin) world page not h = before _ _ _ not h
+
+switch_few : (world : World) → IsSoundWorld world → is_precopy world.source.phase ≡ true → AreUrgentFew world → AreUrgentFew (after_switch world)
+switch_few world kept precopy h =
+    let none = h.before_switch (precopy_unswitched world.source.phase world.source.switched precopy kept.phases.source_phase) in
+    record {
+      before_switch = λ s. none;
+      few = λ s p. sum_fresh world.source.urgent_sent (len (not_clean world.source)) _ none (few_present (space_of world.source) (not_clean world.source) kept.spaces.source_space.host (λ page m. member_not_clean world.source page m));
+    }
+
+push_few : (world : World) (page : ℕ) → contains world.source.remaining page ≡ true → AreUrgentFew world →
+    IsUrgentFew world.source.phase world.source.switched world.source.urgent_sent (space_of world.source) (finset.remove world.source.remaining page)
+push_few world page remains h =
+    record { before_switch = h.before_switch; few = λ s p. sum_less world.source.urgent_sent (len world.source.remaining) _ _ (h.few s p) (len-removed world.source.remaining page remains) }
+
+push_urgent_few : (world : World) (page : ℕ) → IsSoundWorld world → is_stopped world.source.phase ≡ true → contains world.source.remaining page ≡ true → AreUrgentFew world →
+    IsUrgentFew world.source.phase world.source.switched (world.source.urgent_sent + 1) (space_of world.source) (finset.remove world.source.remaining page)
+push_urgent_few world page kept stopped remains h =
+    let switched = stopped_switched world.source.phase world.source.switched stopped kept.phases.source_phase in
+    record {
+      before_switch = λ s. absurd (false≢true (sym s ∙ switched));
+      few = λ s p. sum_moved world.source.urgent_sent (len world.source.remaining) _ _ (h.few s p) (len-removed world.source.remaining page remains) (len-some world.source.remaining page remains);
+    }
+
+-- Frames that the source takes
+
+rebuilt_few : (switched : Bool) (owed : FinSet nat_cmp) (source : Source) → source.urgent_sent ≡ 0 →
+    let node = source_rebuilt Received.NotRun owed (record source { switched = switched }) in
+    IsUrgentFew node.phase node.switched node.urgent_sent (space_of node) node.remaining
+rebuilt_few true owed source none = record { before_switch = λ s. none; few = λ s p. sum_fresh source.urgent_sent _ _ none (omega arith) }
+rebuilt_few false owed source none = record { before_switch = λ s. none; few = λ s. absurd (false≢true s) }
+
+back_few : (frame : Frame) (epoch : ℕ) (rest : List Sent) (world : World) → IsSoundWorld world → AreSoundUrgent world → world.up ≡ true → IsInPlaceBack world.source frame → AreUrgentFew world →
+    AreUrgentFew (after_deliver_back world (record { epoch = epoch; frame = frame }) rest)
+back_few (Recv Received.NotRun owed) epoch rest world kept urgent up place h = rebuilt_few world.source.switched owed world.source (urgent.fresh up (is_paused world.source.phase place.0))
+back_few (Recv Received.Running owed) epoch rest world kept urgent up place h =
+    record {
+      before_switch = h.before_switch;
+      few = λ s p.
+          sum_fresh world.source.urgent_sent (len owed) _ (urgent.fresh up (is_paused world.source.phase place.0))
+          (few_present (space_of world.source) owed kept.spaces.source_space.host place.1);
+    }
+back_few (Recv Received.Ended owed) epoch rest world kept urgent up place h = record { before_switch = h.before_switch; few = λ s p. absurd (false≢true (sym p)) }
+back_few Done epoch rest world kept urgent up place h = record { before_switch = h.before_switch; few = λ s p. absurd (false≢true (sym p)) }
+back_few (Request page) epoch rest world kept urgent up place h = h
+back_few _ epoch rest world kept urgent up place h = absurd place
+
+-- The channel
+
+resume_few : (world : World) → IsSoundWorld world → AreUrgentFew world → IsUrgentFew world.source.phase world.source.switched 0 (space_of world.source) world.source.remaining
+resume_few world kept h =
+    record {
+      before_switch = λ s. refl;
+      few = λ s p. sum_fresh 0 (len world.source.remaining) _ refl (few_present (space_of world.source) world.source.remaining kept.spaces.source_space.host kept.pushing.remaining_present);
+    }
+
+notices_few : (world : World) → is_released world.source.phase ≡ false → AreUrgentFew world → IsUrgentFew SourcePhase.Paused world.source.switched world.source.urgent_sent (space_of world.source) world.source.remaining
+notices_few world unreleased h = record { before_switch = h.before_switch; few = λ s p. h.few s unreleased }
+
+-- Steps
+
+pub few-answer : (world : World) (step : Step) → IsSoundWorld world → AreSoundUrgent world → AreUrgentFew world → Leaves AreUrgentFew (answer world step)
+few-answer world (Step.Issue cpu command) kept urgent h = made-issue _ world cpu command (λ there idle may. command_few world cpu command may h)
+few-answer world (Step.Retry cpu) kept urgent h = made-retry _ world cpu (λ command waits woken may. command_few world cpu command may h)
+few-answer world Step.Start kept urgent h = made-start _ world (λ idle. before _ _ _ (idle_unswitched world.source.phase world.source.switched idle kept.phases.source_phase) h)
+few-answer world Step.Round kept urgent h = made-round _ world (λ precopy quiet. before _ _ _ (precopy_unswitched world.source.phase world.source.switched precopy kept.phases.source_phase) h)
+few-answer world Step.Send kept urgent h = made-send _ world (λ page is precopy up quiet. before _ _ _ (precopy_unswitched world.source.phase world.source.switched precopy kept.phases.source_phase) h)
+few-answer world (Step.SendRun count) kept urgent h = made-send_run _ world count (λ first number is many precopy up quiet. before _ _ _ (precopy_unswitched world.source.phase world.source.switched precopy kept.phases.source_phase) h)
+few-answer world Step.SourceRead kept urgent h = made-source_read _ world (λ noted is started unswitched. before _ _ _ unswitched h)
+few-answer world Step.SourceAct kept urgent h = made-source_act _ world (λ fault rest is started unswitched quiet. acted_few (source_act world.source fault) world fault.page unswitched h)
+few-answer world Step.Switch kept urgent h = made-switch _ world (λ precopy up quiet. switch_few world kept precopy h)
+few-answer world (Step.Deliver n) kept urgent h = made-deliver _ world n (λ sent rest is short. h) (λ sent rest is full started up free early. h)
+few-answer world (Step.DeliverBack n) kept urgent h =
+    made-deliver_back _ world n (λ sent rest is short. h) (λ sent rest is full started up. back_few sent.frame sent.epoch rest world kept urgent up (is_taken_back world sent rest kept up is) h)
+few-answer world Step.DestRead kept urgent h = made-dest_read _ world (λ noted is ran. h)
+few-answer world Step.DestAct kept urgent h = made-dest_act _ world (λ fault rest is ran quiet. h)
+few-answer world Step.Install kept urgent h = made-install _ world (λ copy rest is ran quiet. h)
+few-answer world (Step.Push ticket) kept urgent h = made-push _ world ticket (λ stopped up own present remains. push_few world ticket.page remains h)
+few-answer world (Step.PushUrgent ticket) kept urgent h = made-push_urgent _ world ticket (λ stopped up own present remains. push_urgent_few world ticket.page kept stopped remains h)
+few-answer world (Step.DeliverUrgent n) kept urgent h = made-deliver_urgent _ world n (λ sent rest is short. h) (λ sent rest is full ran up. h)
+few-answer world Step.Serve kept urgent h = made-serve _ world (λ page pages is stopped up. h)
+few-answer world Step.End kept urgent h = made-end _ world (λ stopped other up none. h)
+few-answer world Step.Break kept urgent h = made-break _ world (λ started unreleased up. h)
+few-answer world (Step.Notice Side.Source) kept urgent h = made-notice _ world Side.Source (λ started unreleased down. notices_few world unreleased h)
+few-answer world (Step.Notice Side.Destination) kept urgent h = made-notice _ world Side.Destination (λ started unreleased down. h)
+few-answer world Step.Resume kept urgent h = made-resume _ world (λ from to down. resume_few world kept h)
+
+pub few-next : (world : World) (step : Step) → IsSoundWorld world → AreSoundUrgent world → AreUrgentFew world → AreUrgentFew (next world step)
+few-next world step kept urgent h = leaves-next AreUrgentFew world step h (few-answer world step kept urgent h)
+
+few-after_steps : (world : World) (steps : List Step) → IsSoundWorld world → AreSoundUrgent world → AreUrgentFew world → AreUrgentFew (after_steps world steps)
+few-after_steps world [] kept urgent h = h
+few-after_steps world (step ∷ steps) kept urgent h = few-after_steps (next world step) steps (kept-next world step kept urgent) (urgent-next world step kept urgent) (few-next world step kept urgent h)
+
+pub few-reached : (world : World) → IsReached world → AreUrgentFew world
+few-reached world reached =
+    subst AreUrgentFew (sym reached.is)
+    (few-after_steps (first_world_with reached.cpus reached.epoch reached.rounds) reached.steps (kept-first reached.cpus reached.epoch reached.rounds) (urgent-first reached.cpus reached.epoch reached.rounds)
+    (few-first reached.cpus reached.epoch reached.rounds))

@@ -1,0 +1,111 @@
+-- Bounds that every world of the whole migration keeps, beside its invariant: with them each frame in flight has a text, and each call
+-- of a userfault object that a node makes is one that the object accepts.
+use Rattle.std.specs.Prelude.{◌≡◌, ℕ, ◌+◌, ◌*◌, ◌/◌, ◌^◌, ◌<◌, ◌≤◌, Bool, true, false, Option, Some, None, List, [], ◌∷◌, length}
+use Rattle.std.specs.List.{All}
+use Rattle.std.specs.Ordering.{nat_cmp}
+use Rattle.std.specs.FinMap as finmap
+use Rattle.std.specs.FinMap.{FinMap, contains_key}
+use Rattle.std.specs.FinSet.{FinSet, contains, len}
+use Rattle.mig_base.specs.declared.TheConstants.{PAGE_SIZE, LOW, HIGH, LOW_PAGE, HIGH_PAGE, MAX_PAGES, MAX_CPUS, MAX_RUN}
+use Rattle.mig_base.specs.declared.Prot.{Prot}
+use Rattle.mig_base.specs.declared.command.Command.{Command}
+use Rattle.mig_base.specs.declared.command.Command.TheVariants.{Load, Store}
+use Rattle.mig_base.specs.declared.phase.SourcePhase.{SourcePhase}
+use Rattle.mig_base.specs.Flat.{Memory, is_aligned, is_mapped, mapped_count, memory_of}
+use Rattle.mig_model.specs.Space.{Space}
+use Rattle.mig_model.specs.Wire.{Frame, Sent}
+use Rattle.mig_model.specs.Wire.Frame.{Advise, Page, Zero, Run, Discard, Package, End, Resume, Request, Recv, Done}
+use Rattle.mig_model.specs.Log.{present}
+use Rattle.mig_model.specs.Source.{is_released, space_of}
+use Rattle.mig_model.specs.Migration.{World}
+
+-- The urgent wire
+
+-- how many frames were put on the urgent wire in this epoch: none before the switch, and from then on, together with the pages that
+-- remain, no more than the source has pages
+pub record IsUrgentFew (from : SourcePhase) (switched : Bool) (count : ℕ) (space : Space) (remaining : FinSet nat_cmp) : Type 0 where
+  pub before_switch : switched ≡ false → count ≡ 0
+  pub few : switched ≡ true → is_released from ≡ false → count + len remaining ≤ len (present space)
+
+abbrev pub AreUrgentFew : World → Type 0
+AreUrgentFew world = IsUrgentFew world.source.phase world.source.switched world.source.urgent_sent (space_of world.source) world.source.remaining
+
+-- The guest's memory
+
+-- a page that may be mapped
+abbrev pub IsPage : ℕ → Type 0
+IsPage page = (LOW_PAGE ≤ page) × (page < HIGH_PAGE)
+
+-- pages that may all be mapped at once: each lies in the address space, and there are MAX_PAGES at most
+pub record IsMapping (areas : FinMap nat_cmp Prot) : Type 0 where
+  pub pages : (page : ℕ) → contains_key areas page ≡ true → IsPage page
+  pub few : finmap.len areas ≤ MAX_PAGES
+
+-- the same of the addresses of a flat memory
+pub record IsWithinBounds (memory : Memory) : Type 0 where
+  pub addresses : (addr : ℕ) → is_mapped memory addr ≡ true → (LOW ≤ addr) × (addr < HIGH)
+  pub few : mapped_count memory ≤ PAGE_SIZE * MAX_PAGES
+
+-- so at both nodes, and in the flat memory of the transcript
+pub record HasBoundedMemory (world : World) : Type 0 where
+  pub source : IsMapping (space_of world.source).host.areas
+  pub destination : IsMapping world.destination.guest.space.host.areas
+  pub flat : IsWithinBounds (memory_of world.transcript)
+
+-- Frames
+
+-- each page of a set may be mapped
+abbrev pub ArePages : FinSet nat_cmp → Type 0
+ArePages pages = (page : ℕ) → contains pages page ≡ true → IsPage page
+
+-- so, and they may all be mapped at once
+abbrev pub AreFewPages : FinSet nat_cmp → Type 0
+AreFewPages pages = ArePages pages × (len pages ≤ MAX_PAGES)
+
+-- the bytes of a page
+abbrev pub IsPageBytes : List ℕ → Type 0
+IsPageBytes bytes = (length bytes ≡ PAGE_SIZE) × All (λ byte. byte < 256) bytes
+
+abbrev pub ArePageBytes : List (List ℕ) → Type 0
+ArePageBytes [] = Unit {0}
+ArePageBytes (bytes ∷ pages) = IsPageBytes bytes × ArePageBytes pages
+
+-- a load or store that can be made where its page is mapped: its width, address and value are right, and the page may be mapped
+abbrev pub IsRightAccess : Command → Type 0
+IsRightAccess (Load addr width) = (is_aligned addr width ≡ true) × IsPage (addr / PAGE_SIZE)
+IsRightAccess (Store addr width value) = (is_aligned addr width ≡ true) × (value < 256 ^ width) × IsPage (addr / PAGE_SIZE)
+IsRightAccess command = ⊥
+
+abbrev pub AreRightAccesses : List (Option Command) → Type 0
+AreRightAccesses [] = Unit {0}
+AreRightAccesses (None ∷ commands) = AreRightAccesses commands
+AreRightAccesses (Some command ∷ commands) = IsRightAccess command × AreRightAccesses commands
+
+-- as many as a guest may have processors
+abbrev pub IsCpuCount : ℕ → Type 0
+IsCpuCount count = (0 < count) × (count ≤ MAX_CPUS)
+
+-- a frame that has a text: each number in it is of its kind, and nothing is too long
+abbrev pub IsFrame : Frame → Type 0
+IsFrame Advise = Unit {0}
+IsFrame (Page page bytes) = IsPage page × IsPageBytes bytes
+IsFrame (Zero page) = IsPage page
+IsFrame (Run first pages) = (0 < length pages) × (length pages ≤ MAX_RUN) × (LOW_PAGE ≤ first) × (first + length pages ≤ HIGH_PAGE) × ArePageBytes pages
+IsFrame (Discard pages) = ArePages pages
+IsFrame (Package areas owed commands) = IsMapping areas × AreFewPages owed × AreRightAccesses commands × IsCpuCount (length commands)
+IsFrame (End urgent) = urgent < 2 ^ 32
+IsFrame Resume = Unit {0}
+IsFrame (Request page) = IsPage page
+IsFrame (Recv state owed) = AreFewPages owed
+IsFrame Done = Unit {0}
+
+-- each frame of a wire is one, and of an epoch that is a number of 32 bits
+abbrev pub AreFrames : List Sent → Type 0
+AreFrames [] = Unit {0}
+AreFrames (sent ∷ rest) = (sent.epoch < 2 ^ 32) × IsFrame sent.frame × AreFrames rest
+
+-- so on all three wires
+pub record HasGoodFrames (world : World) : Type 0 where
+  pub forward : AreFrames world.forward.frames
+  pub back : AreFrames world.back.frames
+  pub urgent : AreFrames world.urgent.frames
