@@ -6,6 +6,7 @@ pub mod SpaceLemmas
 pub mod IoctlLemmas
 pub mod StepLemmas
 pub mod HeldLemmas
+pub mod TextLemmas
 pub mod StepCases
 pub mod Breaking
 pub mod SendingLemmas
@@ -72,3 +73,4 @@ pub mod WaitingAccesses
 pub mod Calls
 pub mod PushOrder
 pub mod ViewPromises
+pub mod TextsInFlight

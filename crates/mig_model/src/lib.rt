@@ -13,5 +13,6 @@
 //! [`laws`] has what is proved of the first two, and [`migration`] what is proved of the third.
 #![tactic(auto)]
 
+pub mod frames;
 pub mod laws;
 pub mod migration;
