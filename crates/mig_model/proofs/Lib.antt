@@ -74,3 +74,5 @@ pub mod Calls
 pub mod PushOrder
 pub mod ViewPromises
 pub mod TextsInFlight
+pub mod RunsAndAreas
+pub mod OneText

@@ -22,7 +22,7 @@ one_if : (b : Bool) (n : ℕ) → length (cond b (n ∷ []) []) ≡ cond b 1 0
 one_if true n = refl
 one_if false n = refl
 
-length-list_below : (test : ℕ → Bool) (bound : ℕ) → length (list_below test bound) ≡ count_below test bound
+pub length-list_below : (test : ℕ → Bool) (bound : ℕ) → length (list_below test bound) ≡ count_below test bound
 unfolding list_below count_below
 length-list_below test zero = refl
 length-list_below test (suc bound) =

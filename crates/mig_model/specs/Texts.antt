@@ -1,6 +1,6 @@
 -- The text of a frame, the bytes by which one node tells it to the other, and how long it is. A text is a header and a body. The
 -- header tells the version, the kind of the frame, its epoch and the length of the body. Numbers are big-endian.
-use Rattle.std.specs.Prelude.{◌≡◌, ℕ, zero, suc, ◌+◌, ◌-◌, ◌*◌, ◌&&◌, Bool, true, false, not, nat_lt, if◌then◌else◌, Option, Some, None, unwrap_or, List, [], ◌∷◌, ◌++◌, length, map}
+use Rattle.std.specs.Prelude.{◌≡◌, ℕ, zero, suc, ◌+◌, ◌-◌, ◌*◌, ◌^◌, ◌<◌, ◌&&◌, Bool, true, false, not, nat_lt, if◌then◌else◌, Option, Some, None, unwrap_or, List, [], ◌∷◌, ◌++◌, length, map}
 use Rattle.std.specs.List.{flat_map, AllByRecursion}
 use Rattle.std.specs.Int.{w32, w64, to_be_bytes}
 use Rattle.std.specs.Ordering.{nat_cmp}
@@ -193,3 +193,39 @@ HasWholePages frame = Unit {0}
 -- as many bytes complete each frame as its text has
 abbrev pub AreCounted : List Sent → Type 0
 AreCounted frames = AllByRecursion (λ sent. length (text Two sent.epoch sent.frame) ≡ text_len sent.frame) frames
+
+-- Which frame a text tells
+
+-- each page of a set is one of the address space
+abbrev pub AreBelow : FinSet nat_cmp → Type 0
+AreBelow pages = (page : ℕ) → contains pages page ≡ true → page < HIGH_PAGE
+
+-- so is each mapped page
+abbrev pub AreMappedBelow : FinMap nat_cmp Prot → Type 0
+AreMappedBelow areas = (page : ℕ) → contains_key areas page ≡ true → page < HIGH_PAGE
+
+-- a processor waits for nothing, or for a load or store whose numbers are of 64 bits
+abbrev pub FitsCommand : Option Command → Type 0
+FitsCommand None = Unit {0}
+FitsCommand (Some (Load addr width)) = addr < 2 ^ 64
+FitsCommand (Some (Store addr width value)) = (addr < 2 ^ 64) × (value < 2 ^ 64)
+FitsCommand (Some command) = ⊥
+
+-- the numbers of a frame have room in its text
+abbrev pub FitsText : Frame → Type 0
+FitsText (Page page bytes) = page < 2 ^ 32
+FitsText (Zero page) = page < 2 ^ 32
+FitsText (Run first pages) = (first < 2 ^ 32) × (length pages < 2 ^ 32)
+FitsText (Discard pages) = AreBelow pages
+FitsText (Package areas owed commands) = AreMappedBelow areas × AreBelow owed × AllByRecursion FitsCommand commands
+FitsText (End urgent) = urgent < 2 ^ 32
+FitsText (Request page) = page < 2 ^ 32
+FitsText (Recv state owed) = AreBelow owed
+FitsText frame = Unit {0}
+
+-- a frame that is told by its text
+pub record IsTellable (version : Version) (epoch : ℕ) (frame : Frame) : Type 0 where
+  pub has : has_frame version frame ≡ true
+  pub epoch_fits : epoch < 2 ^ 32
+  pub whole : HasWholePages frame
+  pub fits : FitsText frame

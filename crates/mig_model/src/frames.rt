@@ -6,7 +6,7 @@ ghost use Rattle.mig_base.specs.declared.phase.Received.{Received};
 ghost use Rattle.mig_model.specs.Log.{no_pages};
 ghost use Rattle.mig_model.specs.Migration.{World};
 ghost use Rattle.mig_model.specs.Promises.{IsReached};
-ghost use Rattle.mig_model.specs.Texts.{Version, has_frame, text, text_len, HasWholePages, AreCounted};
+ghost use Rattle.mig_model.specs.Texts.{Version, has_frame, text, text_len, HasWholePages, AreCounted, IsTellable};
 ghost use Rattle.mig_model.specs.Texts.Version.{One, Two};
 ghost use Rattle.mig_model.specs.Wire.{Frame};
 ghost use Rattle.mig_model.specs.Wire.Frame.{Advise, Zero, Run, End, Request, Recv, Done};
@@ -18,6 +18,15 @@ pub fn the_length_of_a_text()
     ensures forward { (world : World) → IsReached world → AreCounted world.forward.frames }
     ensures back { (world : World) → IsReached world → AreCounted world.back.frames }
     ensures urgent { (world : World) → IsReached world → AreCounted world.urgent.frames }
+{}
+
+/// A text tells its version, its epoch and its frame, whatever comes behind it: so each frame has one text in a version and an epoch,
+/// and no text is the front of another.
+pub fn one_text()
+    ensures version { (v w : Version) (d e : ℕ) (f g : Frame) (s r : List ℕ) → IsTellable v d f → IsTellable w e g → text v d f ++ s ≡ text w e g ++ r → v ≡ w }
+    ensures epoch { (v w : Version) (d e : ℕ) (f g : Frame) (s r : List ℕ) → IsTellable v d f → IsTellable w e g → text v d f ++ s ≡ text w e g ++ r → d ≡ e }
+    ensures frame { (v w : Version) (d e : ℕ) (f g : Frame) (s r : List ℕ) → IsTellable v d f → IsTellable w e g → text v d f ++ s ≡ text w e g ++ r → f ≡ g }
+    ensures rest { (v w : Version) (d e : ℕ) (f g : Frame) (s r : List ℕ) → IsTellable v d f → IsTellable w e g → text v d f ++ s ≡ text w e g ++ r → s ≡ r }
 {}
 
 /// Some texts, byte by byte.
