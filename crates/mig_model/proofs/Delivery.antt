@@ -72,7 +72,7 @@ copy_kept from epoch page bytes rest world kept on_wires =
 
 -- A run of them
 
-whole_parts : (a b : List Copy) → AreWhole (a ++ b) → AreWhole a × AreWhole b
+pub whole_parts : (a b : List Copy) → AreWhole (a ++ b) → AreWhole a × AreWhole b
 whole_parts [] b h = (tt, h)
 whole_parts (copy ∷ a) b h = let rest = whole_parts a b h.1 in ((h.0, rest.0), rest.1)
 

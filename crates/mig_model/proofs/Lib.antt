@@ -6,6 +6,7 @@ pub mod SpaceLemmas
 pub mod IoctlLemmas
 pub mod StepLemmas
 pub mod HeldLemmas
+pub mod TextLemmas
 pub mod StepCases
 pub mod Breaking
 pub mod SendingLemmas
@@ -91,3 +92,6 @@ pub mod CpuCount
 pub mod FrameSteps
 pub mod Bounded
 pub mod ViewPromises
+pub mod TextsInFlight
+pub mod RunsAndAreas
+pub mod OneText

@@ -1,39 +1,164 @@
--- How long the text of a frame is. A text is a header, which tells the kind of the frame, its epoch and the length of the rest, and a
--- body of numbers.
-use Rattle.std.specs.Prelude.{ℕ, ◌+◌, ◌-◌, ◌*◌, ◌&&◌, not, nat_lt, Option, Some, None, List, [], ◌∷◌, length}
+-- The text of a frame, the bytes by which one node tells it to the other, and how long it is. A text is a header and a body. The
+-- header tells the version, the kind of the frame, its epoch and the length of the body. Numbers are big-endian.
+use Rattle.std.specs.Prelude.{◌≡◌, ℕ, zero, suc, ◌+◌, ◌-◌, ◌*◌, ◌^◌, ◌<◌, ◌&&◌, Bool, true, false, not, nat_lt, if◌then◌else◌, Option, Some, None, unwrap_or, List, [], ◌∷◌, ◌++◌, length, map}
+use Rattle.std.specs.List.{flat_map, AllByRecursion}
+use Rattle.std.specs.Int.{w32, w64, to_be_bytes}
 use Rattle.std.specs.Ordering.{nat_cmp}
 use Rattle.std.specs.FinMap.{FinMap, get, contains_key}
 use Rattle.std.specs.FinSet.{FinSet, contains}
+use Rattle.mig_base.specs.declared.Area.{Area}
 use Rattle.mig_base.specs.declared.Prot.{Prot}
+use Rattle.mig_base.specs.declared.Prot.TheVariants.{NoAccess}
+use Rattle.mig_base.specs.declared.Run as pages
 use Rattle.mig_base.specs.declared.TheConstants.{PAGE_SIZE, HIGH_PAGE}
 use Rattle.mig_base.specs.declared.command.Command.{Command}
-use Rattle.mig_base.specs.declared.command.Command.TheVariants.{Store}
+use Rattle.mig_base.specs.declared.command.Command.TheVariants.{Load, Store}
+use Rattle.mig_base.specs.declared.phase.Received.{Received}
+use Rattle.mig_base.specs.Codes.{prot_number}
 use Rattle.mig_base.specs.Ranges.{count_below}
+use Rattle.mig_base.specs.Sets.{pages_where, run_length}
 use Rattle.mig_model.specs.Ioctls.{same_prot}
-use Rattle.mig_model.specs.Wire.{Frame}
+use Rattle.mig_model.specs.Wire.{Frame, Sent}
 use Rattle.mig_model.specs.Wire.Frame.{Advise, Page, Zero, Run, Discard, Package, End, Resume, Request, Recv, Done}
+
+-- Runs of pages
+
+-- the numbers below the bound that pass the test, ascending
+unfoldable pub list_below : (ℕ → Bool) → ℕ → List ℕ
+list_below test zero = []
+list_below test (suc bound) = list_below test bound ++ (if test bound then bound ∷ [] else [])
+
+-- whether a page of the set has no neighbour in it below
+abbrev pub begins_run : FinSet nat_cmp → ℕ → Bool
+begins_run pages page = contains pages page && not (nat_lt 0 page && contains pages (page - 1))
+
+-- the run of the set that begins at a page
+abbrev pub run_at : FinSet nat_cmp → ℕ → pages.Run
+run_at pages first = record { first = first; count = run_length pages first HIGH_PAGE }
+
+-- the pages of a set as runs of neighbours, as few as there can be
+abbrev pub runs_of : FinSet nat_cmp → List pages.Run
+runs_of pages = map (run_at pages) (list_below (begins_run pages) HIGH_PAGE)
+
+-- whether a mapped page has no neighbour with its protection below
+abbrev pub begins_area : FinMap nat_cmp Prot → ℕ → Bool
+begins_area areas page = contains_key areas page && not (nat_lt 0 page && same_prot (get areas page) (get areas (page - 1)))
+
+-- the area that begins at a page: the run of the pages that have its protection
+abbrev pub area_at : FinMap nat_cmp Prot → ℕ → Area
+area_at areas first =
+    record {
+      first = first;
+      count = run_length (pages_where (λ page. same_prot (get areas first) (get areas page))) first HIGH_PAGE;
+      prot = unwrap_or (get areas first) NoAccess;
+    }
+
+-- the mapped pages as areas, as few as there can be
+abbrev pub areas_of : FinMap nat_cmp Prot → List Area
+areas_of areas = map (area_at areas) (list_below (begins_area areas) HIGH_PAGE)
+
+-- The text
+
+-- the versions: the first has no frame for a run of pages
+pub data Version : Type 0 where
+  One : Version
+  Two : Version
+
+abbrev pub version_code : Version → ℕ
+version_code One = 1
+version_code Two = 2
+
+-- whether a version has the frame
+abbrev pub has_frame : Version → Frame → Bool
+has_frame One (Run first pages) = false
+has_frame One frame = true
+has_frame Two frame = true
+
+-- what tells the kinds of frames apart; those that go back to the source have the highest bit
+abbrev pub tag_code : Frame → ℕ
+tag_code Advise = 0x01
+tag_code (Page page bytes) = 0x02
+tag_code (Zero page) = 0x03
+tag_code (Discard pages) = 0x04
+tag_code (Package areas owed commands) = 0x05
+tag_code (End urgent) = 0x06
+tag_code Resume = 0x07
+tag_code (Run first pages) = 0x08
+tag_code (Request page) = 0x81
+tag_code (Recv state owed) = 0x82
+tag_code Done = 0x83
+
+abbrev pub run_text : pages.Run → List ℕ
+run_text run = to_be_bytes w32 run.first ++ to_be_bytes w32 run.count
+
+-- a count, and for each run its first page and its number of pages
+abbrev pub runs_text : List pages.Run → List ℕ
+runs_text runs = to_be_bytes w32 (length runs) ++ flat_map run_text runs
+
+abbrev pub area_text : Area → List ℕ
+area_text area = to_be_bytes w32 area.first ++ to_be_bytes w32 area.count ++ prot_number area.prot ∷ []
+
+-- the same with a protection for each
+abbrev pub areas_text : List Area → List ℕ
+areas_text areas = to_be_bytes w32 (length areas) ++ flat_map area_text areas
+
+-- what a processor waits for: nothing, a load with its address and width, or a store with its value too. A map call does not wait
+abbrev pub command_text : Option Command → List ℕ
+command_text None = 0 ∷ []
+command_text (Some (Load addr width)) = 1 ∷ to_be_bytes w64 addr ++ width ∷ []
+command_text (Some (Store addr width value)) = 2 ∷ to_be_bytes w64 addr ++ width ∷ to_be_bytes w64 value
+command_text (Some command) = []
+
+-- a count of one byte, and what each processor waits for
+abbrev pub commands_text : List (Option Command) → List ℕ
+commands_text commands = length commands ∷ flat_map command_text commands
+
+abbrev pub state_code : Received → ℕ
+state_code Received.NotRun = 0
+state_code Received.Running = 1
+state_code Received.Ended = 2
+
+abbrev pub body_text : Frame → List ℕ
+body_text Advise = []
+body_text (Page page bytes) = to_be_bytes w32 page ++ bytes
+body_text (Zero page) = to_be_bytes w32 page
+body_text (Run first pages) = to_be_bytes w32 first ++ to_be_bytes w32 (length pages) ++ flat_map (λ bytes. bytes) pages
+body_text (Discard pages) = runs_text (runs_of pages)
+body_text (Package areas owed commands) = areas_text (areas_of areas) ++ runs_text (runs_of owed) ++ commands_text commands
+body_text (End urgent) = to_be_bytes w32 urgent
+body_text Resume = []
+body_text (Request page) = to_be_bytes w32 page
+body_text (Recv state owed) = state_code state ∷ runs_text (runs_of owed)
+body_text Done = []
+
+abbrev pub header_text : Version → (tag epoch len : ℕ) → List ℕ
+header_text version tag epoch len = version_code version ∷ tag ∷ 0 ∷ 0 ∷ to_be_bytes w32 epoch ++ to_be_bytes w32 len
+
+-- the text of a frame that is sent in an epoch, none where the version does not have the frame
+unfoldable pub text : Version → (epoch : ℕ) → Frame → List ℕ
+text version epoch frame = if has_frame version frame then header_text version (tag_code frame) epoch (length (body_text frame)) ++ body_text frame else []
+
+-- Its length
 
 -- how many runs of neighbours the pages of a set make
 unfoldable pub run_count : FinSet nat_cmp → ℕ
-run_count pages = count_below (λ page. contains pages page && not (nat_lt 0 page && contains pages (page - 1))) HIGH_PAGE
+run_count pages = count_below (begins_run pages) HIGH_PAGE
 
 -- how many runs of neighbours with one protection the mapped pages make
 unfoldable pub area_count : FinMap nat_cmp Prot → ℕ
-area_count areas = count_below (λ page. contains_key areas page && not (nat_lt 0 page && same_prot (get areas page) (get areas (page - 1)))) HIGH_PAGE
+area_count areas = count_below (begins_area areas) HIGH_PAGE
 
--- a count, and for each run its first page and its number of pages
 abbrev pub runs_len : FinSet nat_cmp → ℕ
 runs_len pages = 4 + 8 * run_count pages
 
--- the same with a protection for each
 abbrev pub areas_len : FinMap nat_cmp Prot → ℕ
 areas_len areas = 4 + 9 * area_count areas
 
--- what a processor waits for: nothing, a load with its address and width, or a store with its value too
 abbrev pub command_len : Option Command → ℕ
 command_len None = 1
+command_len (Some (Load addr width)) = 10
 command_len (Some (Store addr width value)) = 18
-command_len (Some command) = 10
+command_len (Some command) = 0
 
 abbrev pub commands_len : List (Option Command) → ℕ
 commands_len [] = 0
@@ -55,6 +180,52 @@ body_len (Request page) = 4
 body_len (Recv state owed) = 1 + runs_len owed
 body_len Done = 0
 
--- the length of the text of a frame, in bytes
+-- how many bytes complete a frame
 abbrev pub text_len : Frame → ℕ
 text_len frame = header_len + body_len frame
+
+-- what a frame needs for that to be the length of its text: each page that it carries is whole
+abbrev pub HasWholePages : Frame → Type 0
+HasWholePages (Page page bytes) = length bytes ≡ PAGE_SIZE
+HasWholePages (Run first pages) = AllByRecursion (λ bytes. length bytes ≡ PAGE_SIZE) pages
+HasWholePages frame = Unit {0}
+
+-- as many bytes complete each frame as its text has
+abbrev pub AreCounted : List Sent → Type 0
+AreCounted frames = AllByRecursion (λ sent. length (text Two sent.epoch sent.frame) ≡ text_len sent.frame) frames
+
+-- Which frame a text tells
+
+-- each page of a set is one of the address space
+abbrev pub AreBelow : FinSet nat_cmp → Type 0
+AreBelow pages = (page : ℕ) → contains pages page ≡ true → page < HIGH_PAGE
+
+-- so is each mapped page
+abbrev pub AreMappedBelow : FinMap nat_cmp Prot → Type 0
+AreMappedBelow areas = (page : ℕ) → contains_key areas page ≡ true → page < HIGH_PAGE
+
+-- a processor waits for nothing, or for a load or store whose numbers are of 64 bits
+abbrev pub FitsCommand : Option Command → Type 0
+FitsCommand None = Unit {0}
+FitsCommand (Some (Load addr width)) = addr < 2 ^ 64
+FitsCommand (Some (Store addr width value)) = (addr < 2 ^ 64) × (value < 2 ^ 64)
+FitsCommand (Some command) = ⊥
+
+-- the numbers of a frame have room in its text
+abbrev pub FitsText : Frame → Type 0
+FitsText (Page page bytes) = page < 2 ^ 32
+FitsText (Zero page) = page < 2 ^ 32
+FitsText (Run first pages) = (first < 2 ^ 32) × (length pages < 2 ^ 32)
+FitsText (Discard pages) = AreBelow pages
+FitsText (Package areas owed commands) = AreMappedBelow areas × AreBelow owed × AllByRecursion FitsCommand commands
+FitsText (End urgent) = urgent < 2 ^ 32
+FitsText (Request page) = page < 2 ^ 32
+FitsText (Recv state owed) = AreBelow owed
+FitsText frame = Unit {0}
+
+-- a frame that is told by its text
+pub record IsTellable (version : Version) (epoch : ℕ) (frame : Frame) : Type 0 where
+  pub has : has_frame version frame ≡ true
+  pub epoch_fits : epoch < 2 ^ 32
+  pub whole : HasWholePages frame
+  pub fits : FitsText frame

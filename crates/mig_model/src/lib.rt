@@ -12,9 +12,10 @@
 //!   what holds of it, with bounds in `specs/Bounds.antt`, `specs/Views.antt` for what a world tells, and `specs/Runs.antt` for runs
 //!   that are short of memory.
 //!
-//! [`laws`] has what is proved of the first two, and [`migration`] and [`bounds`] what is proved of the third.
+//! [`laws`] has what is proved of the first two, and [`migration`], [`bounds`] and [`frames`] what is proved of the third.
 #![tactic(auto)]
 
 pub mod bounds;
+pub mod frames;
 pub mod laws;
 pub mod migration;

@@ -1,0 +1,43 @@
+//! What holds of the texts of frames, the bytes by which the nodes of a whole migration tell them to each other. Each law is a function
+//! with an empty body, whose contract is the law.
+
+ghost use Rattle.std.specs.Prelude.{◌≡◌, ℕ, true, length, List, [], ◌∷◌, ◌++◌};
+ghost use Rattle.mig_base.specs.declared.phase.Received.{Received};
+ghost use Rattle.mig_model.specs.Log.{no_pages};
+ghost use Rattle.mig_model.specs.Migration.{World};
+ghost use Rattle.mig_model.specs.Promises.{IsReached};
+ghost use Rattle.mig_model.specs.Texts.{Version, has_frame, text, text_len, HasWholePages, AreCounted, IsTellable};
+ghost use Rattle.mig_model.specs.Texts.Version.{One, Two};
+ghost use Rattle.mig_model.specs.Wire.{Frame};
+ghost use Rattle.mig_model.specs.Wire.Frame.{Advise, Zero, Run, End, Request, Recv, Done};
+
+/// What the machine counts is the length of the text: a frame whose pages are whole is complete once as many bytes have come as its
+/// text has. Each frame in flight is such a one, on each of the three wires, after every list of steps.
+pub fn the_length_of_a_text()
+    ensures text { (version : Version) (epoch : ℕ) (frame : Frame) → has_frame version frame ≡ true → HasWholePages frame → length (text version epoch frame) ≡ text_len frame }
+    ensures forward { (world : World) → IsReached world → AreCounted world.forward.frames }
+    ensures back { (world : World) → IsReached world → AreCounted world.back.frames }
+    ensures urgent { (world : World) → IsReached world → AreCounted world.urgent.frames }
+{}
+
+/// A text tells its version, its epoch and its frame, whatever comes behind it: so each frame has one text in a version and an epoch,
+/// and no text is the front of another.
+pub fn one_text()
+    ensures version { (v w : Version) (d e : ℕ) (f g : Frame) (s r : List ℕ) → IsTellable v d f → IsTellable w e g → text v d f ++ s ≡ text w e g ++ r → v ≡ w }
+    ensures epoch { (v w : Version) (d e : ℕ) (f g : Frame) (s r : List ℕ) → IsTellable v d f → IsTellable w e g → text v d f ++ s ≡ text w e g ++ r → d ≡ e }
+    ensures frame { (v w : Version) (d e : ℕ) (f g : Frame) (s r : List ℕ) → IsTellable v d f → IsTellable w e g → text v d f ++ s ≡ text w e g ++ r → f ≡ g }
+    ensures rest { (v w : Version) (d e : ℕ) (f g : Frame) (s r : List ℕ) → IsTellable v d f → IsTellable w e g → text v d f ++ s ≡ text w e g ++ r → s ≡ r }
+{}
+
+/// Some texts, byte by byte.
+#[tactic(auto, unfolding(crate::specs::Texts::text))]
+pub fn some_texts()
+    ensures advise { text Two 1 Advise ≡ 2 ∷ 1 ∷ 0 ∷ 0 ∷ 0 ∷ 0 ∷ 0 ∷ 1 ∷ 0 ∷ 0 ∷ 0 ∷ 0 ∷ [] }
+    ensures advise_one { text One 1 Advise ≡ 1 ∷ 1 ∷ 0 ∷ 0 ∷ 0 ∷ 0 ∷ 0 ∷ 1 ∷ 0 ∷ 0 ∷ 0 ∷ 0 ∷ [] }
+    ensures zero { text One 1 (Zero 0x10) ≡ 1 ∷ 3 ∷ 0 ∷ 0 ∷ 0 ∷ 0 ∷ 0 ∷ 1 ∷ 0 ∷ 0 ∷ 0 ∷ 4 ∷ 0 ∷ 0 ∷ 0 ∷ 0x10 ∷ [] }
+    ensures end { text One 1 (End 0) ≡ 1 ∷ 6 ∷ 0 ∷ 0 ∷ 0 ∷ 0 ∷ 0 ∷ 1 ∷ 0 ∷ 0 ∷ 0 ∷ 4 ∷ 0 ∷ 0 ∷ 0 ∷ 0 ∷ [] }
+    ensures request { text One 2 (Request 0x10) ≡ 1 ∷ 0x81 ∷ 0 ∷ 0 ∷ 0 ∷ 0 ∷ 0 ∷ 2 ∷ 0 ∷ 0 ∷ 0 ∷ 4 ∷ 0 ∷ 0 ∷ 0 ∷ 0x10 ∷ [] }
+    ensures done { text One 1 Done ≡ 1 ∷ 0x83 ∷ 0 ∷ 0 ∷ 0 ∷ 0 ∷ 0 ∷ 1 ∷ 0 ∷ 0 ∷ 0 ∷ 0 ∷ [] }
+    ensures run { (a b : List ℕ) → HasWholePages (Run 0x10 (a ∷ b ∷ [])) →
+        text Two 1 (Run 0x10 (a ∷ b ∷ [])) ≡ 2 ∷ 8 ∷ 0 ∷ 0 ∷ 0 ∷ 0 ∷ 0 ∷ 1 ∷ 0 ∷ 0 ∷ 0x20 ∷ 0x08 ∷ 0 ∷ 0 ∷ 0 ∷ 0x10 ∷ 0 ∷ 0 ∷ 0 ∷ 2 ∷ (a ++ b) }
+{}
