@@ -15,7 +15,7 @@ event_bytes event first second third =
 
 -- a message: UFFD_EVENT_PAGEFAULT, UFFD_EVENT_REMAP, UFFD_EVENT_REMOVE and UFFD_EVENT_UNMAP
 abbrev pub message_bytes : Message → List ℕ
-message_bytes (PageFault addr write wp) = event_bytes 0x12 (fault_flags write wp) addr 0
+message_bytes (PageFault addr write wp tid) = event_bytes 0x12 (fault_flags write wp) addr tid
 message_bytes (Remap from to len) = event_bytes 0x14 from to len
 message_bytes (Remove start end) = event_bytes 0x15 start end 0
 message_bytes (Unmap start end) = event_bytes 0x16 start end 0

@@ -1,6 +1,9 @@
 //! The numbers of the calls of a userfault object, as in `linux/userfaultfd.h`. A constant whose name ends in `_BIT` is the
 //! place of a bit; the others are whole words.
 
+ghost use Rattle.std.specs.Prelude.{◌≡◌, ◌<◌};
+ghost use Rattle.mig_base.specs.Bits.{is_one};
+
 /// UFFD_API, which a handshake asks for.
 pub const API: u64 = 0xaa;
 
@@ -16,13 +19,16 @@ pub const EVENT_REMOVE_BIT: u32 = 3;
 /// UFFD_FEATURE_EVENT_UNMAP: a message for a range that is no longer mapped.
 pub const EVENT_UNMAP_BIT: u32 = 6;
 
+/// UFFD_FEATURE_THREAD_ID: the message of a page fault tells the thread.
+pub const THREAD_ID_BIT: u32 = 8;
+
 /// The features of the three events.
 pub const EVENT_FEATURES: u64 = (1 << EVENT_REMAP_BIT)
     | (1 << EVENT_REMOVE_BIT)
     | (1 << EVENT_UNMAP_BIT);
 
-/// All features: those of the events, and faults of write-protected pages.
-pub const ALL_FEATURES: u64 = EVENT_FEATURES | (1 << PAGEFAULT_FLAG_WP_BIT);
+/// All features: those of the events, faults of write-protected pages, and the thread of a fault.
+pub const ALL_FEATURES: u64 = EVENT_FEATURES | (1 << PAGEFAULT_FLAG_WP_BIT) | (1 << THREAD_ID_BIT);
 
 /// UFFDIO_REGISTER_MODE_MISSING.
 pub const REGISTER_MISSING_BIT: u32 = 0;
@@ -41,3 +47,11 @@ pub const WRITEPROTECT_WP_BIT: u32 = 0;
 
 /// UFFDIO_WRITEPROTECT_MODE_DONTWAKE.
 pub const WRITEPROTECT_DONTWAKE_BIT: u32 = 1;
+
+/// Whether a flag is set.
+pub fn has_bit(flags: u64, i: u32) -> bool
+    requires { i < 64 }
+    ensures { result ≡ is_one flags i }
+{
+    (flags >> i) & 1 == 1
+}

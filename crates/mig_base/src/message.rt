@@ -17,6 +17,8 @@ pub enum Message {
         write: bool,
         /// UFFD_PAGEFAULT_FLAG_WP: the page is write-protected. Otherwise it is missing.
         wp: bool,
+        /// `ptid`: the thread that caused it, if UFFD_FEATURE_THREAD_ID was asked for. Otherwise 0.
+        tid: u32,
     },
     /// UFFD_EVENT_REMAP: mremap moved a range.
     Remap {
@@ -43,7 +45,12 @@ impl Message {
         ensures { result ≡ message_bytes self }
     {
         match self {
-            Message::PageFault { addr, write, wp } => with_numbers(0x12, flags(write, wp), addr, 0),
+            Message::PageFault {
+                addr,
+                write,
+                wp,
+                tid,
+            } => with_numbers(0x12, flags(write, wp), addr, u64::from(tid)),
             Message::Remap { from, to, len } => with_numbers(0x14, from, to, len),
             Message::Remove { start, end } => with_numbers(0x15, start, end, 0),
             Message::Unmap { start, end } => with_numbers(0x16, start, end, 0),

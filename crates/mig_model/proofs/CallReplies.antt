@@ -253,7 +253,7 @@ event_goes_on old new message cpu test is =
     }
 
 read_goes_on : (guest : Guest) (cpu : ℕ) (message : Message) → GoOn guest (read_guest guest cpu message) (read_effect guest cpu message)
-read_goes_on guest cpu (PageFault addr write wp) = all_go_on guest _ _ (λ k. refl) refl
+read_goes_on guest cpu (PageFault addr write wp tid) = all_go_on guest _ _ (λ k. refl) refl
 read_goes_on guest cpu (Remap from to len) = event_goes_on guest _ (Remap from to len) cpu (is_left_by (Remap from to len)) refl
 read_goes_on guest cpu (Remove start end) = event_goes_on guest _ (Remove start end) cpu (is_left_by (Remove start end)) refl
 read_goes_on guest cpu (Unmap start end) = event_goes_on guest _ (Unmap start end) cpu (is_left_by (Unmap start end)) refl

@@ -194,14 +194,14 @@ with_queues faults events guest = record guest { space = record guest.space { ob
 
 event_calls : (message : Message) (cpu : ℕ) (events : List Noted) (guest : Guest) → AreRight (record { message = message; cpu = cpu } ∷ events) → HasSoundCalls (with_queues [] (record { message = message; cpu = cpu } ∷ events) guest) →
     HasSoundCalls (read_guest (with_queues [] (record { message = message; cpu = cpu } ∷ events) guest) cpu message)
-event_calls (PageFault addr write wp) cpu events guest right calls = absurd right.0
+event_calls (PageFault addr write wp tid) cpu events guest right calls = absurd right.0
 event_calls (Remap from to len) cpu events guest right calls = record { fits = event_fits guest.cpus (record { message = Remap from to len; cpu = cpu }) events (is_left_by (Remap from to len)) calls.fits; faults = tt }
 event_calls (Remove start end) cpu events guest right calls = record { fits = event_fits guest.cpus (record { message = Remove start end; cpu = cpu }) events (is_left_by (Remove start end)) calls.fits; faults = tt }
 event_calls (Unmap start end) cpu events guest right calls = record { fits = event_fits guest.cpus (record { message = Unmap start end; cpu = cpu }) events (is_left_by (Unmap start end)) calls.fits; faults = tt }
 
 fault_calls : (message : Message) (cpu : ℕ) (faults events : List Noted) (guest : Guest) → HasSoundCalls (with_queues (record { message = message; cpu = cpu } ∷ faults) events guest) →
     HasSoundCalls (read_guest (with_queues (record { message = message; cpu = cpu } ∷ faults) events guest) cpu message)
-fault_calls (PageFault addr write wp) cpu faults events guest calls = record { fits = calls.fits; faults = calls.faults.1 }
+fault_calls (PageFault addr write wp tid) cpu faults events guest calls = record { fits = calls.fits; faults = calls.faults.1 }
 fault_calls (Remap from to len) cpu faults events guest calls = absurd calls.faults.0
 fault_calls (Remove start end) cpu faults events guest calls = absurd calls.faults.0
 fault_calls (Unmap start end) cpu faults events guest calls = absurd calls.faults.0

@@ -89,7 +89,7 @@ unfolding unread
 read-less object noted is = read_by-less object.faults object.events object noted is
 
 pub read_object : (guest : Guest) (cpu : ℕ) (message : Message) → (read_guest guest cpu message).space.object ≡ message_read guest.space.object
-read_object guest cpu (PageFault addr write wp) = refl
+read_object guest cpu (PageFault addr write wp tid) = refl
 read_object guest cpu (Remap from to len) = refl
 read_object guest cpu (Remove start end) = refl
 read_object guest cpu (Unmap start end) = refl

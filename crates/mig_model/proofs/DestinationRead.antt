@@ -234,7 +234,7 @@ fault_read noted faults events world held count kept runs =
 
 event_in : (message : Message) (cpu : ℕ) (events : List Noted) (world : World) → IsSoundWorld (at_queues [] (record { message = message; cpu = cpu } ∷ events) world) → world.destination.has_run ≡ true →
     IsSoundWorld (after_dest_read (at_queues [] (record { message = message; cpu = cpu } ∷ events) world) (record { message = message; cpu = cpu }))
-event_in (PageFault addr write wp) cpu events world kept runs = absurd (kept.spaces.destination_events.0)
+event_in (PageFault addr write wp tid) cpu events world kept runs = absurd (kept.spaces.destination_events.0)
 event_in (Remap from to len) cpu events world kept runs =
     event_read (Remap from to len) cpu events world (all_woken (is_left_by (Remap from to len)) (set world.destination.guest.cpus cpu (message_less (processor_at world.destination.guest.cpus cpu)))) (world.destination.faults + 0) kept runs
 event_in (Remove start end) cpu events world kept runs =
@@ -244,8 +244,8 @@ event_in (Unmap start end) cpu events world kept runs =
 
 fault_in : (message : Message) (cpu : ℕ) (faults events : List Noted) (world : World) → IsSoundWorld (at_queues (record { message = message; cpu = cpu } ∷ faults) events world) → world.destination.has_run ≡ true →
     IsSoundWorld (after_dest_read (at_queues (record { message = message; cpu = cpu } ∷ faults) events world) (record { message = message; cpu = cpu }))
-fault_in (PageFault addr write wp) cpu faults events world kept runs =
-    fault_read (record { message = PageFault addr write wp; cpu = cpu }) faults events world (world.destination.held ++ record { page = addr / 4096; wp = wp } ∷ []) (world.destination.faults + 1) kept runs
+fault_in (PageFault addr write wp tid) cpu faults events world kept runs =
+    fault_read (record { message = PageFault addr write wp tid; cpu = cpu }) faults events world (world.destination.held ++ record { page = addr / 4096; wp = wp } ∷ []) (world.destination.faults + 1) kept runs
 fault_in (Remap from to len) cpu faults events world kept runs = absurd kept.spaces.destination_faults.0
 fault_in (Remove start end) cpu faults events world kept runs = absurd kept.spaces.destination_faults.0
 fault_in (Unmap start end) cpu faults events world kept runs = absurd kept.spaces.destination_faults.0

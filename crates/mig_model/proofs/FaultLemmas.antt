@@ -10,7 +10,7 @@ use Rattle.mig_base.specs.declared.message.Message.{Message}
 use Rattle.mig_base.specs.declared.message.Message.TheVariants.{PageFault, Remap, Remove, Unmap}
 use Rattle.mig_base.specs.Flat.{reply_of}
 use Rattle.mig_model.specs.Host.{memory}
-use Rattle.mig_model.specs.Userfault.{Noted, Object, event_queued, fault_queued, waits_fault, message_read, read_by}
+use Rattle.mig_model.specs.Userfault.{Noted, Object, event_queued, fault_queued, thread_id, waits_fault, message_read, read_by}
 use Rattle.mig_model.specs.Space.{Space, access_of, accessed, accessed_by, all_queued, call_messages, called, modes_after}
 use Rattle.mig_model.specs.Guest.{Guest, read_guest, space_by, Act}
 use Rattle.mig_model.specs.Guest.Act.{Unprotected, Zeroed, Woke, Forgot, Requested}
@@ -30,7 +30,7 @@ fault_waits false object other are more = more
 
 pub AreFaults-queued : (object : Object) (addr : ℕ) (write wp : Bool) (cpu : ℕ) → AreFaults object.faults → AreFaults (fault_queued object addr write wp cpu).faults
 AreFaults-queued object addr write wp cpu are =
-    fault_waits (waits_fault object.faults addr wp) object _ are (AreFaults-push object.faults (record { message = PageFault addr write wp; cpu = cpu }) tt are)
+    fault_waits (waits_fault object.faults addr wp) object _ are (AreFaults-push object.faults (record { message = PageFault addr write wp (thread_id object cpu); cpu = cpu }) tt are)
 
 accessed_faults : (access : Access) (space : Space) (cpu : ℕ) (command : Command) → AreFaults space.object.faults → AreFaults (accessed_by access space cpu command).object.faults
 accessed_faults (Answered reply) space cpu command are = are
@@ -74,7 +74,7 @@ pub AreFaults-message_read : (object : Object) → AreFaults object.faults → A
 AreFaults-message_read object are = read_faults object.faults object are refl
 
 pub guest_read : (guest : Guest) (cpu : ℕ) (message : Message) → AreFaults guest.space.object.faults → AreFaults (read_guest guest cpu message).space.object.faults
-guest_read guest cpu (PageFault addr write wp) are = AreFaults-message_read guest.space.object are
+guest_read guest cpu (PageFault addr write wp tid) are = AreFaults-message_read guest.space.object are
 guest_read guest cpu (Remap from to len) are = AreFaults-message_read guest.space.object are
 guest_read guest cpu (Remove start end) are = AreFaults-message_read guest.space.object are
 guest_read guest cpu (Unmap start end) are = AreFaults-message_read guest.space.object are

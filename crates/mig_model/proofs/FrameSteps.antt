@@ -268,7 +268,7 @@ run_limited world first number kept are h =
     }
 
 read_host : (guest : Guest) (cpu : ℕ) (message : Message) → (read_guest guest cpu message).space.host ≡ guest.space.host
-read_host guest cpu (PageFault addr write wp) = refl
+read_host guest cpu (PageFault addr write wp tid) = refl
 read_host guest cpu (Remap from to len) = refl
 read_host guest cpu (Remove start end) = refl
 read_host guest cpu (Unmap start end) = refl

@@ -66,7 +66,7 @@ nothing_after : (message : Message) → owed_after message (λ _. None) ≡ (λ 
 nothing_after (Remap from to len) = λ i page. cond_same (in_range (to / 4096) (len / 4096) page) (in_range (from / 4096) (len / 4096) page) None i
 nothing_after (Remove start end) = λ i page. cond_same false (is_changed_by (Remove start end) page) None i
 nothing_after (Unmap start end) = λ i page. cond_same false (is_changed_by (Unmap start end) page) None i
-nothing_after (PageFault addr write wp) = refl
+nothing_after (PageFault addr write wp tid) = refl
 
 pub settled_by-none : (events : List Noted) → settled_by events (λ _. None) ≡ (λ _. None)
 settled_by-none [] = refl

@@ -44,7 +44,7 @@ none_after : (message : Message) (owed : ℕ → Option ℕ) → ((page : ℕ) �
 none_after (Remap from to len) owed none page = both_none _ _ _ (none _) (cond_none _ (owed page) (none page))
 none_after (Remove start end) owed none page = cond_none _ (owed page) (none page)
 none_after (Unmap start end) owed none page = cond_none _ (owed page) (none page)
-none_after (PageFault addr write wp) owed none page = none page
+none_after (PageFault addr write wp tid) owed none page = none page
 
 settled_none : (events : List Noted) (owed : ℕ → Option ℕ) → ((page : ℕ) → owed page ≡ None) → (page : ℕ) → settled_by events owed page ≡ None
 settled_none [] owed none page = none page

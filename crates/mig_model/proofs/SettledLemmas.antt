@@ -33,7 +33,7 @@ get-owed_table_after (Remap from to len) owed page =
     ∙ all_carried (to / 4096) (len / 4096) page (get owed (from / 4096 + (page - to / 4096))) None (if in_range (from / 4096) (len / 4096) page then None else get owed page)
 get-owed_table_after (Remove start end) owed page = get-remove_range owed (start / 4096) (end / 4096 - start / 4096) page
 get-owed_table_after (Unmap start end) owed page = get-remove_range owed (start / 4096) (end / 4096 - start / 4096) page
-get-owed_table_after (PageFault addr write wp) owed page = refl
+get-owed_table_after (PageFault addr write wp tid) owed page = refl
 
 -- the same as functions
 pub owed_table_after-applied : (message : Message) (owed : FinMap nat_cmp ℕ) → get (owed_table_after message owed) ≡ owed_after message (get owed)
@@ -61,7 +61,7 @@ values-after (Remap from to len) owed page origin h =
     moved_value (in_range (to / 4096) (len / 4096) page) (in_range (from / 4096) (len / 4096) page) (from / 4096 + (page - to / 4096)) page _ _ owed origin refl refl h
 values-after (Remove start end) owed page origin h = (page, gone_value (in_range (start / 4096) (end / 4096 - start / 4096) page) (owed page) origin h)
 values-after (Unmap start end) owed page origin h = (page, gone_value (in_range (start / 4096) (end / 4096 - start / 4096) page) (owed page) origin h)
-values-after (PageFault addr write wp) owed page origin h = (page, h)
+values-after (PageFault addr write wp tid) owed page origin h = (page, h)
 
 pub values-settled : (events : List Noted) (owed : ℕ → Option ℕ) (page origin : ℕ) → settled_by events owed page ≡ Some origin → (other : ℕ) × (owed other ≡ Some origin)
 values-settled [] owed page origin h = (page, h)
@@ -123,7 +123,7 @@ IsOneToOne-after (Remove start end) owed one page other origin h k =
     one page other origin (gone_value (in_range (start / 4096) (end / 4096 - start / 4096) page) (owed page) origin h) (gone_value (in_range (start / 4096) (end / 4096 - start / 4096) other) (owed other) origin k)
 IsOneToOne-after (Unmap start end) owed one page other origin h k =
     one page other origin (gone_value (in_range (start / 4096) (end / 4096 - start / 4096) page) (owed page) origin h) (gone_value (in_range (start / 4096) (end / 4096 - start / 4096) other) (owed other) origin k)
-IsOneToOne-after (PageFault addr write wp) owed one page other origin h k = one page other origin h k
+IsOneToOne-after (PageFault addr write wp tid) owed one page other origin h k = one page other origin h k
 
 pub IsOneToOne-settled : (events : List Noted) (owed : ℕ → Option ℕ) → IsOneToOne owed → IsOneToOne (settled_by events owed)
 IsOneToOne-settled [] owed one = one
@@ -144,7 +144,7 @@ owed_below-after (Remap from to len) owed right below page origin h =
     moved_below (from / 4096) (to / 4096) (len / 4096) HIGH_PAGE owed page origin right.3 (below page origin) h
 owed_below-after (Remove start end) owed right below page origin h = below page origin (gone_value (in_range (start / 4096) (end / 4096 - start / 4096) page) (owed page) origin h)
 owed_below-after (Unmap start end) owed right below page origin h = below page origin (gone_value (in_range (start / 4096) (end / 4096 - start / 4096) page) (owed page) origin h)
-owed_below-after (PageFault addr write wp) owed right below page origin h = absurd right
+owed_below-after (PageFault addr write wp tid) owed right below page origin h = absurd right
 
 -- The page to which a source page is owed
 

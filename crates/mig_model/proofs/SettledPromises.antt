@@ -69,14 +69,14 @@ at_queues faults events world =
 
 event_settled : (message : Message) (cpu : ℕ) (events : List Noted) (world : World) → AreRight (record { message = message; cpu = cpu } ∷ events) → (page : ℕ) →
     settled (after_dest_read (at_queues [] (record { message = message; cpu = cpu } ∷ events) world) (record { message = message; cpu = cpu })).destination page ≡ settled (at_queues [] (record { message = message; cpu = cpu } ∷ events) world).destination page
-event_settled (PageFault addr write wp) cpu events world right page = absurd right.0
+event_settled (PageFault addr write wp tid) cpu events world right page = absurd right.0
 event_settled (Remap from to len) cpu events world right page = ap (λ f. f page) (settled_by-applied (record { message = Remap from to len; cpu = cpu }) events world.destination.owed)
 event_settled (Remove start end) cpu events world right page = ap (λ f. f page) (settled_by-applied (record { message = Remove start end; cpu = cpu }) events world.destination.owed)
 event_settled (Unmap start end) cpu events world right page = ap (λ f. f page) (settled_by-applied (record { message = Unmap start end; cpu = cpu }) events world.destination.owed)
 
 fault_settled : (message : Message) (cpu : ℕ) (faults events : List Noted) (world : World) → AreFaults (record { message = message; cpu = cpu } ∷ faults) → (page : ℕ) →
     settled (after_dest_read (at_queues (record { message = message; cpu = cpu } ∷ faults) events world) (record { message = message; cpu = cpu })).destination page ≡ settled (at_queues (record { message = message; cpu = cpu } ∷ faults) events world).destination page
-fault_settled (PageFault addr write wp) cpu faults events world are page = refl
+fault_settled (PageFault addr write wp tid) cpu faults events world are page = refl
 fault_settled (Remap from to len) cpu faults events world are page = absurd are.0
 fault_settled (Remove start end) cpu faults events world are page = absurd are.0
 fault_settled (Unmap start end) cpu faults events world are page = absurd are.0

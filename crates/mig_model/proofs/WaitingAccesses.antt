@@ -93,7 +93,7 @@ event_like guest cpu message =
     }
 
 pub read_like : (guest : Guest) (cpu : ℕ) (message : Message) → IsLike guest.cpus (read_guest guest cpu message).cpus
-read_like guest cpu (PageFault addr write wp) = unchanged guest.cpus
+read_like guest cpu (PageFault addr write wp tid) = unchanged guest.cpus
 read_like guest cpu (Remap from to len) = event_like guest cpu (Remap from to len)
 read_like guest cpu (Remove start end) = event_like guest cpu (Remove start end)
 read_like guest cpu (Unmap start end) = event_like guest cpu (Unmap start end)

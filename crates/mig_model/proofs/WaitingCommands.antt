@@ -102,7 +102,7 @@ read_same guest cpu message k =
     ∙ set_same guest.cpus cpu (message_less (processor_at guest.cpus cpu)) (less_same (processor_at guest.cpus cpu)) k
 
 pub waits_read : (guest : Guest) (cpu : ℕ) (message : Message) → SameWaits guest (read_guest guest cpu message)
-waits_read guest cpu (PageFault addr write wp) k = refl
+waits_read guest cpu (PageFault addr write wp tid) k = refl
 waits_read guest cpu (Remap from to len) k = read_same guest cpu (Remap from to len) k
 waits_read guest cpu (Remove start end) k = read_same guest cpu (Remove start end) k
 waits_read guest cpu (Unmap start end) k = read_same guest cpu (Unmap start end) k

@@ -52,7 +52,7 @@ abbrev pub is_changed_by : Message → ℕ → Bool
 is_changed_by (Remap from to len) page = in_bytes from (from + len) page || in_bytes to (to + len) page
 is_changed_by (Remove start end) page = in_bytes start end page
 is_changed_by (Unmap start end) page = in_bytes start end page
-is_changed_by (PageFault addr write wp) page = false
+is_changed_by (PageFault addr write wp tid) page = false
 
 -- the pages whose sleepers are woken when it is read: those that are gone, and of a move those that moved away
 abbrev pub is_left_by : Message → ℕ → Bool
@@ -62,7 +62,7 @@ is_left_by message page = is_changed_by message page
 -- the guest once its handler has read a message of a processor: an event wakes those that sleep on its pages, and is one less for
 -- the processor in its call
 abbrev pub read_guest : Guest → ℕ → Message → Guest
-read_guest guest cpu (PageFault addr write wp) = record guest { space = record guest.space { object = message_read guest.space.object } }
+read_guest guest cpu (PageFault addr write wp tid) = record guest { space = record guest.space { object = message_read guest.space.object } }
 read_guest guest cpu message =
     record {
       space = record guest.space { object = message_read guest.space.object };
@@ -78,7 +78,7 @@ pub record Fault : Type 0 where
 
 -- the faults that are held once a message is read
 abbrev pub held_after : List Fault → Message → List Fault
-held_after held (PageFault addr write wp) = held ++ record { page = addr / PAGE_SIZE; wp = wp } ∷ []
+held_after held (PageFault addr write wp tid) = held ++ record { page = addr / PAGE_SIZE; wp = wp } ∷ []
 held_after held message = held
 
 -- the faults behind the first
@@ -88,7 +88,7 @@ rest_held (fault ∷ rest) = rest
 
 -- 1 for a page fault
 abbrev pub fault_count : Message → ℕ
-fault_count (PageFault addr write wp) = 1
+fault_count (PageFault addr write wp tid) = 1
 fault_count message = 0
 
 -- what a handler makes of a fault

@@ -63,7 +63,7 @@ IsRight (Remap from to len) =
     × ((from / PAGE_SIZE + len / PAGE_SIZE ≤ to / PAGE_SIZE) ⊎ (to / PAGE_SIZE + len / PAGE_SIZE ≤ from / PAGE_SIZE))
 IsRight (Remove start end) = (start % PAGE_SIZE ≡ 0) × (end % PAGE_SIZE ≡ 0)
 IsRight (Unmap start end) = (start % PAGE_SIZE ≡ 0) × (end % PAGE_SIZE ≡ 0)
-IsRight (PageFault addr write wp) = ⊥
+IsRight (PageFault addr write wp tid) = ⊥
 
 abbrev pub AreRight : List Noted → Type 0
 AreRight [] = Unit {0}
@@ -71,7 +71,7 @@ AreRight (noted ∷ events) = IsRight noted.message × AreRight events
 
 -- whether a message is of a page fault
 abbrev pub IsFault : Message → Type 0
-IsFault (PageFault addr write wp) = Unit {0}
+IsFault (PageFault addr write wp tid) = Unit {0}
 IsFault (Remap from to len) = ⊥
 IsFault (Remove start end) = ⊥
 IsFault (Unmap start end) = ⊥

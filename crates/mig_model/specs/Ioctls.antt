@@ -42,13 +42,14 @@ left_by (Some errno) old new = old
 abbrev pub has_unknown : (ℕ → Bool) → ℕ → Bool
 has_unknown known number = not (none_below (λ i. is_one number i && not (known i)) 64)
 
--- the features of this object: UFFD_FEATURE_PAGEFAULT_FLAG_WP, UFFD_FEATURE_EVENT_REMAP, _REMOVE and _UNMAP
+-- the features of this object: UFFD_FEATURE_PAGEFAULT_FLAG_WP, UFFD_FEATURE_EVENT_REMAP, _REMOVE and _UNMAP, and
+-- UFFD_FEATURE_THREAD_ID
 abbrev pub is_feature : ℕ → Bool
-is_feature i = i == 0 || i == 2 || i == 3 || i == 6
+is_feature i = i == 0 || i == 2 || i == 3 || i == 6 || i == 8
 
 -- the same as one number
 abbrev pub all_features : ℕ
-all_features = 77
+all_features = 333
 
 -- the features of the object of a destination: the three events
 abbrev pub event_features : ℕ

@@ -233,7 +233,7 @@ event_effect event cpu None = Effect.ReadEvent event
 event_effect event cpu (Some reply) = Effect.ReadLast event cpu reply
 
 abbrev pub read_effect : Guest → ℕ → Message → Effect
-read_effect guest cpu (PageFault addr write wp) = Effect.ReadFault addr wp
+read_effect guest cpu (PageFault addr write wp tid) = Effect.ReadFault addr wp
 read_effect guest cpu message = event_effect message cpu (handed_over (processor_at guest.cpus cpu))
 
 -- what a handler has made of a fault at an address

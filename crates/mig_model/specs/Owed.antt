@@ -31,7 +31,7 @@ abbrev pub owed_table_after : Message → Owed → Owed
 owed_table_after (Remap from to len) owed = moved_range owed (from / PAGE_SIZE) (len / PAGE_SIZE) (to / PAGE_SIZE) (len / PAGE_SIZE) None
 owed_table_after (Remove start end) owed = remove_range owed (start / PAGE_SIZE) (end / PAGE_SIZE - start / PAGE_SIZE)
 owed_table_after (Unmap start end) owed = remove_range owed (start / PAGE_SIZE) (end / PAGE_SIZE - start / PAGE_SIZE)
-owed_table_after (PageFault addr write wp) owed = owed
+owed_table_after (PageFault addr write wp tid) owed = owed
 
 -- the settled owed relation: the owed table once the unread events are applied to it, in their order
 abbrev pub settled_by : List Noted → (ℕ → Option ℕ) → ℕ → Option ℕ

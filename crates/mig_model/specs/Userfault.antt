@@ -5,6 +5,7 @@ use Rattle.std.specs.Ordering.{nat_cmp}
 use Rattle.std.specs.FinSet.{FinSet, empty, contains}
 use Rattle.mig_base.specs.declared.message.Message.{Message}
 use Rattle.mig_base.specs.declared.message.Message.TheVariants.{PageFault, Remap, Remove, Unmap}
+use Rattle.mig_base.specs.Bits.{is_one}
 use Rattle.mig_base.specs.Ranges.{none_below}
 use Rattle.mig_base.specs.Sets.{without, pages_where, moved_set}
 
@@ -84,7 +85,7 @@ moved_modes object from count to new_count growth =
 
 -- whether a message is a page fault of this kind at the address
 abbrev pub is_fault_at : Message → ℕ → Bool → Bool
-is_fault_at (PageFault addr write wp) other kind = addr == other && (wp && kind || not wp && not kind)
+is_fault_at (PageFault addr write wp tid) other kind = addr == other && (wp && kind || not wp && not kind)
 is_fault_at (Remap from to len) other kind = false
 is_fault_at (Remove start end) other kind = false
 is_fault_at (Unmap start end) other kind = false
@@ -94,12 +95,16 @@ abbrev pub waits_fault : List Noted → ℕ → Bool → Bool
 waits_fault [] addr kind = false
 waits_fault (noted ∷ rest) addr kind = is_fault_at noted.message addr kind || waits_fault rest addr kind
 
+-- the thread that a page fault of a processor tells: its number plus 1 if UFFD_FEATURE_THREAD_ID, bit 8, was asked for, else 0
+abbrev pub thread_id : Object → ℕ → ℕ
+thread_id object cpu = if is_one object.features 8 then cpu + 1 else 0
+
 -- the object once a processor sleeps on a page. There is at most one unread fault of each kind for a page: the kernel has one for each
 -- thread that sleeps
 abbrev pub fault_queued : Object → ℕ → Bool → Bool → ℕ → Object
 fault_queued object addr write wp cpu =
     if waits_fault object.faults addr wp then object
-    else record object { faults = object.faults ++ record { message = PageFault addr write wp; cpu = cpu } ∷ [] }
+    else record object { faults = object.faults ++ record { message = PageFault addr write wp (thread_id object cpu); cpu = cpu } ∷ [] }
 
 -- the object once an event waits as well
 abbrev pub event_queued : Object → Message → ℕ → Object

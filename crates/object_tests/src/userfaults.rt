@@ -311,30 +311,35 @@ const MISSING_10: Message = Message::PageFault {
     addr: 0x10000,
     write: true,
     wp: false,
+    tid: 0,
 };
 
 const MISSING_11: Message = Message::PageFault {
     addr: 0x11000,
     write: true,
     wp: false,
+    tid: 0,
 };
 
 const MISSING_12: Message = Message::PageFault {
     addr: 0x12000,
     write: true,
     wp: false,
+    tid: 0,
 };
 
 const LOADED_12: Message = Message::PageFault {
     addr: 0x12000,
     write: false,
     wp: false,
+    tid: 0,
 };
 
 const PROTECT_11: Message = Message::PageFault {
     addr: 0x11000,
     write: true,
     wp: true,
+    tid: 0,
 };
 
 const FAULTS_FIRST: [(Call, Answer); 16] = [
@@ -382,6 +387,48 @@ const ONE_OF_A_KIND: [(Call, Answer); 14] = [
 #[test]
 fn an_unread_fault_is_the_only_one_of_its_kind(rt: HostRuntime) -> Result<(), Fail> {
     play(&rt, rt.alloc(), &ONE_OF_A_KIND)
+}
+
+const MISSING_BY_2: Message = Message::PageFault {
+    addr: 0x11000,
+    write: true,
+    wp: false,
+    tid: 3,
+};
+
+const PROTECT_BY_0: Message = Message::PageFault {
+    addr: 0x11000,
+    write: true,
+    wp: true,
+    tid: 1,
+};
+
+const LOADED_BY_255: Message = Message::PageFault {
+    addr: 0x12000,
+    write: false,
+    wp: false,
+    tid: 256,
+};
+
+/// With bit 8 alone a fault tells the thread of the first processor, and without it none.
+const THREADS: [(Call, Answer); 12] = [
+    (Enable(0x100), Done),
+    (MissingFault(0x11000, 2), Done),
+    (MissingFault(0x11000, 5), Done),
+    (ProtectFault(0x11000, 0), Done),
+    (LoadFault(0x12000, 255), Done),
+    (Read, Got(Some((MISSING_BY_2, 2)))),
+    (Read, Got(Some((PROTECT_BY_0, 0)))),
+    (Read, Got(Some((LOADED_BY_255, 255)))),
+    (Enable(0x4d), Done),
+    (MissingFault(0x11000, 2), Done),
+    (Read, Got(Some((MISSING_11, 2)))),
+    (Read, Got(None)),
+];
+
+#[test]
+fn a_fault_tells_its_thread(rt: HostRuntime) -> Result<(), Fail> {
+    play(&rt, rt.alloc(), &THREADS)
 }
 
 const REMAP: Message = Message::Remap {

@@ -60,10 +60,12 @@ const EAGAIN: Answer = Answer::Errno(Errno::Eagain);
 
 const EINVAL: Answer = Answer::Errno(Errno::Einval);
 
+/// The object of an assembled space tells no thread.
 const LOADED: Message = Message::PageFault {
     addr: 0x11000,
     write: false,
     wp: false,
+    tid: 0,
 };
 
 /// For each mode: what the object is, the modes of a page that is mapped and of one that is not, a load of the missing page,
@@ -75,7 +77,7 @@ const MODES: [[(Call, Answer); 8]; 4] = [
         (Call::ModeAt(0x12), Answer::Mode(BARE)),
         (Call::Load(1, 0x11000, 8), ZERO),
         (Call::Read, EINVAL),
-        (Call::Handshake(0xaa, 0x4d), Answer::Features(0x4d)),
+        (Call::Handshake(0xaa, 0x14d), Answer::Features(0x14d)),
         (Call::Store(0, 0x10000, 1, 8), STORED),
         (Call::Present(0x11), Answer::Among(false, 1)),
     ],
@@ -85,7 +87,7 @@ const MODES: [[(Call, Answer); 8]; 4] = [
         (Call::ModeAt(0x12), Answer::Mode(BARE)),
         (Call::Load(1, 0x11000, 8), Answer::Missing),
         (Call::Read, Answer::Message(LOADED, 1)),
-        (Call::Handshake(0xaa, 0x4d), EINVAL),
+        (Call::Handshake(0xaa, 0x14d), EINVAL),
         (Call::Store(0, 0x10000, 1, 8), STORED),
         (Call::Present(0x11), Answer::Among(false, 1)),
     ],
@@ -95,7 +97,7 @@ const MODES: [[(Call, Answer); 8]; 4] = [
         (Call::ModeAt(0x12), Answer::Mode(BARE)),
         (Call::Load(1, 0x11000, 8), ZERO),
         (Call::Read, EAGAIN),
-        (Call::Handshake(0xaa, 0x4d), EINVAL),
+        (Call::Handshake(0xaa, 0x14d), EINVAL),
         (Call::Store(0, 0x11000, 1, 8), STORED),
         (Call::Present(0x11), Answer::Among(true, 2)),
     ],
@@ -105,7 +107,7 @@ const MODES: [[(Call, Answer); 8]; 4] = [
         (Call::ModeAt(0x12), Answer::Mode(BARE)),
         (Call::Load(1, 0x11000, 8), Answer::Missing),
         (Call::Load(1, 0x10008, 1), SEVEN),
-        (Call::Handshake(0xaa, 0x4d), EINVAL),
+        (Call::Handshake(0xaa, 0x14d), EINVAL),
         (Call::Store(0, 0x10000, 1, 8), STORED),
         (Call::IsProtected(0x10), Answer::Is(false)),
     ],

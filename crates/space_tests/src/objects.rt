@@ -16,9 +16,9 @@ const MAP_TWO: Call = Mmap(8192, Prot::ReadWrite, Place::Anywhere);
 
 const MAPPED: Answer = Called(Reply::At(0x10000), 0);
 
-const ENABLE: Call = Handshake(0xaa, 0x4d);
+const ENABLE: Call = Handshake(0xaa, 0x14d);
 
-const ALL_FEATURES: Answer = Features(0x4d);
+const ALL_FEATURES: Answer = Features(0x14d);
 
 const EAGAIN: Answer = Answer::Errno(Errno::Eagain);
 
@@ -72,17 +72,32 @@ const LOADED: Message = Message::PageFault {
     addr: 0x10000,
     write: false,
     wp: false,
+    tid: 1,
 };
 
-/// By a store to the second page, which is missing.
+/// By a store of processor 1 to the second page, which is missing.
 const STORED_MISSING: Message = Message::PageFault {
     addr: 0x11000,
     write: true,
     wp: false,
+    tid: 2,
 };
 
-/// The same as the 32 bytes of `struct uffd_msg`: the event, the flags, and the address.
+/// The same as the 32 bytes of `struct uffd_msg`: the event, the flags, the address, and the thread.
 const STORED_BYTES: [u8; 32] = [
+    0x12, 0, 0, 0, 0, 0, 0, 0, 1, 0, 0, 0, 0, 0, 0, 0, 0, 0x10, 1, 0, 0, 0, 0, 0, 2, 0, 0, 0, 0, 0,
+    0, 0,
+];
+
+/// The same two of an object for which the thread was not asked.
+const STORED_BY_ANY: Message = Message::PageFault {
+    addr: 0x11000,
+    write: true,
+    wp: false,
+    tid: 0,
+};
+
+const STORED_BY_ANY_BYTES: [u8; 32] = [
     0x12, 0, 0, 0, 0, 0, 0, 0, 1, 0, 0, 0, 0, 0, 0, 0, 0, 0x10, 1, 0, 0, 0, 0, 0, 0, 0, 0, 0, 0, 0,
     0, 0,
 ];
@@ -92,6 +107,7 @@ const STORED_PROTECTED: Message = Message::PageFault {
     addr: 0x10000,
     write: true,
     wp: true,
+    tid: 1,
 };
 
 const UNMAP_SECOND: Message = Message::Unmap {
@@ -153,12 +169,28 @@ fn faults_and_a_move(rt: HostRuntime) -> Result<(), Fail> {
     play(&rt, rt.alloc(), &FAULTS)
 }
 
+/// With no bit 8 in the handshake a fault tells no thread.
+const NO_THREADS: [(Call, Answer); 6] = [
+    (MAP_TWO, MAPPED),
+    (Handshake(0xaa, 0x4d), ALL_FEATURES),
+    (Register(0x11000, 4096, 1), Registered),
+    (Store(1, 0x11008, 8, 1), Missing),
+    (NextBytes, Answer::Bytes(STORED_BY_ANY_BYTES)),
+    (Read, Answer::Message(STORED_BY_ANY, 1)),
+];
+
+#[test]
+fn a_fault_without_its_thread(rt: HostRuntime) -> Result<(), Fail> {
+    play(&rt, rt.alloc(), &NO_THREADS)
+}
+
 /// What each call refuses, and what it does. The second page is present before the first.
-const CALLS: [(Call, Answer); 27] = [
+const CALLS: [(Call, Answer); 28] = [
     (MAP_TWO, MAPPED),
     (Read, EINVAL),
     (Handshake(0xab, 0), EINVAL),
     (Handshake(0xaa, 2), EINVAL),
+    (Handshake(0xaa, 0x34d), EINVAL),
     (Call::Wake(0x10000, 4096), EINVAL),
     (ENABLE, ALL_FEATURES),
     (ENABLE, EINVAL),

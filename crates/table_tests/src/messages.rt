@@ -13,12 +13,13 @@ const LAYOUT: [(Message, Bytes); 6] = [
             addr: 0x11000,
             write: true,
             wp: false,
+            tid: 2,
         },
         (
             0x12,
             [1, 0, 0, 0, 0, 0, 0, 0],
             [0, 0x10, 1, 0, 0, 0, 0, 0],
-            NOTHING,
+            [2, 0, 0, 0, 0, 0, 0, 0],
         ),
     ),
     (
@@ -26,6 +27,7 @@ const LAYOUT: [(Message, Bytes); 6] = [
             addr: 0xfedc_b000,
             write: false,
             wp: true,
+            tid: 0,
         },
         (
             0x12,
@@ -39,12 +41,13 @@ const LAYOUT: [(Message, Bytes); 6] = [
             addr: 0x10000,
             write: true,
             wp: true,
+            tid: 0xfedc_ba98,
         },
         (
             0x12,
             [3, 0, 0, 0, 0, 0, 0, 0],
             [0, 0, 1, 0, 0, 0, 0, 0],
-            NOTHING,
+            [0x98, 0xba, 0xdc, 0xfe, 0, 0, 0, 0],
         ),
     ),
     (

@@ -8,7 +8,7 @@ ghost use Rattle.userfault.specs.Modes as modes;
 
 use mig_base::flags::{
     EVENT_REMAP_BIT, EVENT_REMOVE_BIT, EVENT_UNMAP_BIT, PAGEFAULT_FLAG_WP_BIT,
-    REGISTER_MISSING_BIT, REGISTER_WP_BIT,
+    REGISTER_MISSING_BIT, REGISTER_WP_BIT, THREAD_ID_BIT, has_bit,
 };
 use mig_base::{Addr, HIGH_PAGE, LOW, PAGE_SIZE, PageNo};
 use userfault::Mode;
@@ -45,14 +45,6 @@ pub(crate) fn whole_pages(start: Addr, len: u64) -> PageRange
     }
 }
 
-/// Whether a flag is set.
-pub(crate) fn has_bit(flags: u64, i: u32) -> bool
-    requires { i < 64 }
-    ensures { result ≡ is_one flags i }
-{
-    (flags >> i) & 1 == 1
-}
-
 /// The modes that a word of flags asks for: UFFDIO_REGISTER_MODE_MISSING and UFFDIO_REGISTER_MODE_WP.
 pub(crate) fn mode_of(flags: u64) -> Mode
     ensures { modes.mode_of result ≡ table.mode_of flags }
@@ -81,7 +73,7 @@ fn is_feature(i: u32) -> bool
 {
     matches!(
         i,
-        PAGEFAULT_FLAG_WP_BIT | EVENT_REMAP_BIT | EVENT_REMOVE_BIT | EVENT_UNMAP_BIT
+        PAGEFAULT_FLAG_WP_BIT | EVENT_REMAP_BIT | EVENT_REMOVE_BIT | EVENT_UNMAP_BIT | THREAD_ID_BIT
     )
 }
 

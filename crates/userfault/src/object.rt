@@ -13,6 +13,7 @@ mod runs;
 
 use crate::modes::{Mode, has_all, is_one_run, moved, registered};
 use crate::noted::{Noted, copy_queue, waits};
+use mig_base::flags::{THREAD_ID_BIT, has_bit};
 use mig_base::{Addr, Message, NoMemory, PageNo, PageSet};
 use std::alloc::Global;
 use std::collections::VecDeque;
@@ -161,7 +162,7 @@ impl Userfault {
 
     /// Notes that a processor sleeps on the page at an address: by a store where `write`, on a page that is write-protected
     /// where `wp` and else on one that is missing. An unread fault of this kind at this address stays the only one, whoever
-    /// caused it; to find it all unread faults are looked through. `NoMemory` changes nothing.
+    /// caused it, and keeps its thread; to find it all unread faults are looked through. `NoMemory` changes nothing.
     pub fn queue_fault(
         &mut self,
         addr: Addr,
@@ -175,9 +176,25 @@ impl Userfault {
         if waits(&self.faults, addr, wp) {
             return Ok(());
         }
-        let noted = Noted::new(Message::PageFault { addr, write, wp }, cpu);
-        self.faults.push_back(noted)?;
+        let message = Message::PageFault {
+            addr,
+            write,
+            wp,
+            tid: self.thread_id(cpu),
+        };
+        self.faults.push_back(Noted::new(message, cpu))?;
         Ok(())
+    }
+
+    /// The thread that a page fault of a processor tells: 0 unless UFFD_FEATURE_THREAD_ID was asked for.
+    fn thread_id(&self, cpu: u8) -> u32
+        ensures { result ≡ machine.thread_id self.now cpu }
+    {
+        if has_bit(self.features, THREAD_ID_BIT) {
+            u32::from(cpu) + 1
+        } else {
+            0
+        }
     }
 
     /// Notes an event that a processor caused. `NoMemory` changes nothing.

@@ -12,19 +12,22 @@ ghost use Rattle.uffd_ioctl.specs.Spaces.{ioctl_result};
 
 use super::Space;
 use crate::arguments::{
-    PageRange, has_bit, has_events, has_unknown_feature, is_bad_range, mode_of, whole_pages,
+    PageRange, has_events, has_unknown_feature, is_bad_range, mode_of, whole_pages,
 };
 use crate::fault::{Copied, CopyFault, IoctlFault, outcome, refused};
 use crate::install::{put_copies, put_zeros};
 use crate::protect::{open_unwatched, set_protection};
 use crate::register::registered;
-use mig_base::flags::{ALL_FEATURES, API, COPY_WP_BIT, INSTALL_DONTWAKE_BIT, WRITEPROTECT_WP_BIT};
+use mig_base::flags::{
+    ALL_FEATURES, API, COPY_WP_BIT, INSTALL_DONTWAKE_BIT, WRITEPROTECT_WP_BIT, has_bit,
+};
 use mig_base::{Addr, Errno, HIGH_PAGE, Message, Wake};
 use userfault::Mode;
 
 impl Space {
-    /// UFFDIO_API: enables the object for these features, and answers all that it has: UFFD_FEATURE_PAGEFAULT_FLAG_WP and the
-    /// events REMAP, REMOVE and UNMAP. EINVAL for another API than 0xAA, a feature that it has not, or a second handshake.
+    /// UFFDIO_API: enables the object for these features, and answers all that it has: UFFD_FEATURE_PAGEFAULT_FLAG_WP, the
+    /// events REMAP, REMOVE and UNMAP, and UFFD_FEATURE_THREAD_ID. EINVAL for another API than 0xAA, an unknown feature, or a
+    /// second handshake.
     pub fn handshake(&mut self, api: u64, features: u64) -> Result<u64, Errno>
         ensures answer { result ≡ table.handshake_answer self.old api features }
         ensures space { self.new ≡ table.handshaken self.old api features }

@@ -1,7 +1,7 @@
 use Rattle.std.proofs.Common.{ap, eqb}
 use Rattle.std.proofs.lemmas.Nat.Bits.{shr_and_one}
 use Rattle.mig_base.specs.Bits.{is_one}
-use Rattle.uffd_ioctl.proofs.arguments.has_bit.Goals as goal
+use Rattle.mig_base.proofs.flags.has_bit.Goals as goal
 
 pub returns : goal.returns
 unfolding is_one
