@@ -14,17 +14,11 @@ use Rattle.mig_model.proofs.HeldLemmas.{fits-more}
 
 started_not_idle : (phase : SourcePhase) → not (is_source_idle phase) ≡ true → phase ≢ SourcePhase.Idle
 started_not_idle SourcePhase.Idle h e = false≢true h
-started_not_idle SourcePhase.Precopy h e = cc
-started_not_idle SourcePhase.Stopped h e = cc
-started_not_idle SourcePhase.Paused h e = cc
-started_not_idle SourcePhase.Released h e = cc
+started_not_idle _ h e = cc
 
 not_released : (phase : SourcePhase) → is_released phase ≡ false → phase ≢ SourcePhase.Released
 not_released SourcePhase.Released h e = false≢true (sym h)
-not_released SourcePhase.Idle h e = cc
-not_released SourcePhase.Precopy h e = cc
-not_released SourcePhase.Stopped h e = cc
-not_released SourcePhase.Paused h e = cc
+not_released _ h e = cc
 
 pub kept-break : (world : World) → IsSoundWorld world → has_started world ≡ true → is_released world.source.phase ≡ false → IsSoundWorld (after_break world)
 kept-break world kept started unreleased =

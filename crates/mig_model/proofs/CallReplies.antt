@@ -90,10 +90,8 @@ woken_call true command = refl
 woken_call false command = refl
 
 woken_reply : (test : ℕ → Bool) (p : CpuState) → call_reply (woken_if test p) ≡ call_reply p
-woken_reply test CpuState.Idle = refl
 woken_reply test (CpuState.Asleep command) = woken_call (test (page_of command)) command
-woken_reply test (CpuState.Woken command) = refl
-woken_reply test (CpuState.InCall reply left) = refl
+woken_reply test _ = refl
 
 -- waking leaves calls
 woken_replies : (test : ℕ → Bool) (ps : List CpuState) (k : ℕ) → reply_at (all_woken test ps) k ≡ reply_at ps k
@@ -104,15 +102,11 @@ woken_idle test ps k idle = map_at (woken_if test) ps k refl ∙ ap (woken_if te
 
 idle_reply : (p : CpuState) → is_idle p ≡ true → call_reply p ≡ None
 idle_reply CpuState.Idle h = refl
-idle_reply (CpuState.Asleep command) h = absurd (false≢true h)
-idle_reply (CpuState.Woken command) h = absurd (false≢true h)
-idle_reply (CpuState.InCall reply left) h = absurd (false≢true h)
+idle_reply _ h = absurd (false≢true h)
 
 woken_none : (p : CpuState) → is_woken p ≡ true → call_reply p ≡ None
-woken_none CpuState.Idle h = refl
-woken_none (CpuState.Asleep command) h = refl
-woken_none (CpuState.Woken command) h = refl
 woken_none (CpuState.InCall reply left) h = absurd (false≢true h)
+woken_none _ h = refl
 
 -- a processor with no unread event is in no call
 quiet_reply : (p : CpuState) → CallFits p 0 → call_reply p ≡ None
@@ -138,28 +132,16 @@ idle_replies (suc count) (suc k) = idle_replies count k
 -- one message less
 
 less_goes_on : (p : CpuState) (reply : Reply) → call_reply p ≡ Some reply → (call_reply (message_less p) ≡ Some reply) ⊎ (handed_over p ≡ Some reply)
-less_goes_on CpuState.Idle reply h = inl h
-less_goes_on (CpuState.Asleep command) reply h = inl h
-less_goes_on (CpuState.Woken command) reply h = inl h
-less_goes_on (CpuState.InCall other zero) reply h = inl h
 less_goes_on (CpuState.InCall other (suc zero)) reply h = inr h
-less_goes_on (CpuState.InCall other (suc (suc left))) reply h = inl h
+less_goes_on _ reply h = inl h
 
 less_was : (p : CpuState) (reply : Reply) → call_reply (message_less p) ≡ Some reply → call_reply p ≡ Some reply
-less_was CpuState.Idle reply h = h
-less_was (CpuState.Asleep command) reply h = h
-less_was (CpuState.Woken command) reply h = h
-less_was (CpuState.InCall other zero) reply h = h
 less_was (CpuState.InCall other (suc zero)) reply h = absurd (none-some reply h)
-less_was (CpuState.InCall other (suc (suc left))) reply h = h
+less_was _ reply h = h
 
 last_message : (p : CpuState) (reply : Reply) → handed_over p ≡ Some reply → p ≡ CpuState.InCall reply 1
-last_message CpuState.Idle reply h = absurd (none-some reply h)
-last_message (CpuState.Asleep command) reply h = absurd (none-some reply h)
-last_message (CpuState.Woken command) reply h = absurd (none-some reply h)
-last_message (CpuState.InCall other zero) reply h = absurd (none-some reply h)
 last_message (CpuState.InCall other (suc zero)) reply h = ap (λ o. elim o [ None ↦ CpuState.InCall other 1 | Some r ↦ CpuState.InCall r 1 ]) h
-last_message (CpuState.InCall other (suc (suc left))) reply h = absurd (none-some reply h)
+last_message _ reply h = absurd (none-some reply h)
 
 set_reply : (processors : List CpuState) (i k : ℕ) (new : CpuState) (reply : Reply) → (call_reply new ≡ Some reply → reply_at processors i ≡ Some reply) → reply_at (set processors i new) k ≡ Some reply → reply_at processors k ≡ Some reply
 set_reply [] i k new reply was h = h
@@ -262,17 +244,11 @@ read_goes_on guest cpu (Unmap start end) = event_goes_on guest _ (Unmap start en
 
 source_act_calls : (act : Act) (node : Source) (page : ℕ) → SameCalls node.guest (source_acted_by act node page).guest
 source_act_calls Unprotected node page k = woken_replies (λ q. eqb q page) node.guest.cpus k
-source_act_calls Zeroed node page k = woken_replies (λ q. eqb q page) node.guest.cpus k
-source_act_calls Woke node page k = woken_replies (λ q. eqb q page) node.guest.cpus k
-source_act_calls Forgot node page k = woken_replies (λ q. eqb q page) node.guest.cpus k
-source_act_calls (Requested origin) node page k = woken_replies (λ q. eqb q page) node.guest.cpus k
+source_act_calls _ node page k = woken_replies (λ q. eqb q page) node.guest.cpus k
 
 destination_act_calls : (act : Act) (node : Destination) (page : ℕ) → SameCalls node.guest (destination_acted_by act node page).guest
-destination_act_calls Unprotected node page k = woken_replies (λ q. eqb q page) node.guest.cpus k
-destination_act_calls Zeroed node page k = woken_replies (λ q. eqb q page) node.guest.cpus k
-destination_act_calls Woke node page k = woken_replies (λ q. eqb q page) node.guest.cpus k
-destination_act_calls Forgot node page k = woken_replies (λ q. eqb q page) node.guest.cpus k
 destination_act_calls (Requested origin) node page k = refl
+destination_act_calls _ node page k = woken_replies (λ q. eqb q page) node.guest.cpus k
 
 install_calls : (o : Option ℕ) (node : Destination) (copy : Copy) (rest : List Copy) → SameCalls node.guest (install_by o node copy rest).guest
 install_calls None node copy rest k = refl
@@ -313,23 +289,11 @@ page_not_last false addr = refl
 
 act_not_last : (act : Act) (addr : ℕ) → is_last_read (act_effect act addr) ≡ false
 act_not_last Unprotected addr = refl
-act_not_last Zeroed addr = refl
-act_not_last Woke addr = refl
-act_not_last Forgot addr = refl
-act_not_last (Requested origin) addr = refl
+act_not_last _ addr = refl
 
 frame_not_last : (frame : Frame) → is_last_read (frame_effect frame) ≡ false
 frame_not_last Advise = refl
-frame_not_last (Page page bytes) = refl
-frame_not_last (Zero page) = refl
-frame_not_last (Run first pages) = refl
-frame_not_last (Discard pages) = refl
-frame_not_last (Package areas owed commands) = refl
-frame_not_last (End count) = refl
-frame_not_last Resume = refl
-frame_not_last (Request page) = refl
-frame_not_last (Recv state owed) = refl
-frame_not_last Done = refl
+frame_not_last _ = refl
 
 install_not_last : (o : Option ℕ) (origin : ℕ) → is_last_read (install_effect o origin) ≡ false
 install_not_last None origin = refl
@@ -337,8 +301,7 @@ install_not_last (Some page) origin = refl
 
 try_not_last : (took : Took) (cpu : ℕ) → is_last_read (try_effect cpu took) ≡ false
 try_not_last (Took.Answer reply) cpu = refl
-try_not_last Sleep cpu = refl
-try_not_last (Call reply left) cpu = refl
+try_not_last _ cpu = refl
 
 -- Steps that try no command
 

@@ -69,10 +69,8 @@ woken_fits true command unread h = h
 woken_fits false command unread h = h
 
 fits_woken : (test : ℕ → Bool) (p : CpuState) (unread : ℕ) → CallFits p unread → CallFits (woken_if test p) unread
-fits_woken test CpuState.Idle unread h = h
 fits_woken test (CpuState.Asleep command) unread h = woken_fits (test (page_of command)) command unread h
-fits_woken test (CpuState.Woken command) unread h = h
-fits_woken test (CpuState.InCall reply left) unread h = h
+fits_woken test _ unread h = h
 
 -- waking leaves calls
 fits_all : (test : ℕ → Bool) (cpus : List CpuState) (k unread : ℕ) → CallFits (processor_at cpus k) unread → CallFits (processor_at (all_woken test cpus) k) unread
@@ -80,15 +78,11 @@ fits_all test cpus k unread h = subst (λ p. CallFits p unread) (sym (map_at (wo
 
 idle_unread : (p : CpuState) (unread : ℕ) → is_idle p ≡ true → CallFits p unread → unread ≡ 0
 idle_unread CpuState.Idle unread is h = h
-idle_unread (CpuState.Asleep command) unread is h = absurd (false≢true is)
-idle_unread (CpuState.Woken command) unread is h = absurd (false≢true is)
-idle_unread (CpuState.InCall reply left) unread is h = absurd (false≢true is)
+idle_unread _ unread is h = absurd (false≢true is)
 
 woken_unread : (p : CpuState) (unread : ℕ) → is_woken p ≡ true → CallFits p unread → unread ≡ 0
 woken_unread (CpuState.Woken command) unread is h = h
-woken_unread CpuState.Idle unread is h = absurd (false≢true is)
-woken_unread (CpuState.Asleep command) unread is h = absurd (false≢true is)
-woken_unread (CpuState.InCall reply left) unread is h = absurd (false≢true is)
+woken_unread _ unread is h = absurd (false≢true is)
 
 zero_suc : (n : ℕ) → 0 ≡ suc n → ⊥
 zero_suc n h = omega (arith, h)
@@ -109,8 +103,7 @@ fits_set cpus i new before now there fits others here k =
 
 answered_fits : (access : Access) (command : Command) (unread : ℕ) → unread ≡ 0 → CallFits (processor_after command (access_took access)) unread
 answered_fits (Answered reply) command unread h = h
-answered_fits Missing command unread h = h
-answered_fits Protected command unread h = h
+answered_fits _ command unread h = h
 
 called_fits : (reply : Reply) (count : ℕ) (command : Command) (unread : ℕ) → unread ≡ count → CallFits (processor_after command (call_took reply count)) unread
 called_fits reply zero command unread h = h
@@ -166,12 +159,10 @@ woken_there (p ∷ ps) (suc k) h = more_there k (length ps) (woken_there ps k h)
 -- Messages
 
 less_fits : (p : CpuState) (unread : ℕ) → CallFits p (1 + unread) → CallFits (message_less p) unread
-less_fits CpuState.Idle unread h = absurd (omega (arith, h))
-less_fits (CpuState.Asleep command) unread h = absurd (omega (arith, h))
-less_fits (CpuState.Woken command) unread h = absurd (omega (arith, h))
 less_fits (CpuState.InCall reply zero) unread h = let no = h.1 in absurd (omega (arith, no))
 less_fits (CpuState.InCall reply (suc zero)) unread h = let is = h.0 in omega (arith, is)
 less_fits (CpuState.InCall reply (suc (suc left))) unread h = let is = h.0 in (omega (arith, is), omega arith)
+less_fits _ unread h = absurd (omega (arith, h))
 
 -- a processor that has unread events is there
 call_there : (cpus : List CpuState) (k unread : ℕ) → CallFits (processor_at cpus k) (1 + unread) → not (ltb k (length cpus)) ≡ false
@@ -202,9 +193,7 @@ event_calls (Unmap start end) cpu events guest right calls = record { fits = eve
 fault_calls : (message : Message) (cpu : ℕ) (faults events : List Noted) (guest : Guest) → HasSoundCalls (with_queues (record { message = message; cpu = cpu } ∷ faults) events guest) →
     HasSoundCalls (read_guest (with_queues (record { message = message; cpu = cpu } ∷ faults) events guest) cpu message)
 fault_calls (PageFault addr write wp tid) cpu faults events guest calls = record { fits = calls.fits; faults = calls.faults.1 }
-fault_calls (Remap from to len) cpu faults events guest calls = absurd calls.faults.0
-fault_calls (Remove start end) cpu faults events guest calls = absurd calls.faults.0
-fault_calls (Unmap start end) cpu faults events guest calls = absurd calls.faults.0
+fault_calls _ cpu faults events guest calls = absurd calls.faults.0
 
 read_in : (faults events : List Noted) (noted : Noted) (guest : Guest) → next_of faults events ≡ Some noted → AreRight events → HasSoundCalls (with_queues faults events guest) → HasSoundCalls (read_guest (with_queues faults events guest) noted.cpu noted.message)
 read_in [] [] noted guest is right calls = absurd (none_is noted is)
@@ -228,17 +217,11 @@ resolved_calls guest page space same calls =
 
 source_act_calls : (act : Act) (node : Source) (page : ℕ) → HasSoundCalls node.guest → HasSoundCalls (source_acted_by act node page).guest
 source_act_calls Unprotected node page calls = resolved_calls node.guest page _ refl calls
-source_act_calls Zeroed node page calls = resolved_calls node.guest page _ refl calls
-source_act_calls Woke node page calls = resolved_calls node.guest page _ refl calls
-source_act_calls Forgot node page calls = resolved_calls node.guest page _ refl calls
-source_act_calls (Requested origin) node page calls = resolved_calls node.guest page _ refl calls
+source_act_calls _ node page calls = resolved_calls node.guest page _ refl calls
 
 destination_act_calls : (act : Act) (node : Destination) (page : ℕ) → HasSoundCalls node.guest → HasSoundCalls (destination_acted_by act node page).guest
-destination_act_calls Unprotected node page calls = resolved_calls node.guest page _ refl calls
-destination_act_calls Zeroed node page calls = resolved_calls node.guest page _ refl calls
-destination_act_calls Woke node page calls = resolved_calls node.guest page _ refl calls
-destination_act_calls Forgot node page calls = resolved_calls node.guest page _ refl calls
 destination_act_calls (Requested origin) node page calls = calls
+destination_act_calls _ node page calls = resolved_calls node.guest page _ refl calls
 
 install_calls : (o : Option ℕ) (node : Destination) (copy : Copy) (rest : List Copy) → HasSoundCalls node.guest → HasSoundCalls (install_by o node copy rest).guest
 install_calls None node copy rest calls = calls
@@ -257,34 +240,18 @@ came_calls false node copy calls = record { fits = calls.fits; faults = calls.fa
 
 resumed_calls : (state : Received) (node : Destination) → HasSoundCalls node.guest → HasSoundCalls (resumed_by state node).guest
 resumed_calls Received.NotRun node calls = calls
-resumed_calls Received.Running node calls = calls
-resumed_calls Received.Ended node calls = calls
+resumed_calls _ node calls = calls
 
 took_calls : (frame : Frame) (node : Destination) (epoch : ℕ) → HasSoundCalls node.guest → HasSoundCalls (destination_took node epoch frame).guest
 took_calls (Package areas owed commands) node epoch calls = record { fits = λ k. taken_fits commands k; faults = tt }
 took_calls (Page page bytes) node epoch calls = came_calls node.has_run node _ calls
 took_calls (Zero page) node epoch calls = came_calls node.has_run node _ calls
 took_calls Resume node epoch calls = resumed_calls (received_of node) _ calls
-took_calls Advise node epoch calls = calls
-took_calls (Run first pages) node epoch calls = calls
-took_calls (Discard pages) node epoch calls = calls
-took_calls (End count) node epoch calls = calls
-took_calls (Request page) node epoch calls = calls
-took_calls (Recv state owed) node epoch calls = calls
-took_calls Done node epoch calls = calls
+took_calls _ node epoch calls = calls
 
 urgent_calls : (frame : Frame) (node : Destination) → HasSoundCalls node.guest → HasSoundCalls (urgent_took node frame).guest
 urgent_calls (Page page bytes) node calls = calls
-urgent_calls (Zero page) node calls = calls
-urgent_calls Advise node calls = calls
-urgent_calls (Run first pages) node calls = calls
-urgent_calls (Discard pages) node calls = calls
-urgent_calls (Package areas owed commands) node calls = calls
-urgent_calls (End count) node calls = calls
-urgent_calls Resume node calls = calls
-urgent_calls (Request page) node calls = calls
-urgent_calls (Recv state owed) node calls = calls
-urgent_calls Done node calls = calls
+urgent_calls _ node calls = calls
 
 -- a source that has switched has no unread event, and gives up its space with none
 released_calls : (node : Source) → (space_of node).object.events ≡ [] → HasSoundCalls node.guest → HasSoundCalls (released node).guest
@@ -296,18 +263,9 @@ rebuilt_calls false one other a b = b
 
 back_calls : (frame : Frame) (node : Source) → (is_last frame ≡ true → (space_of node).object.events ≡ []) → HasSoundCalls node.guest → HasSoundCalls (source_took node frame).guest
 back_calls (Recv Received.NotRun owed) node quiet calls = rebuilt_calls node.switched _ _ calls calls
-back_calls (Recv Received.Running owed) node quiet calls = calls
 back_calls (Recv Received.Ended owed) node quiet calls = released_calls node (quiet refl) calls
 back_calls Done node quiet calls = released_calls node (quiet refl) calls
-back_calls (Request page) node quiet calls = calls
-back_calls Advise node quiet calls = calls
-back_calls (Page page bytes) node quiet calls = calls
-back_calls (Zero page) node quiet calls = calls
-back_calls (Run first pages) node quiet calls = calls
-back_calls (Discard pages) node quiet calls = calls
-back_calls (Package areas owed commands) node quiet calls = calls
-back_calls (End count) node quiet calls = calls
-back_calls Resume node quiet calls = calls
+back_calls _ node quiet calls = calls
 
 -- Steps
 
@@ -323,10 +281,7 @@ command_calls world cpu command there none all = let new = by_guest world.destin
 
 pub stopped_switched : (phase : SourcePhase) (switched : Bool) → is_stopped phase ≡ true → SwitchedAt phase switched → switched ≡ true
 stopped_switched SourcePhase.Stopped switched h at = at
-stopped_switched SourcePhase.Idle switched h at = absurd (false≢true h)
-stopped_switched SourcePhase.Precopy switched h at = absurd (false≢true h)
-stopped_switched SourcePhase.Paused switched h at = absurd (false≢true h)
-stopped_switched SourcePhase.Released switched h at = absurd (false≢true h)
+stopped_switched _ switched h at = absurd (false≢true h)
 
 ended_ran : Received.Ended ≢ Received.NotRun
 ended_ran h = cc

@@ -113,7 +113,4 @@ accessed_seen here there owed (Store addr width value) Done access sound mapped 
     put_seen here there owed (addr / 4096) (overwrite (contents here.bytes (addr / 4096)) (addr % 4096) (low_bytes value width)) sound mapped new_sound
     ∙ ap {B = Host} (λ o. record (seen_host here there owed) { bytes = insert (seen_host here there owed).bytes (addr / 4096) (overwrite (unwrap_or o zero_page) (addr % 4096) (low_bytes value width)) }) (sym (own refl))
 accessed_seen here there owed (Store addr width value) _ access sound mapped new_sound own = refl
-accessed_seen here there owed (Mmap len prot place) reply access sound mapped new_sound own = none_absurd access
-accessed_seen here there owed (Munmap addr len) reply access sound mapped new_sound own = none_absurd access
-accessed_seen here there owed (Mremap addr old_len new_len may_move fixed) reply access sound mapped new_sound own = none_absurd access
-accessed_seen here there owed (DontNeed addr len) reply access sound mapped new_sound own = none_absurd access
+accessed_seen here there owed _ reply access sound mapped new_sound own = none_absurd access

@@ -90,9 +90,7 @@ read-less object noted is = read_by-less object.faults object.events object note
 
 pub read_object : (guest : Guest) (cpu : ℕ) (message : Message) → (read_guest guest cpu message).space.object ≡ message_read guest.space.object
 read_object guest cpu (PageFault addr write wp tid) = refl
-read_object guest cpu (Remap from to len) = refl
-read_object guest cpu (Remove start end) = refl
-read_object guest cpu (Unmap start end) = refl
+read_object guest cpu _ = refl
 
 first_of : (faults events : List Noted) (event : Noted) (more : List Noted) → events ≡ event ∷ more → (noted : Noted) × (next_of faults events ≡ Some noted)
 first_of [] events event more is = (event, ap first_noted is)

@@ -113,18 +113,11 @@ request_wires SourcePhase.Paused DestPhase.Running source node forward back urge
     )
 request_wires SourcePhase.Released DestPhase.Running source node forward back urgent sent is runs w = runs_not_ended w.0
 request_wires from DestPhase.Idle source node forward back urgent sent is runs w = none_absurd runs
-request_wires from DestPhase.Advised source node forward back urgent sent is runs w = none_absurd runs
-request_wires from DestPhase.Discarding source node forward back urgent sent is runs w = none_absurd runs
-request_wires from DestPhase.Paused source node forward back urgent sent is runs w = none_absurd runs
-request_wires from DestPhase.Ended source node forward back urgent sent is runs w = none_absurd runs
+request_wires from _ source node forward back urgent sent is runs w = none_absurd runs
 
 running_epoch : (to : DestPhase) (epoch source_epoch : ℕ) → is_running to ≡ true → EpochAt to epoch source_epoch → epoch ≡ source_epoch
 running_epoch DestPhase.Running epoch source_epoch runs at = at
-running_epoch DestPhase.Idle epoch source_epoch runs at = none_absurd runs
-running_epoch DestPhase.Advised epoch source_epoch runs at = none_absurd runs
-running_epoch DestPhase.Discarding epoch source_epoch runs at = none_absurd runs
-running_epoch DestPhase.Paused epoch source_epoch runs at = none_absurd runs
-running_epoch DestPhase.Ended epoch source_epoch runs at = none_absurd runs
+running_epoch _ epoch source_epoch runs at = none_absurd runs
 
 -- only the wire back has changed
 pub kept-back : (world : World) (back : List Sent) → world.up ≡ true → AreOf world.source.epoch back → Wires world.source world.destination world.forward.frames back world.urgent.frames → HeldFits back world.back.held → IsSoundWorld world → IsSoundWorld (record world { back = record world.back { frames = back } })

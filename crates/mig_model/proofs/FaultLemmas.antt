@@ -75,16 +75,11 @@ AreFaults-message_read object are = read_faults object.faults object are refl
 
 pub guest_read : (guest : Guest) (cpu : ℕ) (message : Message) → AreFaults guest.space.object.faults → AreFaults (read_guest guest cpu message).space.object.faults
 guest_read guest cpu (PageFault addr write wp tid) are = AreFaults-message_read guest.space.object are
-guest_read guest cpu (Remap from to len) are = AreFaults-message_read guest.space.object are
-guest_read guest cpu (Remove start end) are = AreFaults-message_read guest.space.object are
-guest_read guest cpu (Unmap start end) are = AreFaults-message_read guest.space.object are
+guest_read guest cpu _ are = AreFaults-message_read guest.space.object are
 
 pub AreFaults-destination_read : (node : Destination) (noted : Noted) → AreFaults node.guest.space.object.faults → AreFaults (destination_read node noted).guest.space.object.faults
 AreFaults-destination_read node noted are = guest_read node.guest noted.cpu noted.message are
 
 pub AreFaults-acted : (act : Act) (node : Destination) (page : ℕ) → AreFaults node.guest.space.object.faults → AreFaults (destination_acted_by act node page).guest.space.object.faults
 AreFaults-acted Unprotected node page are = are
-AreFaults-acted Zeroed node page are = are
-AreFaults-acted Woke node page are = are
-AreFaults-acted Forgot node page are = are
-AreFaults-acted (Requested source) node page are = are
+AreFaults-acted _ node page are = are

@@ -36,14 +36,12 @@ is_past AfterEnd = true
 is_past flow = false
 
 past_next : (flow next : Flow) (frame : Frame) → is_past flow ≡ true → flow_next flow frame ≡ Some next → (is_past next ≡ true) × (is_package frame ≡ false)
-past_next BeforeAdvise next frame past h = absurd (false≢true past)
-past_next Copies next frame past h = absurd (false≢true past)
-past_next BeforePackage next frame past h = absurd (false≢true past)
 past_next Pushed next (Page page bytes) past h = (ap (λ o. elim o [ None ↦ true | Some flow ↦ is_past flow ]) (sym h), refl)
 past_next Pushed next (Zero page) past h = (ap (λ o. elim o [ None ↦ true | Some flow ↦ is_past flow ]) (sym h), refl)
 past_next Pushed next (End count) past h = (ap (λ o. elim o [ None ↦ true | Some flow ↦ is_past flow ]) (sym h), refl)
 past_next Pushed next _ past h = absurd (none-some next h)
 past_next AfterEnd next frame past h = absurd (none-some next h)
+past_next _ next frame past h = absurd (false≢true past)
 
 not_here : (here : Bool) (frame : Frame) (rest : Option Frame) → here ≡ false → is_some (if here then Some frame else rest) ≡ true → is_some rest ≡ true
 not_here true frame rest h there = absurd (false≢true (sym h))

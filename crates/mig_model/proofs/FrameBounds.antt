@@ -190,17 +190,11 @@ asked_or_not false origin is = (is, tt)
 
 pub act_good : (act : Act) (node : Destination) → ((origin : ℕ) → act ≡ Requested origin → IsPage origin) → AllFrames (act_frames act node)
 act_good (Requested origin) node h = asked_or_not (is_requested node.requests origin || not (is_running node.phase)) origin (h origin refl)
-act_good Unprotected node h = tt
-act_good Zeroed node h = tt
-act_good Woke node h = tt
-act_good Forgot node h = tt
+act_good _ node h = tt
 
 pub act_listed : (act : Act) (node : Destination) (page : ℕ) → ((origin : ℕ) → act ≡ Requested origin → IsPage origin) → AreListed node.requests → AreListed (destination_acted_by act node page).requests
 act_listed (Requested origin) node page h asked = listed-requesting node.requests origin asked (h origin refl)
-act_listed Unprotected node page h asked = asked
-act_listed Zeroed node page h asked = asked
-act_listed Woke node page h asked = asked
-act_listed Forgot node page h asked = asked
+act_listed _ node page h asked = asked
 
 -- what is asked for is owed
 pub requested_owed : (gone here : Bool) (owed : Option ℕ) (origin : ℕ) → destination_act_by gone here owed ≡ Requested origin → owed ≡ Some origin

@@ -104,15 +104,7 @@ not_too_soon node (End urgent) good =
     soon_by (eqb (finmap.len node.owed) 0) (is_empty node.arrivals) (leb urgent node.urgent_taken) (λ free all.
     ap (λ m. eqb (finmap.len m) 0) (good.1 (empty_is node.arrivals free) (all_came urgent node.urgent_taken all)) ∙ ap (λ n. eqb n 0) (finmap.len-empty nat_cmp ℕ))
 not_too_soon node Advise good = refl
-not_too_soon node (Page page bytes) good = refl
-not_too_soon node (Zero page) good = refl
-not_too_soon node (Run first pages) good = refl
-not_too_soon node (Discard pages) good = refl
-not_too_soon node (Package areas owed commands) good = refl
-not_too_soon node Resume good = refl
-not_too_soon node (Request page) good = refl
-not_too_soon node (Recv state owed) good = refl
-not_too_soon node Done good = refl
+not_too_soon node _ good = refl
 
 later_epoch : (a b : ℕ) → a < b → ltb a b ≡ true
 later_epoch a b h = grind (arith, nat_tests)
@@ -120,15 +112,7 @@ later_epoch a b h = grind (arith, nat_tests)
 of_epoch : (own epoch : ℕ) (node : Destination) (frame : Frame) → own ≡ node.epoch → IsOwnEpoch node epoch frame → is_of_epoch own epoch frame ≡ true
 of_epoch own epoch node Advise is h = refl
 of_epoch own epoch node Resume is h = later_epoch own epoch (subst (λ e. e < epoch) (sym is) h)
-of_epoch own epoch node (Page page bytes) is h = same_number epoch own (h ∙ sym is)
-of_epoch own epoch node (Zero page) is h = same_number epoch own (h ∙ sym is)
-of_epoch own epoch node (Run first pages) is h = same_number epoch own (h ∙ sym is)
-of_epoch own epoch node (Discard pages) is h = same_number epoch own (h ∙ sym is)
-of_epoch own epoch node (Package areas owed commands) is h = same_number epoch own (h ∙ sym is)
-of_epoch own epoch node (End urgent) is h = same_number epoch own (h ∙ sym is)
-of_epoch own epoch node (Request page) is h = same_number epoch own (h ∙ sym is)
-of_epoch own epoch node (Recv state owed) is h = same_number epoch own (h ∙ sym is)
-of_epoch own epoch node Done is h = same_number epoch own (h ∙ sym is)
+of_epoch own epoch node _ is h = same_number epoch own (h ∙ sym is)
 
 torn_by : (kept mapped : Bool) → kept ≡ false → mapped ≡ true → (kept || not mapped) ≡ false
 torn_by kept mapped h k = neither kept (not mapped) h (not_true mapped k)
@@ -147,15 +131,7 @@ not_bad : (node : Destination) (frame : Frame) → IsGood node frame → is_bad 
 not_bad node (Package areas owed commands) good =
     neither (is_torn node.kept areas owed) (not (eqb (length commands) (length node.guest.cpus))) (not_torn node.kept areas owed good.0 good.1 good.2) (not_true _ (same_number (length commands) (length node.guest.cpus) good.3))
 not_bad node (End urgent) good = no_fewer node.urgent_taken urgent good.0
-not_bad node Advise good = refl
-not_bad node (Page page bytes) good = refl
-not_bad node (Zero page) good = refl
-not_bad node (Run first pages) good = refl
-not_bad node (Discard pages) good = refl
-not_bad node Resume good = refl
-not_bad node (Request page) good = refl
-not_bad node (Recv state owed) good = refl
-not_bad node Done good = refl
+not_bad node _ good = refl
 
 -- a frame that is taken is not wrong
 pub no_frame_fault : (node : Destination) (sent : Sent) → IsTaken node sent → frame_fault node sent.epoch sent.frame ≡ None

@@ -269,9 +269,7 @@ run_limited world first number kept are h =
 
 read_host : (guest : Guest) (cpu : ℕ) (message : Message) → (read_guest guest cpu message).space.host ≡ guest.space.host
 read_host guest cpu (PageFault addr write wp tid) = refl
-read_host guest cpu (Remap from to len) = refl
-read_host guest cpu (Remove start end) = refl
-read_host guest cpu (Unmap start end) = refl
+read_host guest cpu _ = refl
 
 read_limited : {cpus : ℕ} → (world : World) (noted : Noted) → AreLimited cpus world → AreLimited cpus (after_source_read world noted)
 read_limited world noted h =
@@ -279,11 +277,8 @@ read_limited world noted h =
     with_host (read_guest world.source.guest noted.cpu noted.message).space.host (subst (λ host. IsMapping host.areas) same h.areas) (subst (λ host. HasBytes host.bytes) same h.bytes) h
 
 acted_limited : {cpus : ℕ} → (act : Act) (world : World) (page : ℕ) → AreLimited cpus world → AreLimited cpus (record world { source = source_acted_by act world.source page })
-acted_limited Unprotected world page h = h
 acted_limited Zeroed world page h = with_host _ h.areas (zeroed_bytes (space_of world.source).host.bytes page h.bytes) h
-acted_limited Woke world page h = h
-acted_limited Forgot world page h = h
-acted_limited (Requested origin) world page h = h
+acted_limited _ world page h = h
 
 not_run : (ran switched : Bool) → (ran ≡ true → switched ≡ true) → switched ≡ false → ran ≡ false
 not_run true switched h bare = absurd (false≢true (sym bare ∙ h refl))
@@ -291,17 +286,11 @@ not_run false switched h bare = refl
 
 precopy_started : (phase : SourcePhase) → is_precopy phase ≡ true → is_source_idle phase ≡ false
 precopy_started SourcePhase.Idle h = sym h
-precopy_started SourcePhase.Precopy h = refl
-precopy_started SourcePhase.Stopped h = refl
-precopy_started SourcePhase.Paused h = refl
-precopy_started SourcePhase.Released h = refl
+precopy_started _ h = refl
 
 stopped_unreleased : (phase : SourcePhase) → is_stopped phase ≡ true → is_released phase ≡ false
-stopped_unreleased SourcePhase.Idle h = refl
-stopped_unreleased SourcePhase.Precopy h = refl
-stopped_unreleased SourcePhase.Stopped h = refl
-stopped_unreleased SourcePhase.Paused h = refl
 stopped_unreleased SourcePhase.Released h = sym h
+stopped_unreleased _ h = refl
 
 switch_limited : {cpus : ℕ} → (world : World) → IsReady cpus world → is_precopy world.source.phase ≡ true → AreLimited cpus world → AreLimited cpus (after_switch world)
 switch_limited world ready precopy h =
@@ -343,21 +332,13 @@ came_requests false node copy = refl
 
 resumed_requests : (state : Received) (node : Destination) → (resumed_by state node).requests ≡ node.requests
 resumed_requests Received.NotRun node = refl
-resumed_requests Received.Running node = refl
-resumed_requests Received.Ended node = refl
+resumed_requests _ node = refl
 
 took_requests : (frame : Frame) (epoch : ℕ) (node : Destination) → (destination_took node epoch frame).requests ≡ node.requests
 took_requests (Page page bytes) epoch node = came_requests node.has_run node _
 took_requests (Zero page) epoch node = came_requests node.has_run node _
 took_requests Resume epoch node = resumed_requests (received_of node) _
-took_requests Advise epoch node = refl
-took_requests (Run first pages) epoch node = refl
-took_requests (Discard pages) epoch node = refl
-took_requests (Package areas owed commands) epoch node = refl
-took_requests (End urgent) epoch node = refl
-took_requests (Request page) epoch node = refl
-took_requests (Recv state owed) epoch node = refl
-took_requests Done epoch node = refl
+took_requests _ epoch node = refl
 
 deliver_limited : {cpus : ℕ} → (world : World) (sent : Sent) (rest : List Sent) → IsSoundWorld world → world.forward.frames ≡ sent ∷ rest → AreLimited cpus world → AreLimited cpus (after_deliver world sent rest)
 deliver_limited {cpus = cpus} world sent rest kept first h =
@@ -369,16 +350,7 @@ deliver_limited {cpus = cpus} world sent rest kept first h =
 
 urgent_requests : (frame : Frame) (node : Destination) → (urgent_took node frame).requests ≡ node.requests
 urgent_requests (Page page bytes) node = refl
-urgent_requests (Zero page) node = refl
-urgent_requests Advise node = refl
-urgent_requests (Run first pages) node = refl
-urgent_requests (Discard pages) node = refl
-urgent_requests (Package areas owed commands) node = refl
-urgent_requests (End urgent) node = refl
-urgent_requests Resume node = refl
-urgent_requests (Request page) node = refl
-urgent_requests (Recv state owed) node = refl
-urgent_requests Done node = refl
+urgent_requests _ node = refl
 
 urgent_limited : {cpus : ℕ} → (world : World) (sent : Sent) (rest : List Sent) → world.urgent.frames ≡ sent ∷ rest → AreLimited cpus world → AreLimited cpus (after_deliver_urgent world sent rest)
 urgent_limited {cpus = cpus} world sent rest first h =

@@ -186,10 +186,8 @@ with_back from to sent rest world = record world { source = record world.source 
 back_in : (from : SourcePhase) (to : DestPhase) (sent : Sent) (rest : List Sent) (world : World) → world.up ≡ true → IsSoundWorld (with_back from to sent rest world) → IsInPlaceBack (with_back from to sent rest world).source sent.frame
 back_in SourcePhase.Stopped DestPhase.Running sent rest world up kept = request_place sent.frame (with_back SourcePhase.Stopped DestPhase.Running sent rest world).source refl (and_left (is_request sent.frame) (are_requests rest) (kept.flight.wires up).1)
 back_in SourcePhase.Stopped DestPhase.Ended sent rest world up kept = done_place sent.frame (with_back SourcePhase.Stopped DestPhase.Ended sent rest world).source (are_requests_and_done rest) (is_empty rest) refl (kept.flight.wires up).2 (kept.flight.wires up).1
-back_in SourcePhase.Stopped DestPhase.Idle sent rest world up kept = absurd (empty_first sent rest (kept.flight.wires up).1)
-back_in SourcePhase.Stopped DestPhase.Advised sent rest world up kept = absurd (empty_first sent rest (kept.flight.wires up).1)
-back_in SourcePhase.Stopped DestPhase.Discarding sent rest world up kept = absurd (empty_first sent rest (kept.flight.wires up).1)
 back_in SourcePhase.Stopped DestPhase.Paused sent rest world up kept = absurd (kept.flight.wires up)
+back_in SourcePhase.Stopped _ sent rest world up kept = absurd (empty_first sent rest (kept.flight.wires up).1)
 back_in SourcePhase.Paused DestPhase.Advised sent rest world up kept =
     recv_place sent.frame Received.NotRun no_pages (with_back SourcePhase.Paused DestPhase.Advised sent rest world).source refl (λ page h. none_absurd (sym (no_member page) ∙ h)) (λ other. refl) (λ other. absurd (other refl)) (first_is sent _ rest [] (kept.flight.wires up).1)
 back_in SourcePhase.Paused DestPhase.Running sent rest world up kept =

@@ -81,9 +81,7 @@ ran_in SourcePhase.Released world released kept =
     let ended = ended_told world.destination.phase world.destination.has_run world.destination.ended (kept.flight.wires up).0 kept.phases.destination_phase in
     (ended, kept.phases.ended_after_run ended)
 ran_in SourcePhase.Idle world released kept = none_absurd released
-ran_in SourcePhase.Precopy world released kept = none_absurd released
-ran_in SourcePhase.Stopped world released kept = none_absurd released
-ran_in SourcePhase.Paused world released kept = none_absurd released
+ran_in _ world released kept = none_absurd released
 
 -- the destination of a migration that is complete has run
 pub complete_ran : (world : World) → IsSoundWorld world → IsComplete world → world.destination.has_run ≡ true
@@ -109,9 +107,7 @@ complete_in SourcePhase.Released world released kept =
       none_arrived = empty_now.1;
     }
 complete_in SourcePhase.Idle world released kept = none_absurd released
-complete_in SourcePhase.Precopy world released kept = none_absurd released
-complete_in SourcePhase.Stopped world released kept = none_absurd released
-complete_in SourcePhase.Paused world released kept = none_absurd released
+complete_in _ world released kept = none_absurd released
 
 pub is_alone : (world : World) → IsSoundWorld world → IsComplete world → IsAlone world
 is_alone world kept complete = complete_in world.source.phase world complete kept
@@ -143,9 +139,7 @@ whereabouts_in SourcePhase.Stopped DestPhase.Discarding world stopped ran up kep
 whereabouts_in SourcePhase.Stopped DestPhase.Paused world stopped ran up kept page origin owed = absurd (kept.flight.wires up)
 whereabouts_in SourcePhase.Stopped DestPhase.Ended world stopped ran up kept page origin owed = absurd (none-some origin (sym (ap (λ m. get m page) (kept.owing.ended_empty kept.phases.destination_phase).0 ∙ get-empty nat_cmp page) ∙ owed))
 whereabouts_in SourcePhase.Idle to world stopped ran up kept page origin owed = none_absurd stopped
-whereabouts_in SourcePhase.Precopy to world stopped ran up kept page origin owed = none_absurd stopped
-whereabouts_in SourcePhase.Paused to world stopped ran up kept page origin owed = none_absurd stopped
-whereabouts_in SourcePhase.Released to world stopped ran up kept page origin owed = none_absurd stopped
+whereabouts_in _ to world stopped ran up kept page origin owed = none_absurd stopped
 
 pub are_under_way : (world : World) → IsSoundWorld world → AreSoundUrgent world → world.destination.has_run ≡ true → AreUnderWay world
 are_under_way world kept urgent ran =
@@ -181,9 +175,7 @@ switching_in SourcePhase.Stopped DestPhase.Running world stopped up ran kept = a
 switching_in SourcePhase.Stopped DestPhase.Paused world stopped up ran kept = absurd (kept.flight.wires up)
 switching_in SourcePhase.Stopped DestPhase.Ended world stopped up ran kept = absurd (false≢true (sym ran ∙ kept.phases.ended_after_run kept.phases.destination_phase))
 switching_in SourcePhase.Idle to world stopped up ran kept = none_absurd stopped
-switching_in SourcePhase.Precopy to world stopped up ran kept = none_absurd stopped
-switching_in SourcePhase.Paused to world stopped up ran kept = none_absurd stopped
-switching_in SourcePhase.Released to world stopped up ran kept = none_absurd stopped
+switching_in _ to world stopped up ran kept = none_absurd stopped
 
 pub is_switching : (world : World) → IsSoundWorld world → world.up ≡ true → is_stopped world.source.phase ≡ true → world.destination.has_run ≡ false → IsSwitching world.source world.destination.kept world.forward.frames world.urgent.frames
 is_switching world kept up stopped ran = switching_in world.source.phase world.destination.phase world stopped up ran kept

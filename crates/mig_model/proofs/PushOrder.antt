@@ -48,17 +48,11 @@ guest_alike false pushed world guest h = h
 
 act_alike : (act : Act) (node : Source) (page : ℕ) → IsAlike node (source_acted_by act node page)
 act_alike Unprotected node page = record { epoch = refl; switched = refl; phase = refl }
-act_alike Zeroed node page = record { epoch = refl; switched = refl; phase = refl }
-act_alike Woke node page = record { epoch = refl; switched = refl; phase = refl }
-act_alike Forgot node page = record { epoch = refl; switched = refl; phase = refl }
-act_alike (Requested origin) node page = record { epoch = refl; switched = refl; phase = refl }
+act_alike _ node page = record { epoch = refl; switched = refl; phase = refl }
 
 pub idle_unswitched : (phase : SourcePhase) (switched : Bool) → is_source_idle phase ≡ true → SwitchedAt phase switched → switched ≡ false
 idle_unswitched SourcePhase.Idle switched h at = at
-idle_unswitched SourcePhase.Precopy switched h at = absurd (false≢true h)
-idle_unswitched SourcePhase.Stopped switched h at = absurd (false≢true h)
-idle_unswitched SourcePhase.Paused switched h at = absurd (false≢true h)
-idle_unswitched SourcePhase.Released switched h at = absurd (false≢true h)
+idle_unswitched _ switched h at = absurd (false≢true h)
 
 -- a later epoch alone is left, where the source has not switched
 later : {A : Type 0} (pushed epoch : ℕ) (switched : Bool) (phase : SourcePhase) (up : Bool) → switched ≡ false → HasPushed pushed epoch switched phase up → (pushed < epoch → A) → A
@@ -89,14 +83,7 @@ taken_pushed (Recv Received.Ended owed) pushed node up linked paused h = resumed
 taken_pushed Done pushed node up linked paused h =
     ⊎_elim (λ (more : pushed < node.epoch). inl more) (λ (one : (node.epoch ≡ pushed) × (node.switched ≡ true) × (up ≡ true → is_source_paused node.phase ≡ false)). inr (one.0, one.1, λ u. refl)) h
 taken_pushed (Request page) pushed node up linked paused h = h
-taken_pushed Advise pushed node up linked paused h = h
-taken_pushed (Page page bytes) pushed node up linked paused h = h
-taken_pushed (Zero page) pushed node up linked paused h = h
-taken_pushed (Run first pages) pushed node up linked paused h = h
-taken_pushed (Discard pages) pushed node up linked paused h = h
-taken_pushed (Package areas owed commands) pushed node up linked paused h = h
-taken_pushed (End count) pushed node up linked paused h = h
-taken_pushed Resume pushed node up linked paused h = h
+taken_pushed _ pushed node up linked paused h = h
 
 recv_paused : (frame : Frame) (node : Source) → IsInPlaceBack node frame → is_recv frame ≡ true → is_source_paused node.phase ≡ true
 recv_paused (Recv state owed) node place is = place.0
@@ -149,10 +136,7 @@ pushed_steps pushed world (step ∷ steps) kept urgent h = pushed_steps pushed (
 
 stopped_not_paused : (phase : SourcePhase) → is_stopped phase ≡ true → is_source_paused phase ≡ false
 stopped_not_paused SourcePhase.Stopped h = refl
-stopped_not_paused SourcePhase.Idle h = absurd (false≢true h)
-stopped_not_paused SourcePhase.Precopy h = absurd (false≢true h)
-stopped_not_paused SourcePhase.Paused h = absurd (false≢true h)
-stopped_not_paused SourcePhase.Released h = absurd (false≢true h)
+stopped_not_paused _ h = absurd (false≢true h)
 
 -- an accepted Push, and any steps behind it
 pub pushed_before : (world : World) (ticket : Ticket) (steps : List Step) → IsSoundWorld world → AreSoundUrgent world → IsOk (outcome world (Step.Push ticket)) → PushedIn world.source.epoch (after_steps (next world (Step.Push ticket)) steps)

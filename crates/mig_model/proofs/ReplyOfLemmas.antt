@@ -143,9 +143,7 @@ reply_of-unmade m n (Load addr width) h access un =
 reply_of-unmade m n (Store addr width value) h access un =
     unmade (is_aligned addr width && ltb value (256 ^ width)) (m addr) (n addr) allows_store Done Done (ap (λ f. f addr) h) refl un
 reply_of-unmade m n (Mmap len prot place) h access un = none_absurd access
-reply_of-unmade m n (Munmap addr len) h access un = none_absurd access
-reply_of-unmade m n (Mremap addr old_len new_len may_move fixed) h access un = none_absurd access
-reply_of-unmade m n (DontNeed addr len) h access un = none_absurd access
+reply_of-unmade m n _ h access un = none_absurd access
 
 same_number : (m n : Memory) (addr width : ℕ) → ((i : ℕ) → i < width → m (addr + i) ≡ n (addr + i)) → number_at m addr width ≡ number_at n addr width
 same_number m n addr zero h = refl
@@ -170,6 +168,4 @@ reply_of-page m n (Load addr width) access h = loaded (is_aligned addr width) m 
 reply_of-page m n (Store addr width value) access h =
     ap (λ o. cond (is_aligned addr width && ltb value (256 ^ width)) (access_reply o allows_store Done) BadAccess) (h addr refl)
 reply_of-page m n (Mmap len prot place) access h = none_absurd access
-reply_of-page m n (Munmap addr len) access h = none_absurd access
-reply_of-page m n (Mremap addr old_len new_len may_move fixed) access h = none_absurd access
-reply_of-page m n (DontNeed addr len) access h = none_absurd access
+reply_of-page m n _ access h = none_absurd access

@@ -56,9 +56,7 @@ right_by space (Store addr width value) mapping is h =
     let both = and_parts (is_aligned addr width) (ltb value (256 ^ width)) form.0 in
     (both.0, below value (256 ^ width) both.1, page_of_access space addr mapping form.1)
 right_by space (Mmap len prot place) mapping is h = absurd (false≢true is)
-right_by space (Munmap addr len) mapping is h = absurd (false≢true is)
-right_by space (Mremap addr old_len new_len may_move fixed) mapping is h = absurd (false≢true is)
-right_by space (DontNeed addr len) mapping is h = absurd (false≢true is)
+right_by space _ mapping is h = absurd (false≢true is)
 
 right_slept : (access : Bool) (space : Space) (command : Command) → access ≡ is_access command → IsMapping space.host.areas → took_by access space command ≡ Sleep → IsRightAccess command
 right_slept true space command is mapping h = right_by space command mapping (sym is) (slept_made (is_made (reply_of (memory space.host) command)) _ _ h)

@@ -167,28 +167,19 @@ other_serve world [] = refl
 other_serve world (page ∷ pages) = refl
 
 other_answer : (world : World) (step : Step) → is_other (answer world step) ≡ true
-other_answer world (Step.Issue cpu command) = other-unless _ _ refl refl
 other_answer world (Step.Retry cpu) = other-unless _ _ refl (other_retry world cpu (outstanding (processor_at (guest_of world).cpus cpu)))
-other_answer world Step.Start = other-unless _ _ refl refl
-other_answer world Step.Round = other-unless _ _ refl refl
 other_answer world Step.Send = other-unless _ _ refl (other_send world (least_of world.source.log.todo))
 other_answer world (Step.SendRun count) = other-unless _ _ refl (other_run world count (least_of world.source.log.todo))
 other_answer world Step.SourceRead = other-unless _ _ refl (other_source_read world (next_message (space_of world.source).object))
 other_answer world Step.SourceAct = other-unless _ _ refl (other_source_act world world.source.log.held)
-other_answer world Step.Switch = other-unless _ _ refl refl
 other_answer world (Step.Deliver n) = other-unless _ _ refl (other_deliver world n world.forward.frames)
 other_answer world (Step.DeliverBack n) = other-unless _ _ refl (other_deliver_back world n world.back.frames)
 other_answer world Step.DestRead = other-unless _ _ refl (other_dest_read world (next_message world.destination.guest.space.object))
 other_answer world Step.DestAct = other-unless _ _ refl (other_dest_act world world.destination.held)
 other_answer world Step.Install = other-unless _ _ refl (other_install world world.destination.arrivals)
-other_answer world (Step.Push ticket) = other-unless _ _ refl refl
-other_answer world (Step.PushUrgent ticket) = other-unless _ _ refl refl
 other_answer world (Step.DeliverUrgent n) = other-unless _ _ refl (other_deliver_urgent world n world.urgent.frames)
 other_answer world Step.Serve = other-unless _ _ refl (other_serve world world.source.asked)
-other_answer world Step.End = other-unless _ _ refl refl
-other_answer world Step.Break = other-unless _ _ refl refl
-other_answer world (Step.Notice side) = other-unless _ _ refl refl
-other_answer world Step.Resume = other-unless _ _ refl refl
+other_answer world _ = other-unless _ _ refl refl
 
 pub never_lacking : (world : World) (step : Step) → outcome world step ≢ Err Refusal.NoMemory
 unfolding outcome

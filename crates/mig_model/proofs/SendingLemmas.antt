@@ -79,9 +79,7 @@ has_package kept (sent ∷ wire) more frame h =
 abbrev is_early : Flow → Bool
 is_early BeforeAdvise = true
 is_early Copies = true
-is_early BeforePackage = false
-is_early Pushed = false
-is_early AfterEnd = false
+is_early _ = false
 
 pub record HasNoPackage (kept : FinMap nat_cmp (List ℕ)) (wire more : List Sent) : Type 0 where
   pub plan : package_in (wire ++ more) ≡ package_in more

@@ -77,9 +77,7 @@ event_settled (Unmap start end) cpu events world right page = ap (λ f. f page) 
 fault_settled : (message : Message) (cpu : ℕ) (faults events : List Noted) (world : World) → AreFaults (record { message = message; cpu = cpu } ∷ faults) → (page : ℕ) →
     settled (after_dest_read (at_queues (record { message = message; cpu = cpu } ∷ faults) events world) (record { message = message; cpu = cpu })).destination page ≡ settled (at_queues (record { message = message; cpu = cpu } ∷ faults) events world).destination page
 fault_settled (PageFault addr write wp tid) cpu faults events world are page = refl
-fault_settled (Remap from to len) cpu faults events world are page = absurd are.0
-fault_settled (Remove start end) cpu faults events world are page = absurd are.0
-fault_settled (Unmap start end) cpu faults events world are page = absurd are.0
+fault_settled _ cpu faults events world are page = absurd are.0
 
 read_settled : (faults events : List Noted) (noted : Noted) (world : World) → next_of faults events ≡ Some noted → AreFaults faults → AreRight events → (page : ℕ) →
     settled (after_dest_read (at_queues faults events world) noted).destination page ≡ settled (at_queues faults events world).destination page
@@ -160,28 +158,18 @@ came_settled false node copy page = refl
 
 resumed_settled : (state : Received) (node : Destination) (page : ℕ) → settled (resumed_by state node) page ≡ settled node page
 resumed_settled Received.NotRun node page = refl
-resumed_settled Received.Running node page = refl
-resumed_settled Received.Ended node page = refl
+resumed_settled _ node page = refl
 
 took_settled : (frame : Frame) (node : Destination) (epoch page : ℕ) → is_package frame ≡ false → settled (destination_took node epoch frame) page ≡ settled node page
-took_settled Advise node epoch page h = refl
 took_settled (Page number bytes) node epoch page h = came_settled node.has_run node _ page
 took_settled (Zero number) node epoch page h = came_settled node.has_run node _ page
-took_settled (Run from pages) node epoch page h = refl
-took_settled (Discard pages) node epoch page h = refl
 took_settled (Package areas owed commands) node epoch page h = absurd (false≢true (sym h))
-took_settled (End count) node epoch page h = refl
 took_settled Resume node epoch page h = resumed_settled (received_of node) _ page
-took_settled (Request number) node epoch page h = refl
-took_settled (Recv state owed) node epoch page h = refl
-took_settled Done node epoch page h = refl
+took_settled _ node epoch page h = refl
 
 acted_settled : (act : Act) (node : Destination) (fault page : ℕ) → settled (destination_acted_by act node fault) page ≡ settled node page
 acted_settled Unprotected node fault page = refl
-acted_settled Zeroed node fault page = refl
-acted_settled Woke node fault page = refl
-acted_settled Forgot node fault page = refl
-acted_settled (Requested source) node fault page = refl
+acted_settled _ node fault page = refl
 
 -- a destination that has run takes no Package
 frame_settled : (frame : Frame) (epoch : ℕ) (rest : List Sent) (world : World) → IsSoundWorld world → world.up ≡ true → world.destination.has_run ≡ true → world.forward.frames ≡ record { epoch = epoch; frame = frame } ∷ rest → (page : ℕ) →
@@ -204,16 +192,7 @@ frame_settled Done epoch rest world kept up ran first page = took_settled Done w
 
 urgent_settled : (frame : Frame) (node : Destination) (page : ℕ) → settled (urgent_took node frame) page ≡ settled node page
 urgent_settled (Page number bytes) node page = refl
-urgent_settled (Zero number) node page = refl
-urgent_settled Advise node page = refl
-urgent_settled (Run from pages) node page = refl
-urgent_settled (Discard pages) node page = refl
-urgent_settled (Package areas owed commands) node page = refl
-urgent_settled (End count) node page = refl
-urgent_settled Resume node page = refl
-urgent_settled (Request number) node page = refl
-urgent_settled (Recv state owed) node page = refl
-urgent_settled Done node page = refl
+urgent_settled _ node page = refl
 
 same_node : (old new : World) (page : ℕ) → new.destination ≡ old.destination → settled new.destination page ≡ settled old.destination page
 same_node old new page h = ap (λ node. settled node page) h

@@ -54,10 +54,7 @@ present_after : (host : Host) (command : Command) (reply : Reply) (page : ℕ) �
 present_after host (Load addr width) reply page access h = h
 present_after host (Store addr width value) Done page access h = ap is_some (get-put host.bytes (addr / 4096) page _) ∙ some_either (eqb page (addr / 4096)) _ (get host.bytes page) h
 present_after host (Store addr width value) _ page access h = h
-present_after host (Mmap len prot place) reply page access h = none_absurd access
-present_after host (Munmap addr len) reply page access h = none_absurd access
-present_after host (Mremap addr old_len new_len may_move fixed) reply page access h = none_absurd access
-present_after host (DontNeed addr len) reply page access h = none_absurd access
+present_after host _ reply page access h = none_absurd access
 
 never_answered : (missing protect : Bool) (reply other : Reply) → protect ≡ true → cond missing Missing (cond protect Protected (Answered reply)) ≡ Answered other → ⊥
 never_answered true protect reply other p h = cc
@@ -93,9 +90,7 @@ elsewhere space (Load addr width) page other access answered watched protected =
 elsewhere space (Store addr width value) page other access answered watched protected =
     stored_elsewhere space addr width value page (reply_of (memory space.host) (Store addr width value)) other refl answered watched protected
 elsewhere space (Mmap len prot place) page other access answered watched protected = none_absurd access
-elsewhere space (Munmap addr len) page other access answered watched protected = none_absurd access
-elsewhere space (Mremap addr old_len new_len may_move fixed) page other access answered watched protected = none_absurd access
-elsewhere space (DontNeed addr len) page other access answered watched protected = none_absurd access
+elsewhere space _ page other access answered watched protected = none_absurd access
 
 answered_changed : (world : World) (cpu : ℕ) (command : Command) (reply : Reply) (processors : List CpuState) → IsSoundWorld world → world.destination.has_run ≡ false → world.source.switched ≡ false → is_access command ≡ true →
     access_of (space_of world.source) command ≡ Answered reply →

@@ -95,9 +95,7 @@ read_changed world noted processors kept unswitched started next =
 read_by_message : (world : World) (noted : Noted) (message : Message) → IsSoundWorld world → world.source.switched ≡ false → not (is_source_idle world.source.phase) ≡ true → next_message (space_of world.source).object ≡ Some noted →
     IsChanged world.source (read_guest world.source.guest noted.cpu message) (unchanged world.source.log.clean noted.message) (unchanged world.source.log.todo noted.message) world.transcript
 read_by_message world noted (PageFault addr write wp tid) kept unswitched started next = read_changed world noted _ kept unswitched started next
-read_by_message world noted (Remap from to len) kept unswitched started next = read_changed world noted _ kept unswitched started next
-read_by_message world noted (Remove start end) kept unswitched started next = read_changed world noted _ kept unswitched started next
-read_by_message world noted (Unmap start end) kept unswitched started next = read_changed world noted _ kept unswitched started next
+read_by_message world noted _ kept unswitched started next = read_changed world noted _ kept unswitched started next
 
 pub kept-source_read : (world : World) (noted : Noted) → IsSoundWorld world → next_message (space_of world.source).object ≡ Some noted → is_source_idle world.source.phase ≡ false → world.source.switched ≡ false → IsSoundWorld (after_source_read world noted)
 kept-source_read world noted kept is started unswitched =

@@ -65,10 +65,7 @@ nothing_owed owed page origin none h = let e : None ≡ Some origin = sym (ap (�
 
 released_switched : {A : Type 0} (phase : SourcePhase) (switched : Bool) → SwitchedAt phase switched → switched ≡ false → phase ≡ SourcePhase.Released → A
 released_switched SourcePhase.Released switched at h e = none_absurd (sym h ∙ at)
-released_switched SourcePhase.Idle switched at h e = absurd (cc)
-released_switched SourcePhase.Precopy switched at h e = absurd (cc)
-released_switched SourcePhase.Stopped switched at h e = absurd (cc)
-released_switched SourcePhase.Paused switched at h e = absurd (cc)
+released_switched _ switched at h e = absurd (cc)
 
 pub renewed : (world : World) (source : Source) (forward : List Sent) (transcript : List Entry) → IsSoundWorld world → world.destination.has_run ≡ false → IsNext world source forward transcript →
     IsSoundWorld (record world { source = source; forward = record world.forward { frames = forward }; transcript = transcript })

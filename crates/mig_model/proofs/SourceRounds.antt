@@ -109,10 +109,7 @@ kept-round world kept precopy =
 
 idle_is : (phase : SourcePhase) → is_source_idle phase ≡ true → phase ≡ SourcePhase.Idle
 idle_is SourcePhase.Idle h = refl
-idle_is SourcePhase.Precopy h = none_absurd h
-idle_is SourcePhase.Stopped h = none_absurd h
-idle_is SourcePhase.Paused h = none_absurd h
-idle_is SourcePhase.Released h = none_absurd h
+idle_is _ h = none_absurd h
 
 idle_unswitched : (phase : SourcePhase) (switched : Bool) → phase ≡ SourcePhase.Idle → SwitchedAt phase switched → switched ≡ false
 idle_unswitched phase switched idle at = subst (λ p. SwitchedAt p switched) idle at

@@ -221,10 +221,7 @@ accessed_host : (host : Host) (command : Command) (reply : Reply) → is_access 
 accessed_host host (Load addr width) reply access = keeps_itself host
 accessed_host host (Store addr width value) Done access = record { areas = refl; present = λ page h. more_present host.bytes (addr / 4096) page _ h }
 accessed_host host (Store addr width value) _ access = keeps_itself host
-accessed_host host (Mmap len prot place) reply access = none_absurd access
-accessed_host host (Munmap addr len) reply access = none_absurd access
-accessed_host host (Mremap addr old_len new_len may_move fixed) reply access = none_absurd access
-accessed_host host (DontNeed addr len) reply access = none_absurd access
+accessed_host host _ reply access = none_absurd access
 
 answered_sound : (space : Space) (command : Command) → is_access command ≡ true → IsSoundSpace space → IsSoundSpace (record space { host = host_after space.host command })
 answered_sound space command access sound =

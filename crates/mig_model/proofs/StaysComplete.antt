@@ -23,31 +23,19 @@ use Rattle.mig_model.proofs.Facts.{none_absurd}
 
 not_idle : (phase : SourcePhase) → is_released phase ≡ true → is_source_idle phase ≡ true → ⊥
 not_idle SourcePhase.Released h is = false≢true is
-not_idle SourcePhase.Idle h is = false≢true h
-not_idle SourcePhase.Precopy h is = false≢true h
-not_idle SourcePhase.Stopped h is = false≢true h
-not_idle SourcePhase.Paused h is = false≢true h
+not_idle _ h is = false≢true h
 
 not_precopy : (phase : SourcePhase) → is_released phase ≡ true → is_precopy phase ≡ true → ⊥
 not_precopy SourcePhase.Released h is = false≢true is
-not_precopy SourcePhase.Idle h is = false≢true h
-not_precopy SourcePhase.Precopy h is = false≢true h
-not_precopy SourcePhase.Stopped h is = false≢true h
-not_precopy SourcePhase.Paused h is = false≢true h
+not_precopy _ h is = false≢true h
 
 not_stopped : (phase : SourcePhase) → is_released phase ≡ true → is_stopped phase ≡ true → ⊥
 not_stopped SourcePhase.Released h is = false≢true is
-not_stopped SourcePhase.Idle h is = false≢true h
-not_stopped SourcePhase.Precopy h is = false≢true h
-not_stopped SourcePhase.Stopped h is = false≢true h
-not_stopped SourcePhase.Paused h is = false≢true h
+not_stopped _ h is = false≢true h
 
 not_paused : (phase : SourcePhase) → is_released phase ≡ true → is_source_paused phase ≡ true → ⊥
 not_paused SourcePhase.Released h is = false≢true is
-not_paused SourcePhase.Idle h is = false≢true h
-not_paused SourcePhase.Precopy h is = false≢true h
-not_paused SourcePhase.Stopped h is = false≢true h
-not_paused SourcePhase.Paused h is = false≢true h
+not_paused _ h is = false≢true h
 
 -- Steps that leave the phase of the source
 
@@ -60,18 +48,12 @@ command_phase world cpu command = guest_phase world.destination.has_run world (t
 
 pub worked_phase : (act : Act) (world : World) (page : ℕ) → (source_acted_by act world.source page).phase ≡ world.source.phase
 worked_phase Unprotected world page = refl
-worked_phase Zeroed world page = refl
-worked_phase Woke world page = refl
-worked_phase Forgot world page = refl
-worked_phase (Requested source) world page = refl
+worked_phase _ world page = refl
 
 -- nothing is on the wire back any more
 back_empty_in : (from : SourcePhase) (world : World) → is_released from ≡ true → IsSoundWorld (in_phases from world.destination.phase world) → is_empty world.back.frames ≡ true
 back_empty_in SourcePhase.Released world released kept = ap is_empty (kept.flight.wires (true_from_ne_false world.up (λ h. (kept.flight.down h).3 refl))).2
-back_empty_in SourcePhase.Idle world released kept = none_absurd released
-back_empty_in SourcePhase.Precopy world released kept = none_absurd released
-back_empty_in SourcePhase.Stopped world released kept = none_absurd released
-back_empty_in SourcePhase.Paused world released kept = none_absurd released
+back_empty_in _ world released kept = none_absurd released
 
 still : (old new : SourcePhase) → new ≡ old → is_released old ≡ true → is_released new ≡ true
 still old new is h = ap is_released is ∙ h

@@ -44,11 +44,8 @@ entered_retry world cpu command ok waits =
 -- Pages of zeros
 
 told_zeroed : (act : Act) (a b : ℕ) → act_effect act a ≡ Effect.Zeroed b → (act ≡ Zeroed) × (a ≡ b)
-told_zeroed Unprotected a b h = absurd (cc)
 told_zeroed Zeroed a b h = (refl, cc)
-told_zeroed Woke a b h = absurd (cc)
-told_zeroed Forgot a b h = absurd (cc)
-told_zeroed (Requested origin) a b h = absurd (cc)
+told_zeroed _ a b h = absurd (cc)
 
 one_page : (page : ℕ) → in_range page 1 page ≡ true
 one_page page = grind (arith, nat_tests)
@@ -99,10 +96,7 @@ tried_remaining world cpu command q = guest_remaining world.destination.has_run 
 
 worked_remaining : (act : Act) (node : Source) (page q : ℕ) → contains (source_acted_by act node page).remaining q ≡ contains node.remaining q
 worked_remaining Unprotected node page q = refl
-worked_remaining Zeroed node page q = refl
-worked_remaining Woke node page q = refl
-worked_remaining Forgot node page q = refl
-worked_remaining (Requested source) node page q = refl
+worked_remaining _ node page q = refl
 
 -- a page that remains in the new world did in the old one
 abbrev RemainedIn : World → ℕ → World → Type 0

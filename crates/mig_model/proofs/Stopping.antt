@@ -197,9 +197,7 @@ pushed_in SourcePhase.Stopped to world page stopped up present remains kept =
       held = record { forward_held = fits-more world.forward.frames world.forward.held source.epoch (page_frame page (bytes_of source page) ∷ []) kept.held.forward_held; back_held = kept.held.back_held };
     }
 pushed_in SourcePhase.Idle to world page stopped up present remains kept = none_absurd stopped
-pushed_in SourcePhase.Precopy to world page stopped up present remains kept = none_absurd stopped
-pushed_in SourcePhase.Paused to world page stopped up present remains kept = none_absurd stopped
-pushed_in SourcePhase.Released to world page stopped up present remains kept = none_absurd stopped
+pushed_in _ to world page stopped up present remains kept = none_absurd stopped
 
 pub kept-push : (world : World) (page : ℕ) → IsSoundWorld world → is_stopped world.source.phase ≡ true → world.up ≡ true → is_present (space_of world.source) page ≡ true → contains world.source.remaining page ≡ true → IsSoundWorld (after_push world page)
 kept-push world page kept stopped up present remains = pushed_in world.source.phase world.destination.phase world page stopped up present remains kept
@@ -208,12 +206,10 @@ kept-push world page kept stopped up present remains = pushed_in world.source.ph
 
 served_wires : (to : DestPhase) (world : World) (pages : List ℕ) → StoppedWires (stopped_at to world).source (stopped_at to world).destination world.forward.frames world.back.frames world.urgent.frames →
     StoppedWires (request_served (stopped_at to world).source pages) (stopped_at to world).destination world.forward.frames world.back.frames world.urgent.frames
-served_wires DestPhase.Idle world pages old = (old.0, old.1, record { owed = old.2.owed; plan = old.2.plan; owed_present = old.2.owed_present; kept_rest = old.2.kept_rest; whereabouts = old.2.whereabouts; faithful = old.2.faithful })
-served_wires DestPhase.Advised world pages old = (old.0, old.1, record { owed = old.2.owed; plan = old.2.plan; owed_present = old.2.owed_present; kept_rest = old.2.kept_rest; whereabouts = old.2.whereabouts; faithful = old.2.faithful })
-served_wires DestPhase.Discarding world pages old = (old.0, old.1, record { owed = old.2.owed; plan = old.2.plan; owed_present = old.2.owed_present; kept_rest = old.2.kept_rest; whereabouts = old.2.whereabouts; faithful = old.2.faithful })
 served_wires DestPhase.Running world pages old = (old.0, old.1, record { whereabouts = old.2.whereabouts })
 served_wires DestPhase.Paused world pages old = absurd old
 served_wires DestPhase.Ended world pages old = old
+served_wires _ world pages old = (old.0, old.1, record { owed = old.2.owed; plan = old.2.plan; owed_present = old.2.owed_present; kept_rest = old.2.kept_rest; whereabouts = old.2.whereabouts; faithful = old.2.faithful })
 
 served_in : (from : SourcePhase) (to : DestPhase) (world : World) (pages : List ℕ) → is_stopped from ≡ true → IsSoundWorld (in_phases from to world) → IsSoundWorld (after_serve (in_phases from to world) pages)
 served_in SourcePhase.Stopped to world pages stopped kept =
@@ -234,9 +230,7 @@ served_in SourcePhase.Stopped to world pages stopped kept =
       held = kept.held;
     }
 served_in SourcePhase.Idle to world pages stopped kept = none_absurd stopped
-served_in SourcePhase.Precopy to world pages stopped kept = none_absurd stopped
-served_in SourcePhase.Paused to world pages stopped kept = none_absurd stopped
-served_in SourcePhase.Released to world pages stopped kept = none_absurd stopped
+served_in _ to world pages stopped kept = none_absurd stopped
 
 pub kept-serve : (world : World) (pages : List ℕ) → IsSoundWorld world → is_stopped world.source.phase ≡ true → IsSoundWorld (after_serve world pages)
 kept-serve world pages kept stopped = served_in world.source.phase world.destination.phase world pages stopped kept
@@ -359,9 +353,7 @@ ended_in SourcePhase.Stopped to world stopped up other none kept =
       held = record { forward_held = fits-more world.forward.frames world.forward.held source.epoch (End source.urgent_sent ∷ []) kept.held.forward_held; back_held = kept.held.back_held };
     }
 ended_in SourcePhase.Idle to world stopped up other none kept = none_absurd stopped
-ended_in SourcePhase.Precopy to world stopped up other none kept = none_absurd stopped
-ended_in SourcePhase.Paused to world stopped up other none kept = none_absurd stopped
-ended_in SourcePhase.Released to world stopped up other none kept = none_absurd stopped
+ended_in _ to world stopped up other none kept = none_absurd stopped
 
 pub kept-end : (world : World) → IsSoundWorld world → is_stopped world.source.phase ≡ true → world.up ≡ true → eqb world.source.end_epoch world.source.epoch ≡ false → least_of world.source.remaining ≡ None → IsSoundWorld (after_end world)
 kept-end world kept stopped up other none = ended_in world.source.phase world.destination.phase world stopped up other none kept

@@ -115,9 +115,7 @@ switched_wires DestPhase.Idle world kept quiet other old =
 switched_wires DestPhase.Advised world kept quiet other old =
     (flows_on Copies world old.0 other, old.1, switching Copies (in_phases SourcePhase.Precopy DestPhase.Advised world) kept quiet old.0 old.2)
 switched_wires DestPhase.Discarding world kept quiet other old = absurd old
-switched_wires DestPhase.Running world kept quiet other old = absurd old
-switched_wires DestPhase.Paused world kept quiet other old = absurd old
-switched_wires DestPhase.Ended world kept quiet other old = absurd old
+switched_wires _ world kept quiet other old = absurd old
 
 stopped_not_idle : SourcePhase.Stopped ≢ SourcePhase.Idle
 stopped_not_idle h = cc
@@ -189,9 +187,7 @@ switched_in SourcePhase.Precopy to world precopy up quiet kept =
       held = record { forward_held = fits-more world.forward.frames world.forward.held source.epoch (switch_frames source) kept.held.forward_held; back_held = kept.held.back_held };
     }
 switched_in SourcePhase.Idle to world precopy up quiet kept = none_absurd precopy
-switched_in SourcePhase.Stopped to world precopy up quiet kept = none_absurd precopy
-switched_in SourcePhase.Paused to world precopy up quiet kept = none_absurd precopy
-switched_in SourcePhase.Released to world precopy up quiet kept = none_absurd precopy
+switched_in _ to world precopy up quiet kept = none_absurd precopy
 
 pub kept-switch : (world : World) → IsSoundWorld world → is_precopy world.source.phase ≡ true → world.up ≡ true → is_changing world.source.guest ≡ false → IsSoundWorld (after_switch world)
 kept-switch world kept precopy up quiet = switched_in world.source.phase world.destination.phase world precopy up (no_event (space_of world.source).object.events quiet) kept

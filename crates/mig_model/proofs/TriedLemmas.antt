@@ -96,10 +96,7 @@ pairs_accessed space owed (Store addr width value) Done access pairs own page or
           ∙ put_still (eqb page (addr / 4096)) _ (get space.host.bytes page) (not_written space owed (addr / 4096) page origin pairs h (own refl)) is.1,
     )
 pairs_accessed space owed (Store addr width value) _ access pairs own page origin h = pairs page origin h
-pairs_accessed space owed (Mmap len prot place) reply access pairs own page origin h = none_absurd access
-pairs_accessed space owed (Munmap addr len) reply access pairs own page origin h = none_absurd access
-pairs_accessed space owed (Mremap addr old_len new_len may_move fixed) reply access pairs own page origin h = none_absurd access
-pairs_accessed space owed (DontNeed addr len) reply access pairs own page origin h = none_absurd access
+pairs_accessed space owed _ reply access pairs own page origin h = none_absurd access
 
 -- one that is answered
 answered : (there : Host) (owed : ℕ → Option ℕ) (space : Space) (cpu : ℕ) (command : Command) (reply : Reply) → IsSound there → is_access command ≡ true → IsReady space owed → access_of space command ≡ Answered reply →

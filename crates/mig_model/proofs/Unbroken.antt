@@ -88,9 +88,7 @@ no_back SourcePhase.Stopped DestPhase.Running world stopped up ran kept = absurd
 no_back SourcePhase.Stopped DestPhase.Paused world stopped up ran kept = absurd (kept.flight.wires up)
 no_back SourcePhase.Stopped DestPhase.Ended world stopped up ran kept = absurd (false≢true (sym ran ∙ kept.phases.ended_after_run kept.phases.destination_phase))
 no_back SourcePhase.Idle to world stopped up ran kept = none_absurd stopped
-no_back SourcePhase.Precopy to world stopped up ran kept = none_absurd stopped
-no_back SourcePhase.Paused to world stopped up ran kept = none_absurd stopped
-no_back SourcePhase.Released to world stopped up ran kept = none_absurd stopped
+no_back _ to world stopped up ran kept = none_absurd stopped
 
 -- more frames behind the Package
 sent_more : (host : Host) (frame_sent : Frame) (world : World) (more : List Sent) → HasSwitched host frame_sent world → package_in (world.forward.frames ++ more) ≡ Some frame_sent

@@ -94,10 +94,7 @@ command_few world cpu command may h =
 
 acted_few : (act : Act) (world : World) (page : ℕ) → world.source.switched ≡ false → AreUrgentFew world → AreUrgentFew (record world { source = source_acted_by act world.source page })
 acted_few Unprotected world page not h = before _ _ _ not h
-acted_few Zeroed world page not h = before _ _ _ not h
-acted_few Woke world page not h = before _ _ _ not h
-acted_few Forgot world page not h = before _ _ _ not h
-acted_few (Requested origin) world page not h = before _ _ _ not h
+acted_few _ world page not h = before _ _ _ not h
 
 switch_few : (world : World) → IsSoundWorld world → is_precopy world.source.phase ≡ true → AreUrgentFew world → AreUrgentFew (after_switch world)
 switch_few world kept precopy h =

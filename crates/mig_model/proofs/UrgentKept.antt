@@ -123,9 +123,7 @@ urgent_in SourcePhase.Stopped to world page stopped up present remains kept =
       held = kept.held;
     }
 urgent_in SourcePhase.Idle to world page stopped up present remains kept = none_absurd stopped
-urgent_in SourcePhase.Precopy to world page stopped up present remains kept = none_absurd stopped
-urgent_in SourcePhase.Paused to world page stopped up present remains kept = none_absurd stopped
-urgent_in SourcePhase.Released to world page stopped up present remains kept = none_absurd stopped
+urgent_in _ to world page stopped up present remains kept = none_absurd stopped
 
 pub kept-push_urgent : (world : World) (page : ℕ) → IsSoundWorld world → is_stopped world.source.phase ≡ true → world.up ≡ true → is_present (space_of world.source) page ≡ true → contains world.source.remaining page ≡ true → IsSoundWorld (after_push_urgent world page)
 kept-push_urgent world page kept stopped up present remains = urgent_in world.source.phase world.destination.phase world page stopped up present remains kept
@@ -150,9 +148,7 @@ both_run SourcePhase.Stopped DestPhase.Discarding world stopped ran up other kep
 both_run SourcePhase.Stopped DestPhase.Paused world stopped ran up other kept = absurd (kept.flight.wires up)
 both_run SourcePhase.Stopped DestPhase.Ended world stopped ran up other kept = absurd (other refl)
 both_run SourcePhase.Idle to world stopped ran up other kept = none_absurd stopped
-both_run SourcePhase.Precopy to world stopped ran up other kept = none_absurd stopped
-both_run SourcePhase.Paused to world stopped ran up other kept = none_absurd stopped
-both_run SourcePhase.Released to world stopped ran up other kept = none_absurd stopped
+both_run _ to world stopped ran up other kept = none_absurd stopped
 
 abbrev at_urgent : World → List Sent → World
 at_urgent world frames =

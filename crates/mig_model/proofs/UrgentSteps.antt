@@ -68,17 +68,11 @@ command_urgent world cpu command kept may h =
 
 acted_urgent : (act : Act) (world : World) (page : ℕ) → is_stopped world.source.phase ≡ false → AreSoundUrgent world → AreSoundUrgent (record world { source = source_acted_by act world.source page })
 acted_urgent Unprotected world page not h = other_bytes _ not h
-acted_urgent Zeroed world page not h = other_bytes _ not h
-acted_urgent Woke world page not h = other_bytes _ not h
-acted_urgent Forgot world page not h = other_bytes _ not h
-acted_urgent (Requested origin) world page not h = other_bytes _ not h
+acted_urgent _ world page not h = other_bytes _ not h
 
 handled_urgent : (act : Act) (world : World) (page : ℕ) (back : Wire) → AreSoundUrgent world → AreSoundUrgent (record world { destination = destination_acted_by act world.destination page; back = back })
 handled_urgent Unprotected world page back h = h
-handled_urgent Zeroed world page back h = h
-handled_urgent Woke world page back h = h
-handled_urgent Forgot world page back h = h
-handled_urgent (Requested origin) world page back h = h
+handled_urgent _ world page back h = h
 
 installed_urgent : (o : Option ℕ) (world : World) (copy : Copy) (rest : List Copy) → AreSoundUrgent world → AreSoundUrgent (record world { destination = install_by o world.destination copy rest })
 installed_urgent None world copy rest h = h
@@ -160,9 +154,7 @@ ended_told : (from : SourcePhase) (to : DestPhase) (source : Source) (node : Des
 ended_told SourcePhase.Stopped to source node forward back urgent stopped is w =
     let now = subst (λ p. Wires (record source { phase = SourcePhase.Stopped }) (record node { phase = p }) forward back urgent) is w in now.2
 ended_told SourcePhase.Idle to source node forward back urgent stopped is w = absurd (false≢true stopped)
-ended_told SourcePhase.Precopy to source node forward back urgent stopped is w = absurd (false≢true stopped)
-ended_told SourcePhase.Paused to source node forward back urgent stopped is w = absurd (false≢true stopped)
-ended_told SourcePhase.Released to source node forward back urgent stopped is w = absurd (false≢true stopped)
+ended_told _ to source node forward back urgent stopped is w = absurd (false≢true stopped)
 
 one_more : (count taken sent more : ℕ) → count ≡ taken + sent → more ≡ sent + 1 → count + 1 ≡ taken + more
 one_more count taken sent more h m = omega (arith, h, m)
@@ -239,8 +231,7 @@ came_on false node copy = (refl, refl, refl)
 
 resumed_on : (state : Received) (node : Destination) → ((resumed_by state node).urgent_taken ≡ node.urgent_taken)
 resumed_on Received.NotRun node = refl
-resumed_on Received.Running node = refl
-resumed_on Received.Ended node = refl
+resumed_on _ node = refl
 
 advised_not_ended : DestPhase.Advised ≢ DestPhase.Ended
 advised_not_ended h = cc
@@ -294,8 +285,7 @@ taken_urgent Resume epoch rest world kept up comes came told h =
       fits = h.fits;
     }
 taken_urgent (Request page) epoch rest world kept up comes came told h = stays_on world world.destination rest world.back refl refl refl told h
-taken_urgent (Recv state owed) epoch rest world kept up comes came told h = stays_on world world.destination rest world.back refl refl refl told h
-taken_urgent Done epoch rest world kept up comes came told h = stays_on world world.destination rest world.back refl refl refl told h
+taken_urgent _ epoch rest world kept up comes came told h = stays_on world world.destination rest world.back refl refl refl told h
 
 deliver_urgent_kept : (world : World) (sent : Sent) (rest : List Sent) → IsSoundWorld world → world.forward.frames ≡ sent ∷ rest → world.up ≡ true → is_early world.destination sent.frame ≡ false → AreSoundUrgent world → AreSoundUrgent (after_deliver world sent rest)
 deliver_urgent_kept world sent rest kept first up early h =
@@ -381,9 +371,7 @@ done_ended SourcePhase.Stopped DestPhase.Running source node epoch forward rest 
 done_ended SourcePhase.Stopped DestPhase.Paused source node epoch forward rest urgent stopped w = absurd w
 done_ended SourcePhase.Stopped DestPhase.Ended source node epoch forward rest urgent stopped w = refl
 done_ended SourcePhase.Idle to source node epoch forward rest urgent stopped w = absurd (false≢true stopped)
-done_ended SourcePhase.Precopy to source node epoch forward rest urgent stopped w = absurd (false≢true stopped)
-done_ended SourcePhase.Paused to source node epoch forward rest urgent stopped w = absurd (false≢true stopped)
-done_ended SourcePhase.Released to source node epoch forward rest urgent stopped w = absurd (false≢true stopped)
+done_ended _ to source node epoch forward rest urgent stopped w = absurd (false≢true stopped)
 
 rebuilt_urgent : (switched : Bool) (world : World) (back : Wire) → world.urgent.frames ≡ [] → AreSoundUrgent world →
     AreSoundUrgent (source_sends (record world { back = back }) (source_rebuilt Received.NotRun no_pages (record world.source { switched = switched })) (rebuild_frames Received.NotRun (record world.source { switched = switched })))
@@ -458,11 +446,7 @@ destination_notices world down h =
 
 dest_paused : (to : DestPhase) → is_dest_paused to ≡ true → to ≡ DestPhase.Paused
 dest_paused DestPhase.Paused h = refl
-dest_paused DestPhase.Idle h = absurd (false≢true h)
-dest_paused DestPhase.Advised h = absurd (false≢true h)
-dest_paused DestPhase.Discarding h = absurd (false≢true h)
-dest_paused DestPhase.Running h = absurd (false≢true h)
-dest_paused DestPhase.Ended h = absurd (false≢true h)
+dest_paused _ h = absurd (false≢true h)
 
 resume_urgent : (world : World) → IsSoundWorld world → is_dest_paused world.destination.phase ≡ true → world.up ≡ false → AreSoundUrgent world → AreSoundUrgent (after_resume world)
 resume_urgent world kept paused down h =

@@ -68,16 +68,7 @@ told_page epoch end_epoch count page bytes = told_page_by epoch end_epoch count 
 -- where End was not sent in this epoch there is none in flight
 open_one : (epoch end_epoch count new : ℕ) (frame : Frame) → end_epoch ≢ epoch → IsTold epoch end_epoch count frame → IsTold epoch end_epoch new frame
 open_one epoch end_epoch count new (End urgent) other told = absurd (other told.0)
-open_one epoch end_epoch count new Advise other told = tt
-open_one epoch end_epoch count new (Page page bytes) other told = tt
-open_one epoch end_epoch count new (Zero page) other told = tt
-open_one epoch end_epoch count new (Run first pages) other told = tt
-open_one epoch end_epoch count new (Discard pages) other told = tt
-open_one epoch end_epoch count new (Package areas owed commands) other told = tt
-open_one epoch end_epoch count new Resume other told = tt
-open_one epoch end_epoch count new (Request page) other told = tt
-open_one epoch end_epoch count new (Recv state owed) other told = tt
-open_one epoch end_epoch count new Done other told = tt
+open_one epoch end_epoch count new _ other told = tt
 
 pub told_open : (epoch end_epoch count new : ℕ) (wire : List Sent) → end_epoch ≢ epoch → AreTold epoch end_epoch count wire → AreTold epoch end_epoch new wire
 told_open epoch end_epoch count new [] other told = tt
@@ -85,16 +76,7 @@ told_open epoch end_epoch count new (sent ∷ wire) other told = (open_one epoch
 
 ended_one : (epoch end_epoch count : ℕ) (frame : Frame) → IsTold epoch end_epoch count frame → IsTold epoch epoch count frame
 ended_one epoch end_epoch count (End urgent) told = (refl, told.1)
-ended_one epoch end_epoch count Advise told = tt
-ended_one epoch end_epoch count (Page page bytes) told = tt
-ended_one epoch end_epoch count (Zero page) told = tt
-ended_one epoch end_epoch count (Run first pages) told = tt
-ended_one epoch end_epoch count (Discard pages) told = tt
-ended_one epoch end_epoch count (Package areas owed commands) told = tt
-ended_one epoch end_epoch count Resume told = tt
-ended_one epoch end_epoch count (Request page) told = tt
-ended_one epoch end_epoch count (Recv state owed) told = tt
-ended_one epoch end_epoch count Done told = tt
+ended_one epoch end_epoch count _ told = tt
 
 pub told_ended : (epoch end_epoch count : ℕ) (wire : List Sent) → AreTold epoch end_epoch count wire → AreTold epoch epoch count wire
 told_ended epoch end_epoch count [] told = tt
@@ -140,45 +122,27 @@ other_forward new told h =
 
 pub not_stopped : (phase : SourcePhase) (switched : Bool) → SwitchedAt phase switched → switched ≡ false → is_stopped phase ≡ false
 not_stopped SourcePhase.Stopped switched at not = absurd (false≢true (sym not ∙ at))
-not_stopped SourcePhase.Idle switched at not = refl
-not_stopped SourcePhase.Precopy switched at not = refl
-not_stopped SourcePhase.Paused switched at not = refl
-not_stopped SourcePhase.Released switched at not = refl
+not_stopped _ switched at not = refl
 
 pub paused_unstopped : (phase : SourcePhase) → is_source_paused phase ≡ true → is_stopped phase ≡ false
-paused_unstopped SourcePhase.Paused h = refl
-paused_unstopped SourcePhase.Idle h = refl
-paused_unstopped SourcePhase.Precopy h = refl
 paused_unstopped SourcePhase.Stopped h = absurd (false≢true h)
-paused_unstopped SourcePhase.Released h = refl
+paused_unstopped _ h = refl
 
 pub is_paused : (phase : SourcePhase) → is_source_paused phase ≡ true → phase ≡ SourcePhase.Paused
 is_paused SourcePhase.Paused h = refl
-is_paused SourcePhase.Idle h = absurd (false≢true h)
-is_paused SourcePhase.Precopy h = absurd (false≢true h)
-is_paused SourcePhase.Stopped h = absurd (false≢true h)
-is_paused SourcePhase.Released h = absurd (false≢true h)
+is_paused _ h = absurd (false≢true h)
 
 pub idle_unstopped : (phase : SourcePhase) → is_source_idle phase ≡ true → is_stopped phase ≡ false
-idle_unstopped SourcePhase.Idle h = refl
-idle_unstopped SourcePhase.Precopy h = refl
-idle_unstopped SourcePhase.Paused h = refl
 idle_unstopped SourcePhase.Stopped h = absurd (false≢true h)
-idle_unstopped SourcePhase.Released h = refl
+idle_unstopped _ h = refl
 
 pub precopy_unstopped : (phase : SourcePhase) → is_precopy phase ≡ true → is_stopped phase ≡ false
-precopy_unstopped SourcePhase.Idle h = refl
-precopy_unstopped SourcePhase.Precopy h = refl
-precopy_unstopped SourcePhase.Paused h = refl
 precopy_unstopped SourcePhase.Stopped h = absurd (false≢true h)
-precopy_unstopped SourcePhase.Released h = refl
+precopy_unstopped _ h = refl
 
 pub stopped_unpaused : (phase : SourcePhase) → is_stopped phase ≡ true → phase ≢ SourcePhase.Paused
 stopped_unpaused SourcePhase.Stopped h e = cc
-stopped_unpaused SourcePhase.Idle h e = false≢true h
-stopped_unpaused SourcePhase.Precopy h e = false≢true h
-stopped_unpaused SourcePhase.Paused h e = false≢true h
-stopped_unpaused SourcePhase.Released h e = false≢true h
+stopped_unpaused _ h e = false≢true h
 
 -- Which phases a first frame tells
 

@@ -22,25 +22,19 @@ is_complete _ = false
 told_by : (phase : SourcePhase) (switched ran : Bool) → is_complete (phase_by phase switched ran) ≡ is_released phase
 unfolding is_complete
 told_by SourcePhase.Released switched ran = refl
-told_by SourcePhase.Idle switched true = refl
 told_by SourcePhase.Idle true false = refl
 told_by SourcePhase.Idle false false = refl
-told_by SourcePhase.Precopy switched true = refl
 told_by SourcePhase.Precopy true false = refl
 told_by SourcePhase.Precopy false false = refl
-told_by SourcePhase.Stopped switched true = refl
 told_by SourcePhase.Stopped true false = refl
 told_by SourcePhase.Stopped false false = refl
-told_by SourcePhase.Paused switched true = refl
 told_by SourcePhase.Paused true false = refl
 told_by SourcePhase.Paused false false = refl
+told_by _ switched true = refl
 
 released_is : (phase : SourcePhase) (switched ran : Bool) → is_released phase ≡ true → phase_by phase switched ran ≡ WorldPhase.Complete
 released_is SourcePhase.Released switched ran h = refl
-released_is SourcePhase.Idle switched ran h = absurd (false≢true h)
-released_is SourcePhase.Precopy switched ran h = absurd (false≢true h)
-released_is SourcePhase.Stopped switched ran h = absurd (false≢true h)
-released_is SourcePhase.Paused switched ran h = absurd (false≢true h)
+released_is _ switched ran h = absurd (false≢true h)
 
 pub phase_complete : (world : World) → (phase_of world ≡ WorldPhase.Complete → IsComplete world) × (IsComplete world → phase_of world ≡ WorldPhase.Complete)
 unfolding is_complete

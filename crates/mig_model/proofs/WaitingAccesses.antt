@@ -109,17 +109,11 @@ taken_like processors = record { waits = taken_keeps processors; many = taken_ma
 
 pub source_act_like : (act : Act) (node : Source) (page : ℕ) → IsLike node.guest.cpus (source_acted_by act node page).guest.cpus
 source_act_like Unprotected node page = woken_like (λ q. eqb q page) node.guest.cpus
-source_act_like Zeroed node page = woken_like (λ q. eqb q page) node.guest.cpus
-source_act_like Woke node page = woken_like (λ q. eqb q page) node.guest.cpus
-source_act_like Forgot node page = woken_like (λ q. eqb q page) node.guest.cpus
-source_act_like (Requested source) node page = woken_like (λ q. eqb q page) node.guest.cpus
+source_act_like _ node page = woken_like (λ q. eqb q page) node.guest.cpus
 
 destination_act_like : (act : Act) (node : Destination) (page : ℕ) → IsLike node.guest.cpus (destination_acted_by act node page).guest.cpus
-destination_act_like Unprotected node page = woken_like (λ q. eqb q page) node.guest.cpus
-destination_act_like Zeroed node page = woken_like (λ q. eqb q page) node.guest.cpus
-destination_act_like Woke node page = woken_like (λ q. eqb q page) node.guest.cpus
-destination_act_like Forgot node page = woken_like (λ q. eqb q page) node.guest.cpus
 destination_act_like (Requested source) node page = unchanged node.guest.cpus
+destination_act_like _ node page = woken_like (λ q. eqb q page) node.guest.cpus
 
 install_like : (o : Option ℕ) (node : Destination) (copy : Copy) (rest : List Copy) → IsLike node.guest.cpus (install_by o node copy rest).guest.cpus
 install_like None node copy rest = unchanged node.guest.cpus
@@ -131,18 +125,7 @@ rebuilt_like false a b node one two = two
 
 pub took_like : (frame : Frame) (node : Source) → IsLike node.guest.cpus (source_took node frame).guest.cpus
 took_like (Recv Received.NotRun owed) node = rebuilt_like node.switched _ _ node (unchanged node.guest.cpus) (unchanged node.guest.cpus)
-took_like (Recv Received.Running owed) node = unchanged node.guest.cpus
-took_like (Recv Received.Ended owed) node = unchanged node.guest.cpus
-took_like Done node = unchanged node.guest.cpus
-took_like (Request page) node = unchanged node.guest.cpus
-took_like Advise node = unchanged node.guest.cpus
-took_like (Page page bytes) node = unchanged node.guest.cpus
-took_like (Zero page) node = unchanged node.guest.cpus
-took_like (Run first pages) node = unchanged node.guest.cpus
-took_like (Discard pages) node = unchanged node.guest.cpus
-took_like (Package areas owed commands) node = unchanged node.guest.cpus
-took_like (End count) node = unchanged node.guest.cpus
-took_like Resume node = unchanged node.guest.cpus
+took_like _ node = unchanged node.guest.cpus
 
 came_like : (ran : Bool) (node : Destination) (copy : Copy) → IsLike node.guest.cpus (copy_came ran node copy).guest.cpus
 came_like true node copy = unchanged node.guest.cpus
@@ -150,21 +133,11 @@ came_like false node copy = unchanged node.guest.cpus
 
 urgent_like : (frame : Frame) (node : Destination) → IsLike node.guest.cpus (urgent_took node frame).guest.cpus
 urgent_like (Page page bytes) node = unchanged node.guest.cpus
-urgent_like (Zero page) node = unchanged node.guest.cpus
-urgent_like Advise node = unchanged node.guest.cpus
-urgent_like (Run first pages) node = unchanged node.guest.cpus
-urgent_like (Discard pages) node = unchanged node.guest.cpus
-urgent_like (Package areas owed commands) node = unchanged node.guest.cpus
-urgent_like (End count) node = unchanged node.guest.cpus
-urgent_like Resume node = unchanged node.guest.cpus
-urgent_like (Request page) node = unchanged node.guest.cpus
-urgent_like (Recv state owed) node = unchanged node.guest.cpus
-urgent_like Done node = unchanged node.guest.cpus
+urgent_like _ node = unchanged node.guest.cpus
 
 resumed_like : (state : Received) (node : Destination) → IsLike node.guest.cpus (resumed_by state node).guest.cpus
 resumed_like Received.NotRun node = unchanged node.guest.cpus
-resumed_like Received.Running node = unchanged node.guest.cpus
-resumed_like Received.Ended node = unchanged node.guest.cpus
+resumed_like _ node = unchanged node.guest.cpus
 
 -- Steps: what both nodes' processors still have to make
 
@@ -209,13 +182,7 @@ frame_all (Package areas owed commands) epoch rest world kept up first all =
 frame_all (Page page bytes) epoch rest world kept up first all = destination_like world _ (came_like world.destination.has_run world.destination _) all
 frame_all (Zero page) epoch rest world kept up first all = destination_like world _ (came_like world.destination.has_run world.destination _) all
 frame_all Resume epoch rest world kept up first all = destination_like world _ (resumed_like (received_of world.destination) _) all
-frame_all Advise epoch rest world kept up first all = unmoved world all
-frame_all (Run from pages) epoch rest world kept up first all = unmoved world all
-frame_all (Discard pages) epoch rest world kept up first all = unmoved world all
-frame_all (End count) epoch rest world kept up first all = unmoved world all
-frame_all (Request page) epoch rest world kept up first all = unmoved world all
-frame_all (Recv state owed) epoch rest world kept up first all = unmoved world all
-frame_all Done epoch rest world kept up first all = unmoved world all
+frame_all _ epoch rest world kept up first all = unmoved world all
 
 waits_answer : (world : World) (step : Step) → IsSoundWorld world → Wait world → Leaves Wait (answer world step)
 waits_answer world (Step.Issue cpu command) kept all = made-issue _ world cpu command (λ there idle may. tried_all world cpu command all)

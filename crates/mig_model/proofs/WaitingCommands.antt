@@ -60,10 +60,8 @@ woken_by true command = refl
 woken_by false command = refl
 
 woken_outstanding : (test : ℕ → Bool) (p : CpuState) → outstanding (woken_if test p) ≡ outstanding p
-woken_outstanding test CpuState.Idle = refl
 woken_outstanding test (CpuState.Asleep command) = woken_by (test (page_of command)) command
-woken_outstanding test (CpuState.Woken command) = refl
-woken_outstanding test (CpuState.InCall reply left) = refl
+woken_outstanding test _ = refl
 
 -- waking leaves what waits
 pub woken_keeps : (test : ℕ → Bool) (ps : List CpuState) (k : ℕ) → outstanding (processor_at (all_woken test ps) k) ≡ outstanding (processor_at ps k)
@@ -79,9 +77,7 @@ less_same (CpuState.InCall reply (suc (suc left))) = refl
 
 taken_outstanding : (p : CpuState) → outstanding (taken_over (outstanding p)) ≡ outstanding p
 taken_outstanding CpuState.Idle = refl
-taken_outstanding (CpuState.Asleep command) = refl
-taken_outstanding (CpuState.Woken command) = refl
-taken_outstanding (CpuState.InCall reply left) = refl
+taken_outstanding _ = refl
 
 -- the destination takes over what waits
 pub taken_keeps : (ps : List CpuState) (k : ℕ) → outstanding (processor_at (map taken_over (commands_of ps)) k) ≡ outstanding (processor_at ps k)
@@ -120,17 +116,11 @@ waits_destination false from old new same k = refl
 
 pub waits_source_act : (act : Act) (node : Source) (page : ℕ) → SameWaits node.guest (source_acted_by act node page).guest
 waits_source_act Unprotected node page k = woken_keeps (λ q. eqb q page) node.guest.cpus k
-waits_source_act Zeroed node page k = woken_keeps (λ q. eqb q page) node.guest.cpus k
-waits_source_act Woke node page k = woken_keeps (λ q. eqb q page) node.guest.cpus k
-waits_source_act Forgot node page k = woken_keeps (λ q. eqb q page) node.guest.cpus k
-waits_source_act (Requested source) node page k = woken_keeps (λ q. eqb q page) node.guest.cpus k
+waits_source_act _ node page k = woken_keeps (λ q. eqb q page) node.guest.cpus k
 
 pub waits_destination_act : (act : Act) (node : Destination) (page : ℕ) → SameWaits node.guest (destination_acted_by act node page).guest
-waits_destination_act Unprotected node page k = woken_keeps (λ q. eqb q page) node.guest.cpus k
-waits_destination_act Zeroed node page k = woken_keeps (λ q. eqb q page) node.guest.cpus k
-waits_destination_act Woke node page k = woken_keeps (λ q. eqb q page) node.guest.cpus k
-waits_destination_act Forgot node page k = woken_keeps (λ q. eqb q page) node.guest.cpus k
 waits_destination_act (Requested source) node page k = refl
+waits_destination_act _ node page k = woken_keeps (λ q. eqb q page) node.guest.cpus k
 
 install_waits : (o : Option ℕ) (node : Destination) (copy : Copy) (rest : List Copy) → SameWaits node.guest (install_by o node copy rest).guest
 install_waits None node copy rest k = refl
@@ -168,16 +158,11 @@ tried_other world cpu tries k other =
 
 idle_none : (p : CpuState) (command : Command) → is_idle p ≡ true → outstanding p ≡ Some command → ⊥
 idle_none CpuState.Idle command h e = none-some command e
-idle_none (CpuState.Asleep other) command h e = false≢true h
-idle_none (CpuState.Woken other) command h e = false≢true h
-idle_none (CpuState.InCall reply left) command h e = false≢true h
+idle_none _ command h e = false≢true h
 
 pub acted_ran : (act : Act) (node : Destination) (page : ℕ) → (destination_acted_by act node page).has_run ≡ node.has_run
 acted_ran Unprotected node page = refl
-acted_ran Zeroed node page = refl
-acted_ran Woke node page = refl
-acted_ran Forgot node page = refl
-acted_ran (Requested source) node page = refl
+acted_ran _ node page = refl
 
 pub installed_ran : (o : Option ℕ) (node : Destination) (copy : Copy) (rest : List Copy) → (install_by o node copy rest).has_run ≡ node.has_run
 installed_ran None node copy rest = refl
@@ -207,34 +192,18 @@ same_came false node copy = record { guest = refl; ran = refl }
 
 same_resumed : (state : Received) (node new : Destination) → IsSame node new → IsSame node (resumed_by state new)
 same_resumed Received.NotRun node new is = record { guest = is.guest; ran = is.ran }
-same_resumed Received.Running node new is = record { guest = is.guest; ran = is.ran }
-same_resumed Received.Ended node new is = record { guest = is.guest; ran = is.ran }
+same_resumed _ node new is = record { guest = is.guest; ran = is.ran }
 
 pub same_took : (frame : Frame) (node : Destination) (epoch : ℕ) → is_package frame ≡ false → IsSame node (destination_took node epoch frame)
-same_took Advise node epoch h = record { guest = refl; ran = refl }
 same_took (Page page bytes) node epoch h = same_came node.has_run node _
 same_took (Zero page) node epoch h = same_came node.has_run node _
-same_took (Run first pages) node epoch h = record { guest = refl; ran = refl }
-same_took (Discard pages) node epoch h = record { guest = refl; ran = refl }
 same_took (Package areas owed commands) node epoch h = absurd (false≢true (sym h))
-same_took (End count) node epoch h = record { guest = refl; ran = refl }
 same_took Resume node epoch h = same_resumed (received_of node) node _ (record { guest = refl; ran = refl })
-same_took (Request page) node epoch h = record { guest = refl; ran = refl }
-same_took (Recv state owed) node epoch h = record { guest = refl; ran = refl }
-same_took Done node epoch h = record { guest = refl; ran = refl }
+same_took _ node epoch h = record { guest = refl; ran = refl }
 
 pub same_urgent : (frame : Frame) (node : Destination) → IsSame node (urgent_took node frame)
 same_urgent (Page page bytes) node = record { guest = refl; ran = refl }
-same_urgent (Zero page) node = record { guest = refl; ran = refl }
-same_urgent Advise node = record { guest = refl; ran = refl }
-same_urgent (Run first pages) node = record { guest = refl; ran = refl }
-same_urgent (Discard pages) node = record { guest = refl; ran = refl }
-same_urgent (Package areas owed commands) node = record { guest = refl; ran = refl }
-same_urgent (End count) node = record { guest = refl; ran = refl }
-same_urgent Resume node = record { guest = refl; ran = refl }
-same_urgent (Request page) node = record { guest = refl; ran = refl }
-same_urgent (Recv state owed) node = record { guest = refl; ran = refl }
-same_urgent Done node = record { guest = refl; ran = refl }
+same_urgent _ node = record { guest = refl; ran = refl }
 
 -- a Package that comes next has the outstanding commands of the source, and the destination has not run
 pub package_told : (from : SourcePhase) (to : DestPhase) (epoch : ℕ) (areas : FinMap nat_cmp Prot) (owed : FinSet nat_cmp) (commands : List (Option Command)) (rest : List Sent) (world : World) →
@@ -282,19 +251,8 @@ rebuilt_by true a b node one two = one
 rebuilt_by false a b node one two = two
 
 took_same : (frame : Frame) (node : Source) → SameWaits node.guest (source_took node frame).guest
-took_same (Request page) node k = refl
 took_same (Recv Received.NotRun owed) node k = rebuilt_by node.switched _ _ node (λ i. refl) (λ i. refl) k
-took_same (Recv Received.Running owed) node k = refl
-took_same (Recv Received.Ended owed) node k = refl
-took_same Done node k = refl
-took_same Advise node k = refl
-took_same (Page page bytes) node k = refl
-took_same (Zero page) node k = refl
-took_same (Run first pages) node k = refl
-took_same (Discard pages) node k = refl
-took_same (Package areas owed commands) node k = refl
-took_same (End count) node k = refl
-took_same Resume node k = refl
+took_same _ node k = refl
 
 same_source : (world : World) (new : Guest) → SameWaits world.source.guest new → SameWaits (guest_of world) (guest_by world.destination.has_run new world.destination.guest)
 same_source world new same k = waits_source world.destination.has_run world.source.guest new world.destination.guest same k

@@ -269,15 +269,7 @@ rebuilt_remains false a b P one two = two
 taken_remains : (frame : Frame) (node : Source) (q : ℕ) → is_recv frame ≡ false → contains (source_took node frame).remaining q ≡ true → contains node.remaining q ≡ true
 taken_remains (Recv state owed) node q h is = absurd (false≢true (sym h))
 taken_remains Done node q h is = no_page q is
-taken_remains (Request page) node q h is = is
-taken_remains Advise node q h is = is
-taken_remains (Page page bytes) node q h is = is
-taken_remains (Zero page) node q h is = is
-taken_remains (Run first pages) node q h is = is
-taken_remains (Discard pages) node q h is = is
-taken_remains (Package areas owed commands) node q h is = is
-taken_remains (End count) node q h is = is
-taken_remains Resume node q h is = is
+taken_remains _ node q h is = is
 
 pub remaining_back : (world : World) (n : ℕ) (sent : Sent) (rest : List Sent) (q : ℕ) → world.back.frames ≡ sent ∷ rest → is_recv sent.frame ≡ false → contains (next world (Step.DeliverBack n)).source.remaining q ≡ true → contains world.source.remaining q ≡ true
 remaining_back world n sent rest q first plain =
@@ -310,15 +302,7 @@ released_by Done node not h = refl
 released_by (Recv Received.Ended owed) node not h = refl
 released_by (Recv Received.NotRun owed) node not h = absurd (false≢true (rebuilt_phase node.switched _ _ refl refl h))
 released_by (Recv Received.Running owed) node not h = absurd (false≢true h)
-released_by (Request page) node not h = absurd (false≢true (sym not ∙ h))
-released_by Advise node not h = absurd (false≢true (sym not ∙ h))
-released_by (Page page bytes) node not h = absurd (false≢true (sym not ∙ h))
-released_by (Zero page) node not h = absurd (false≢true (sym not ∙ h))
-released_by (Run first pages) node not h = absurd (false≢true (sym not ∙ h))
-released_by (Discard pages) node not h = absurd (false≢true (sym not ∙ h))
-released_by (Package areas owed commands) node not h = absurd (false≢true (sym not ∙ h))
-released_by (End count) node not h = absurd (false≢true (sym not ∙ h))
-released_by Resume node not h = absurd (false≢true (sym not ∙ h))
+released_by _ node not h = absurd (false≢true (sym not ∙ h))
 
 -- if the new world is complete, the step has taken such a frame
 abbrev CompletesTo : World → Step → World → Type 0
