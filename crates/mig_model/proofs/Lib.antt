@@ -76,3 +76,4 @@ pub mod ViewPromises
 pub mod TextsInFlight
 pub mod RunsAndAreas
 pub mod OneText
+pub mod RunsInOrder

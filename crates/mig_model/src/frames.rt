@@ -2,14 +2,18 @@
 //! with an empty body, whose contract is the law.
 
 ghost use Rattle.std.specs.Prelude.{◌≡◌, ℕ, true, length, List, [], ◌∷◌, ◌++◌};
+ghost use Rattle.std.specs.Ordering.{nat_cmp};
+ghost use Rattle.std.specs.FinSet.{FinSet, contains, insert};
+ghost use Rattle.mig_base.specs.declared.Run.{Run as PageRun};
 ghost use Rattle.mig_base.specs.declared.phase.Received.{Received};
+ghost use Rattle.mig_base.specs.PageSets.{in_runs, AreRunsFrom};
 ghost use Rattle.mig_model.specs.Log.{no_pages};
 ghost use Rattle.mig_model.specs.Migration.{World};
 ghost use Rattle.mig_model.specs.Promises.{IsReached};
-ghost use Rattle.mig_model.specs.Texts.{Version, has_frame, text, text_len, HasWholePages, AreCounted, IsTellable};
+ghost use Rattle.mig_model.specs.Texts.{Version, has_frame, text, text_len, HasWholePages, AreCounted, IsTellable, AreBelow, runs_of};
 ghost use Rattle.mig_model.specs.Texts.Version.{One, Two};
 ghost use Rattle.mig_model.specs.Wire.{Frame};
-ghost use Rattle.mig_model.specs.Wire.Frame.{Advise, Zero, Run, End, Request, Recv, Done};
+ghost use Rattle.mig_model.specs.Wire.Frame.{Advise, Zero, Run, Discard, End, Request, Recv, Done};
 
 /// What the machine counts is the length of the text: a frame whose pages are whole is complete once as many bytes have come as its
 /// text has. Each frame in flight is such a one, on each of the three wires, after every list of steps.
@@ -18,6 +22,14 @@ pub fn the_length_of_a_text()
     ensures forward { (world : World) → IsReached world → AreCounted world.forward.frames }
     ensures back { (world : World) → IsReached world → AreCounted world.back.frames }
     ensures urgent { (world : World) → IsReached world → AreCounted world.urgent.frames }
+{}
+
+/// A set of pages is written as its runs: they have the pages of the set, and are the only runs that do which ascend, are not empty, and
+/// do not touch.
+pub fn the_runs_of_a_set()
+    ensures pages { (set : FinSet nat_cmp) (page : ℕ) → AreBelow set → in_runs (runs_of set) page ≡ contains set page }
+    ensures ordered { (set : FinSet nat_cmp) → AreRunsFrom 0 (runs_of set) }
+    ensures only { (set : FinSet nat_cmp) (runs : List PageRun) → AreBelow set → AreRunsFrom 0 runs → ((page : ℕ) → in_runs runs page ≡ contains set page) → runs ≡ runs_of set }
 {}
 
 /// A text tells its version, its epoch and its frame, whatever comes behind it: so each frame has one text in a version and an epoch,
@@ -35,8 +47,10 @@ pub fn some_texts()
     ensures advise { text Two 1 Advise ≡ 2 ∷ 1 ∷ 0 ∷ 0 ∷ 0 ∷ 0 ∷ 0 ∷ 1 ∷ 0 ∷ 0 ∷ 0 ∷ 0 ∷ [] }
     ensures advise_one { text One 1 Advise ≡ 1 ∷ 1 ∷ 0 ∷ 0 ∷ 0 ∷ 0 ∷ 0 ∷ 1 ∷ 0 ∷ 0 ∷ 0 ∷ 0 ∷ [] }
     ensures zero { text One 1 (Zero 0x10) ≡ 1 ∷ 3 ∷ 0 ∷ 0 ∷ 0 ∷ 0 ∷ 0 ∷ 1 ∷ 0 ∷ 0 ∷ 0 ∷ 4 ∷ 0 ∷ 0 ∷ 0 ∷ 0x10 ∷ [] }
+    ensures discard { text One 1 (Discard (insert no_pages 0x11)) ≡ 1 ∷ 4 ∷ 0 ∷ 0 ∷ 0 ∷ 0 ∷ 0 ∷ 1 ∷ 0 ∷ 0 ∷ 0 ∷ 12 ∷ 0 ∷ 0 ∷ 0 ∷ 1 ∷ 0 ∷ 0 ∷ 0 ∷ 0x11 ∷ 0 ∷ 0 ∷ 0 ∷ 1 ∷ [] }
     ensures end { text One 1 (End 0) ≡ 1 ∷ 6 ∷ 0 ∷ 0 ∷ 0 ∷ 0 ∷ 0 ∷ 1 ∷ 0 ∷ 0 ∷ 0 ∷ 4 ∷ 0 ∷ 0 ∷ 0 ∷ 0 ∷ [] }
     ensures request { text One 2 (Request 0x10) ≡ 1 ∷ 0x81 ∷ 0 ∷ 0 ∷ 0 ∷ 0 ∷ 0 ∷ 2 ∷ 0 ∷ 0 ∷ 0 ∷ 4 ∷ 0 ∷ 0 ∷ 0 ∷ 0x10 ∷ [] }
+    ensures recv { text One 2 (Recv Received.Running no_pages) ≡ 1 ∷ 0x82 ∷ 0 ∷ 0 ∷ 0 ∷ 0 ∷ 0 ∷ 2 ∷ 0 ∷ 0 ∷ 0 ∷ 5 ∷ 1 ∷ 0 ∷ 0 ∷ 0 ∷ 0 ∷ [] }
     ensures done { text One 1 Done ≡ 1 ∷ 0x83 ∷ 0 ∷ 0 ∷ 0 ∷ 0 ∷ 0 ∷ 1 ∷ 0 ∷ 0 ∷ 0 ∷ 0 ∷ [] }
     ensures run { (a b : List ℕ) → HasWholePages (Run 0x10 (a ∷ b ∷ [])) →
         text Two 1 (Run 0x10 (a ∷ b ∷ [])) ≡ 2 ∷ 8 ∷ 0 ∷ 0 ∷ 0 ∷ 0 ∷ 0 ∷ 1 ∷ 0 ∷ 0 ∷ 0x20 ∷ 0x08 ∷ 0 ∷ 0 ∷ 0 ∷ 0x10 ∷ 0 ∷ 0 ∷ 0 ∷ 2 ∷ (a ++ b) }
