@@ -77,3 +77,4 @@ pub mod TextsInFlight
 pub mod RunsAndAreas
 pub mod OneText
 pub mod RunsInOrder
+pub mod OneArea

@@ -155,7 +155,7 @@ same_prot_tells (Some prot) (Some other) h = (ap (λ p. Some p) (same_number pro
 same_prot_tells (Some prot) None h = none_absurd h
 same_prot_tells None b h = none_absurd h
 
-same_prot-self : (prot : Prot) → same_prot (Some prot) (Some prot) ≡ true
+pub same_prot-self : (prot : Prot) → same_prot (Some prot) (Some prot) ≡ true
 same_prot-self prot = eqb-self (prot_number prot)
 
 area_begins : (areas : FinMap nat_cmp Prot) (prot : Prot) (q : ℕ) → get areas q ≡ Some prot → BeginsAt (begins_area areas) (λ j. get areas j ≡ Some prot) q

@@ -1,11 +1,15 @@
 //! What holds of the texts of frames, the bytes by which the nodes of a whole migration tell them to each other. Each law is a function
 //! with an empty body, whose contract is the law.
 
-ghost use Rattle.std.specs.Prelude.{◌≡◌, ℕ, true, length, List, [], ◌∷◌, ◌++◌};
+ghost use Rattle.std.specs.Prelude.{◌≡◌, ℕ, true, length, Some, None, List, [], ◌∷◌, ◌++◌};
 ghost use Rattle.std.specs.Ordering.{nat_cmp};
+ghost use Rattle.std.specs.FinMap.{empty};
 ghost use Rattle.std.specs.FinSet.{FinSet, contains, insert};
+ghost use Rattle.mig_base.specs.declared.Prot.TheVariants.{ReadWrite};
 ghost use Rattle.mig_base.specs.declared.Run.{Run as PageRun};
+ghost use Rattle.mig_base.specs.declared.command.Command.TheVariants.{Load};
 ghost use Rattle.mig_base.specs.declared.phase.Received.{Received};
+ghost use Rattle.mig_base.specs.Pages.{set_range};
 ghost use Rattle.mig_base.specs.PageSets.{in_runs, AreRunsFrom};
 ghost use Rattle.mig_model.specs.Log.{no_pages};
 ghost use Rattle.mig_model.specs.Migration.{World};
@@ -13,7 +17,7 @@ ghost use Rattle.mig_model.specs.Promises.{IsReached};
 ghost use Rattle.mig_model.specs.Texts.{Version, has_frame, text, text_len, HasWholePages, AreCounted, IsTellable, AreBelow, runs_of};
 ghost use Rattle.mig_model.specs.Texts.Version.{One, Two};
 ghost use Rattle.mig_model.specs.Wire.{Frame};
-ghost use Rattle.mig_model.specs.Wire.Frame.{Advise, Zero, Run, Discard, End, Request, Recv, Done};
+ghost use Rattle.mig_model.specs.Wire.Frame.{Advise, Zero, Run, Discard, Package, End, Request, Recv, Done};
 
 /// What the machine counts is the length of the text: a frame whose pages are whole is complete once as many bytes have come as its
 /// text has. Each frame in flight is such a one, on each of the three wires, after every list of steps.
@@ -48,6 +52,9 @@ pub fn some_texts()
     ensures advise_one { text One 1 Advise ≡ 1 ∷ 1 ∷ 0 ∷ 0 ∷ 0 ∷ 0 ∷ 0 ∷ 1 ∷ 0 ∷ 0 ∷ 0 ∷ 0 ∷ [] }
     ensures zero { text One 1 (Zero 0x10) ≡ 1 ∷ 3 ∷ 0 ∷ 0 ∷ 0 ∷ 0 ∷ 0 ∷ 1 ∷ 0 ∷ 0 ∷ 0 ∷ 4 ∷ 0 ∷ 0 ∷ 0 ∷ 0x10 ∷ [] }
     ensures discard { text One 1 (Discard (insert no_pages 0x11)) ≡ 1 ∷ 4 ∷ 0 ∷ 0 ∷ 0 ∷ 0 ∷ 0 ∷ 1 ∷ 0 ∷ 0 ∷ 0 ∷ 12 ∷ 0 ∷ 0 ∷ 0 ∷ 1 ∷ 0 ∷ 0 ∷ 0 ∷ 0x11 ∷ 0 ∷ 0 ∷ 0 ∷ 1 ∷ [] }
+    ensures package { text One 1 (Package (set_range empty 0x10 2 ReadWrite) (insert no_pages 0x11) (None ∷ Some (Load 0x11000 8) ∷ [])) ≡
+        1 ∷ 5 ∷ 0 ∷ 0 ∷ 0 ∷ 0 ∷ 0 ∷ 1 ∷ 0 ∷ 0 ∷ 0 ∷ 37 ∷ 0 ∷ 0 ∷ 0 ∷ 1 ∷ 0 ∷ 0 ∷ 0 ∷ 0x10 ∷ 0 ∷ 0 ∷ 0 ∷ 2 ∷ 2 ∷ 0 ∷ 0 ∷ 0 ∷ 1 ∷ 0 ∷ 0 ∷ 0 ∷ 0x11 ∷ 0 ∷ 0 ∷ 0 ∷ 1 ∷
+        2 ∷ 0 ∷ 1 ∷ 0 ∷ 0 ∷ 0 ∷ 0 ∷ 0 ∷ 1 ∷ 0x10 ∷ 0 ∷ 8 ∷ [] }
     ensures end { text One 1 (End 0) ≡ 1 ∷ 6 ∷ 0 ∷ 0 ∷ 0 ∷ 0 ∷ 0 ∷ 1 ∷ 0 ∷ 0 ∷ 0 ∷ 4 ∷ 0 ∷ 0 ∷ 0 ∷ 0 ∷ [] }
     ensures request { text One 2 (Request 0x10) ≡ 1 ∷ 0x81 ∷ 0 ∷ 0 ∷ 0 ∷ 0 ∷ 0 ∷ 2 ∷ 0 ∷ 0 ∷ 0 ∷ 4 ∷ 0 ∷ 0 ∷ 0 ∷ 0x10 ∷ [] }
     ensures recv { text One 2 (Recv Received.Running no_pages) ≡ 1 ∷ 0x82 ∷ 0 ∷ 0 ∷ 0 ∷ 0 ∷ 0 ∷ 2 ∷ 0 ∷ 0 ∷ 0 ∷ 5 ∷ 1 ∷ 0 ∷ 0 ∷ 0 ∷ 0 ∷ [] }
