@@ -78,3 +78,4 @@ pub mod RunsAndAreas
 pub mod OneText
 pub mod RunsInOrder
 pub mod OneArea
+pub mod LengthBounds

@@ -1,12 +1,16 @@
 //! What holds of the texts of frames, the bytes by which the nodes of a whole migration tell them to each other. Each law is a function
 //! with an empty body, whose contract is the law.
 
-ghost use Rattle.std.specs.Prelude.{◌≡◌, ℕ, true, length, Some, None, List, [], ◌∷◌, ◌++◌};
+ghost use Rattle.std.specs.Prelude.{◌≡◌, ℕ, ◌+◌, ◌-◌, ◌*◌, ◌≤◌, true, length, Option, Some, None, List, [], ◌∷◌, ◌++◌};
 ghost use Rattle.std.specs.Ordering.{nat_cmp};
-ghost use Rattle.std.specs.FinMap.{empty};
-ghost use Rattle.std.specs.FinSet.{FinSet, contains, insert};
+ghost use Rattle.std.specs.FinMap as map;
+ghost use Rattle.std.specs.FinMap.{FinMap, empty};
+ghost use Rattle.std.specs.FinSet.{FinSet, contains, insert, len};
+ghost use Rattle.mig_base.specs.declared.Prot.{Prot};
 ghost use Rattle.mig_base.specs.declared.Prot.TheVariants.{ReadWrite};
 ghost use Rattle.mig_base.specs.declared.Run.{Run as PageRun};
+ghost use Rattle.mig_base.specs.declared.TheConstants.{HIGH_PAGE, LOW_PAGE, MAX_CPUS, MAX_PAGES, MAX_RUN, PAGE_SIZE};
+ghost use Rattle.mig_base.specs.declared.command.Command.{Command};
 ghost use Rattle.mig_base.specs.declared.command.Command.TheVariants.{Load};
 ghost use Rattle.mig_base.specs.declared.phase.Received.{Received};
 ghost use Rattle.mig_base.specs.Pages.{set_range};
@@ -14,7 +18,7 @@ ghost use Rattle.mig_base.specs.PageSets.{in_runs, AreRunsFrom};
 ghost use Rattle.mig_model.specs.Log.{no_pages};
 ghost use Rattle.mig_model.specs.Migration.{World};
 ghost use Rattle.mig_model.specs.Promises.{IsReached};
-ghost use Rattle.mig_model.specs.Texts.{Version, has_frame, text, text_len, HasWholePages, AreCounted, IsTellable, AreBelow, runs_of};
+ghost use Rattle.mig_model.specs.Texts.{Version, has_frame, text, text_len, body_len, HasWholePages, AreCounted, IsTellable, AreBelow, AreMappedBelow, runs_of};
 ghost use Rattle.mig_model.specs.Texts.Version.{One, Two};
 ghost use Rattle.mig_model.specs.Wire.{Frame};
 ghost use Rattle.mig_model.specs.Wire.Frame.{Advise, Zero, Run, Discard, Package, End, Request, Recv, Done};
@@ -43,6 +47,16 @@ pub fn one_text()
     ensures epoch { (v w : Version) (d e : ℕ) (f g : Frame) (s r : List ℕ) → IsTellable v d f → IsTellable w e g → text v d f ++ s ≡ text w e g ++ r → d ≡ e }
     ensures frame { (v w : Version) (d e : ℕ) (f g : Frame) (s r : List ℕ) → IsTellable v d f → IsTellable w e g → text v d f ++ s ≡ text w e g ++ r → f ≡ g }
     ensures rest { (v w : Version) (d e : ℕ) (f g : Frame) (s r : List ℕ) → IsTellable v d f → IsTellable w e g → text v d f ++ s ≡ text w e g ++ r → s ≡ r }
+{}
+
+/// How long bodies get where no more pages, and no more processors, are in a frame than may be: a set has no more runs than pages, and
+/// mapped pages are no more areas. In a Discard every second page of the address space begins a run at most.
+pub fn the_greatest_lengths()
+    ensures discard { (pages : FinSet nat_cmp) → ((page : ℕ) → contains pages page ≡ true → LOW_PAGE ≤ page) → body_len (Discard pages) ≤ 4 + 4 * (HIGH_PAGE - LOW_PAGE) }
+    ensures package { (areas : FinMap nat_cmp Prot) (owed : FinSet nat_cmp) (commands : List (Option Command)) → AreMappedBelow areas → AreBelow owed → map.len areas ≤ MAX_PAGES → len owed ≤ MAX_PAGES → length commands ≤ MAX_CPUS →
+        body_len (Package areas owed commands) ≤ 9 + 17 * MAX_PAGES + 18 * MAX_CPUS }
+    ensures run { (first : ℕ) (pages : List (List ℕ)) → length pages ≤ MAX_RUN → body_len (Run first pages) ≤ 8 + PAGE_SIZE * MAX_RUN }
+    ensures recv { (state : Received) (owed : FinSet nat_cmp) → AreBelow owed → len owed ≤ MAX_PAGES → body_len (Recv state owed) ≤ 5 + 8 * MAX_PAGES }
 {}
 
 /// Some texts, byte by byte.

@@ -7,8 +7,8 @@
 //!   `specs/Kept.antt` for what every world keeps.
 //! - The whole migration, which no program makes: `specs/Cpus.antt` and `specs/Guest.antt` for the processors and their memory,
 //!   `specs/Log.antt` and `specs/Source.antt`, `specs/Owed.antt` and `specs/Destination.antt` for the two nodes, `specs/Wire.antt` for
-//!   what they tell each other, `specs/Texts.antt` for the bytes of that, `specs/Migration.antt` for the world and its steps, and `specs/Invariant.antt`, `specs/Parts.antt` and
-//!   `specs/Promises.antt` for what holds of it.
+//!   what they tell each other, `specs/Texts.antt` for the bytes of that, `specs/Migration.antt` for the world and its steps, and
+//!   `specs/Invariant.antt`, `specs/Parts.antt` and `specs/Promises.antt` for what holds of it.
 //!
 //! [`laws`] has what is proved of the first two, [`migration`] what is proved of the third, and [`frames`] what is proved of the texts
 //! of its frames.
