@@ -95,3 +95,6 @@ pub mod ViewPromises
 pub mod TextsInFlight
 pub mod RunsAndAreas
 pub mod OneText
+pub mod RunsInOrder
+pub mod OneArea
+pub mod LengthBounds

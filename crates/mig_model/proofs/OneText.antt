@@ -5,13 +5,13 @@ use Rattle.std.specs.Int.{w32, w64, to_be_bytes, from_be_bytes}
 use Rattle.std.specs.Ordering.{nat_cmp}
 use Rattle.std.specs.FinMap.{FinMap}
 use Rattle.std.specs.FinSet.{FinSet}
-use Rattle.std.proofs.lemmas.Bool.Decides.{nat_tests}
+use Rattle.std.proofs.lemmas.Bool.{eqb-false}
 use Rattle.std.proofs.lemmas.List.{append_cancel_left, length-map, take_at}
 use Rattle.std.proofs.lemmas.List.Concat.{flat_map-cons}
 use Rattle.std.proofs.lemmas.Nat.{from_be_bytes-to_be_bytes_4, from_be_bytes-to_be_bytes_8}
 use Rattle.mig_base.specs.declared.Area.{Area}
 use Rattle.mig_base.specs.declared.Prot.{Prot}
-use Rattle.mig_base.specs.declared.Run as pages
+use Rattle.mig_base.specs.declared.Run.{Run as PageRun}
 use Rattle.mig_base.specs.declared.TheConstants.{HIGH_PAGE}
 use Rattle.mig_base.specs.declared.command.Command.{Command}
 use Rattle.mig_base.specs.declared.command.Command.TheVariants.{Load, Store}
@@ -33,12 +33,9 @@ use Rattle.mig_model.proofs.TextLemmas.{length-list_below}
 same_first : (m n : ℕ) (s r : List ℕ) → m ∷ s ≡ n ∷ r → m ≡ n
 same_first m n s r e = ap (λ (bytes : List ℕ). get_or bytes 0 0) e
 
-eqb_false : (m n : ℕ) → eqb m n ≡ false → m ≡ n → ⊥
-eqb_false m n other same = grind (arith, nat_tests)
-
 -- two texts that begin with different bytes
 others_begin : {A : Type 0} {s r : List ℕ} (m n : ℕ) → eqb m n ≡ false → m ∷ s ≡ n ∷ r → A
-others_begin {A} {s} {r} m n other e = absurd (let same = same_first m n s r e in let not_same = eqb_false m n other in not_same same)
+others_begin {A} {s} {r} m n other e = absurd (let same = same_first m n s r e in eqb-false m n other same)
 
 same_front : (a b s r : List ℕ) (n : ℕ) → length a ≡ n → length b ≡ n → a ++ s ≡ b ++ r → a ≡ b
 same_front a b s r n la lb e = sym (take_at a s n la) ∙ ap (take n) e ∙ take_at b r n lb
@@ -95,10 +92,10 @@ few_listed f test = omega (arith, length-map (list_below test HIGH_PAGE) f, leng
 
 -- Sets of pages, and mapped pages
 
-abbrev FitsRun : pages.Run → Type 0
+abbrev FitsRun : PageRun → Type 0
 FitsRun run = (run.first < 2 ^ 32) × (run.count < 2 ^ 32)
 
-same_run : (x y : pages.Run) (s r : List ℕ) → FitsRun x → FitsRun y → run_text x ++ s ≡ run_text y ++ r → x ≡ y
+same_run : (x y : PageRun) (s r : List ℕ) → FitsRun x → FitsRun y → run_text x ++ s ≡ run_text y ++ r → x ≡ y
 same_run x y s r hx hy e =
     let first = same_w32 x.first y.first (to_be_bytes w32 x.count ++ s) (to_be_bytes w32 y.count ++ r) hx.0 hy.0 e in
     let count = same_w32 x.count y.count s r hx.1 hy.1 (ap (drop 4) e) in
@@ -220,7 +217,7 @@ same_version Two Two e = refl
 same_version One Two e = absurd (omega (arith, e))
 same_version Two One e = absurd (omega (arith, e))
 
-text-is : (v : Version) (epoch : ℕ) (frame : Frame) → has_frame v frame ≡ true → text v epoch frame ≡ header_text v (tag_code frame) epoch (length (body_text frame)) ++ body_text frame
+pub text-is : (v : Version) (epoch : ℕ) (frame : Frame) → has_frame v frame ≡ true → text v epoch frame ≡ header_text v (tag_code frame) epoch (length (body_text frame)) ++ body_text frame
 unfolding text
 text-is v epoch frame has = rw has refl
 

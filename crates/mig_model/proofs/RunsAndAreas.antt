@@ -1,12 +1,12 @@
 -- The runs of a set have its pages, and the areas of mapped pages their protections: so either tells what it is of.
-use Rattle.std.proofs.Common.{◌≡◌, ℕ, zero, suc, ◌+◌, ◌-◌, ◌<◌, ◌≤◌, ◌||◌, if◌then◌else◌, ⊎_elim, Bool, true, false, cond, ltb, eqb, Option, Some, None, is_some, List, [], ◌∷◌, ◌++◌, map, refl, sym, ap, ◌∙◌, subst, arith}
+use Rattle.std.proofs.Common.{◌≡◌, ℕ, zero, suc, ◌+◌, ◌-◌, ◌<◌, ◌≤◌, ◌||◌, if◌then◌else◌, ⊎_elim, Bool, true, false, cond, ltb, Option, Some, None, is_some, List, [], ◌∷◌, ◌++◌, map, refl, sym, ap, ◌∙◌, subst, arith}
 use Rattle.std.specs.List.{AllByRecursion}
 use Rattle.std.proofs.Math.Bool.{or-true}
+use Rattle.std.specs.Cmp.{both_ways}
 use Rattle.std.specs.Ordering.{nat_cmp}
 use Rattle.std.specs.FinMap.{FinMap, get}
 use Rattle.std.specs.FinSet.{FinSet, contains}
-use Rattle.std.proofs.lemmas.Bool.{lt-ltb}
-use Rattle.std.proofs.lemmas.Bool.Decides.{nat_tests}
+use Rattle.std.proofs.lemmas.Bool.{eqb-true, lt-ltb}
 use Rattle.mig_base.specs.declared.Area.{Area}
 use Rattle.mig_base.specs.declared.Prot.{Prot}
 use Rattle.mig_base.specs.declared.Prot.TheVariants.{NoAccess}
@@ -26,7 +26,7 @@ use Rattle.mig_model.proofs.SourceSending.{present_bytes}
 -- Runs
 
 -- a run is as long as there are neighbours
-run_length-covers : (set : FinSet nat_cmp) (first bound n : ℕ) → n < bound → ((j : ℕ) → j ≤ n → contains set (first + j) ≡ true) → n < run_length set first bound
+pub run_length-covers : (set : FinSet nat_cmp) (first bound n : ℕ) → n < bound → ((j : ℕ) → j ≤ n → contains set (first + j) ≡ true) → n < run_length set first bound
 unfolding run_length
 run_length-covers set first zero n below all = absurd (omega arith)
 run_length-covers set first (suc bound) zero below all =
@@ -138,14 +138,9 @@ in_runs_of set q below h =
     runs_covered set (list_below (begins_run set) HIGH_PAGE) q
     ∙ covered-listed (λ first q. in_range first (run_length set first HIGH_PAGE) q) (begins_run set) HIGH_PAGE begins.first q (omega (arith, low)) begins.is (run_covers set begins.first q low below begins.all)
 
-same_test : (a b : Bool) → (a ≡ true → b ≡ true) → (b ≡ true → a ≡ true) → a ≡ b
-same_test true b there back = sym (there refl)
-same_test false true there back = back refl
-same_test false false there back = refl
-
 -- a set has the pages of its runs
 pub member-runs_of : (set : FinSet nat_cmp) → AreBelow set → (q : ℕ) → in_runs (runs_of set) q ≡ contains set q
-member-runs_of set below q = same_test (in_runs (runs_of set) q) (contains set q) (runs_tell set (list_below (begins_run set) HIGH_PAGE) q) (λ h. in_runs_of set q (below q h) h)
+member-runs_of set below q = both_ways (in_runs (runs_of set) q) (contains set q) (runs_tell set (list_below (begins_run set) HIGH_PAGE) q) (λ h. in_runs_of set q (below q h) h)
 
 pub runs_of-same : (a b : FinSet nat_cmp) → AreBelow a → AreBelow b → runs_of a ≡ runs_of b → a ≡ b
 runs_of-same a b in_a in_b e = same_members a b (λ q. sym (member-runs_of a in_a q) ∙ ap (λ runs. in_runs runs q) e ∙ member-runs_of b in_b q)
@@ -155,15 +150,12 @@ runs_of-same a b in_a in_b e = same_members a b (λ q. sym (member-runs_of a in_
 pub same_number : (prot other : Prot) → prot_number prot ≡ prot_number other → prot ≡ other
 same_number prot other e = sym (prot_numbered-prot_number prot) ∙ ap prot_numbered e ∙ prot_numbered-prot_number other
 
-eqb_true : (a b : ℕ) → eqb a b ≡ true → a ≡ b
-eqb_true a b h = grind (arith, nat_tests)
-
 same_prot_tells : (a b : Option Prot) → same_prot a b ≡ true → (a ≡ b) × (is_some a ≡ true)
-same_prot_tells (Some prot) (Some other) h = (ap (λ p. Some p) (same_number prot other (eqb_true (prot_number prot) (prot_number other) h)), refl)
+same_prot_tells (Some prot) (Some other) h = (ap (λ p. Some p) (same_number prot other (eqb-true (prot_number prot) (prot_number other) h)), refl)
 same_prot_tells (Some prot) None h = none_absurd h
 same_prot_tells None b h = none_absurd h
 
-same_prot-self : (prot : Prot) → same_prot (Some prot) (Some prot) ≡ true
+pub same_prot-self : (prot : Prot) → same_prot (Some prot) (Some prot) ≡ true
 same_prot-self prot = eqb-self (prot_number prot)
 
 area_begins : (areas : FinMap nat_cmp Prot) (prot : Prot) (q : ℕ) → get areas q ≡ Some prot → BeginsAt (begins_area areas) (λ j. get areas j ≡ Some prot) q

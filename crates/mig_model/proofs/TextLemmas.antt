@@ -9,7 +9,7 @@ use Rattle.std.proofs.lemmas.List.{length-append, length-map}
 use Rattle.std.proofs.lemmas.List.Concat.{flat_map-cons}
 use Rattle.mig_base.specs.declared.Area.{Area}
 use Rattle.mig_base.specs.declared.Prot.{Prot}
-use Rattle.mig_base.specs.declared.Run as pages
+use Rattle.mig_base.specs.declared.Run.{Run as PageRun}
 use Rattle.mig_base.specs.declared.TheConstants.{HIGH_PAGE}
 use Rattle.mig_base.specs.declared.command.Command.{Command}
 use Rattle.mig_base.specs.declared.command.Command.TheVariants.{Load, Store}
@@ -42,7 +42,7 @@ length-flat_map_same text size [] h = omega arith
 length-flat_map_same text size (x ∷ xs) h =
     omega (arith, ap length (flat_map-cons text x xs), length-append (text x) (flat_map text xs), h.0, length-flat_map_same text size xs h.1)
 
-length-runs : (runs : List pages.Run) → length (flat_map run_text runs) ≡ 8 * length runs
+length-runs : (runs : List PageRun) → length (flat_map run_text runs) ≡ 8 * length runs
 length-runs [] = refl
 length-runs (run ∷ runs) = omega (arith, ap length (flat_map-cons run_text run runs), length-append (run_text run) (flat_map run_text runs), length-runs runs)
 

@@ -9,7 +9,7 @@ use Rattle.std.specs.FinSet.{FinSet, contains}
 use Rattle.mig_base.specs.declared.Area.{Area}
 use Rattle.mig_base.specs.declared.Prot.{Prot}
 use Rattle.mig_base.specs.declared.Prot.TheVariants.{NoAccess}
-use Rattle.mig_base.specs.declared.Run as pages
+use Rattle.mig_base.specs.declared.Run.{Run as PageRun}
 use Rattle.mig_base.specs.declared.TheConstants.{PAGE_SIZE, HIGH_PAGE}
 use Rattle.mig_base.specs.declared.command.Command.{Command}
 use Rattle.mig_base.specs.declared.command.Command.TheVariants.{Load, Store}
@@ -33,11 +33,11 @@ abbrev pub begins_run : FinSet nat_cmp → ℕ → Bool
 begins_run pages page = contains pages page && not (nat_lt 0 page && contains pages (page - 1))
 
 -- the run of the set that begins at a page
-abbrev pub run_at : FinSet nat_cmp → ℕ → pages.Run
+abbrev pub run_at : FinSet nat_cmp → ℕ → PageRun
 run_at pages first = record { first = first; count = run_length pages first HIGH_PAGE }
 
 -- the pages of a set as runs of neighbours, as few as there can be
-abbrev pub runs_of : FinSet nat_cmp → List pages.Run
+abbrev pub runs_of : FinSet nat_cmp → List PageRun
 runs_of pages = map (run_at pages) (list_below (begins_run pages) HIGH_PAGE)
 
 -- whether a mapped page has no neighbour with its protection below
@@ -88,11 +88,11 @@ tag_code (Request page) = 0x81
 tag_code (Recv state owed) = 0x82
 tag_code Done = 0x83
 
-abbrev pub run_text : pages.Run → List ℕ
+abbrev pub run_text : PageRun → List ℕ
 run_text run = to_be_bytes w32 run.first ++ to_be_bytes w32 run.count
 
 -- a count, and for each run its first page and its number of pages
-abbrev pub runs_text : List pages.Run → List ℕ
+abbrev pub runs_text : List PageRun → List ℕ
 runs_text runs = to_be_bytes w32 (length runs) ++ flat_map run_text runs
 
 abbrev pub area_text : Area → List ℕ
