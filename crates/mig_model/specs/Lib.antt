@@ -17,6 +17,7 @@ pub mod Migration
 pub mod Views
 pub mod Invariant
 pub mod Bounds
+pub mod Handlers
 pub mod Parts
 pub mod Promises
 pub mod Kept

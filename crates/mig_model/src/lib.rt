@@ -8,11 +8,14 @@
 //! - The whole migration, which no program makes: `specs/Cpus.antt` and `specs/Guest.antt` for the processors and their memory,
 //!   `specs/Log.antt` and `specs/Source.antt`, `specs/Owed.antt` and `specs/Destination.antt` for the two nodes, `specs/Wire.antt` for
 //!   what they tell each other, `specs/Migration.antt` for the world and its steps, and `specs/Invariant.antt`, `specs/Parts.antt` and
-//!   `specs/Promises.antt` for what holds of it, with bounds in `specs/Bounds.antt`.
+//!   `specs/Promises.antt` for what holds of it, with bounds in `specs/Bounds.antt`, and the calls of the userfault objects that its
+//!   steps stand for in `specs/Handlers.antt`.
 //!
-//! [`laws`] has what is proved of the first two, and [`migration`] and [`bounds`] what is proved of the third.
+//! [`laws`] has what is proved of the first two, and [`migration`], [`bounds`] and [`handlers`] what is
+//! proved of the third.
 #![tactic(auto)]
 
 pub mod bounds;
+pub mod handlers;
 pub mod laws;
 pub mod migration;
