@@ -17,6 +17,7 @@ use Rattle.mig_model.proofs.FirstWorld.{kept-first}
 use Rattle.mig_model.proofs.FrameBounds.{AreBodies}
 use Rattle.mig_model.proofs.FrameSteps.{AreLimited, IsReady, limited-first, limited-next}
 use Rattle.mig_model.proofs.MappingLemmas.{IsMapping-empty, IsMapping-guest, flat_within}
+use Rattle.mig_model.proofs.OpenObjects.{HasOpenObjects, open-first, open-next}
 use Rattle.mig_model.proofs.RightCommands.{right-first, right-next}
 use Rattle.mig_model.proofs.SourceRounds.{idle_back, idle_forward}
 use Rattle.mig_model.proofs.UrgentFew.{few-first, few-next}
@@ -28,6 +29,7 @@ pub record IsBounded (cpus : ℕ) (world : World) : Type 0 where
   pub ready : IsReady cpus world
   pub urgent : AreSoundUrgent world
   pub limited : AreLimited cpus world
+  pub opened : HasOpenObjects world
 
 bounded-first : (cpus epoch rounds : ℕ) → IsBounded cpus (first_world_with cpus epoch rounds)
 bounded-first cpus epoch rounds =
@@ -40,9 +42,10 @@ bounded-first cpus epoch rounds =
       };
       urgent = urgent-first cpus epoch rounds;
       limited = limited-first cpus epoch rounds;
+      opened = open-first cpus epoch rounds;
     }
 
-bounded-next : (cpus : ℕ) (world : World) (step : Step) → IsBounded cpus world → IsBounded cpus (next world step)
+pub bounded-next : (cpus : ℕ) (world : World) (step : Step) → IsBounded cpus world → IsBounded cpus (next world step)
 bounded-next cpus world step old =
     let ready = old.ready in
     record {
@@ -54,6 +57,7 @@ bounded-next cpus world step old =
       };
       urgent = urgent-next world step ready.kept old.urgent;
       limited = limited-next world step ready old.limited;
+      opened = open-next world step ready.kept old.opened;
     }
 
 bounded-after_steps : (cpus : ℕ) (world : World) (steps : List Step) → IsBounded cpus world → IsBounded cpus (after_steps world steps)
@@ -72,9 +76,8 @@ destination_by : (ran : Bool) (from to : Guest) → (ran ≡ false → IsMapping
 destination_by true from to bare runs = runs
 destination_by false from to bare runs = bare refl
 
-pub memory_bounded : (world : World) → IsReached world → HasBoundedMemory world
-memory_bounded world reached =
-    let all = bounded-reached world reached in
+pub has_memory : (cpus : ℕ) (world : World) → IsBounded cpus world → HasBoundedMemory world
+has_memory cpus world all =
     let kept = all.ready.kept in
     record {
       source = all.limited.areas;
@@ -82,6 +85,9 @@ memory_bounded world reached =
           (λ bare. subst (λ (space : Space). IsMapping space.host.areas) (sym (kept.owing.not_run bare).1) IsMapping-empty) (IsMapping-guest world kept);
       flat = flat_within world.transcript;
     }
+
+pub memory_bounded : (world : World) → IsReached world → HasBoundedMemory world
+memory_bounded world reached = has_memory reached.cpus world (bounded-reached world reached)
 
 -- Frames
 

@@ -208,7 +208,7 @@ record IsSendable (world : World) (first number : ℕ) : Type 0 where
   few : number ≤ 64
   present : (q : ℕ) → in_range first number q ≡ true → is_present (space_of world.source) q ≡ true
 
-some_bound : (count : ℕ) → 0 < run_bound count
+pub some_bound : (count : ℕ) → 0 < run_bound count
 some_bound count = grind (arith, nat_tests)
 
 most_bound : (count : ℕ) → run_bound count ≤ 64
@@ -231,13 +231,13 @@ run_sendable world first number bound kept found many some most precopy quiet =
 ranged_pages : (set : FinSet nat_cmp) (first number : ℕ) → ArePages set → ((q : ℕ) → in_range first number q ≡ true → IsPage q) → ArePages (with_range set first number)
 ranged_pages set first number are is q h = one_more (in_range first number q) (contains set q) (is q) (are q) (sym (member_with_range set first number q) ∙ h)
 
-last_in : (first number : ℕ) → 0 < number → in_range first number (first + (number - 1)) ≡ true
+pub last_in : (first number : ℕ) → 0 < number → in_range first number (first + (number - 1)) ≡ true
 last_in first number h = grind (arith, nat_tests, h)
 
-first_in : (first number : ℕ) → 0 < number → in_range first number first ≡ true
+pub first_in : (first number : ℕ) → 0 < number → in_range first number first ≡ true
 first_in first number h = grind (arith, nat_tests, h)
 
-end_below : (first number : ℕ) → 0 < number → first + (number - 1) < HIGH_PAGE → first + number ≤ HIGH_PAGE
+pub end_below : (first number : ℕ) → 0 < number → first + (number - 1) < HIGH_PAGE → first + number ≤ HIGH_PAGE
 end_below first number h l = omega (arith, h, l)
 
 run_limited : {cpus : ℕ} → (world : World) (first number : ℕ) → IsSoundWorld world → IsSendable world first number → AreLimited cpus world → AreLimited cpus (after_run world first number)

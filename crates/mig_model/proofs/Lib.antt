@@ -91,6 +91,10 @@ pub mod FrameBounds
 pub mod CpuCount
 pub mod FrameSteps
 pub mod Bounded
+pub mod OpenObjects
+pub mod Registering
+pub mod PageCalls
+pub mod HandlerCalls
 pub mod ViewPromises
 pub mod TextsInFlight
 pub mod RunsAndAreas

@@ -43,7 +43,7 @@ entered_retry world cpu command ok waits =
 
 -- Pages of zeros
 
-told_zeroed : (act : Act) (a b : ℕ) → act_effect act a ≡ Effect.Zeroed b → (act ≡ Zeroed) × (a ≡ b)
+pub told_zeroed : (act : Act) (a b : ℕ) → act_effect act a ≡ Effect.Zeroed b → (act ≡ Zeroed) × (a ≡ b)
 told_zeroed Zeroed a b h = (refl, cc)
 told_zeroed _ a b h = absurd (cc)
 

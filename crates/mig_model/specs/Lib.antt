@@ -18,6 +18,7 @@ pub mod Views
 pub mod Invariant
 pub mod Faults
 pub mod Bounds
+pub mod Handlers
 pub mod Parts
 pub mod Promises
 pub mod Replies

@@ -1,0 +1,228 @@
+-- The userfault objects stay enabled, with the features that were asked for.
+use Rattle.std.proofs.Common.{◌≡◌, ℕ, Bool, true, false, Option, Some, None, List, [], ◌∷◌, refl, sym, ◌∙◌, if◌then◌else◌}
+use Rattle.std.specs.Ordering.{nat_cmp}
+use Rattle.std.specs.FinSet.{FinSet}
+use Rattle.std.proofs.lemmas.Bool.{false≢true}
+use Rattle.mig_base.specs.declared.command.Access.{Access}
+use Rattle.mig_base.specs.declared.command.Access.TheVariants.{Answered, Missing, Protected}
+use Rattle.mig_base.specs.declared.command.Command.{Command}
+use Rattle.mig_base.specs.declared.command.Command.TheVariants.{Mmap, Munmap, Mremap}
+use Rattle.mig_base.specs.declared.command.Reply.{Reply}
+use Rattle.mig_base.specs.declared.command.Reply.TheVariants.{Done, At}
+use Rattle.mig_base.specs.declared.message.Message.{Message}
+use Rattle.mig_base.specs.declared.message.Message.TheVariants.{PageFault, Remap, Remove, Unmap}
+use Rattle.mig_base.specs.declared.phase.Received.{Received}
+use Rattle.mig_base.specs.declared.phase.SourcePhase.{SourcePhase}
+use Rattle.mig_base.specs.declared.schedule.Side.{Side}
+use Rattle.mig_base.specs.declared.schedule.Step.{Step}
+use Rattle.mig_base.specs.Commands.{is_access}
+use Rattle.mig_base.specs.Flat.{reply_of}
+use Rattle.mig_model.specs.Host.{memory}
+use Rattle.mig_model.specs.Userfault.{Noted, Object, event_queued, fault_queued, read_by, waits_fault}
+use Rattle.mig_model.specs.Space.{Space, access_of, accessed_by, all_queued, call_messages, modes_after}
+use Rattle.mig_model.specs.Ioctls.{all_features, event_features}
+use Rattle.mig_model.specs.Guest.{Act, Guest, read_guest, space_by, tried}
+use Rattle.mig_model.specs.Guest.Act.{Unprotected, Zeroed, Woke, Forgot, Requested}
+use Rattle.mig_model.specs.Owed.{home}
+use Rattle.mig_model.specs.Wire.{Copy, Frame}
+use Rattle.mig_model.specs.Wire.Frame.{Advise, Page, Zero, Run, Discard, Package, End, Resume, Request, Recv, Done as Finished}
+use Rattle.mig_model.specs.Source.{is_precopy, is_released, is_source_idle, is_source_paused, source_act, source_acted_by, source_rebuilt, source_took, space_of}
+use Rattle.mig_model.specs.Destination.{copy_came, destination_act, destination_acted_by, destination_took, install_by, received_of, resumed_by, urgent_took}
+use Rattle.mig_model.specs.Migration.{World, answer, first_world_with, guest_by, next, with_guest_by}
+use Rattle.mig_model.specs.Invariant.{IsSoundWorld}
+use Rattle.mig_model.proofs.Taken.{IsInPlaceBack}
+use Rattle.mig_model.proofs.FramesTaken.{is_taken_back}
+use Rattle.mig_model.proofs.StepCases.{made-break, made-deliver, made-deliver_back, made-deliver_urgent, made-dest_act, made-dest_read, made-end, made-install, made-issue, made-notice, made-push, made-push_urgent, made-resume, made-retry, made-round, made-send, made-send_run, made-serve, made-source_act, made-source_read, made-start, made-switch}
+use Rattle.mig_model.proofs.StepLemmas.{Leaves, leaves-next}
+
+-- an object that is enabled, with these features
+pub record IsOpen (object : Object) (features : ℕ) : Type 0 where
+  pub enabled : object.enabled ≡ true
+  pub asked : object.features ≡ features
+
+-- One object
+
+queued_by_open : (waits : Bool) (object more : Object) (features : ℕ) → IsOpen object features → IsOpen more features → IsOpen (if waits then object else more) features
+queued_by_open true object more features open_one open_more = open_one
+queued_by_open false object more features open_one open_more = open_more
+
+fault_open : (object : Object) (addr : ℕ) (write wp : Bool) (cpu features : ℕ) → IsOpen object features → IsOpen (fault_queued object addr write wp cpu) features
+fault_open object addr write wp cpu features open_one = queued_by_open (waits_fault object.faults addr wp) object _ features open_one (record { enabled = open_one.enabled; asked = open_one.asked })
+
+events_open : (object : Object) (messages : List Message) (cpu features : ℕ) → IsOpen object features → IsOpen (all_queued object messages cpu) features
+events_open object [] cpu features open_one = open_one
+events_open object (message ∷ messages) cpu features open_one = events_open (event_queued object message cpu) messages cpu features (record { enabled = open_one.enabled; asked = open_one.asked })
+
+modes_open : (object : Object) (command : Command) (reply : Reply) (features : ℕ) → IsOpen object features → IsOpen (modes_after object command reply) features
+modes_open object (Mmap len prot place) (At start) features open_one = record { enabled = open_one.enabled; asked = open_one.asked }
+modes_open object (Munmap addr len) Done features open_one = record { enabled = open_one.enabled; asked = open_one.asked }
+modes_open object (Mremap addr old_len new_len may_move fixed) (At target) features open_one = record { enabled = open_one.enabled; asked = open_one.asked }
+modes_open object _ _ features open_one = open_one
+
+accessed_open : (access : Access) (space : Space) (cpu : ℕ) (command : Command) (features : ℕ) → IsOpen space.object features → IsOpen (accessed_by access space cpu command).object features
+accessed_open (Answered reply) space cpu command features open_one = open_one
+accessed_open Missing space cpu command features open_one = fault_open space.object _ _ _ cpu features open_one
+accessed_open Protected space cpu command features open_one = fault_open space.object _ _ _ cpu features open_one
+
+tried_open : (access : Bool) (space : Space) (cpu : ℕ) (command : Command) (features : ℕ) → IsOpen space.object features → IsOpen (space_by access space cpu command).object features
+tried_open true space cpu command features open_one = accessed_open (access_of space command) space cpu command features open_one
+tried_open false space cpu command features open_one =
+    let reply = reply_of (memory space.host) command in
+    events_open (modes_after space.object command reply) (call_messages space.object command reply) cpu features (modes_open space.object command reply features open_one)
+
+message_open : (faults : List Noted) (object : Object) (features : ℕ) → IsOpen object features → IsOpen (read_by faults object) features
+message_open [] object features open_one = record { enabled = open_one.enabled; asked = open_one.asked }
+message_open (fault ∷ faults) object features open_one = record { enabled = open_one.enabled; asked = open_one.asked }
+
+read_open : (guest : Guest) (cpu : ℕ) (message : Message) (features : ℕ) → IsOpen guest.space.object features → IsOpen (read_guest guest cpu message).space.object features
+read_open guest cpu (PageFault addr write wp tid) features open_one = message_open guest.space.object.faults guest.space.object features open_one
+read_open guest cpu (Remap from to len) features open_one = message_open guest.space.object.faults guest.space.object features open_one
+read_open guest cpu (Remove start end) features open_one = message_open guest.space.object.faults guest.space.object features open_one
+read_open guest cpu (Unmap start end) features open_one = message_open guest.space.object.faults guest.space.object features open_one
+
+-- Both nodes
+
+-- the source's until it is released, the destination's once that has run
+pub record AreOpen (released : Bool) (from : Object) (ran : Bool) (to : Object) : Type 0 where
+  pub source : released ≡ false → IsOpen from all_features
+  pub destination : ran ≡ true → IsOpen to event_features
+
+abbrev pub HasOpenObjects : World → Type 0
+HasOpenObjects world = AreOpen (is_released world.source.phase) (space_of world.source).object world.destination.has_run world.destination.guest.space.object
+
+pub open-first : (cpus epoch rounds : ℕ) → HasOpenObjects (first_world_with cpus epoch rounds)
+open-first cpus epoch rounds = record { source = λ h. record { enabled = refl; asked = refl }; destination = λ h. absurd (false≢true h) }
+
+-- another object at the source, or at the destination
+with_source : {released : Bool} {from : Object} {ran : Bool} {to : Object} (gone : Bool) (new : Object) → (gone ≡ false → released ≡ false) → (IsOpen from all_features → IsOpen new all_features) → AreOpen released from ran to → AreOpen gone new ran to
+with_source gone new still opens h = record { source = λ u. opens (h.source (still u)); destination = h.destination }
+
+with_destination : {released : Bool} {from : Object} {ran : Bool} {to : Object} (new : Object) → (IsOpen to event_features → IsOpen new event_features) → AreOpen released from ran to → AreOpen released from ran new
+with_destination new opens h = record { source = h.source; destination = λ r. opens (h.destination r) }
+
+same_setup : (object new : Object) (features : ℕ) → new.enabled ≡ object.enabled → new.features ≡ object.features → IsOpen object features → IsOpen new features
+same_setup object new features enabled asked open_one = record { enabled = enabled ∙ open_one.enabled; asked = asked ∙ open_one.asked }
+
+guest_open : (ran : Bool) (world : World) (cpu : ℕ) (command : Command) → HasOpenObjects world → HasOpenObjects (with_guest_by ran world (tried (is_access command) (guest_by ran world.source.guest world.destination.guest) cpu command))
+guest_open true world cpu command h = with_destination _ (tried_open (is_access command) world.destination.guest.space cpu command event_features) h
+guest_open false world cpu command h = with_source _ _ (λ u. u) (tried_open (is_access command) (space_of world.source) cpu command all_features) h
+
+acted_open : (act : Act) (world : World) (page : ℕ) → HasOpenObjects world → HasOpenObjects (record world { source = source_acted_by act world.source page })
+acted_open Unprotected world page h = h
+acted_open Zeroed world page h = h
+acted_open Woke world page h = h
+acted_open Forgot world page h = h
+acted_open (Requested origin) world page h = h
+
+handled_open : (act : Act) (world : World) (page : ℕ) → HasOpenObjects world → HasOpenObjects (record world { destination = destination_acted_by act world.destination page })
+handled_open Unprotected world page h = h
+handled_open Zeroed world page h = h
+handled_open Woke world page h = h
+handled_open Forgot world page h = h
+handled_open (Requested origin) world page h = h
+
+installed_open : (o : Option ℕ) (world : World) (copy : Copy) (rest : List Copy) → HasOpenObjects world → HasOpenObjects (record world { destination = install_by o world.destination copy rest })
+installed_open None world copy rest h = h
+installed_open (Some page) world copy rest h = h
+
+came_open : (ran : Bool) (world : World) (copy : Copy) → HasOpenObjects world → HasOpenObjects (record world { destination = copy_came ran world.destination copy })
+came_open true world copy h = h
+came_open false world copy h = h
+
+resumed_open : (state : Received) (world : World) (epoch : ℕ) → HasOpenObjects world → HasOpenObjects (record world { destination = resumed_by state (record world.destination { epoch = epoch; urgent_taken = 0 }) })
+resumed_open Received.NotRun world epoch h = h
+resumed_open Received.Running world epoch h = h
+resumed_open Received.Ended world epoch h = h
+
+took_open : (frame : Frame) (epoch : ℕ) (world : World) → HasOpenObjects world → HasOpenObjects (record world { destination = destination_took world.destination epoch frame })
+took_open (Package areas owed commands) epoch world h = record { source = h.source; destination = λ r. record { enabled = refl; asked = refl } }
+took_open (Page page bytes) epoch world h = came_open world.destination.has_run world _ h
+took_open (Zero page) epoch world h = came_open world.destination.has_run world _ h
+took_open Resume epoch world h = resumed_open (received_of world.destination) world epoch h
+took_open Advise epoch world h = h
+took_open (Run first pages) epoch world h = h
+took_open (Discard pages) epoch world h = h
+took_open (End urgent) epoch world h = h
+took_open (Request page) epoch world h = h
+took_open (Recv state owed) epoch world h = h
+took_open Finished epoch world h = h
+
+urgent_open : (frame : Frame) (world : World) → HasOpenObjects world → HasOpenObjects (record world { destination = urgent_took world.destination frame })
+urgent_open (Page page bytes) world h = h
+urgent_open (Zero page) world h = h
+urgent_open Advise world h = h
+urgent_open (Run first pages) world h = h
+urgent_open (Discard pages) world h = h
+urgent_open (Package areas owed commands) world h = h
+urgent_open (End urgent) world h = h
+urgent_open Resume world h = h
+urgent_open (Request page) world h = h
+urgent_open (Recv state owed) world h = h
+urgent_open Finished world h = h
+
+-- Phases in which the source is not released
+
+idle_unreleased : (phase : SourcePhase) → is_source_idle phase ≡ true → is_released phase ≡ false
+idle_unreleased SourcePhase.Released h = sym h
+idle_unreleased SourcePhase.Idle h = refl
+idle_unreleased SourcePhase.Precopy h = refl
+idle_unreleased SourcePhase.Stopped h = refl
+idle_unreleased SourcePhase.Paused h = refl
+
+precopy_unreleased : (phase : SourcePhase) → is_precopy phase ≡ true → is_released phase ≡ false
+precopy_unreleased SourcePhase.Released h = sym h
+precopy_unreleased SourcePhase.Idle h = refl
+precopy_unreleased SourcePhase.Precopy h = refl
+precopy_unreleased SourcePhase.Stopped h = refl
+precopy_unreleased SourcePhase.Paused h = refl
+
+paused_unreleased : (phase : SourcePhase) → is_source_paused phase ≡ true → is_released phase ≡ false
+paused_unreleased SourcePhase.Released h = sym h
+paused_unreleased SourcePhase.Idle h = refl
+paused_unreleased SourcePhase.Precopy h = refl
+paused_unreleased SourcePhase.Stopped h = refl
+paused_unreleased SourcePhase.Paused h = refl
+
+rebuilt_open : (switched : Bool) (world : World) (owed : FinSet nat_cmp) → is_released world.source.phase ≡ false → HasOpenObjects world →
+    HasOpenObjects (record world { source = source_rebuilt Received.NotRun owed (record world.source { switched = switched }) })
+rebuilt_open true world owed unreleased h = with_source _ _ (λ u. unreleased) (λ o. o) h
+rebuilt_open false world owed unreleased h = with_source _ _ (λ u. unreleased) (λ o. o) h
+
+back_open : (frame : Frame) (world : World) → IsInPlaceBack world.source frame → HasOpenObjects world → HasOpenObjects (record world { source = source_took world.source frame })
+back_open (Recv Received.NotRun owed) world place h = rebuilt_open world.source.switched world owed (paused_unreleased world.source.phase place.0) h
+back_open (Recv Received.Running owed) world place h = with_source _ _ (λ u. paused_unreleased world.source.phase place.0) (λ o. o) h
+back_open (Recv Received.Ended owed) world place h = record { source = λ u. absurd (false≢true (sym u)); destination = h.destination }
+back_open Finished world place h = record { source = λ u. absurd (false≢true (sym u)); destination = h.destination }
+back_open (Request page) world place h = h
+back_open _ world place h = absurd place
+
+-- Steps
+
+open-answer : (world : World) (step : Step) → IsSoundWorld world → HasOpenObjects world → Leaves HasOpenObjects (answer world step)
+open-answer world (Step.Issue cpu command) kept h = made-issue _ world cpu command (λ there idle may. guest_open world.destination.has_run world cpu command h)
+open-answer world (Step.Retry cpu) kept h = made-retry _ world cpu (λ command waits woken may. guest_open world.destination.has_run world cpu command h)
+open-answer world Step.Start kept h = made-start _ world (λ idle. with_source _ _ (λ u. idle_unreleased world.source.phase idle) (same_setup (space_of world.source).object _ all_features refl refl) h)
+open-answer world Step.Round kept h = made-round _ world (λ precopy quiet. with_source _ _ (λ u. u) (same_setup (space_of world.source).object _ all_features refl refl) h)
+open-answer world Step.Send kept h = made-send _ world (λ page is precopy up quiet. h)
+open-answer world (Step.SendRun count) kept h = made-send_run _ world count (λ first number is many precopy up quiet. h)
+open-answer world Step.SourceRead kept h = made-source_read _ world (λ noted is started unswitched. with_source _ _ (λ u. u) (read_open world.source.guest noted.cpu noted.message all_features) h)
+open-answer world Step.SourceAct kept h = made-source_act _ world (λ fault rest is started unswitched quiet. acted_open (source_act world.source fault) world fault.page h)
+open-answer world Step.Switch kept h =
+    made-switch _ world (λ precopy up quiet. with_source _ _ (λ u. precopy_unreleased world.source.phase precopy) (same_setup (space_of world.source).object _ all_features refl refl) h)
+open-answer world (Step.Deliver n) kept h = made-deliver _ world n (λ sent rest is short. h) (λ sent rest is full started up free early. took_open sent.frame sent.epoch world h)
+open-answer world (Step.DeliverBack n) kept h = made-deliver_back _ world n (λ sent rest is short. h) (λ sent rest is full started up. back_open sent.frame world (is_taken_back world sent rest kept up is) h)
+open-answer world Step.DestRead kept h = made-dest_read _ world (λ noted is ran. with_destination _ (read_open world.destination.guest noted.cpu noted.message event_features) h)
+open-answer world Step.DestAct kept h = made-dest_act _ world (λ fault rest is ran quiet. handled_open (destination_act world.destination fault) world fault.page h)
+open-answer world Step.Install kept h = made-install _ world (λ copy rest is ran quiet. installed_open (home world.destination.owed copy.page) world copy rest h)
+open-answer world (Step.Push ticket) kept h = made-push _ world ticket (λ stopped up own present remains. h)
+open-answer world (Step.PushUrgent ticket) kept h = made-push_urgent _ world ticket (λ stopped up own present remains. h)
+open-answer world (Step.DeliverUrgent n) kept h = made-deliver_urgent _ world n (λ sent rest is short. h) (λ sent rest is full ran up. urgent_open sent.frame world h)
+open-answer world Step.Serve kept h = made-serve _ world (λ page pages is stopped up. h)
+open-answer world Step.End kept h = made-end _ world (λ stopped other up none. h)
+open-answer world Step.Break kept h = made-break _ world (λ started unreleased up. h)
+open-answer world (Step.Notice Side.Source) kept h = made-notice _ world Side.Source (λ started unreleased down. with_source _ _ (λ u. unreleased) (λ o. o) h)
+open-answer world (Step.Notice Side.Destination) kept h = made-notice _ world Side.Destination (λ started unreleased down. h)
+open-answer world Step.Resume kept h = made-resume _ world (λ from to down. h)
+
+pub open-next : (world : World) (step : Step) → IsSoundWorld world → HasOpenObjects world → HasOpenObjects (next world step)
+open-next world step kept h = leaves-next HasOpenObjects world step h (open-answer world step kept h)

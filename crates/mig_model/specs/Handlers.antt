@@ -1,0 +1,66 @@
+-- The calls of the userfault objects that the steps of the nodes stand for: the row of each call, from `Ioctls`, answers no error, and
+-- leaves the space that the machine has.
+use Rattle.std.specs.Prelude.{◌≡◌, ℕ, ◌*◌, ◌<◌, None, Ok, List, [], ◌∷◌}
+use Rattle.std.specs.Ordering.{nat_cmp}
+use Rattle.std.specs.FinMap.{FinMap, contains_key}
+use Rattle.mig_base.specs.declared.TheConstants.{PAGE_SIZE}
+use Rattle.mig_base.specs.declared.Prot.{Prot}
+use Rattle.mig_base.specs.declared.Run.{Run}
+use Rattle.mig_base.specs.declared.wake.Wake.{Wake}
+use Rattle.mig_base.specs.declared.wake.Wake.TheVariants.{Range}
+use Rattle.mig_base.specs.PageSets.{in_runs}
+use Rattle.mig_model.specs.Host.{Host}
+use Rattle.mig_model.specs.Space.{Space, fresh_space}
+use Rattle.mig_model.specs.Ioctls.{Put, copied, copy_answer, handshake_error, handshaken, register_error, registered, write_protected, writeprotect_answer, zeropage_answer, zeropaged}
+
+-- One page, or a run of them
+
+-- UFFDIO_WRITEPROTECT of a range, which wakes so
+pub record IsWriteProtect (old new : Space) (addr len bits : ℕ) (wake : Wake) : Type 0 where
+  pub answer : writeprotect_answer old addr len bits ≡ Ok wake
+  pub leaves : new ≡ write_protected old addr len bits
+
+-- one page was put, and those that sleep on it are woken
+abbrev pub page_put : ℕ → Put
+page_put addr = record { bytes = PAGE_SIZE; fault = None; wake = Range addr PAGE_SIZE }
+
+-- UFFDIO_ZEROPAGE of a page
+pub record IsZeroPage (old new : Space) (addr : ℕ) : Type 0 where
+  pub answer : zeropage_answer old addr PAGE_SIZE 0 ≡ page_put addr
+  pub leaves : new ≡ zeropaged old addr PAGE_SIZE 0
+
+-- UFFDIO_COPY of a page
+pub record IsCopy (old new : Space) (addr : ℕ) (bytes : List ℕ) : Type 0 where
+  pub answer : copy_answer old addr bytes 0 ≡ page_put addr
+  pub leaves : new ≡ copied old addr bytes 0
+
+-- Every area
+
+abbrev pub AreSome : List Run → Type 0
+AreSome [] = Unit {0}
+AreSome (run ∷ runs) = (0 < run.count) × AreSome runs
+
+-- runs that together have exactly the mapped pages, none of them empty: the areas of a guest are such runs
+pub record AreRunsOf (areas : FinMap nat_cmp Prot) (runs : List Run) : Type 0 where
+  pub some : AreSome runs
+  pub pages : (page : ℕ) → in_runs runs page ≡ contains_key areas page
+
+-- UFFDIO_REGISTER of one run behind the other: none is refused
+abbrev pub AreAccepted : Space → List Run → ℕ → Type 0
+AreAccepted space [] bits = Unit {0}
+AreAccepted space (run ∷ runs) bits =
+    (register_error space (PAGE_SIZE * run.first) (PAGE_SIZE * run.count) bits ≡ None) × AreAccepted (registered space (PAGE_SIZE * run.first) (PAGE_SIZE * run.count) bits) runs bits
+
+-- the space then
+abbrev pub registered_in_turn : Space → List Run → ℕ → Space
+registered_in_turn space [] bits = space
+registered_in_turn space (run ∷ runs) bits = registered_in_turn (registered space (PAGE_SIZE * run.first) (PAGE_SIZE * run.count) bits) runs bits
+
+pub record AreRegistered (old new : Space) (runs : List Run) (bits : ℕ) : Type 0 where
+  pub accepted : AreAccepted old runs bits
+  pub leaves : new ≡ registered_in_turn old runs bits
+
+-- UFFDIO_API on an object of a space with these pages, and then the same
+pub record AreWatched (host : Host) (new : Space) (runs : List Run) (features bits : ℕ) : Type 0 where
+  pub handshake : handshake_error (record fresh_space { host = host }) 170 features ≡ None
+  pub areas : AreRegistered (handshaken (record fresh_space { host = host }) 170 features) new runs bits

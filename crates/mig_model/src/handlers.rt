@@ -1,0 +1,55 @@
+//! The handlers use the calls of the userfault object: where a step of the whole migration changes what an object watches, or puts or
+//! protects a page, the row of that call in `specs/Ioctls.antt` answers no error, and leaves the space that the machine has. Each law is a
+//! function with an empty body, whose contract is the law.
+
+ghost use Rattle.std.specs.Prelude.{◌≡◌, ℕ, ◌*◌, ◌∷◌, List, Ok, IsOk};
+ghost use Rattle.std.specs.Ordering.{nat_cmp};
+ghost use Rattle.std.specs.FinMap.{FinMap};
+ghost use Rattle.mig_base.specs.declared.Prot.{Prot};
+ghost use Rattle.mig_base.specs.declared.Run.{Run};
+ghost use Rattle.mig_base.specs.declared.effect.Effect.{Effect};
+ghost use Rattle.mig_base.specs.declared.schedule.Step.{Step};
+ghost use Rattle.mig_base.specs.declared.wake.Wake.TheVariants.{Nobody, Range};
+ghost use Rattle.mig_base.specs.Bytes.{zero_page};
+ghost use Rattle.mig_model.specs.Ioctls.{event_features};
+ghost use Rattle.mig_model.specs.Source.{space_of};
+ghost use Rattle.mig_model.specs.Wire.{Copy};
+ghost use Rattle.mig_model.specs.Migration.{World, next, outcome};
+ghost use Rattle.mig_model.specs.Promises.{IsReached};
+ghost use Rattle.mig_model.specs.Bounds.{IsMapping};
+ghost use Rattle.mig_model.specs.Handlers.{AreRegistered, AreRunsOf, AreWatched, IsCopy, IsWriteProtect, IsZeroPage};
+
+/// What the source's handler resolves. A page of zeros is put by UFFDIO_ZEROPAGE, and a page is unprotected by UFFDIO_WRITEPROTECT; both
+/// wake those that sleep on the page.
+pub fn the_source_resolves_faults()
+    ensures zeroed { (world : World) (addr : ℕ) → IsReached world → outcome world Step.SourceAct ≡ Ok (Effect.Zeroed addr) → IsZeroPage (space_of world.source) (space_of (next world Step.SourceAct).source) addr }
+    ensures unprotected { (world : World) (addr : ℕ) → IsReached world → outcome world Step.SourceAct ≡ Ok (Effect.Unprotected addr) → IsWriteProtect (space_of world.source) (space_of (next world Step.SourceAct).source) addr 4096 0 (Range addr 4096) }
+{}
+
+/// A page that is sent in a round is protected by UFFDIO_WRITEPROTECT, which wakes nobody; so are the pages of a run, all at once.
+pub fn the_source_protects_what_it_sends()
+    ensures page { (world : World) (addr : ℕ) → IsReached world → outcome world Step.Send ≡ Ok (Effect.SentPage addr) → IsWriteProtect (space_of world.source) (space_of (next world Step.Send).source) addr 4096 1 Nobody }
+    ensures zero { (world : World) (addr : ℕ) → IsReached world → outcome world Step.Send ≡ Ok (Effect.SentZero addr) → IsWriteProtect (space_of world.source) (space_of (next world Step.Send).source) addr 4096 1 Nobody }
+    ensures run { (world : World) (count addr pages : ℕ) → IsReached world → outcome world (Step.SendRun count) ≡ Ok (Effect.SentRun addr pages) → IsWriteProtect (space_of world.source) (space_of (next world (Step.SendRun count)).source) addr (4096 * pages) 1 Nobody }
+{}
+
+/// What the destination puts. A page of zeros that nobody owes is put by UFFDIO_ZEROPAGE. A copy that is installed is put by UFFDIO_COPY;
+/// where it is a page of zeros, UFFDIO_ZEROPAGE does the same.
+pub fn the_destination_puts_pages()
+    ensures zeroed { (world : World) (addr : ℕ) → IsReached world → outcome world Step.DestAct ≡ Ok (Effect.Zeroed addr) → IsZeroPage world.destination.guest.space (next world Step.DestAct).destination.guest.space addr }
+    ensures installed { (world : World) (copy : Copy) (rest : List Copy) (addr source : ℕ) → IsReached world → world.destination.arrivals ≡ copy ∷ rest → outcome world Step.Install ≡ Ok (Effect.Installed addr source) →
+        IsCopy world.destination.guest.space (next world Step.Install).destination.guest.space addr copy.bytes }
+    ensures installed_zeros { (world : World) (copy : Copy) (rest : List Copy) (addr source : ℕ) → IsReached world → world.destination.arrivals ≡ copy ∷ rest → copy.bytes ≡ zero_page → outcome world Step.Install ≡ Ok (Effect.Installed addr source) →
+        IsZeroPage world.destination.guest.space (next world Step.Install).destination.guest.space addr }
+{}
+
+/// What is registered, area by area. Whatever runs of pages have exactly the mapped pages, UFFDIO_REGISTER of one behind the other is
+/// accepted each time, and leaves the space that the machine has: at Start and at each Round in both modes, and where the destination
+/// begins to run for missing faults, on an object that UFFDIO_API has just opened for events. There are such runs of every guest's pages.
+pub fn areas_are_registered()
+    ensures start { (world : World) (runs : List Run) → IsReached world → IsOk (outcome world Step.Start) → AreRunsOf (space_of world.source).host.areas runs → AreRegistered (space_of world.source) (space_of (next world Step.Start).source) runs 3 }
+    ensures round { (world : World) (runs : List Run) → IsReached world → IsOk (outcome world Step.Round) → AreRunsOf (space_of world.source).host.areas runs → AreRegistered (space_of world.source) (space_of (next world Step.Round).source) runs 3 }
+    ensures run { (world : World) (n count : ℕ) (runs : List Run) → IsReached world → outcome world (Step.Deliver n) ≡ Ok (Effect.TookPackage count) → AreRunsOf (next world (Step.Deliver n)).destination.guest.space.host.areas runs →
+        AreWatched (next world (Step.Deliver n)).destination.guest.space.host (next world (Step.Deliver n)).destination.guest.space runs event_features 1 }
+    ensures runs { (areas : FinMap nat_cmp Prot) → IsMapping areas → (runs : List Run) × AreRunsOf areas runs }
+{}
