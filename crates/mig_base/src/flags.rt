@@ -1,5 +1,5 @@
 //! The numbers of the calls of a userfault object, as in `linux/userfaultfd.h`. A constant whose name ends in `_BIT` is the
-//! place of a bit; the others are whole words.
+//! place of a bit, for which [`has_bit`] tests; the others are whole words.
 
 ghost use Rattle.std.specs.Prelude.{◌≡◌, ◌<◌};
 ghost use Rattle.mig_base.specs.Bits.{is_one};

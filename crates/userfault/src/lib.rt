@@ -7,7 +7,7 @@
 //!
 //! The crate deliberately knows no more. It has no mapping and no bytes, so that it takes a range on trust; no processor, so
 //! that it wakes none; and no command, so that its callers say which message a command causes and whether the features that
-//! were asked for call for it.
+//! were asked for call for it. The one feature that it looks at is UFFD_FEATURE_THREAD_ID, for the thread of a page fault.
 //!
 //! Contracts see an object as the record `Object` of `mig_model`, and each call is one step of its `specs/Userfault.antt`.
 //! The modules follow: `noted` (one message that waits, and a queue of them), `modes` (sets of pages once a range was
