@@ -1,4 +1,4 @@
--- No text is the front of another, so a text tells its version, its epoch and its frame.
+-- A text determines its version, its epoch and its frame, whatever bytes follow.
 use Rattle.std.proofs.Common.{◌≡◌, ℕ, zero, suc, ◌^◌, ◌<◌, ◌≤◌, Bool, true, false, cond, eqb, Option, Some, None, List, [], ◌∷◌, ◌++◌, length, map, take, drop, get_or, refl, sym, ap, ◌∙◌, arith, append_assoc}
 use Rattle.std.specs.List.{flat_map, AllByRecursion}
 use Rattle.std.specs.Int.{w32, w64, to_be_bytes, from_be_bytes}
@@ -19,7 +19,7 @@ use Rattle.mig_base.specs.declared.phase.Received.{Received}
 use Rattle.mig_base.specs.Codes.{prot_number}
 use Rattle.mig_base.specs.Ranges.{count_below}
 use Rattle.mig_base.specs.Sets.{pages_where}
-use Rattle.mig_model.specs.Texts.{list_below, begins_run, run_at, runs_of, begins_area, area_at, areas_of, Version, version_code, has_frame, tag_code, run_text, runs_text, area_text, areas_text, command_text, commands_text, state_code, body_text, header_text, text, HasWholePages, AreBelow, AreMappedBelow, FitsCommand, FitsText, IsTellable}
+use Rattle.mig_model.specs.Texts.{list_below, begins_run, run_at, runs_of, begins_area, area_at, areas_of, Version, version_code, has_frame, tag_code, run_text, runs_text, area_text, areas_text, command_text, commands_text, state_code, body_text, header_text, text, HasWholePages, AreBelow, AreMappedBelow, FitsCommand, FitsText, IsEncodable}
 use Rattle.mig_model.specs.Texts.Version.{One, Two}
 use Rattle.mig_model.specs.Ioctls.{same_prot}
 use Rattle.std.specs.FinMap.{get}
@@ -48,9 +48,9 @@ same_w64 m n s r hm hn e = sym (from_be_bytes-to_be_bytes_8 m hm) ∙ ap (from_b
 
 -- Lists
 
--- a text tells what it is of, whatever comes behind it
-abbrev Tells : {A : Type 0} → (A → List ℕ) → (A → Type 0) → Type 0
-Tells {A} text Fits = (x y : A) (s r : List ℕ) → Fits x → Fits y → text x ++ s ≡ text y ++ r → x ≡ y
+-- a text determines what it is of, whatever bytes follow
+abbrev Determines : {A : Type 0} → (A → List ℕ) → (A → Type 0) → Type 0
+Determines {A} text Fits = (x y : A) (s r : List ℕ) → Fits x → Fits y → text x ++ s ≡ text y ++ r → x ≡ y
 
 same_rest : {A : Type 0} (text : A → List ℕ) (x y : A) (s r : List ℕ) → x ≡ y → text x ++ s ≡ text y ++ r → s ≡ r
 same_rest text x y s r same e = append_cancel_left (text x) s r (e ∙ ap (λ z. text z ++ r) (sym same))
@@ -58,21 +58,21 @@ same_rest text x y s r same e = append_cancel_left (text x) s r (e ∙ ap (λ z.
 split_first : {A : Type 0} (text : A → List ℕ) (x : A) (xs : List A) (s : List ℕ) → flat_map text (x ∷ xs) ++ s ≡ text x ++ (flat_map text xs ++ s)
 split_first text x xs s = ap (λ t. t ++ s) (flat_map-cons text x xs) ∙ append_assoc (text x) (flat_map text xs) s
 
-same_list : {A : Type 0} (text : A → List ℕ) (Fits : A → Type 0) → Tells text Fits → (xs ys : List A) (s r : List ℕ) → AllByRecursion Fits xs → AllByRecursion Fits ys → length xs ≡ length ys → flat_map text xs ++ s ≡ flat_map text ys ++ r → xs ≡ ys
-same_list text Fits tells [] [] s r hx hy n e = refl
-same_list text Fits tells [] (y ∷ ys) s r hx hy n e = absurd (omega (arith, n))
-same_list text Fits tells (x ∷ xs) [] s r hx hy n e = absurd (omega (arith, n))
-same_list {A} text Fits tells (x ∷ xs) (y ∷ ys) s r hx hy n e =
+same_list : {A : Type 0} (text : A → List ℕ) (Fits : A → Type 0) → Determines text Fits → (xs ys : List A) (s r : List ℕ) → AllByRecursion Fits xs → AllByRecursion Fits ys → length xs ≡ length ys → flat_map text xs ++ s ≡ flat_map text ys ++ r → xs ≡ ys
+same_list text Fits by [] [] s r hx hy n e = refl
+same_list text Fits by [] (y ∷ ys) s r hx hy n e = absurd (omega (arith, n))
+same_list text Fits by (x ∷ xs) [] s r hx hy n e = absurd (omega (arith, n))
+same_list {A} text Fits by (x ∷ xs) (y ∷ ys) s r hx hy n e =
     let split : text x ++ (flat_map text xs ++ s) ≡ text y ++ (flat_map text ys ++ r) = sym (split_first text x xs s) ∙ e ∙ split_first text y ys r in
-    let same = tells x y (flat_map text xs ++ s) (flat_map text ys ++ r) hx.0 hy.0 split in
-    let more = same_list text Fits tells xs ys s r hx.1 hy.1 (omega (arith, n)) (same_rest text x y (flat_map text xs ++ s) (flat_map text ys ++ r) same split) in
+    let same = by x y (flat_map text xs ++ s) (flat_map text ys ++ r) hx.0 hy.0 split in
+    let more = same_list text Fits by xs ys s r hx.1 hy.1 (omega (arith, n)) (same_rest text x y (flat_map text xs ++ s) (flat_map text ys ++ r) same split) in
     ap (λ (z : A). z ∷ xs) same ∙ ap (λ (zs : List A). y ∷ zs) more
 
 -- with a count before it
-same_counted : {A : Type 0} (text : A → List ℕ) (Fits : A → Type 0) → Tells text Fits → (xs ys : List A) (s r : List ℕ) → AllByRecursion Fits xs → AllByRecursion Fits ys → length xs < 2 ^ 32 → length ys < 2 ^ 32
+same_counted : {A : Type 0} (text : A → List ℕ) (Fits : A → Type 0) → Determines text Fits → (xs ys : List A) (s r : List ℕ) → AllByRecursion Fits xs → AllByRecursion Fits ys → length xs < 2 ^ 32 → length ys < 2 ^ 32
     → (to_be_bytes w32 (length xs) ++ flat_map text xs) ++ s ≡ (to_be_bytes w32 (length ys) ++ flat_map text ys) ++ r → xs ≡ ys
-same_counted text Fits tells xs ys s r hx hy nx ny e =
-    same_list text Fits tells xs ys s r hx hy (same_w32 (length xs) (length ys) (flat_map text xs ++ s) (flat_map text ys ++ r) nx ny e) (ap (drop 4) e)
+same_counted text Fits by xs ys s r hx hy nx ny e =
+    same_list text Fits by xs ys s r hx hy (same_w32 (length xs) (length ys) (flat_map text xs ++ s) (flat_map text ys ++ r) nx ny e) (ap (drop 4) e)
 
 all-map : {A : Type 0} {B : Type 0} (P : B → Type 0) (f : A → B) (xs : List A) → AllByRecursion (λ x. P (f x)) xs → AllByRecursion P (map f xs)
 all-map P f [] h = tt
@@ -221,14 +221,14 @@ pub text-is : (v : Version) (epoch : ℕ) (frame : Frame) → has_frame v frame 
 unfolding text
 text-is v epoch frame has = rw has refl
 
--- what two texts at the front of one list of bytes have in common
+-- two texts that begin one list of bytes are the same
 pub record IsSameText (v w : Version) (d e : ℕ) (f g : Frame) (s r : List ℕ) : Type 0 where
   pub version : v ≡ w
   pub epoch : d ≡ e
   pub frame : f ≡ g
   pub rest : s ≡ r
 
-pub same_text : (v w : Version) (d e : ℕ) (f g : Frame) (s r : List ℕ) → IsTellable v d f → IsTellable w e g → text v d f ++ s ≡ text w e g ++ r → IsSameText v w d e f g s r
+pub same_text : (v w : Version) (d e : ℕ) (f g : Frame) (s r : List ℕ) → IsEncodable v d f → IsEncodable w e g → text v d f ++ s ≡ text w e g ++ r → IsSameText v w d e f g s r
 same_text v w d e f g s r hf hg eq =
     let spelled : (header_text v (tag_code f) d (length (body_text f)) ++ body_text f) ++ s ≡ (header_text w (tag_code g) e (length (body_text g)) ++ body_text g) ++ r =
     ap (λ t. t ++ s) (sym (text-is v d f hf.has)) ∙ eq ∙ ap (λ t. t ++ r) (text-is w e g hg.has) in

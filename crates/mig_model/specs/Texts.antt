@@ -1,5 +1,5 @@
--- The text of a frame, the bytes by which one node tells it to the other, and how long it is. A text is a header and a body. The
--- header tells the version, the kind of the frame, its epoch and the length of the body. Numbers are big-endian.
+-- The text of a frame, which is its bytes on a wire, and how long it is. A text is a header and a body. The header has the version,
+-- the tag of the frame, two zeros, the epoch and the length of the body. Numbers are big-endian.
 use Rattle.std.specs.Prelude.{◌≡◌, ℕ, zero, suc, ◌+◌, ◌-◌, ◌*◌, ◌^◌, ◌<◌, ◌&&◌, Bool, true, false, not, nat_lt, if◌then◌else◌, Option, Some, None, unwrap_or, List, [], ◌∷◌, ◌++◌, length, map}
 use Rattle.std.specs.List.{flat_map, AllByRecursion}
 use Rattle.std.specs.Int.{w32, w64, to_be_bytes}
@@ -28,23 +28,23 @@ unfoldable pub list_below : (ℕ → Bool) → ℕ → List ℕ
 list_below test zero = []
 list_below test (suc bound) = list_below test bound ++ (if test bound then bound ∷ [] else [])
 
--- whether a page of the set has no neighbour in it below
+-- whether a run begins at a page: the set has it, and not the page before it
 abbrev pub begins_run : FinSet nat_cmp → ℕ → Bool
 begins_run pages page = contains pages page && not (nat_lt 0 page && contains pages (page - 1))
 
--- the run of the set that begins at a page
+-- the run that begins at a page
 abbrev pub run_at : FinSet nat_cmp → ℕ → PageRun
 run_at pages first = record { first = first; count = run_length pages first HIGH_PAGE }
 
--- the pages of a set as runs of neighbours, as few as there can be
+-- the maximal runs of neighbours in a set, ascending
 abbrev pub runs_of : FinSet nat_cmp → List PageRun
 runs_of pages = map (run_at pages) (list_below (begins_run pages) HIGH_PAGE)
 
--- whether a mapped page has no neighbour with its protection below
+-- whether an area begins at a page: it is mapped, and the page before it does not have its protection
 abbrev pub begins_area : FinMap nat_cmp Prot → ℕ → Bool
 begins_area areas page = contains_key areas page && not (nat_lt 0 page && same_prot (get areas page) (get areas (page - 1)))
 
--- the area that begins at a page: the run of the pages that have its protection
+-- the area that begins at a page: the pages from there on that have its protection
 abbrev pub area_at : FinMap nat_cmp Prot → ℕ → Area
 area_at areas first =
     record {
@@ -53,13 +53,13 @@ area_at areas first =
       prot = unwrap_or (get areas first) NoAccess;
     }
 
--- the mapped pages as areas, as few as there can be
+-- the mapped pages as areas, the maximal runs of one protection, ascending
 abbrev pub areas_of : FinMap nat_cmp Prot → List Area
 areas_of areas = map (area_at areas) (list_below (begins_area areas) HIGH_PAGE)
 
 -- The text
 
--- the versions: the first has no frame for a run of pages
+-- the versions: runs of pages came with the second, which is the one that is written
 pub data Version : Type 0 where
   One : Version
   Two : Version
@@ -74,7 +74,7 @@ has_frame One (Run first pages) = false
 has_frame One frame = true
 has_frame Two frame = true
 
--- what tells the kinds of frames apart; those that go back to the source have the highest bit
+-- the tag of a frame; those that go back to the source have the highest bit set
 abbrev pub tag_code : Frame → ℕ
 tag_code Advise = 0x01
 tag_code (Page page bytes) = 0x02
@@ -134,7 +134,7 @@ body_text Done = []
 abbrev pub header_text : Version → (tag epoch len : ℕ) → List ℕ
 header_text version tag epoch len = version_code version ∷ tag ∷ 0 ∷ 0 ∷ to_be_bytes w32 epoch ++ to_be_bytes w32 len
 
--- the text of a frame that is sent in an epoch, none where the version does not have the frame
+-- the text of a frame that is sent in an epoch; empty where the version does not have the frame
 unfoldable pub text : Version → (epoch : ℕ) → Frame → List ℕ
 text version epoch frame = if has_frame version frame then header_text version (tag_code frame) epoch (length (body_text frame)) ++ body_text frame else []
 
@@ -184,17 +184,17 @@ body_len Done = 0
 abbrev pub text_len : Frame → ℕ
 text_len frame = header_len + body_len frame
 
--- what a frame needs for that to be the length of its text: each page that it carries is whole
+-- each page that a frame carries is whole: then that is the length of its text
 abbrev pub HasWholePages : Frame → Type 0
 HasWholePages (Page page bytes) = length bytes ≡ PAGE_SIZE
 HasWholePages (Run first pages) = AllByRecursion (λ bytes. length bytes ≡ PAGE_SIZE) pages
 HasWholePages frame = Unit {0}
 
--- as many bytes complete each frame as its text has
+-- the text of each frame has as many bytes as complete it
 abbrev pub AreCounted : List Sent → Type 0
 AreCounted frames = AllByRecursion (λ sent. length (text Two sent.epoch sent.frame) ≡ text_len sent.frame) frames
 
--- Which frame a text tells
+-- Which frames can be read back from their texts
 
 -- each page of a set is one of the address space
 abbrev pub AreBelow : FinSet nat_cmp → Type 0
@@ -204,14 +204,14 @@ AreBelow pages = (page : ℕ) → contains pages page ≡ true → page < HIGH_P
 abbrev pub AreMappedBelow : FinMap nat_cmp Prot → Type 0
 AreMappedBelow areas = (page : ℕ) → contains_key areas page ≡ true → page < HIGH_PAGE
 
--- a processor waits for nothing, or for a load or store whose numbers are of 64 bits
+-- what a processor waits for fits its fields: nothing, or a load or store whose numbers have 64 bits
 abbrev pub FitsCommand : Option Command → Type 0
 FitsCommand None = Unit {0}
 FitsCommand (Some (Load addr width)) = addr < 2 ^ 64
 FitsCommand (Some (Store addr width value)) = (addr < 2 ^ 64) × (value < 2 ^ 64)
 FitsCommand (Some command) = ⊥
 
--- the numbers of a frame have room in its text
+-- the numbers of a frame fit their fields
 abbrev pub FitsText : Frame → Type 0
 FitsText (Page page bytes) = page < 2 ^ 32
 FitsText (Zero page) = page < 2 ^ 32
@@ -223,8 +223,8 @@ FitsText (Request page) = page < 2 ^ 32
 FitsText (Recv state owed) = AreBelow owed
 FitsText frame = Unit {0}
 
--- a frame that is told by its text
-pub record IsTellable (version : Version) (epoch : ℕ) (frame : Frame) : Type 0 where
+-- a frame that can be read back from its text
+pub record IsEncodable (version : Version) (epoch : ℕ) (frame : Frame) : Type 0 where
   pub has : has_frame version frame ≡ true
   pub epoch_fits : epoch < 2 ^ 32
   pub whole : HasWholePages frame

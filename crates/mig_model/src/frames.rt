@@ -1,5 +1,5 @@
-//! What holds of the texts of frames, the bytes by which the nodes of a whole migration tell them to each other. Each law is a function
-//! with an empty body, whose contract is the law.
+//! What holds of the texts of frames, which are their bytes on the wires of a whole migration. Each law is a function with an empty
+//! body, whose contract is the law.
 
 ghost use Rattle.std.specs.Prelude.{◌≡◌, ℕ, ◌+◌, ◌-◌, ◌*◌, ◌≤◌, true, length, Option, Some, None, List, [], ◌∷◌, ◌++◌};
 ghost use Rattle.std.specs.Ordering.{nat_cmp};
@@ -18,13 +18,13 @@ ghost use Rattle.mig_base.specs.PageSets.{in_runs, AreRunsFrom};
 ghost use Rattle.mig_model.specs.Log.{no_pages};
 ghost use Rattle.mig_model.specs.Migration.{World};
 ghost use Rattle.mig_model.specs.Promises.{IsReached};
-ghost use Rattle.mig_model.specs.Texts.{Version, has_frame, text, text_len, body_len, HasWholePages, AreCounted, IsTellable, AreBelow, AreMappedBelow, runs_of};
+ghost use Rattle.mig_model.specs.Texts.{Version, has_frame, text, text_len, body_len, HasWholePages, AreCounted, IsEncodable, AreBelow, AreMappedBelow, runs_of};
 ghost use Rattle.mig_model.specs.Texts.Version.{One, Two};
 ghost use Rattle.mig_model.specs.Wire.{Frame};
 ghost use Rattle.mig_model.specs.Wire.Frame.{Advise, Zero, Run, Discard, Package, End, Request, Recv, Done};
 
-/// What the machine counts is the length of the text: a frame whose pages are whole is complete once as many bytes have come as its
-/// text has. Each frame in flight is such a one, on each of the three wires, after every list of steps.
+/// The bytes that complete a frame on the machine's wires are as many as its text has, where each page that it carries is whole. So it
+/// is for every frame in flight, on all three wires, after every list of steps.
 pub fn the_length_of_a_text()
     ensures text { (version : Version) (epoch : ℕ) (frame : Frame) → has_frame version frame ≡ true → HasWholePages frame → length (text version epoch frame) ≡ text_len frame }
     ensures forward { (world : World) → IsReached world → AreCounted world.forward.frames }
@@ -32,21 +32,21 @@ pub fn the_length_of_a_text()
     ensures urgent { (world : World) → IsReached world → AreCounted world.urgent.frames }
 {}
 
-/// A set of pages is written as its runs: they have the pages of the set, and are the only runs that do which ascend, are not empty, and
-/// do not touch.
+/// A set of pages is written as its maximal runs: they have the pages of the set, and no other list of runs has them that ascends, with
+/// no run empty and none touching the next.
 pub fn the_runs_of_a_set()
     ensures pages { (set : FinSet nat_cmp) (page : ℕ) → AreBelow set → in_runs (runs_of set) page ≡ contains set page }
     ensures ordered { (set : FinSet nat_cmp) → AreRunsFrom 0 (runs_of set) }
     ensures only { (set : FinSet nat_cmp) (runs : List PageRun) → AreBelow set → AreRunsFrom 0 runs → ((page : ℕ) → in_runs runs page ≡ contains set page) → runs ≡ runs_of set }
 {}
 
-/// A text tells its version, its epoch and its frame, whatever comes behind it: so each frame has one text in a version and an epoch,
-/// and no text is the front of another.
+/// A text determines its version, its epoch and its frame, whatever bytes follow: no two frames have the same text, and no text is a
+/// proper prefix of another.
 pub fn one_text()
-    ensures version { (v w : Version) (d e : ℕ) (f g : Frame) (s r : List ℕ) → IsTellable v d f → IsTellable w e g → text v d f ++ s ≡ text w e g ++ r → v ≡ w }
-    ensures epoch { (v w : Version) (d e : ℕ) (f g : Frame) (s r : List ℕ) → IsTellable v d f → IsTellable w e g → text v d f ++ s ≡ text w e g ++ r → d ≡ e }
-    ensures frame { (v w : Version) (d e : ℕ) (f g : Frame) (s r : List ℕ) → IsTellable v d f → IsTellable w e g → text v d f ++ s ≡ text w e g ++ r → f ≡ g }
-    ensures rest { (v w : Version) (d e : ℕ) (f g : Frame) (s r : List ℕ) → IsTellable v d f → IsTellable w e g → text v d f ++ s ≡ text w e g ++ r → s ≡ r }
+    ensures version { (v w : Version) (d e : ℕ) (f g : Frame) (s r : List ℕ) → IsEncodable v d f → IsEncodable w e g → text v d f ++ s ≡ text w e g ++ r → v ≡ w }
+    ensures epoch { (v w : Version) (d e : ℕ) (f g : Frame) (s r : List ℕ) → IsEncodable v d f → IsEncodable w e g → text v d f ++ s ≡ text w e g ++ r → d ≡ e }
+    ensures frame { (v w : Version) (d e : ℕ) (f g : Frame) (s r : List ℕ) → IsEncodable v d f → IsEncodable w e g → text v d f ++ s ≡ text w e g ++ r → f ≡ g }
+    ensures rest { (v w : Version) (d e : ℕ) (f g : Frame) (s r : List ℕ) → IsEncodable v d f → IsEncodable w e g → text v d f ++ s ≡ text w e g ++ r → s ≡ r }
 {}
 
 /// How long bodies get where no more pages, and no more processors, are in a frame than may be: a set has no more runs than pages, and
