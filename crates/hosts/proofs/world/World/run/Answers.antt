@@ -1,4 +1,6 @@
-use Rattle.std.proofs.Common.{arith}
+use Rattle.std.proofs.Common.{arith, subst}
+use Rattle.std.proofs.lemmas.List.{take_all}
+use Rattle.mig_model.specs.World.{IsRun}
 use Rattle.hosts.proofs.RunLemmas.{IsRun-more}
 use Rattle.hosts.proofs.world.World.run.Goals as goal
 
@@ -10,3 +12,6 @@ loop-step-preserved c = record {
   count = omega (arith, c.loop-step.invariant.count, c.in-Ok.ensures.len);
   room = omega (arith, c.loop-step.invariant.room, c.push.ensures.capacity);
 }
+
+pub returns-clause-run : goal.returns-clause-run
+returns-clause-run c = subst (λ steps. IsRun c.args.self.now steps c.loop-step.outcomes.items c.loop-step.self) (take_all c.loop-step.step-index c.args.steps.now c.loop-step-test.false) c.loop-step.invariant.run
