@@ -74,12 +74,13 @@ pub mod Calls
 pub mod PushOrder
 pub mod UrgentFew
 pub mod MappingLemmas
-pub mod ByteLemmas
+pub mod PageBytes
 pub mod RightCommands
 pub mod FrameBounds
 pub mod CpuCount
 pub mod FrameSteps
 pub mod Bounded
+pub mod TextLengths
 pub mod OpenObjects
 pub mod Registering
 pub mod PageCalls
