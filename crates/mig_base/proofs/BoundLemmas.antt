@@ -22,10 +22,10 @@ and_right : (a b : Bool) → (a && b) ≡ true → b ≡ true
 and_right true b h = h
 and_right false b h = absurd (false≢true h)
 
-low_or : {addr : ℕ} → (addr < LOW → ⊥) → LOW ≤ addr
+pub low_or : {addr : ℕ} → (addr < LOW → ⊥) → LOW ≤ addr
 low_or h = grind (arith, nat_tests, h)
 
-high_or : {addr : ℕ} → (HIGH ≤ addr → ⊥) → addr < HIGH
+pub high_or : {addr : ℕ} → (HIGH ≤ addr → ⊥) → addr < HIGH
 high_or h = grind (arith, nat_tests, h)
 
 same_prot_some : (a b : Option Cell) → same_prot a b ≡ true → b ≡ None → ⊥

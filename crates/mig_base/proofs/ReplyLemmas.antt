@@ -51,7 +51,7 @@ pub at_some_place : (o : Option ℕ) (start : ℕ) → At start ≡ at_place o �
 at_some_place None start h = absurd (cc)
 at_some_place (Some found) start h = cc
 
-same_at : (a b : ℕ) → At a ≡ At b → a ≡ b
+pub same_at : (a b : ℕ) → At a ≡ At b → a ≡ b
 same_at a b h = cc
 
 not_false : (b : Bool) → not b ≡ false → b ≡ true

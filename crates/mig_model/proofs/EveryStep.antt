@@ -33,7 +33,7 @@ use Rattle.mig_model.proofs.UrgentWire.{all_came}
 
 -- Commands: the node that runs the guest makes them
 
-runs_source : (switched ran : Bool) → (not switched || ran) ≡ true → ran ≡ false → switched ≡ false
+pub runs_source : (switched ran : Bool) → (not switched || ran) ≡ true → ran ≡ false → switched ≡ false
 runs_source false ran h none = refl
 runs_source true true h none = none_absurd (sym none)
 runs_source true false h none = none_absurd h

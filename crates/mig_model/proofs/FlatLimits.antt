@@ -1,7 +1,6 @@
 -- No flat memory has more than MAX_PAGES pages.
 use Rattle.std.proofs.Common.{◌≡◌, ℕ, zero, suc, ◌+◌, ◌-◌, ◌*◌, ◌<◌, ◌≤◌, ◌&&◌, ◌||◌, Bool, true, false, cond, not, eqb, ltb, Option, Some, None, is_some, List, [], ◌∷◌, ◌++◌, inr, refl, ap, ◌∙◌, arith}
-use Rattle.std.proofs.lemmas.Bool.{false≢true}
-use Rattle.std.proofs.lemmas.Bool.Decides.{nat_tests}
+use Rattle.std.proofs.lemmas.Bool.{false≢true, ltb-false}
 use Rattle.mig_base.specs.declared.TheConstants.{LOW, HIGH, MAX_PAGES}
 use Rattle.mig_base.specs.declared.Prot.{Prot}
 use Rattle.mig_base.specs.declared.command.Errno.TheVariants.{Eexist, Einval, Enomem, Efault}
@@ -15,8 +14,8 @@ use Rattle.mig_base.specs.declared.command.Entry.{Entry}
 use Rattle.mig_base.specs.Ranges.{count_below, in_range, rounded, free_place}
 use Rattle.mig_base.specs.Flat.{Cell, Memory, no_memory, is_mapped, mapped_count, exceeds_limit, fill, moved, zeros_with, place_refusals, is_unmapped, is_page_start, is_bad_target, has_one_prot, at_place, mmap_reply, mremap_place, mremap_reply, mremap_target, written, reply_of, changed, after, memory_from, memory_of}
 use Rattle.mig_base.proofs.RangeLemmas.{count_below-append, count_below-constant, ranges, in_range-true, in_range-false_above, in_range-false_below}
-use Rattle.mig_base.proofs.ReplyLemmas.{at_passed, mmap_inside, mremap_told}
-use Rattle.mig_base.proofs.BoundLemmas.{IsBounded, changed_bounded, remapped_inside}
+use Rattle.mig_base.proofs.ReplyLemmas.{at_passed, mmap_inside, mremap_told, same_at}
+use Rattle.mig_base.proofs.BoundLemmas.{IsBounded, changed_bounded, remapped_inside, high_or}
 use Rattle.mig_model.proofs.CommandLemmas.{one_prot_some}
 use Rattle.mig_model.proofs.SetSizes.{count_below-few}
 
@@ -73,9 +72,6 @@ count_apart all part (suc bound) h =
 abbrev pub IsFew : Memory → Type 0
 IsFew memory = mapped_count memory ≤ 4096 * MAX_PAGES
 
-within : (limit count : ℕ) → ltb limit count ≡ false → count ≤ limit
-within limit count h = grind (arith, nat_tests, h)
-
 -- a memory in which nothing is mapped anew
 less_few : (old new : Memory) → ((addr : ℕ) → is_mapped new addr ≡ true → is_mapped old addr ≡ true) → IsFew old → IsFew new
 less_few old new h few = let less = count_below-few (is_mapped new) (is_mapped old) HIGH h in omega (arith, few, less)
@@ -92,23 +88,20 @@ filled_few memory start size cell high room =
     let more = count_either (in_range start size) (is_mapped memory) (is_mapped (fill memory start size cell)) HIGH (λ addr h. put_or_was (in_range start size addr) cell (memory addr) h) in
     sum_few (mapped_count (fill memory start size cell)) (count_below (in_range start size) HIGH) size (mapped_count memory) (4096 * MAX_PAGES) more (count_inside start size HIGH high) room
 
-same_at : (a b : ℕ) → At a ≡ At b → a ≡ b
-same_at a b h = cc
-
 -- mmap
 
 mapped_few : (memory : Memory) (len : ℕ) (prot : Prot) (place : Place) (start : ℕ) → At start ≡ mmap_reply memory len prot place → IsFew memory → IsFew (fill memory start (rounded len) (zeros_with prot))
 mapped_few memory len prot Anywhere start h few =
     let told =
     at_passed ((eqb len 0, Einval) ∷ (ltb (HIGH - LOW) (rounded len), Enomem) ∷ (ltb (4096 * MAX_PAGES) (mapped_count memory + rounded len), Enomem) ∷ []) (at_place (free_place (is_mapped memory) (rounded len))) start h in
-    filled_few memory start (rounded len) (zeros_with prot) (mmap_inside memory len prot Anywhere start h).high (within (4096 * MAX_PAGES) (mapped_count memory + rounded len) told.0.1.1.0)
+    filled_few memory start (rounded len) (zeros_with prot) (mmap_inside memory len prot Anywhere start h).high (ltb-false (4096 * MAX_PAGES) (mapped_count memory + rounded len) told.0.1.1.0)
 mapped_few memory len prot (Fixed addr) start h few =
     let told = at_passed ((eqb len 0, Einval) ∷ (place_refusals addr (rounded len) ++ (exceeds_limit (fill memory addr (rounded len) (zeros_with prot)), Enomem) ∷ [])) (At addr) start h in
-    rw (same_at start addr told.1) (within (4096 * MAX_PAGES) _ told.0.1.1.1.1.1.0)
+    rw (same_at start addr told.1) (ltb-false (4096 * MAX_PAGES) _ told.0.1.1.1.1.1.0)
 mapped_few memory len prot (NoReplace addr) start h few =
     let told =
     at_passed ((eqb len 0, Einval) ∷ (place_refusals addr (rounded len) ++ (not (is_unmapped memory addr (rounded len)), Eexist) ∷ (exceeds_limit (fill memory addr (rounded len) (zeros_with prot)), Enomem) ∷ [])) (At addr) start h in
-    rw (same_at start addr told.1) (within (4096 * MAX_PAGES) _ told.0.1.1.1.1.1.1.0)
+    rw (same_at start addr told.1) (ltb-false (4096 * MAX_PAGES) _ told.0.1.1.1.1.1.1.0)
 
 -- mremap
 
@@ -130,16 +123,13 @@ sum_moved new target kept old all size add limit h k o t l = omega (arith, h, k,
 last_below : (addr size : ℕ) → 0 < size → addr + (size - 1) < HIGH → addr + size ≤ HIGH
 last_below addr size some last = omega (arith, some, last)
 
-below_or : {addr : ℕ} → (HIGH ≤ addr → ⊥) → addr < HIGH
-below_or h = grind (arith, nat_tests, h)
-
 remapped_few : (memory : Memory) (addr old_size target new_size : ℕ) → IsBounded memory → 0 < old_size → has_one_prot memory addr old_size ≡ true → target + new_size ≤ HIGH →
     mapped_count memory - old_size + new_size ≤ 4096 * MAX_PAGES → IsFew (moved memory addr old_size target new_size)
 remapped_few memory addr old_size target new_size bounded some one high room =
     let mapped = λ (n : ℕ) (h : in_range addr old_size n ≡ true).
     let at = in_range_at addr old_size n h in
     some_or (memory n) (λ none. one_prot_some memory addr old_size (n - addr) one at.1 (ap memory at.0 ∙ none)) in
-    let last : addr + (old_size - 1) < HIGH = below_or (λ past. one_prot_some memory addr old_size (old_size - 1) one (omega (arith, some)) (bounded (addr + (old_size - 1)) (inr past))) in
+    let last : addr + (old_size - 1) < HIGH = high_or (λ past. one_prot_some memory addr old_size (old_size - 1) one (omega (arith, some)) (bounded (addr + (old_size - 1)) (inr past))) in
     sum_moved (mapped_count (moved memory addr old_size target new_size)) (count_below (in_range target new_size) HIGH) (count_below (λ n. is_mapped memory n && not (in_range addr old_size n)) HIGH)
     (count_below (in_range addr old_size) HIGH) (mapped_count memory) old_size new_size (4096 * MAX_PAGES)
     (count_either (in_range target new_size) (λ n. is_mapped memory n && not (in_range addr old_size n)) (is_mapped (moved memory addr old_size target new_size)) HIGH
@@ -150,13 +140,10 @@ target_few : (memory : Memory) (addr old_size new_size : ℕ) (may_move : Bool) 
     At target ≡ mremap_target memory addr old_size new_size may_move fixed → IsFew (moved memory addr old_size target new_size)
 target_few memory addr old_size new_size may_move None target bounded some one high h =
     let told = at_passed ((ltb (4096 * MAX_PAGES) (mapped_count memory - old_size + new_size), Enomem) ∷ []) (mremap_place memory addr old_size new_size may_move) target h in
-    remapped_few memory addr old_size target new_size bounded some one high (within (4096 * MAX_PAGES) (mapped_count memory - old_size + new_size) told.0.0)
+    remapped_few memory addr old_size target new_size bounded some one high (ltb-false (4096 * MAX_PAGES) (mapped_count memory - old_size + new_size) told.0.0)
 target_few memory addr old_size new_size may_move (Some fixed) target bounded some one high h =
     let told = at_passed ((exceeds_limit (moved memory addr old_size fixed new_size), Enomem) ∷ []) (At fixed) target h in
-    rw (same_at target fixed told.1) (within (4096 * MAX_PAGES) _ told.0.0)
-
-some_rounded : (len : ℕ) → 0 < len → 0 < rounded len
-some_rounded len h = omega (arith, h)
+    rw (same_at target fixed told.1) (ltb-false (4096 * MAX_PAGES) _ told.0.0)
 
 mremap_few : (memory : Memory) (addr old_len new_len : ℕ) (may_move : Bool) (fixed : Option ℕ) (target : ℕ) → IsBounded memory → At target ≡ mremap_reply memory addr old_len new_len may_move fixed →
     IsFew (moved memory addr (rounded old_len) target (rounded new_len))
@@ -165,7 +152,7 @@ mremap_few memory addr old_len new_len may_move fixed target bounded h =
     let told =
     at_passed ((not (is_page_start addr) || eqb old_len 0 || eqb new_len 0 || is_bad_target addr (rounded old_len) (rounded new_len) may_move fixed, Einval) ∷ (not (has_one_prot memory addr (rounded old_len)), Efault) ∷ [])
     (mremap_target memory addr (rounded old_len) (rounded new_len) may_move fixed) target h in
-    target_few memory addr (rounded old_len) (rounded new_len) may_move fixed target bounded (some_rounded old_len remapped.old_some) remapped.one_prot (remapped_inside memory addr old_len new_len target bounded remapped).high told.1
+    target_few memory addr (rounded old_len) (rounded new_len) may_move fixed target bounded (let some = remapped.old_some in omega (arith, some)) remapped.one_prot (remapped_inside memory addr old_len new_len target bounded remapped).high told.1
 
 -- Every command
 

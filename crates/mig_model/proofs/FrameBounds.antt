@@ -4,7 +4,7 @@ use Rattle.std.specs.Prelude.{map}
 use Rattle.std.specs.Ordering.{nat_cmp}
 use Rattle.std.specs.FinMap.{contains_key, get}
 use Rattle.std.specs.FinSet.{FinSet, contains, contains-retain, len, len-empty, nat_cmp-IsAntisymmetric}
-use Rattle.std.proofs.lemmas.Bool.{false≢true, and_parts}
+use Rattle.std.proofs.lemmas.Bool.{and_parts}
 use lib.ListN.{length-map}
 use Rattle.mig_base.specs.declared.TheConstants.{LOW_PAGE, HIGH_PAGE, MAX_PAGES}
 use Rattle.mig_base.specs.declared.Prot.{Prot}
@@ -24,12 +24,13 @@ use Rattle.mig_model.specs.Source.{Source, bytes_of, is_released, not_clean, pac
 use Rattle.mig_model.specs.Destination.{Destination, act_frames, destination_act_by, destination_acted_by, destination_answers, is_running, received_of, recv_by}
 use Rattle.mig_model.specs.Migration.{World}
 use Rattle.mig_model.specs.Bounds.{AreFewPages, ArePageBytes, ArePages, AreUrgentFew, IsCpuCount, IsFrame, IsMapping, IsPage}
-use Rattle.mig_model.proofs.ByteLemmas.{AreBytes, HasBytes, contents_bytes}
+use Rattle.mig_model.proofs.PageBytes.{AreBytes, HasBytes, contents_bytes}
 use Rattle.mig_model.proofs.CommandLemmas.{length-contents}
 use Rattle.mig_model.proofs.Facts.{member_not_clean, no_page}
 use Rattle.mig_model.proofs.ResumeTaken.{pair-origins}
 use Rattle.mig_model.proofs.RightCommands.{AllRight, right_commands}
-use Rattle.mig_model.proofs.SetSizes.{count_below-few, len-below}
+use Rattle.mig_model.proofs.SetSizes.{count_below-few, len-below, only_where}
+use Rattle.mig_model.proofs.PackageTaken.{has_areas}
 
 -- Lists of frames
 
@@ -85,20 +86,8 @@ frames-requests (request ∷ requests) are = (are.0, frames-requests requests ar
 
 -- Pages of the source
 
-has_area : (areas : Option Prot) (bytes : Option (List ℕ)) → (areas ≡ None → bytes ≡ None) → is_some bytes ≡ true → is_some areas ≡ true
-has_area (Some prot) bytes h is = refl
-has_area None bytes h is = absurd (false≢true (sym (ap is_some (h refl)) ∙ is))
-
--- a present page is mapped, so it is one that may be
-present_mapped : (host : Host) (page : ℕ) → IsSound host → contains_key host.bytes page ≡ true → contains_key host.areas page ≡ true
-present_mapped host page sound h = has_area (get host.areas page) (get host.bytes page) (sound.mapped page) h
-
 pub present_page : (host : Host) (page : ℕ) → IsSound host → IsMapping host.areas → contains_key host.bytes page ≡ true → IsPage page
-present_page host page sound mapping h = mapping.pages page (present_mapped host page sound h)
-
-outside_none : (here mapped : Bool) → (here ≡ true → mapped ≡ true) → mapped ≡ false → here ≡ false
-outside_none true mapped h none = sym (h refl) ∙ none
-outside_none false mapped h none = refl
+present_page host page sound mapping h = mapping.pages page (has_areas host page sound h)
 
 few_of : (part all limit : ℕ) → part ≤ all → all ≤ limit → part ≤ limit
 few_of part all limit h k = omega (arith, h, k)
@@ -106,8 +95,8 @@ few_of part all limit h k = omega (arith, h, k)
 -- a set of present pages
 pub present_pages : (host : Host) (set : FinSet nat_cmp) → IsSound host → IsMapping host.areas → ((page : ℕ) → contains set page ≡ true → contains_key host.bytes page ≡ true) → AreFewPages set
 present_pages host set sound mapping h =
-    let mapped : (page : ℕ) → contains set page ≡ true → contains_key host.areas page ≡ true = λ page m. present_mapped host page sound (h page m) in
-    let all = len-below set HIGH_PAGE (λ page l. outside_none (contains set page) (contains_key host.areas page) (mapped page) (ap is_some (sound.bound page l))) in
+    let mapped : (page : ℕ) → contains set page ≡ true → contains_key host.areas page ≡ true = λ page m. has_areas host page sound (h page m) in
+    let all = len-below set HIGH_PAGE (λ page l. only_where (contains set page) (contains_key host.areas page) (mapped page) (ap is_some (sound.bound page l))) in
     let few = count_below-few (contains set) (contains_key host.areas) HIGH_PAGE mapped in
     let count = count_below-contains_key HIGH_PAGE host.areas sound.bound in
     let most = mapping.few in (λ page m. mapping.pages page (mapped page m), omega (arith, all, few, count, most))

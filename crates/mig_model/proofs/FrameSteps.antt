@@ -36,7 +36,7 @@ use Rattle.mig_model.specs.Migration.{World, after_break, after_command, after_d
 use Rattle.mig_model.specs.Invariant.{IsSoundWorld, PausedWires, Wires, is_unread}
 use Rattle.mig_model.proofs.Taken.{IsInPlaceBack}
 use Rattle.mig_model.specs.Bounds.{ArePages, AreUrgentFew, IsCpuCount, IsMapping, IsPage}
-use Rattle.mig_model.proofs.ByteLemmas.{HasBytes, changed_bytes, zeroed_bytes}
+use Rattle.mig_model.proofs.PageBytes.{HasBytes, changed_bytes, zeroed_bytes}
 use Rattle.mig_model.proofs.Calls.{stopped_switched}
 use Rattle.mig_model.proofs.Facts.{no_event, no_page}
 use Rattle.mig_model.proofs.FirstFrame.{empty_not}
@@ -49,6 +49,7 @@ use Rattle.mig_model.proofs.SourceRounds.{precopy_unswitched}
 use Rattle.mig_model.proofs.StepCases.{made-break, made-deliver, made-deliver_back, made-deliver_urgent, made-dest_act, made-dest_read, made-end, made-install, made-issue, made-notice, made-push, made-push_urgent, made-retry, made-round, made-send, made-send_run, made-serve, made-source_act, made-source_read, made-switch}
 use Rattle.mig_model.proofs.StepLemmas.{Leaves, holds-unless, leaves-next}
 use Rattle.mig_model.proofs.UrgentWire.{is_paused}
+use Rattle.mig_model.proofs.SetSizes.{only_where}
 
 -- what the frames of a world rest on, and that each of them has a text, where the guest has that many processors
 pub record IsLimited (cpus : ℕ) (from : SourcePhase) (epoch : ℕ) (host : Host) (sent : FinSet nat_cmp) (requests : List ℕ) (forward back urgent : List Sent) : Type 0 where
@@ -270,10 +271,6 @@ acted_limited : {cpus : ℕ} → (act : Act) (world : World) (page : ℕ) → Ar
 acted_limited Zeroed world page h = with_host _ h.areas (zeroed_bytes (space_of world.source).host.bytes page h.bytes) h
 acted_limited _ world page h = h
 
-not_run : (ran switched : Bool) → (ran ≡ true → switched ≡ true) → switched ≡ false → ran ≡ false
-not_run true switched h bare = absurd (false≢true (sym bare ∙ h refl))
-not_run false switched h bare = refl
-
 precopy_started : (phase : SourcePhase) → is_precopy phase ≡ true → is_source_idle phase ≡ false
 precopy_started SourcePhase.Idle h = sym h
 precopy_started _ h = refl
@@ -285,7 +282,7 @@ stopped_unreleased _ h = refl
 switch_limited : {cpus : ℕ} → (world : World) → IsReady cpus world → is_precopy world.source.phase ≡ true → AreLimited cpus world → AreLimited cpus (after_switch world)
 switch_limited world ready precopy h =
     let kept = ready.kept in
-    let bare = not_run world.destination.has_run world.source.switched kept.phases.ran_after_switch (precopy_unswitched world.source.phase world.source.switched precopy kept.phases.source_phase) in
+    let bare = only_where world.destination.has_run world.source.switched kept.phases.ran_after_switch (precopy_unswitched world.source.phase world.source.switched precopy kept.phases.source_phase) in
     record {
       areas = h.areas;
       bytes = h.bytes;

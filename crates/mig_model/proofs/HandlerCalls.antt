@@ -4,7 +4,7 @@ use Rattle.std.specs.Prelude.{Ok}
 use Rattle.std.specs.Ordering.{nat_cmp}
 use Rattle.std.specs.FinMap.{contains_key, get}
 use Rattle.std.specs.FinSet.{contains, contains-empty}
-use Rattle.std.proofs.lemmas.Bool.{false≢true, or_parts, not-false}
+use Rattle.std.proofs.lemmas.Bool.{false≢true, or_parts, not-false, or_left, or_right}
 use Rattle.mig_base.specs.declared.TheConstants.{HIGH_PAGE}
 use Rattle.mig_base.specs.declared.Run.{Run}
 use Rattle.mig_base.specs.declared.effect.Effect.{Effect}
@@ -36,11 +36,11 @@ use Rattle.mig_model.specs.Invariant.{AreFaithful, SwitchedAt, is_unread, IsSoun
 use Rattle.mig_model.specs.Bounds.{IsMapping, IsPage}
 use Rattle.mig_model.specs.Handlers.{AreRegistered, AreRunsOf, AreWatched, IsCopy, IsWriteProtect, IsZeroPage}
 use Rattle.mig_model.proofs.Bounded.{IsBounded, bounded-next, has_memory}
-use Rattle.mig_model.proofs.Facts.{and_left, no_event}
-use Rattle.mig_model.proofs.OpenObjects.{IsOpen}
+use Rattle.mig_model.proofs.Facts.{and_left, no_event, no_page}
+use Rattle.mig_model.proofs.OpenObjects.{IsOpen, idle_unreleased}
 use Rattle.mig_model.proofs.PageCalls.{IsCalled, copy_made, range_protect_made, write_protect_made, zero_page_made}
 use Rattle.mig_model.proofs.PromiseLemmas.{destination_zero, source_zero}
-use Rattle.mig_model.proofs.Registering.{CanRegister, areas_registered, every_registered, left_new, or_left_true, or_right_true, registered_by}
+use Rattle.mig_model.proofs.Registering.{CanRegister, areas_registered, every_registered, left_new, registered_by}
 use Rattle.mig_model.proofs.ResumeTaken.{home_tells}
 use Rattle.mig_model.proofs.SourceRounds.{precopy_unswitched}
 use Rattle.mig_model.proofs.StepCases.{made-deliver, made-dest_act, made-install, made-round, made-send, made-send_run, made-source_act, made-start}
@@ -113,7 +113,7 @@ source_unprotects cpus world addr all answered =
     let told = told_unprotected (source_act world.source fault) (4096 * fault.page) addr h in
     let guarded = and_left (contains space.protected fault.page) fault.wp (source_cleared (is_forgotten space fault.page) (is_present space fault.page) _ told.0) in
     let watched = sound.watched fault.page guarded in
-    let mapped = sound.mapped fault.page (or_right_true (contains space.object.missing fault.page) (contains space.object.protect fault.page) watched) in
+    let mapped = sound.mapped fault.page (or_right (contains space.object.missing fault.page) (contains space.object.protect fault.page) watched) in
     let made = write_protect_made space fault.page 0 false (record { enabled = (source_open cpus world all unswitched).enabled; quiet = quiet; inside = all.limited.areas.pages fault.page mapped }) watched refl (zero_is_no_one 0) in
     subst (λ a. IsWriteProtect space (space_of (after_source_act world fault).source) a 4096 0 (Range a 4096)) told.1
     (subst (λ act. IsWriteProtect space (space_of (source_acted_by act world.source fault.page)) (4096 * fault.page) 4096 0 (Range (4096 * fault.page) 4096)) (sym told.0) made))) answered refl
@@ -141,7 +141,7 @@ sent_protected cpus world page all found precopy quiet =
     let unswitched = precopy_unswitched world.source.phase world.source.switched precopy kept.phases.source_phase in
     let watched =
     (kept.precopy.todo_sendable unswitched page (least_below_tells (contains world.source.log.todo) HIGH_PAGE page found) (ap (λ events. is_unread events page) (no_event space.object.events quiet))).1 in
-    let mapped = kept.spaces.source_space.mapped page (or_right_true (contains space.object.missing page) (contains space.object.protect page) watched) in
+    let mapped = kept.spaces.source_space.mapped page (or_right (contains space.object.missing page) (contains space.object.protect page) watched) in
     write_protect_made space page 1 true (record { enabled = (source_open cpus world all unswitched).enabled; quiet = quiet; inside = all.limited.areas.pages page mapped }) watched refl one_is_protect
 
 pub page_protected : (cpus : ℕ) (world : World) (addr : ℕ) → IsBounded cpus world → outcome world Step.Send ≡ Ok (Effect.SentPage addr) → IsWriteProtect (space_of world.source) (space_of (next world Step.Send).source) addr 4096 1 Nobody
@@ -175,7 +175,7 @@ sent_run_protected cpus world first bound all found some precopy quiet =
     let number = run_length todo first bound in
     let more = run_length-some todo first bound (least_below_tells (contains todo) HIGH_PAGE first found) some in
     let watched = run_watched world first bound kept precopy quiet in
-    let inside : (q : ℕ) → in_range first number q ≡ true → IsPage q = λ q h. all.limited.areas.pages q (kept.spaces.source_space.mapped q (or_right_true (contains space.object.missing q) (contains space.object.protect q) (watched q h))) in
+    let inside : (q : ℕ) → in_range first number q ≡ true → IsPage q = λ q h. all.limited.areas.pages q (kept.spaces.source_space.mapped q (or_right (contains space.object.missing q) (contains space.object.protect q) (watched q h))) in
     let unswitched = precopy_unswitched world.source.phase world.source.switched precopy kept.phases.source_phase in
     range_protect_made space first number 1 true (source_open cpus world all unswitched).enabled quiet more (inside first (first_in first number more)).0 (end_below first number more (inside (first + (number - 1)) (last_in first number more)).1) watched refl one_is_protect
 
@@ -224,7 +224,7 @@ home_copied cpus world copy rest page all ran first quiet found =
     let kept = all.ready.kept in
     let alone = kept.owing.pairs_missing page copy.page (ap (λ events. settled_by events (get world.destination.owed) page) (no_event space.object.events quiet) ∙ home_tells world.destination.owed page copy.page found) in
     let faithful : AreFaithful (space_of world.source).host.bytes (copy ∷ rest) = subst (AreFaithful (space_of world.source).host.bytes) first (kept.owing.arrivals_faithful ran) in
-    let registered : is_registered space.object page ≡ true = or_left_true (contains space.object.missing page) (contains space.object.protect page) alone.0 in
+    let registered : is_registered space.object page ≡ true = or_left (contains space.object.missing page) (contains space.object.protect page) alone.0 in
     let mapped = kept.spaces.destination_space.mapped page registered in
     let called : IsCalled space page = record { enabled = (all.opened.destination ran).enabled; quiet = quiet; inside = (has_memory cpus world all).destination.pages page mapped } in (
       copy_made space page copy.bytes called mapped registered alone.1 (kept.spaces.source_space.host.whole copy.page copy.bytes faithful.0),
@@ -276,13 +276,6 @@ both_registered space runs sound opened mapping are =
     subst (λ new. AreRegistered space new runs 3) (ap (registered_by space (λ page. contains_key space.host.areas page)) both_modes ∙ every_registered space for_both sound)
     (areas_registered space runs 3 sound (can_register space.object all_features opened all_events) refl mapping are)
 
-idle_unreleased : (phase : SourcePhase) → is_source_idle phase ≡ true → is_released phase ≡ false
-idle_unreleased SourcePhase.Released h = sym h
-idle_unreleased SourcePhase.Idle h = refl
-idle_unreleased SourcePhase.Precopy h = refl
-idle_unreleased SourcePhase.Stopped h = refl
-idle_unreleased SourcePhase.Paused h = refl
-
 pub start_registers : (cpus : ℕ) (world : World) (runs : List Run) → IsBounded cpus world → IsOk (outcome world Step.Start) → AreRunsOf (space_of world.source).host.areas runs → AreRegistered (space_of world.source) (space_of (next world Step.Start).source) runs 3
 start_registers cpus world runs all ok are =
     leaves-ok (λ new. AreRegistered (space_of world.source) (space_of new.source) runs 3) world Step.Start
@@ -296,9 +289,6 @@ round_registers cpus world runs all ok are =
 
 -- The run of the destination
 
-no_member : {A : Type 0} (page : ℕ) → contains no_pages page ≡ true → A
-no_member page h = absurd (false≢true (sym (contains-empty nat_cmp page) ∙ h))
-
 neither : {A : Type 0} (one other : Bool) → one ≡ false → other ≡ false → (one || other) ≡ true → A
 neither true other a b h = absurd (false≢true (sym a))
 neither false other a b h = absurd (false≢true (sym b ∙ h))
@@ -311,8 +301,8 @@ opened_sound host sound =
     record {
       host = sound;
       mapped = λ page h. neither (contains no_pages page) (contains no_pages page) (contains-empty nat_cmp page) (contains-empty nat_cmp page) h;
-      present = λ page h. no_member page h;
-      watched = λ page h. no_member page h;
+      present = λ page h. no_page page h;
+      watched = λ page h. no_page page h;
     }
 
 handshake_accepted : (host : Host) → handshake_error (record fresh_space { host = host }) 170 event_features ≡ None

@@ -210,7 +210,7 @@ some_or_none : (b : Bool) (prot : Prot) (o : Option Prot) (p : Option (List ℕ)
 some_or_none true prot o p h rest = refl
 some_or_none false prot o p h rest = rest h
 
-some_kept : (b : Bool) (bytes : List ℕ) (p : Option (List ℕ)) → cond b None p ≡ Some bytes → p ≡ Some bytes
+pub some_kept : (b : Bool) (bytes : List ℕ) (p : Option (List ℕ)) → cond b None p ≡ Some bytes → p ≡ Some bytes
 some_kept true bytes p h = absurd (none-some bytes h)
 some_kept false bytes p h = h
 

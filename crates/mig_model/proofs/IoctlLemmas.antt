@@ -56,7 +56,7 @@ still_watched true true missing false false false true low is h = refl
 low_or : {page : ℕ} → (HIGH_PAGE ≤ page → ⊥) → ltb page HIGH_PAGE ≡ true
 low_or h = grind (arith, nat_tests, h)
 
-below_high : (space : Space) (page : ℕ) → IsSoundSpace space → contains_key space.host.areas page ≡ true → ltb page HIGH_PAGE ≡ true
+pub below_high : (space : Space) (page : ℕ) → IsSoundSpace space → contains_key space.host.areas page ≡ true → ltb page HIGH_PAGE ≡ true
 below_high space page sound mapped = low_or (λ h. false≢true (sym (ap is_some (sound.host.bound page h)) ∙ mapped))
 
 pub IsSoundSpace-registered : (space : Space) (first count : ℕ) (mode : Mode) → IsSoundSpace space → IsSoundSpace (registered_in space first count mode)

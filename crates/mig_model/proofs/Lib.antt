@@ -85,12 +85,14 @@ pub mod Runs
 pub mod PushOrder
 pub mod UrgentFew
 pub mod MappingLemmas
-pub mod ByteLemmas
+pub mod PageBytes
 pub mod RightCommands
 pub mod FrameBounds
 pub mod CpuCount
 pub mod FrameSteps
 pub mod Bounded
+pub mod TextLengths
+pub mod Encodable
 pub mod OpenObjects
 pub mod Registering
 pub mod PageCalls

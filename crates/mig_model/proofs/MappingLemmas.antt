@@ -3,7 +3,6 @@ use Rattle.std.proofs.Common.{◌≡◌, ℕ, ◌*◌, ◌/◌, ◌<◌, ◌≤�
 use Rattle.std.specs.Ordering.{nat_cmp}
 use Rattle.std.specs.FinMap.{contains_key, empty, get-empty, len-empty}
 use Rattle.std.proofs.lemmas.Bool.{false≢true}
-use Rattle.std.proofs.lemmas.Bool.Decides.{nat_tests}
 use Rattle.mig_base.specs.declared.TheConstants.{LOW, HIGH, MAX_PAGES}
 use Rattle.mig_base.specs.declared.Prot.{Prot}
 use Rattle.mig_base.specs.declared.command.Access.{Access}
@@ -12,7 +11,7 @@ use Rattle.mig_base.specs.declared.command.Command.{Command}
 use Rattle.mig_base.specs.declared.command.Entry.{Entry}
 use Rattle.mig_base.specs.Ranges.{count_below}
 use Rattle.mig_base.specs.Flat.{is_mapped, memory_of}
-use Rattle.mig_base.proofs.BoundLemmas.{memory_of_bounded}
+use Rattle.mig_base.proofs.BoundLemmas.{memory_of_bounded, high_or, low_or}
 use Rattle.mig_model.specs.Host.{Host, IsSound, host_after, memory}
 use Rattle.mig_model.specs.Space.{Space, access_of, accessed_by}
 use Rattle.mig_model.specs.Guest.{Guest, space_by}
@@ -23,12 +22,6 @@ use Rattle.mig_model.specs.Bounds.{IsMapping, IsPage, IsWithinBounds}
 use Rattle.mig_model.proofs.FlatLimits.{memory_of_few}
 use Rattle.mig_model.proofs.HostLemmas.{is_mapped-memory, mapped_count-memory}
 use Rattle.mig_model.proofs.WorldLemmas.{entry_of, holds_after, sound_after}
-
-low_or : {addr : ℕ} → (addr < LOW → ⊥) → LOW ≤ addr
-low_or h = grind (arith, nat_tests, h)
-
-high_or : {addr : ℕ} → (HIGH ≤ addr → ⊥) → addr < HIGH
-high_or h = grind (arith, nat_tests, h)
 
 -- the flat memory of a transcript
 pub flat_within : (entries : List Entry) → IsWithinBounds (memory_of entries)

@@ -37,10 +37,10 @@ pub record IsInside (addr width : ℕ) : Type 0 where
   pub few : width ≤ 8
   pub inside : addr % 4096 + width ≤ 4096
 
-abbrev IsWidth : ℕ → Type 0
+abbrev pub IsWidth : ℕ → Type 0
 IsWidth width = (width ≡ 1) ⊎ ((width ≡ 2) ⊎ ((width ≡ 4) ⊎ (width ≡ 8)))
 
-width_cases : (width : ℕ) → is_width width ≡ true → IsWidth width
+pub width_cases : (width : ℕ) → is_width width ≡ true → IsWidth width
 width_cases width h =
     ⊎_elim
     (λ (abc : (eqb width 1 || eqb width 2 || eqb width 4) ≡ true). ⊎_elim

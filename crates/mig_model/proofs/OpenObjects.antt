@@ -162,7 +162,7 @@ urgent_open Finished world h = h
 
 -- Phases in which the source is not released
 
-idle_unreleased : (phase : SourcePhase) → is_source_idle phase ≡ true → is_released phase ≡ false
+pub idle_unreleased : (phase : SourcePhase) → is_source_idle phase ≡ true → is_released phase ≡ false
 idle_unreleased SourcePhase.Released h = sym h
 idle_unreleased SourcePhase.Idle h = refl
 idle_unreleased SourcePhase.Precopy h = refl

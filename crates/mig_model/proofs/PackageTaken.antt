@@ -141,7 +141,7 @@ or_more false false c h = absurd (false≢true h)
 owed_none : (owed : Bool) (o : Option (List ℕ)) → owed ≡ true → cond owed None o ≡ None
 owed_none owed o h = ap (λ b. cond b None o) h
 
-has_areas : (host : Host) (page : ℕ) → IsSound host → contains_key host.bytes page ≡ true → contains_key host.areas page ≡ true
+pub has_areas : (host : Host) (page : ℕ) → IsSound host → contains_key host.bytes page ≡ true → contains_key host.areas page ≡ true
 has_areas host page sound h =
     elim (get host.areas page) as (λ o. get host.areas page ≡ o → is_some o ≡ true) [
       | None ↦ λ e. absurd (false≢true (sym (ap is_some (sound.mapped page e)) ∙ h))

@@ -4,7 +4,7 @@ use Rattle.std.specs.Prelude.{Ok}
 use Rattle.std.specs.Ordering.{nat_cmp}
 use Rattle.std.specs.FinMap.{FinMap, contains_key, get, insert}
 use Rattle.std.specs.FinSet.{contains}
-use Rattle.std.proofs.lemmas.Bool.{false≢true}
+use Rattle.std.proofs.lemmas.Bool.{false≢true, and_from, not_from_true}
 use Rattle.std.proofs.lemmas.Bool.Decides.{nat_tests}
 use Rattle.mig_base.specs.declared.TheConstants.{LOW_PAGE, HIGH_PAGE}
 use Rattle.std.proofs.lemmas.List.{take_all}
@@ -27,7 +27,7 @@ use Rattle.mig_model.specs.Ioctls.{Put, answered_by, copy_error, copy_errors, ha
 use Rattle.mig_model.specs.Bounds.{IsPage}
 use Rattle.mig_model.specs.Handlers.{IsCopy, IsWriteProtect, IsZeroPage, page_put}
 use Rattle.mig_model.proofs.Facts.{eqb-self}
-use Rattle.mig_model.proofs.Registering.{left_new, not_true, nothing_holds, pages_again, range_good}
+use Rattle.mig_model.proofs.Registering.{left_new, nothing_holds, pages_again, range_good}
 
 -- a page for which a call is made: the object is enabled, no event is unread, and the page may be mapped
 pub record IsCalled (space : Space) (page : ℕ) : Type 0 where
@@ -43,7 +43,7 @@ at_page : (page i : ℕ) → i < 1 → page + i ≡ page
 at_page page i l = omega (arith, l)
 
 every_one : (test : ℕ → Bool) (page : ℕ) → test page ≡ true → is_every test page 1 ≡ true
-every_one test page h = none_below-from (λ i. not (test (page + i))) 1 (λ i l. not_true (test (page + i)) (ap test (at_page page i l) ∙ h))
+every_one test page h = none_below-from (λ i. not (test (page + i))) 1 (λ i l. not_from_true (test (page + i)) (ap test (at_page page i l) ∙ h))
 
 same_prot_self : (o : Option Prot) → is_some o ≡ true → same_prot o o ≡ true
 same_prot_self None h = absurd (false≢true h)
@@ -57,15 +57,11 @@ and_three : (a b c : Bool) → a ≡ true → b ≡ true → c ≡ true → (a &
 and_three true b c ha hb hc = ap (λ t. t && c) hb ∙ hc
 and_three false b c ha hb hc = absurd (false≢true ha)
 
-and_two : (a b : Bool) → a ≡ true → b ≡ true → (a && b) ≡ true
-and_two true b ha hb = hb
-and_two false b ha hb = absurd (false≢true ha)
-
 -- a mapped page that is registered is one area
 one_area : (space : Space) (page : ℕ) → contains_key space.host.areas page ≡ true → is_registered space.object page ≡ true → is_one_area space page 1 ≡ true
 one_area space page mapped registered =
     every_one (λ q. is_registered space.object q && same_area space page q) page
-    (and_two (is_registered space.object page) (same_area space page page) registered
+    (and_from (is_registered space.object page) (same_area space page page) registered
     (and_three (same_prot (get space.host.areas page) (get space.host.areas page)) (same_bool (contains space.object.missing page) (contains space.object.missing page)) (same_bool (contains space.object.protect page) (contains space.object.protect page))
     (same_prot_self (get space.host.areas page) mapped) (same_bool_self (contains space.object.missing page)) (same_bool_self (contains space.object.protect page))))
 
@@ -85,8 +81,8 @@ one_put addr = ap (λ b. record { bytes = 4096; fault = None; wake = if b then N
 zeropage_accepted : (space : Space) (page : ℕ) → IsCalled space page → contains_key space.host.areas page ≡ true → is_registered space.object page ≡ true → zeropage_error space (4096 * page) 4096 0 ≡ None
 zeropage_accepted space page is mapped registered =
     nothing_holds (zeropage_errors space (4096 * page) 4096 0) (
-      not_true space.object.enabled is.enabled,
-      (refl, (page_range page is.inside, (is.quiet, (not_true (is_one_area space (4096 * page / 4096) 1) (ap (λ q. is_one_area space q 1) (pages_again page) ∙ one_area space page mapped registered), tt)))),
+      not_from_true space.object.enabled is.enabled,
+      (refl, (page_range page is.inside, (is.quiet, (not_from_true (is_one_area space (4096 * page / 4096) 1) (ap (λ q. is_one_area space q 1) (pages_again page) ∙ one_area space page mapped registered), tt)))),
     )
 
 pub zero_page_made : (space : Space) (page : ℕ) → IsCalled space page → contains_key space.host.areas page ≡ true → is_registered space.object page ≡ true → is_present space page ≡ false → IsZeroPage space (zero_installed space page) (4096 * page)
@@ -109,7 +105,7 @@ copy_errors_of space page len = copy_errors space (4096 * page) len 0
 copy_accepted : (space : Space) (page : ℕ) → IsCalled space page → contains_key space.host.areas page ≡ true → is_registered space.object page ≡ true → copy_error space (4096 * page) 4096 0 ≡ None
 copy_accepted space page is mapped registered =
     nothing_holds (copy_errors_of space page 4096) (
-      not_true space.object.enabled is.enabled,
+      not_from_true space.object.enabled is.enabled,
       (
         refl,
         (
@@ -117,7 +113,7 @@ copy_accepted space page is mapped registered =
           (
             is.quiet,
             (
-              not_true (is_one_area space (4096 * page / 4096) 1) (ap (λ q. is_one_area space q 1) (pages_again page) ∙ one_area space page mapped registered),
+              not_from_true (is_one_area space (4096 * page / 4096) 1) (ap (λ q. is_one_area space q 1) (pages_again page) ∙ one_area space page mapped registered),
               (ap (λ b. b && not (contains space.object.protect (4096 * page / 4096))) (zero_is_no_one 1), tt),
             ),
           ),
@@ -170,11 +166,11 @@ range_protect_made space first count bits protect enabled quiet some low high wa
     let test = λ (q : ℕ). contains space.object.protect q in
     let every : is_every test (4096 * first / 4096) (4096 * count / 4096) ≡ true =
     ap (λ q. is_every test q (4096 * count / 4096)) (pages_again first) ∙ ap (λ n. is_every test first n) (pages_again count)
-    ∙ none_below-from (λ i. not (test (first + i))) count (λ i l. not_true (test (first + i)) (watched (first + i) (in_run first count i l))) in
+    ∙ none_below-from (λ i. not (test (first + i))) count (λ i l. not_from_true (test (first + i)) (watched (first + i) (in_run first count i l))) in
     let accepted =
     nothing_holds (writeprotect_errors space (4096 * first) (4096 * count) bits) (
-      not_true space.object.enabled enabled,
-      (few, (range_good first count some low high, (quiet, (not_true (is_every test (4096 * first / 4096) (4096 * count / 4096)) every, tt)))),
+      not_from_true space.object.enabled enabled,
+      (few, (range_good first count some low high, (quiet, (not_from_true (is_every test (4096 * first / 4096) (4096 * count / 4096)) every, tt)))),
     ) in
     record {
       answer = answered_new (writeprotect_error space (4096 * first) (4096 * count) bits) _ accepted;

@@ -1,9 +1,9 @@
 -- Registering the areas of a guest one behind the other is registering every mapped page at once.
-use Rattle.std.proofs.Common.{◌≡◌, ℕ, zero, suc, ◌+◌, ◌-◌, ◌*◌, ◌/◌, ◌%◌, ◌<◌, ◌≤◌, ◌&&◌, ◌||◌, Bool, true, false, cond, not, eqb, ltb, Option, Some, None, is_some, List, [], ◌∷◌, refl, sym, ap, ◌∙◌, subst, arith, if◌then◌else◌}
+use Rattle.std.proofs.Common.{◌≡◌, ℕ, zero, suc, ◌+◌, ◌-◌, ◌*◌, ◌/◌, ◌%◌, ◌<◌, ◌≤◌, ◌&&◌, ◌||◌, Bool, true, false, cond, not, eqb, ltb, Option, Some, None, List, [], ◌∷◌, refl, sym, ap, ◌∙◌, subst, arith, if◌then◌else◌}
 use Rattle.std.specs.Ordering.{nat_cmp}
 use Rattle.std.specs.FinMap.{FinMap, contains_key}
 use Rattle.std.specs.FinSet.{FinSet, contains}
-use Rattle.std.proofs.lemmas.Bool.{false≢true}
+use Rattle.std.proofs.lemmas.Bool.{false≢true, or_left, or_right, not_from_true}
 use Rattle.std.proofs.lemmas.Bool.Decides.{nat_tests}
 use Rattle.mig_base.specs.declared.TheConstants.{PAGE_SIZE, LOW, HIGH, LOW_PAGE, HIGH_PAGE}
 use Rattle.mig_base.specs.declared.Prot.{Prot}
@@ -22,7 +22,7 @@ use Rattle.mig_model.specs.Ioctls.{has_events, is_bad_mode, is_bad_range, is_bar
 use Rattle.mig_model.specs.Bounds.{IsMapping}
 use Rattle.mig_model.specs.Handlers.{AreAccepted, AreRegistered, AreRunsOf, AreSome, registered_in_turn}
 use Rattle.mig_model.proofs.Facts.{and_true}
-use Rattle.mig_model.proofs.IoctlLemmas.{IsSoundSpace-range_registered, NoneHolds}
+use Rattle.mig_model.proofs.IoctlLemmas.{IsSoundSpace-range_registered, NoneHolds, below_high}
 use Rattle.mig_model.proofs.Stopping.{or_true}
 
 -- the space once the pages that pass a test are registered
@@ -120,32 +120,18 @@ past_none false false h = refl
 never : (held protect all : Bool) → (held && (protect || all || not false)) ≡ held
 never held protect all = ap (λ b. held && b) (or_true (protect || all)) ∙ and_true held
 
-pub or_left_true : (here other : Bool) → here ≡ true → (here || other) ≡ true
-or_left_true true other h = refl
-or_left_true false other h = absurd (false≢true h)
-
-pub or_right_true : (other here : Bool) → here ≡ true → (other || here) ≡ true
-or_right_true true here h = refl
-or_right_true false here h = h
-
-low_or : {page : ℕ} → (HIGH_PAGE ≤ page → ⊥) → ltb page HIGH_PAGE ≡ true
-low_or h = grind (arith, nat_tests, h)
-
-low_page : (space : Space) (page : ℕ) → IsSoundSpace space → contains_key space.host.areas page ≡ true → ltb page HIGH_PAGE ≡ true
-low_page space page sound h = low_or (λ past. false≢true (sym (ap is_some (sound.host.bound page past)) ∙ h))
-
 registered_nowhere : (space : Space) (mode : Mode) → IsSoundSpace space → registered_by space (λ page. false) mode ≡ space
 registered_nowhere space mode sound =
-    let low = λ (page : ℕ) (h : (contains space.object.missing page || contains space.object.protect page) ≡ true). low_page space page sound (sound.mapped page h) in
+    let low = λ (page : ℕ) (h : (contains space.object.missing page || contains space.object.protect page) ≡ true). below_high space page sound (sound.mapped page h) in
     same_sets space _ _ _ space.object.missing space.object.protect space.protected
     (same_members _ space.object.missing (λ page.
-    member_below (contains space.object.missing) HIGH_PAGE page ∙ past_none (ltb page HIGH_PAGE) (contains space.object.missing page) (λ h. low page (or_left_true _ (contains space.object.protect page) h))))
+    member_below (contains space.object.missing) HIGH_PAGE page ∙ past_none (ltb page HIGH_PAGE) (contains space.object.missing page) (λ h. low page (or_left _ (contains space.object.protect page) h))))
     (same_members _ space.object.protect (λ page.
-    member_below (contains space.object.protect) HIGH_PAGE page ∙ past_none (ltb page HIGH_PAGE) (contains space.object.protect page) (λ h. low page (or_right_true (contains space.object.missing page) _ h))))
+    member_below (contains space.object.protect) HIGH_PAGE page ∙ past_none (ltb page HIGH_PAGE) (contains space.object.protect page) (λ h. low page (or_right (contains space.object.missing page) _ h))))
     (same_members _ space.protected (λ page.
     member_below (λ q. contains space.protected q && (mode.protect || has_modes space.object q mode || not false)) HIGH_PAGE page
     ∙ ap (λ b. ltb page HIGH_PAGE && b) (never (contains space.protected page) mode.protect (has_modes space.object page mode))
-    ∙ past_none (ltb page HIGH_PAGE) (contains space.protected page) (λ h. low page (or_right_true (contains space.object.missing page) _ (sound.watched page h)))))
+    ∙ past_none (ltb page HIGH_PAGE) (contains space.protected page) (λ h. low page (or_right (contains space.object.missing page) _ (sound.watched page h)))))
 
 same_test : (space : Space) (one other : ℕ → Bool) (mode : Mode) → ((page : ℕ) → one page ≡ other page) → registered_by space one mode ≡ registered_by space other mode
 same_test space one other mode h = let same : one ≡ other = λ i page. h page i in ap (λ test. registered_by space test mode) same
@@ -193,10 +179,6 @@ pub record CanRegister (object : Object) : Type 0 where
   pub enabled : object.enabled ≡ true
   pub events : has_events object ≡ true
 
-pub not_true : (b : Bool) → b ≡ true → not b ≡ false
-not_true true h = refl
-not_true false h = absurd (false≢true h)
-
 -- a run whose pages are all mapped
 abbrev IsMappedRun : Space → ℕ → ℕ → Type 0
 IsMappedRun space first count = (page : ℕ) → in_range first count page ≡ true → contains_key space.host.areas page ≡ true
@@ -213,9 +195,9 @@ run_accepted space first count bits can mode mapping some mapped =
     let highest = mapping.pages (first + (count - 1)) (mapped (first + (count - 1)) (in_range-true first count (first + (count - 1)) (omega arith) (omega (arith, some)))) in
     let found : contains_key space.host.areas (4096 * first / 4096 + 0) ≡ true = mapped (4096 * first / 4096 + 0) (in_range-true first count (4096 * first / 4096 + 0) (omega arith) (omega (arith, some))) in
     nothing_holds (register_errors space (4096 * first) (4096 * count) bits) (
-      not_true space.object.enabled can.enabled,
+      not_from_true space.object.enabled can.enabled,
       (
-        not_true (has_events space.object) can.events,
+        not_from_true (has_events space.object) can.events,
         (mode, (range_good first count some lowest.0 (last_page first count some highest.1), (none_below-not (λ i. contains_key space.host.areas (4096 * first / 4096 + i)) (4096 * count / 4096) 0 (omega (arith, some)) found, tt))),
       ),
     )
@@ -245,12 +227,12 @@ turned : (runs : List Run) (space : Space) (bits : ℕ) → IsSoundSpace space �
     ((page : ℕ) → in_runs runs page ≡ true → contains_key space.host.areas page ≡ true) → Turned runs bits space
 turned [] space bits sound can mode mapping some mapped = (tt, sym (registered_nowhere space (mode_of bits) sound))
 turned (run ∷ runs) space bits sound can mode mapping some mapped =
-    let here : IsMappedRun space run.first run.count = λ page h. mapped page (or_left_true (in_range run.first run.count page) (in_runs runs page) h) in
+    let here : IsMappedRun space run.first run.count = λ page h. mapped page (or_left (in_range run.first run.count page) (in_runs runs page) h) in
     let is = run_registered space run.first run.count bits can mode mapping some.0 here in
     let next = registered_by space (in_range run.first run.count) (mode_of bits) in
     let rest : Turned runs bits next =
     turned runs next bits (subst IsSoundSpace is (IsSoundSpace-range_registered space (4096 * run.first) (4096 * run.count) bits sound)) (record { enabled = can.enabled; events = can.events }) mode mapping some.1
-    (λ page h. mapped page (or_right_true (in_range run.first run.count page) (in_runs runs page) h)) in
+    (λ page h. mapped page (or_right (in_range run.first run.count page) (in_runs runs page) h)) in
     let both = subst (Turned runs bits) (sym is) rest in (
       (run_accepted space run.first run.count bits can mode mapping some.0 here, both.0),
       both.1 ∙ ap (λ s. registered_by s (in_runs runs) (mode_of bits)) is ∙ registered_twice space (in_range run.first run.count) (in_runs runs) (mode_of bits),
@@ -275,7 +257,7 @@ inside false false h = refl
 pub every_registered : (space : Space) (mode : Mode) → IsSoundSpace space → registered_by space (λ page. contains_key space.host.areas page) mode ≡ registered_in space 0 HIGH_PAGE mode
 every_registered space mode sound =
     same_test space (λ page. contains_key space.host.areas page) (is_mapped_in space 0 HIGH_PAGE) mode
-    (λ page. inside (in_range 0 HIGH_PAGE page) (contains_key space.host.areas page) (λ h. whole_range page (low_page space page sound h)))
+    (λ page. inside (in_range 0 HIGH_PAGE page) (contains_key space.host.areas page) (λ h. whole_range page (below_high space page sound h)))
 
 -- There are such runs: each mapped page is one
 

@@ -1,7 +1,6 @@
 -- A command that waits is a load or store whose form is right, of a page that may be mapped.
-use Rattle.std.proofs.Common.{◌≡◌, ℕ, zero, suc, ◌/◌, ◌^◌, ◌<◌, ◌&&◌, Bool, true, false, not, ltb, Option, Some, None, is_some, List, [], ◌∷◌, refl, sym, ap, ◌∙◌, arith, ⊎_elim, if◌then◌else◌}
-use Rattle.std.proofs.lemmas.Bool.{false≢true, and_parts}
-use Rattle.std.proofs.lemmas.Bool.Decides.{nat_tests}
+use Rattle.std.proofs.Common.{◌≡◌, ℕ, zero, suc, ◌/◌, ◌^◌, ◌&&◌, Bool, true, false, not, ltb, Option, Some, None, is_some, List, [], ◌∷◌, refl, sym, ap, ◌∙◌, ⊎_elim, if◌then◌else◌}
+use Rattle.std.proofs.lemmas.Bool.{false≢true, and_parts, ltb-true}
 use Rattle.std.proofs.lemmas.Option.{none-some}
 use Rattle.mig_base.specs.declared.Prot.{Prot}
 use Rattle.mig_base.specs.declared.cpu_state.CpuState.{CpuState}
@@ -43,9 +42,6 @@ access_form true (Some cell) allows answer h = (refl, refl)
 access_form true None allows answer h = absurd (false≢true h)
 access_form false o allows answer h = absurd (false≢true h)
 
-below : (value limit : ℕ) → ltb value limit ≡ true → value < limit
-below value limit h = grind (arith, nat_tests, h)
-
 page_of_access : (space : Space) (addr : ℕ) → IsMapping space.host.areas → is_mapped (memory space.host) addr ≡ true → IsPage (addr / 4096)
 page_of_access space addr mapping h = mapping.pages (addr / 4096) (sym (ap (λ test. test addr) (is_mapped-memory space.host)) ∙ h)
 
@@ -54,7 +50,7 @@ right_by space (Load addr width) mapping is h = let form = access_form (is_align
 right_by space (Store addr width value) mapping is h =
     let form = access_form (is_aligned addr width && ltb value (256 ^ width)) (memory space.host addr) _ _ h in
     let both = and_parts (is_aligned addr width) (ltb value (256 ^ width)) form.0 in
-    (both.0, below value (256 ^ width) both.1, page_of_access space addr mapping form.1)
+    (both.0, ltb-true value (256 ^ width) both.1, page_of_access space addr mapping form.1)
 right_by space (Mmap len prot place) mapping is h = absurd (false≢true is)
 right_by space _ mapping is h = absurd (false≢true is)
 

@@ -34,15 +34,16 @@ len-below set bound h =
     ap len (same_members set (set_below (contains set) bound) (λ q. below q bound (contains set q) (h q) ∙ sym (member_below (contains set) bound q)))
     ∙ len-set_below (contains set) bound
 
-outside : (one other : Bool) → (one ≡ true → other ≡ true) → other ≡ false → one ≡ false
-outside true other h none = sym (h refl) ∙ none
-outside false other h none = refl
+-- what holds only where something else does holds nowhere else
+pub only_where : (one other : Bool) → (one ≡ true → other ≡ true) → other ≡ false → one ≡ false
+only_where true other h none = sym (h refl) ∙ none
+only_where false other h none = refl
 
 -- a part of such a set has no more pages than it
 pub len-part : (part set : FinSet nat_cmp) → ((q : ℕ) → contains part q ≡ true → contains set q ≡ true) → ((q : ℕ) → HIGH_PAGE ≤ q → contains set q ≡ false) → len part ≤ len set
 len-part part set h low =
     let few = count_below-few (contains part) (contains set) HIGH_PAGE h in
-    let one = len-below part HIGH_PAGE (λ q l. outside (contains part q) (contains set q) (h q) (low q l)) in
+    let one = len-below part HIGH_PAGE (λ q l. only_where (contains part q) (contains set q) (h q) (low q l)) in
     let all = len-below set HIGH_PAGE low in
     omega (arith, few, one, all)
 

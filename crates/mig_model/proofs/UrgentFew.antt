@@ -1,5 +1,5 @@
 -- The frames that were put on the urgent wire in an epoch and the pages that remain are, together, no more than the pages of the source.
-use Rattle.std.proofs.Common.{◌≡◌, ℕ, ◌+◌, ◌-◌, ◌<◌, ◌≤◌, ◌&&◌, ◌||◌, not, Bool, true, false, List, [], ◌∷◌, refl, sym, ◌∙◌, subst, arith, ltb}
+use Rattle.std.proofs.Common.{◌≡◌, ℕ, ◌+◌, ◌-◌, ◌<◌, ◌≤◌, ◌&&◌, not, Bool, true, false, List, [], ◌∷◌, refl, sym, ◌∙◌, subst, arith, ltb}
 use Rattle.std.specs.Ordering.{nat_cmp}
 use Rattle.std.specs.FinSet as finset
 use Rattle.std.specs.FinSet.{FinSet, contains, len}
@@ -27,7 +27,7 @@ use Rattle.mig_model.specs.Promises.{IsReached}
 use Rattle.mig_model.proofs.Taken.{IsInPlaceBack}
 use Rattle.mig_model.specs.Bounds.{AreUrgentFew, IsUrgentFew}
 use Rattle.mig_model.proofs.Calls.{stopped_switched}
-use Rattle.mig_model.proofs.EveryStep.{kept-next}
+use Rattle.mig_model.proofs.EveryStep.{kept-next, runs_source}
 use Rattle.mig_model.proofs.Facts.{member_not_clean}
 use Rattle.mig_model.proofs.FirstWorld.{kept-first}
 use Rattle.mig_model.proofs.FramesTaken.{is_taken_back}
@@ -79,18 +79,13 @@ before : {from : SourcePhase} {switched : Bool} {count : ℕ} {space : Space} {r
     IsUrgentFew from switched count space remaining → IsUrgentFew to switched count new left
 before to new left not h = record { before_switch = h.before_switch; few = λ s. absurd (false≢true (sym not ∙ s)) }
 
-runs_unswitched : (switched ran : Bool) → (not switched || ran) ≡ true → ran ≡ false → switched ≡ false
-runs_unswitched false ran may bare = refl
-runs_unswitched true true may bare = absurd (false≢true (sym bare))
-runs_unswitched true false may bare = absurd (false≢true may)
-
 guest_few : (ran : Bool) (world : World) (guest : Guest) → (ran ≡ false → world.source.switched ≡ false) → AreUrgentFew world → AreUrgentFew (with_guest_by ran world guest)
 guest_few true world guest not h = h
 guest_few false world guest not h = before world.source.phase guest.space world.source.remaining (not refl) h
 
 command_few : (world : World) (cpu : ℕ) (command : Command) → runs world ≡ true → AreUrgentFew world → AreUrgentFew (after_command world cpu command)
 command_few world cpu command may h =
-    guest_few world.destination.has_run world (tried (is_access command) (guest_of world) cpu command) (runs_unswitched world.source.switched world.destination.has_run may) h
+    guest_few world.destination.has_run world (tried (is_access command) (guest_of world) cpu command) (runs_source world.source.switched world.destination.has_run may) h
 
 acted_few : (act : Act) (world : World) (page : ℕ) → world.source.switched ≡ false → AreUrgentFew world → AreUrgentFew (record world { source = source_acted_by act world.source page })
 acted_few Unprotected world page not h = before _ _ _ not h

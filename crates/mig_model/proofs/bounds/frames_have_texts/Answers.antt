@@ -1,5 +1,16 @@
 use Rattle.mig_model.proofs.Bounded.{frames_good}
+use Rattle.mig_model.proofs.TextLengths.{right_answered, text_short}
+use Rattle.mig_model.proofs.Encodable.{encodable}
 use Rattle.mig_model.proofs.bounds.frames_have_texts.Goals as goal
 
-pub returns : goal.returns
-returns c world reached count = frames_good world reached count
+pub returns-clause-in_flight : goal.returns-clause-in_flight
+returns-clause-in_flight c world reached count = frames_good world reached count
+
+pub returns-clause-short : goal.returns-clause-short
+returns-clause-short c frame is = text_short frame is
+
+pub returns-clause-accesses : goal.returns-clause-accesses
+returns-clause-accesses c memory command is = right_answered memory command is
+
+pub returns-clause-encodable : goal.returns-clause-encodable
+returns-clause-encodable c epoch frame small is = encodable epoch frame small is

@@ -18,7 +18,7 @@ use Rattle.mig_base.specs.Ranges.{in_range, pages_of}
 use Rattle.mig_base.proofs.PageLemmas.{get-moved_range, get-remove_range}
 use Rattle.mig_model.specs.Host.{Host, host_changed}
 use Rattle.mig_model.specs.Ioctls.{put_pages}
-use Rattle.mig_model.proofs.HostLemmas.{get-put}
+use Rattle.mig_model.proofs.HostLemmas.{get-put, some_kept}
 use Rattle.mig_model.proofs.IoctlLemmas.{get-put_pages}
 
 abbrev pub AreBytes : List ℕ → Type 0
@@ -64,12 +64,8 @@ inserted_bytes pages page put old new q bytes h = put_bytes (eqb q page) put byt
 pub zeroed_bytes : (pages : FinMap nat_cmp (List ℕ)) (page : ℕ) → HasBytes pages → HasBytes (put_pages pages page 1 (λ i. zero_page))
 zeroed_bytes pages page old q bytes h = put_bytes (in_range page 1 q) zero_page bytes (get pages q) zero_bytes (old q bytes) (sym (get-put_pages pages page 1 q (λ i. zero_page)) ∙ h)
 
-left : (here : Bool) (bytes : List ℕ) (o : Option (List ℕ)) → cond here None o ≡ Some bytes → o ≡ Some bytes
-left true bytes o h = absurd (none-some bytes h)
-left false bytes o h = h
-
 removed_bytes : (pages : FinMap nat_cmp (List ℕ)) (first count : ℕ) → HasBytes pages → HasBytes (remove_range pages first count)
-removed_bytes pages first count old q bytes h = old q bytes (left (in_range first count q) bytes (get pages q) (sym (get-remove_range pages first count q) ∙ h))
+removed_bytes pages first count old q bytes h = old q bytes (some_kept (in_range first count q) bytes (get pages q) (sym (get-remove_range pages first count q) ∙ h))
 
 moved_bytes : (target longer gone : Bool) (from own : Option (List ℕ)) (bytes : List ℕ) → (from ≡ Some bytes → AreBytes bytes) → (own ≡ Some bytes → AreBytes bytes) →
     cond target (cond longer from None) (cond gone None own) ≡ Some bytes → AreBytes bytes
