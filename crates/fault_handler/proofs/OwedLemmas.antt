@@ -7,18 +7,17 @@ use Rattle.std.specs.FinMap.{FinMap, get, empty, remove, get-empty, get-remove}
 use Rattle.std.specs.FinSet.{FinSet, contains}
 use Rattle.std.specs.Cmp.{nat_cmp_total, unsigned_tied}
 use Rattle.std.proofs.lemmas.Bool.Decides.{nat_tests}
-use Rattle.std.proofs.lemmas.Bool.{eq-eqb}
+use Rattle.std.proofs.lemmas.Bool.{eq-eqb, ne_eqb}
 use Rattle.std.proofs.lemmas.Option.{same_Some}
-use Rattle.fault_handler.proofs.GatherLemmas.{all_below}
 use Rattle.mig_base.specs.declared.TheConstants.{HIGH_PAGE}
 use Rattle.mig_base.specs.Ranges.{in_range}
 use Rattle.mig_base.specs.Pages.{map_below, put, remove_range, moved_range}
 use Rattle.mig_base.proofs.PageLemmas.{get-map_below, get-remove_range, get-moved_range}
 use Rattle.mig_base.proofs.RangeLemmas.{least_below-is, least_below-none}
 use Rattle.mig_base.proofs.SetLemmas.{same_members, member_below}
+use Rattle.mig_base.proofs.TestLemmas.{all_below}
 use Rattle.fault_handler.specs.Tables.{Place, number_at, moved_number}
 use Rattle.fault_handler.specs.Owed.{pairs_of, AreLinks, owes_to, home, origins, own_places}
-use Rattle.fault_handler.proofs.TableLemmas.{eqb-false}
 use Rattle.fault_handler.proofs.LinkLemmas.{get-pairs_of, pairs_of-is, none_past, number_below, none_some}
 
 pub seen : (forth : List Place) (owed : FinMap nat_cmp ℕ) (q : ℕ) → length forth ≤ 1024 → pairs_of forth ≡ owed → number_at forth q ≡ get owed q
@@ -48,7 +47,7 @@ owes_to-false owed origin page h = by_case (get owed page) refl
   where
     by_case : (o : Option ℕ) → get owed page ≡ o → elim o [ None ↦ false | Some s ↦ eqb s origin ] ≡ false
     by_case None e = refl
-    by_case (Some s) e = eqb-false s origin (λ same. h (e ∙ ap (λ k. Some k) same))
+    by_case (Some s) e = ne_eqb s origin (λ same. h (e ∙ ap (λ k. Some k) same))
 
 -- the one page of an origin is its home
 pub home-is : (owed : FinMap nat_cmp ℕ) (origin : ℕ) (o : Option ℕ) → ((q : ℕ) → o ≡ Some q → (get owed q ≡ Some origin) × (q < HIGH_PAGE)) → ((q : ℕ) → get owed q ≡ Some origin → o ≡ Some q) → o ≡ home owed origin
@@ -120,7 +119,7 @@ own_more forth after pages page next l here between is put q =
     ∙ own_more-by q page next (contains pages q) l (λ e. ap (contains pages) e ∙ here) (between q)
   where
     own_number : cond (eqb q page) (Some page) (number_at forth q) ≡ cond (eqb q page) (Some q) (number_at forth q)
-    own_number = dite (ℕ_discrete q page) (λ e. ap (λ k. cond (eqb q page) (Some k) (number_at forth q)) (sym e)) (λ n. rw (eqb-false q page n) refl)
+    own_number = dite (ℕ_discrete q page) (λ e. ap (λ k. cond (eqb q page) (Some k) (number_at forth q)) (sym e)) (λ n. rw (ne_eqb q page n) refl)
 
 -- a page that is not reached yet is neither owed nor owes
 own_below-by : (q page : ℕ) (b : Bool) → cond (ltb q page) (cond b (Some q) None) None ≡ Some page → q ≡ page
