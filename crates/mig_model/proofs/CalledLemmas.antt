@@ -7,14 +7,15 @@ use Rattle.mig_base.specs.declared.TheConstants.{LOW, HIGH}
 use Rattle.mig_base.specs.declared.message.Message.TheVariants.{Remap, Unmap}
 use Rattle.mig_base.specs.Ranges.{in_range, lesser, none_below, pages_of, rounded}
 use Rattle.mig_base.specs.Flat.{Memory, is_mapped, has_one_prot, overlaps}
-use Rattle.mig_base.proofs.RangeLemmas.{none_below_tells, place_found, four_hold}
+use Rattle.mig_base.proofs.RangeLemmas.{none_below_tells, place_found, four_hold, in_range-true}
 use Rattle.mig_base.proofs.ReplyLemmas.{IsRemapped}
 use Rattle.mig_base.proofs.ReplyLemmas.IsWhere.{Shrunk, Grew, Moved, Told}
+use Rattle.mig_base.proofs.BoundLemmas.{one_prot_some}
 use Rattle.mig_model.specs.Host.{Host, memory, IsSound}
 use Rattle.mig_model.specs.Userfault.{Object, is_registered, is_watched}
 use Rattle.mig_model.specs.Space.{told, remap_messages}
 use Rattle.mig_model.proofs.HostLemmas.{is_mapped-memory}
-use Rattle.mig_model.proofs.CommandLemmas.{one_prot_some, remapped_place}
+use Rattle.mig_model.proofs.CommandLemmas.{remapped_place}
 use Rattle.mig_model.proofs.SeenLemmas.{AreMapped, owed_none}
 use Rattle.mig_model.proofs.SettledCalls.{AreInside, settled_messages, settled-append, gone_if, shifted_if, moved_owed, told_gone, told_shifted, unmap_right, cut_right, remap_right}
 use Rattle.mig_model.proofs.Facts.{none_absurd, and_left, eqb-self, lesser_right}
@@ -111,9 +112,6 @@ inside_gone object owed b first count inside page origin h = kept_one b (in_rang
     kept_one true false o r inside origin h = inside origin h
     kept_one false c o r inside origin h = inside origin h
 
-in_range-is : (first count page : ℕ) → first ≤ page → page < first + count → in_range first count page ≡ true
-in_range-is first count page a b = grind (arith, nat_tests)
-
 -- the pages of a target that was cleared first
 cleared : (b c : Bool) (x y : Option ℕ) → b ≡ true → c ≡ true → cond b (cond c None x) y ≡ None
 cleared true true x y b c = refl
@@ -183,7 +181,7 @@ settled_remapped object here owed addr count target new_count inside mapped laid
     (λ (is : away ≡ true) page low high.
     let less = lesser_right count new_count in
     gone_still shorter (in_range (from + new_count) (count - new_count) page) (first page)
-    (cleared away (in_range to new_count page) (owed page) (owed page) is (in_range-is to new_count page low (omega (arith, high, less)))))
+    (cleared away (in_range to new_count page) (owed page) (owed page) is (in_range-true to new_count page low (omega (arith, high, less)))))
     (remap_right second addr target (lesser count new_count)) in
     settled-append (one ++ two) three owed
     ∙ ap (settled_messages three) (settled-append one two owed ∙ ap (settled_messages two) did_one ∙ did_two)

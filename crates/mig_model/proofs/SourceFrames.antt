@@ -5,7 +5,6 @@ use Rattle.std.specs.List.{list_all}
 use Rattle.std.specs.Ordering.{nat_cmp}
 use Rattle.std.specs.FinMap.{FinMap, get, insert}
 use Rattle.std.proofs.lemmas.Bool.{false≢true}
-use Rattle.mig_base.specs.Bytes.{zero_page}
 use Rattle.mig_model.specs.Wire.{Frame, Sent, Copy, page_frame, copy_in, kept_after}
 use Rattle.mig_model.specs.Wire.Frame.{Page, Zero, Package, End}
 use Rattle.mig_model.specs.Invariant.{Flow, flow_next, flow_after, copies_of, AreWhole, is_package, kept_by}
@@ -15,14 +14,6 @@ use Rattle.mig_model.specs.Migration.{next}
 use Rattle.mig_model.proofs.Facts.{none_absurd, zero_bytes, kept_page}
 
 -- The frame of a page
-
-copy_by : (b : Bool) (page : ℕ) (bytes : List ℕ) → (b ≡ true → bytes ≡ zero_page) → copy_in (if b then Zero page else Page page bytes) ≡ Some (record { page = page; bytes = bytes })
-copy_by true page bytes h = ap (λ x. Some (record { page = page; bytes = x })) (sym (h refl))
-copy_by false page bytes h = refl
-
--- it carries the page's bytes
-pub copy_in-page_frame : (page : ℕ) (bytes : List ℕ) → length bytes ≡ 4096 → copy_in (page_frame page bytes) ≡ Some (record { page = page; bytes = bytes })
-copy_in-page_frame page bytes n = copy_by (list_all (λ byte. eqb byte 0) bytes) page bytes (zero_bytes bytes n)
 
 -- and is kept as such
 pub kept_after-page_frame : (kept : FinMap nat_cmp (List ℕ)) (page : ℕ) (bytes : List ℕ) → length bytes ≡ 4096 → kept_after kept (page_frame page bytes) ≡ insert kept page bytes
@@ -41,19 +32,6 @@ pub flow_next-page_frame : (page : ℕ) (bytes : List ℕ) → flow_next Copies 
 flow_next-page_frame page bytes = copies_by (list_all (λ byte. eqb byte 0) bytes) page bytes
 
 -- One more frame
-
-push_by : (o : Option Flow) (rest : List Sent) (sent : Sent) → ((flow : Flow) → flow_after flow (rest ++ sent ∷ []) ≡ option_and_then (λ next. flow_next next sent.frame) (flow_after flow rest)) →
-    option_and_then (λ next. flow_after next (rest ++ sent ∷ [])) o ≡ option_and_then (λ next. flow_next next sent.frame) (option_and_then (λ next. flow_after next rest) o)
-push_by None rest sent h = refl
-push_by (Some flow) rest sent h = h flow
-
-last_flow : (o : Option Flow) → option_and_then (λ (next : Flow). Some next) o ≡ o
-last_flow None = refl
-last_flow (Some flow) = refl
-
-pub flow_after-push : (flow : Flow) (wire : List Sent) (sent : Sent) → flow_after flow (wire ++ sent ∷ []) ≡ option_and_then (λ next. flow_next next sent.frame) (flow_after flow wire)
-flow_after-push flow [] sent = last_flow (flow_next flow sent.frame)
-flow_after-push flow (first ∷ rest) sent = push_by (flow_next flow first.frame) rest sent (λ next. flow_after-push next rest sent)
 
 whole_one : (o : Option Copy) (copy : Copy) → o ≡ Some copy → length copy.bytes ≡ 4096 → AreWhole (elim o [ None ↦ [] | Some c ↦ c ∷ [] ])
 whole_one None copy is n = absurd (cc)

@@ -21,7 +21,7 @@ use Rattle.mig_model.specs.Invariant.{IsSoundWorld, IsPrecopying, Wires, Flow, f
 use Rattle.mig_model.specs.Invariant.Flow.{BeforeAdvise, Copies}
 use Rattle.mig_model.proofs.IoctlLemmas.{IsSoundSpace-protected}
 use Rattle.mig_model.proofs.SourceKept.{source_holds, IsNext, renewed}
-use Rattle.mig_model.proofs.SourceFrames.{copy_in-page_frame, flow_next-page_frame, flow_after-push, copies_whole-push, kept_by-page}
+use Rattle.mig_model.proofs.SourceFrames.{flow_next-page_frame, copies_whole-push, kept_by-page}
 use Rattle.mig_model.proofs.SourceHandler.{has_not_run}
 use Rattle.mig_model.proofs.SourceTests.{in_one_is}
 use Rattle.mig_model.proofs.SourceRounds.{precopy_unswitched, never_idle, watched_below}
@@ -29,6 +29,7 @@ use Rattle.mig_model.specs.Log.{least_of, present}
 use Rattle.mig_model.specs.Source.{bytes_of, is_precopy, page_sent, space_of}
 use Rattle.mig_model.proofs.HeldLemmas.{fits-append}
 use Rattle.mig_model.proofs.Facts.{none_absurd, either, only_one, AreOf-one, no_event}
+use Rattle.mig_model.proofs.SendingLemmas.{flow_after-one, copy_in-page}
 
 present_bytes : {X : Type 0} (o : Option X) (zeros : X) → is_some o ≡ true → Some (unwrap_or o zeros) ≡ o
 present_bytes None zeros h = none_absurd h
@@ -113,7 +114,7 @@ sent_copies world page flow kept is right old =
 
 flow_sent : (flow : Flow) (wire : List Sent) (epoch page : ℕ) (bytes : List ℕ) → flow_after flow wire ≡ Some Copies → flow_after flow (wire ++ record { epoch = epoch; frame = page_frame page bytes } ∷ []) ≡ Some Copies
 flow_sent flow wire epoch page bytes right =
-    flow_after-push flow wire (record { epoch = epoch; frame = page_frame page bytes })
+    flow_after-one flow wire (record { epoch = epoch; frame = page_frame page bytes })
     ∙ ap (λ o. option_and_then (λ next. flow_next next (page_frame page bytes)) o) right
     ∙ flow_next-page_frame page bytes
 
@@ -161,7 +162,7 @@ sent_next world page kept precopy up unswitched is =
       fresh = kept.pushing.paused_fresh;
       idle = λ h. never_idle source.phase precopy h;
       whole = copies_whole-push world.forward.frames (record { epoch = source.epoch; frame = page_frame page (bytes_of source page) }) (record { page = page; bytes = bytes_of source page })
-          (copy_in-page_frame page (bytes_of source page) is.whole) is.whole kept.copies.copies_whole;
+          (copy_in-page page (bytes_of source page) is.whole) is.whole kept.copies.copies_whole;
       protected = λ q h u. still_after world page q kept unswitched is h u;
       sendable = λ q h u.
           kept.precopy.todo_sendable unswitched q (and_parts (not (eqb q page)) (contains source.log.todo q) (sym (member_removed source.log.todo page q) ∙ h)).1 u;
