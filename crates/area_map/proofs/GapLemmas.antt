@@ -2,13 +2,13 @@
 use Rattle.std.proofs.Common.{◌≡◌, ℕ, ◌+◌, ◌*◌, ◌/◌, ◌<◌, ◌≤◌, Bool, false, cond, Option, Some, None, is_some, List, [], ◌∷◌, refl, sym, ap, ◌∙◌, subst, ⊎_elim, arith, max}
 use Rattle.std.specs.FinMap.{FinMap, get, contains_key}
 use Rattle.std.specs.Ordering.{nat_cmp}
-use Rattle.std.proofs.lemmas.Bool.{false≢true, cases_lt}
+use Rattle.std.proofs.lemmas.Bool.{cases_lt}
 use Rattle.mig_base.specs.declared.TheConstants.{LOW_PAGE, HIGH_PAGE}
 use Rattle.mig_base.specs.declared.Prot.{Prot}
 use Rattle.mig_base.specs.declared.Area.{Area}
 use Rattle.mig_base.specs.Ranges.{free_place}
 use Rattle.mig_base.proofs.RangeLemmas.{in_range-true, in_range-false_above, IsFreeRun, free_place-is, free_place-none}
-use Rattle.mig_base.proofs.TestLemmas.{at_or_below, some_is_none}
+use Rattle.mig_base.proofs.TestLemmas.{at_or_below, some_is_none, missing_none}
 use Rattle.area_map.specs.Areas.{pages_in, prot_in, AreRuns}
 use Rattle.area_map.specs.Gaps.{IsFreeRange, IsFreePage}
 use Rattle.area_map.proofs.AreaLemmas.{prot_in-rest_below, prot_in-behind}
@@ -88,10 +88,6 @@ no_free_page areas count start h past other free =
 has_none : (o : Option Prot) → o ≡ None → is_some o ≡ false
 has_none o h = rw h refl
 
-none_from : (o : Option Prot) → is_some o ≡ false → o ≡ None
-none_from None h = refl
-none_from (Some x) h = absurd (false≢true (sym h))
-
 abbrev pub is_taken : List Area → ℕ → Bool
 is_taken areas page = contains_key (pages_in areas) page
 
@@ -99,7 +95,7 @@ IsFreeRun-from : (areas : List Area) (count start : ℕ) → IsFreeRange areas c
 IsFreeRun-from areas count start h = record { low = h.low; high = h.high; free = λ q l u. has_none (get (pages_in areas) q) (get-pages_in areas q ∙ h.free q l u) }
 
 IsFreeRange-from : (areas : List Area) (count start : ℕ) → IsFreeRun (is_taken areas) count start → IsFreeRange areas count start
-IsFreeRange-from areas count start h = record { low = h.low; high = h.high; free = λ q l u. sym (get-pages_in areas q) ∙ none_from (get (pages_in areas) q) (h.free q l u) }
+IsFreeRange-from areas count start h = record { low = h.low; high = h.high; free = λ q l u. sym (get-pages_in areas q) ∙ missing_none (get (pages_in areas) q) (h.free q l u) }
 
 pub gap-found : (areas : List Area) (len start : ℕ) → 0 < len → IsFreePage areas ((len + 4095) / 4096) start → free_place (λ addr. is_taken areas (addr / 4096)) len ≡ Some (start * 4096)
 gap-found areas len start some h =

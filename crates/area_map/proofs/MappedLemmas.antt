@@ -1,5 +1,5 @@
 -- How many pages of a range areas have, area by area.
-use Rattle.std.proofs.Common.{◌≡◌, ℕ, zero, suc, ◌+◌, ◌-◌, ◌<◌, ◌≤◌, Bool, true, false, cond, Option, Some, List, [], refl, sym, ap, ◌∙◌, arith, min, max, length, take, drop, get_or, length-drop, is_some}
+use Rattle.std.proofs.Common.{◌≡◌, ℕ, zero, suc, ◌+◌, ◌-◌, ◌<◌, ◌≤◌, Bool, true, false, cond, List, [], refl, sym, ap, ◌∙◌, arith, min, max, length, take, drop, get_or, length-drop, is_some}
 use Rattle.std.specs.Option.{option_or}
 use Rattle.std.specs.List.{All}
 use Rattle.std.specs.FinMap.{FinMap, contains_key}
@@ -11,6 +11,7 @@ use Rattle.mig_base.specs.declared.Prot.{Prot}
 use Rattle.mig_base.specs.declared.Area.{Area}
 use Rattle.mig_base.specs.Ranges.{in_range, count_below}
 use Rattle.mig_base.proofs.RangeLemmas.{count_below-same, count_below-constant, in_range_bounds}
+use Rattle.mig_base.proofs.TestLemmas.{is_some-cond}
 use Rattle.area_map.specs.Areas.{prot_in, pages_in, AreRuns, EndsBefore, BeginsAfter}
 use Rattle.area_map.proofs.AreaLemmas.{no_area, AreRuns-take, AreRuns-drop, EndsBy, ends_at, prot_in-split, prot_in-past, prot_in-before, option_or-none}
 use Rattle.area_map.proofs.MoveLemmas.{IsPart, one_more}
@@ -40,10 +41,6 @@ count_below-met : (first count from n : ℕ) → count_below (λ i. in_range fir
 unfolding count_below
 count_below-met first count from zero = omega arith
 count_below-met first count from (suc n) = met first count from n (count_below (λ i. in_range first count (from + i)) n) (count_below-met first count from n)
-
-is_some-cond : (b : Bool) (x : Prot) (o : Option Prot) → is_some (cond b (Some x) o) ≡ cond b true (is_some o)
-is_some-cond true x o = refl
-is_some-cond false x o = refl
 
 pub mapped_of-none : (first count : ℕ) → 0 ≡ mapped_of [] first count
 unfolding prot_in

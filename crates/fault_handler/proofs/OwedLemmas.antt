@@ -1,5 +1,5 @@
 -- What an owed table shows, in the machine's words.
-use Rattle.std.proofs.Common.{◌≡◌, ◌≢◌, ℕ, zero, suc, ◌+◌, ◌-◌, ◌<◌, ◌≤◌, ◌&&◌, ◌⊎◌, Bool, true, false, cond, eqb, ltb, refl, sym, ap, ◌∙◌, ⊎_elim, inl, inr, arith, List, length, Option, Some, None, is_some, IfSome, OnErr, Result, Ok, Err}
+use Rattle.std.proofs.Common.{◌≡◌, ◌≢◌, ℕ, zero, suc, ◌+◌, ◌-◌, ◌<◌, ◌≤◌, ◌&&◌, ◌⊎◌, Bool, true, false, cond, eqb, ltb, refl, sym, ap, ◌∙◌, ⊎_elim, inl, inr, arith, List, length, Option, Some, None, is_some, IfSome}
 use mathlib.Core.Logic.{dite}
 use native.Mathlib.Decide.{ℕ_discrete}
 use Rattle.std.specs.Ordering.{nat_cmp}
@@ -32,10 +32,6 @@ none_shown forth few h = pairs_of-is forth empty few (λ q. h q ∙ sym (get-emp
 pub if_some : (o : Option ℕ) (P : ℕ → Type 0) → ((x : ℕ) → o ≡ Some x → P x) → IfSome o P
 if_some None P h = tt
 if_some (Some x) P h = h x refl
-
-pub on_err : {T E : Type 0} (r : Result T E) (P : Type 0) → P → OnErr r P
-on_err (Ok x) P h = tt
-on_err (Err e) P h = h
 
 -- The home of an origin
 

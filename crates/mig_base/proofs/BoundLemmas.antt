@@ -14,7 +14,7 @@ use Rattle.mig_base.specs.Flat.{Memory, Cell, is_mapped, no_memory, fill, zeros_
 use Rattle.mig_base.proofs.RangeLemmas.{none_below_tells, in_range-false_below, in_range-false_above}
 use Rattle.mig_base.proofs.ReplyLemmas.{IsInside, IsRemapped, found_inside, mmap_inside, mremap_told}
 use Rattle.mig_base.proofs.ReplyLemmas.IsWhere.{Shrunk, Grew, Moved, Told}
-use Rattle.mig_base.proofs.TestLemmas.{and_second}
+use Rattle.mig_base.proofs.TestLemmas.{and_second, cond_none}
 
 abbrev pub IsBounded : Memory → Type 0
 IsBounded memory = (addr : ℕ) → (addr < LOW) ⊎ (HIGH ≤ addr) → memory addr ≡ None
@@ -41,10 +41,6 @@ one_prot_some memory start size i one l none =
 written_none : (t : Bool) (o : Option Cell) (byte : ℕ) → o ≡ None → cond t (written o byte) o ≡ None
 written_none true o byte h = ap (λ c. written c byte) h
 written_none false o byte h = h
-
-cleared_none : (t : Bool) (o : Option Cell) → o ≡ None → cond t None o ≡ None
-cleared_none true o h = refl
-cleared_none false o h = h
 
 outside : (start len addr : ℕ) → LOW ≤ start → start + len ≤ HIGH → (addr < LOW) ⊎ (HIGH ≤ addr) → in_range start len addr ≡ false
 outside start len addr low high out =
@@ -82,12 +78,12 @@ remapped_inside memory addr old_len new_len target bounded told =
 moved_bounded : (memory : Memory) (addr old_size target new_size : ℕ) → IsBounded memory → IsInside target new_size → IsBounded (moved memory addr old_size target new_size)
 moved_bounded memory addr old_size target new_size bounded inside at out =
     ap (λ t. cond t (cond (ltb (at - target) old_size) (memory (addr + (at - target))) (grown (memory addr))) (cond (in_range addr old_size at) None (memory at))) (outside target new_size at inside.low inside.high out)
-    ∙ cleared_none (in_range addr old_size at) (memory at) (bounded at out)
+    ∙ cond_none (in_range addr old_size at) (memory at) (bounded at out)
 
 changed_bounded : (memory : Memory) (command : Command) (reply : Reply) → IsBounded memory → reply ≡ reply_of memory command → IsBounded (changed memory command reply)
 changed_bounded memory (Store addr width value) Done bounded h = λ at out. written_none (in_range addr width at) (memory at) _ (bounded at out)
 changed_bounded memory (Mmap len prot place) (At start) bounded h = filled_bounded memory start len (zeros_with prot) bounded (mmap_inside memory len prot place start h)
-changed_bounded memory (Munmap addr len) Done bounded h = λ at out. cleared_none (in_range addr (rounded len) at) (memory at) (bounded at out)
+changed_bounded memory (Munmap addr len) Done bounded h = λ at out. cond_none (in_range addr (rounded len) at) (memory at) (bounded at out)
 changed_bounded memory (Mremap addr old_len new_len may_move fixed) (At target) bounded h =
     moved_bounded memory addr (rounded old_len) target (rounded new_len) bounded (remapped_inside memory addr old_len new_len target bounded (mremap_told memory addr old_len new_len may_move fixed target h))
 changed_bounded memory (DontNeed addr len) Done bounded h = λ at out. written_none (in_range addr (rounded len) at) (memory at) 0 (bounded at out)

@@ -33,11 +33,29 @@ pub cond_not : {A : Type 0} (b : Bool) (x y : A) → cond (not b) x y ≡ cond b
 cond_not true x y = refl
 cond_not false x y = refl
 
+pub cond_none : {A : Type 0} (b : Bool) (o : Option A) → o ≡ None → cond b None o ≡ None
+cond_none true o h = refl
+cond_none false o h = h
+
+pub cond_true : (b c : Bool) → cond b true c ≡ (b || c)
+cond_true true c = refl
+cond_true false c = refl
+
 pub cond_false : (b c : Bool) → cond b false c ≡ (not b && c)
 cond_false true c = refl
 cond_false false c = refl
 
+pub and_not : (b out : Bool) → (b && not out) ≡ cond out false b
+and_not true true = refl
+and_not true false = refl
+and_not false true = refl
+and_not false false = refl
+
 -- Options
+
+pub is_some-cond : {A : Type 0} (b : Bool) (x : A) (o : Option A) → is_some (cond b (Some x) o) ≡ cond b true (is_some o)
+is_some-cond true x o = refl
+is_some-cond false x o = refl
 
 pub missing_none : {A : Type 0} (o : Option A) → is_some o ≡ false → o ≡ None
 missing_none None h = refl

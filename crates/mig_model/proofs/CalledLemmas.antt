@@ -10,7 +10,7 @@ use Rattle.mig_base.specs.Flat.{Memory, is_mapped, has_one_prot, overlaps}
 use Rattle.mig_base.proofs.RangeLemmas.{none_below_tells, place_found, four_hold, in_range-true}
 use Rattle.mig_base.proofs.ReplyLemmas.{IsRemapped}
 use Rattle.mig_base.proofs.ReplyLemmas.IsWhere.{Shrunk, Grew, Moved, Told}
-use Rattle.mig_base.proofs.BoundLemmas.{one_prot_some}
+use Rattle.mig_base.proofs.BoundLemmas.{apart_of, one_prot_some}
 use Rattle.mig_model.specs.Host.{Host, memory, IsSound}
 use Rattle.mig_model.specs.Userfault.{Object, is_registered, is_watched}
 use Rattle.mig_model.specs.Space.{told, remap_messages}
@@ -75,9 +75,6 @@ goes here from count to new_count a b apart = Goes (not_same from count to new_c
 some_pages : (len : ℕ) → 0 < len → 0 < pages_of len
 some_pages len h = omega arith
 
-overlap_not : (a b c d : ℕ) → overlaps c d a b ≡ false → (a + b ≤ c) ⊎ (c + d ≤ a)
-overlap_not a b c d h = grind (arith, nat_tests)
-
 some_size : (len : ℕ) → 0 < len → 0 < rounded len
 some_size len h = omega arith
 
@@ -99,7 +96,7 @@ remapped_laid here addr old_len new_len target sound is =
       | Moved found ↦
           let free = (four_hold (eqb (target % 4096) 0) (leb LOW target) (leb (target + rounded new_len) HIGH) (none_below (λ i. is_mapped (memory here) (target + i)) (rounded new_len)) (place_found (is_mapped (memory here)) (rounded new_len) target found)).four in
           goes here (addr / 4096) (pages_of old_len) (target / 4096) (pages_of new_len) (some_pages old_len is.old_some) (some_pages new_len is.new_some) (pages_apart addr old_len target new_len whole target_whole (free_apart (memory here) addr (rounded old_len) target (rounded new_len) old_some new_some is.one_prot free))
-      | Told at ↦ goes here (addr / 4096) (pages_of old_len) (target / 4096) (pages_of new_len) (some_pages old_len is.old_some) (some_pages new_len is.new_some) (pages_apart addr old_len target new_len whole target_whole (overlap_not addr (rounded old_len) target (rounded new_len) at.apart))
+      | Told at ↦ goes here (addr / 4096) (pages_of old_len) (target / 4096) (pages_of new_len) (some_pages old_len is.old_some) (some_pages new_len is.new_some) (pages_apart addr old_len target new_len whole target_whole (apart_of target (rounded new_len) addr (rounded old_len) at.apart))
     ]
 
 -- The events of an mremap

@@ -40,9 +40,6 @@ some_cell None true e h = absurd (cc)
 some_cell (Some cell) true e h = refl
 some_cell o false e h = absurd (false≢true e)
 
-is_some-None : {A : Type 0} (o : Option A) → o ≡ None → is_some o ≡ false
-is_some-None o h = ap is_some h
-
 -- and its page is mapped
 pub stored_mapped : (host : Host) (addr width value : ℕ) → Done ≡ reply_of (memory host) (Store addr width value) → contains_key host.areas (addr / 4096) ≡ true
 stored_mapped host addr width value h =

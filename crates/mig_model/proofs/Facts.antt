@@ -9,6 +9,7 @@ use Rattle.std.specs.List.{list_all}
 use Rattle.std.specs.Ordering.{nat_cmp}
 use Rattle.std.specs.FinMap.{FinMap, insert}
 use Rattle.std.specs.FinSet.{contains, contains-empty, contains-retain, nat_cmp-IsAntisymmetric}
+pub use Rattle.std.proofs.lemmas.Option.{same_Some as some_command, same_Some as some_is}
 pub use Rattle.std.proofs.lemmas.Bool.{ne_eqb as eqb_other}
 use Rattle.mig_base.proofs.SetLemmas.{member_below}
 use Rattle.mig_base.specs.declared.TheConstants.{HIGH_PAGE}
@@ -23,7 +24,7 @@ use Rattle.mig_base.specs.declared.message.Message.{Message}
 use Rattle.mig_base.specs.Ranges.{lesser}
 use Rattle.mig_base.specs.Bytes.{zero_page}
 pub use Rattle.mig_base.proofs.RangeLemmas.{in_range_bounds as in_range_first, in_range-one as only_one}
-pub use Rattle.mig_base.proofs.TestLemmas.{and_second, and_first as and_left, eqb-self, same_or_other, and_false, and_true, or_assoc, missing_none, below_or_at}
+pub use Rattle.mig_base.proofs.TestLemmas.{and_second, and_first as and_left, eqb-self, same_or_other, and_false, and_true, or_assoc, missing_none, below_or_at, cond_none as none_or}
 use Rattle.mig_model.specs.Userfault.{Noted, Object, event_queued}
 use Rattle.mig_model.specs.Space.{all_queued, modes_after}
 use Rattle.mig_model.specs.Cpus.{call_took, entries_of}
@@ -56,9 +57,6 @@ pub queued_protect : (object : Object) (messages : List Message) (cpu : ℕ) →
 queued_protect object [] cpu = refl
 queued_protect object (message ∷ messages) cpu = queued_protect (event_queued object message cpu) messages cpu
 
-pub some_command : (a b : Command) → Some a ≡ Some b → a ≡ b
-some_command a b h = cc
-
 pub lesser_right : (a b : ℕ) → lesser a b ≤ b
 lesser_right a b = grind (arith, nat_tests)
 
@@ -68,9 +66,6 @@ put_whole false put held o n rest h = rest h
 
 pub up_not_down : {A : Type 0} (up : Bool) → up ≡ true → up ≡ false → A
 up_not_down up h k = none_absurd (sym k ∙ h)
-
-pub some_is : (a b : Noted) → Some a ≡ Some b → a ≡ b
-some_is a b h = cc
 
 pub whole_page : (addr n : ℕ) → addr % 4096 ≡ 0 → (addr + 4096 * n) % 4096 ≡ 0
 whole_page addr n h = omega arith
@@ -95,10 +90,6 @@ zero_bytes bytes n h = all_zero bytes h ∙ ap (λ k. replicate {A = ℕ} k 0) n
 pub kept_page : (b : Bool) (kept : FinMap nat_cmp (List ℕ)) (page : ℕ) (bytes : List ℕ) → (b ≡ true → bytes ≡ zero_page) → kept_after kept (if b then Zero page else Page page bytes) ≡ insert kept page bytes
 kept_page true kept page bytes h = ap (insert kept page) (sym (h refl))
 kept_page false kept page bytes h = refl
-
-pub none_or : (b : Bool) (p : Option (List ℕ)) → p ≡ None → cond b None p ≡ None
-none_or true p h = refl
-none_or false p h = h
 
 pub dropped_not : (a c d : ℕ) → Effect.Dropped a ≡ Effect.Installed c d → ⊥
 dropped_not a c d h = cc

@@ -24,7 +24,7 @@ use Rattle.mig_model.specs.Wire.Frame.{Advise, Page, Zero, Discard, Package, End
 use Rattle.mig_model.specs.Migration.{World}
 use Rattle.mig_model.specs.Invariant.{IsSoundWorld, IsSwitching, IsFlowing, IsReceiving, EpochAt, AreOf, flow_of, is_request, is_done, are_requests, are_requests_and_done, AreSoundUrgent}
 use Rattle.mig_model.specs.Promises.{is_in_place, IsOwnEpoch, IsGood, IsTaken, IsInPlaceBack}
-use Rattle.mig_model.proofs.FirstFrame.{comes, first_in_place, nothing_behind}
+use Rattle.mig_model.proofs.FirstFrame.{comes, first_in_place, nothing_behind, empty_not}
 use Rattle.mig_model.proofs.EndTaken.{ended_now, nowhere}
 use Rattle.mig_model.specs.Cpus.{outstanding}
 use Rattle.mig_model.specs.Log.{no_pages, present}
@@ -156,9 +156,6 @@ is_taken world sent rest kept urgent many up first =
 
 -- The wire back
 
-empty_first : (sent : Sent) (rest : List Sent) → sent ∷ rest ≡ [] → ⊥
-empty_first sent rest h = cc
-
 first_is : (sent other : Sent) (rest more : List Sent) → sent ∷ rest ≡ other ∷ more → sent.frame ≡ other.frame
 first_is sent other rest more h = ap (λ (wire : List Sent). elim wire [ [] ↦ sent.frame | s ∷ _ ↦ s.frame ]) h
 
@@ -182,9 +179,9 @@ with_back from to sent rest world = record world { source = record world.source 
 back_in : (from : SourcePhase) (to : DestPhase) (sent : Sent) (rest : List Sent) (world : World) → world.up ≡ true → IsSoundWorld (with_back from to sent rest world) → IsInPlaceBack (with_back from to sent rest world).source sent.frame
 back_in SourcePhase.Stopped DestPhase.Running sent rest world up kept = request_place sent.frame (with_back SourcePhase.Stopped DestPhase.Running sent rest world).source refl (and_left (is_request sent.frame) (are_requests rest) (kept.flight.wires up).1)
 back_in SourcePhase.Stopped DestPhase.Ended sent rest world up kept = done_place sent.frame (with_back SourcePhase.Stopped DestPhase.Ended sent rest world).source (are_requests_and_done rest) (is_empty rest) refl (kept.flight.wires up).2 (kept.flight.wires up).1
-back_in SourcePhase.Stopped DestPhase.Idle sent rest world up kept = absurd (empty_first sent rest (kept.flight.wires up).1)
-back_in SourcePhase.Stopped DestPhase.Advised sent rest world up kept = absurd (empty_first sent rest (kept.flight.wires up).1)
-back_in SourcePhase.Stopped DestPhase.Discarding sent rest world up kept = absurd (empty_first sent rest (kept.flight.wires up).1)
+back_in SourcePhase.Stopped DestPhase.Idle sent rest world up kept = absurd (empty_not sent rest (kept.flight.wires up).1)
+back_in SourcePhase.Stopped DestPhase.Advised sent rest world up kept = absurd (empty_not sent rest (kept.flight.wires up).1)
+back_in SourcePhase.Stopped DestPhase.Discarding sent rest world up kept = absurd (empty_not sent rest (kept.flight.wires up).1)
 back_in SourcePhase.Stopped DestPhase.Paused sent rest world up kept = absurd (kept.flight.wires up)
 back_in SourcePhase.Paused DestPhase.Advised sent rest world up kept =
     recv_place sent.frame Received.NotRun no_pages (with_back SourcePhase.Paused DestPhase.Advised sent rest world).source refl (λ page h. none_absurd (sym (no_member page) ∙ h)) (λ other. refl) (λ other. absurd (other refl)) (first_is sent _ rest [] (kept.flight.wires up).1)
@@ -196,12 +193,12 @@ back_in SourcePhase.Paused DestPhase.Ended sent rest world up kept =
     recv_place sent.frame Received.Ended told.owed (with_back SourcePhase.Paused DestPhase.Ended sent rest world).source refl told.owed_present told.none_listed (λ other. kept.phases.ran_after_switch (kept.phases.ended_after_run kept.phases.destination_phase)) (first_is sent _ rest told.rest told.first)
 back_in SourcePhase.Paused DestPhase.Idle sent rest world up kept = absurd (kept.flight.wires up)
 back_in SourcePhase.Paused DestPhase.Discarding sent rest world up kept = absurd (kept.flight.wires up)
-back_in SourcePhase.Paused DestPhase.Paused sent rest world up kept = absurd (empty_first sent rest (kept.flight.wires up).1)
-back_in SourcePhase.Precopy DestPhase.Idle sent rest world up kept = absurd (empty_first sent rest (kept.flight.wires up).1)
-back_in SourcePhase.Precopy DestPhase.Advised sent rest world up kept = absurd (empty_first sent rest (kept.flight.wires up).1)
+back_in SourcePhase.Paused DestPhase.Paused sent rest world up kept = absurd (empty_not sent rest (kept.flight.wires up).1)
+back_in SourcePhase.Precopy DestPhase.Idle sent rest world up kept = absurd (empty_not sent rest (kept.flight.wires up).1)
+back_in SourcePhase.Precopy DestPhase.Advised sent rest world up kept = absurd (empty_not sent rest (kept.flight.wires up).1)
 back_in SourcePhase.Precopy _ sent rest world up kept = absurd (kept.flight.wires up)
-back_in SourcePhase.Idle to sent rest world up kept = absurd (empty_first sent rest (kept.flight.wires up).2)
-back_in SourcePhase.Released to sent rest world up kept = absurd (empty_first sent rest (kept.flight.wires up).2)
+back_in SourcePhase.Idle to sent rest world up kept = absurd (empty_not sent rest (kept.flight.wires up).2)
+back_in SourcePhase.Released to sent rest world up kept = absurd (empty_not sent rest (kept.flight.wires up).2)
 
 -- the first frame on the wire back, and its epoch
 pub is_taken_back : (world : World) (sent : Sent) (rest : List Sent) → IsSoundWorld world → world.up ≡ true → world.back.frames ≡ sent ∷ rest → IsInPlaceBack world.source sent.frame

@@ -16,6 +16,7 @@ use Rattle.mig_base.specs.Flat.{Memory, Cell, no_memory, is_mapped, mapped_count
 use Rattle.mig_base.proofs.RangeLemmas.{count_below-blocks, in_range_tells, in_range-true, in_range-false_below, in_range-false_above}
 use Rattle.mig_base.proofs.PageLemmas.{get-set_range, get-remove_range, get-moved_range, count_below-contains_key}
 use Rattle.mig_base.proofs.ByteLemmas.{get_or-overwrite_below, get_or-overwrite_in, get_or-overwrite_above}
+use Rattle.mig_base.proofs.TestLemmas.{cond_none}
 use Rattle.mig_model.specs.Host.{Host, byte_in, memory, host_moved, host_dropped, IsSound}
 use Rattle.mig_model.proofs.Facts.{in_range_first, eqb_other, put_whole, none_or}
 
@@ -239,10 +240,6 @@ memory-unmap host first count =
 none_kept : (b : Bool) (a o : Option Prot) (p : Option (List ℕ)) → cond b None o ≡ None → (o ≡ None → p ≡ None) → cond b None p ≡ None
 none_kept true a o p h rest = refl
 none_kept false a o p h rest = rest h
-
-cond_none : (b : Bool) (o : Option Prot) → o ≡ None → cond b None o ≡ None
-cond_none true o h = refl
-cond_none false o h = h
 
 pub IsSound-unmap : (host : Host) (first count : ℕ) → IsSound host → IsSound (record { areas = remove_range host.areas first count; bytes = remove_range host.bytes first count })
 IsSound-unmap host first count sound =

@@ -11,7 +11,7 @@ use Rattle.mig_base.specs.declared.phase.DestPhase.{DestPhase}
 use Rattle.mig_base.specs.declared.phase.Received.{Received}
 use Rattle.mig_base.specs.declared.phase.SourcePhase.{SourcePhase}
 use Rattle.mig_base.specs.declared.TheConstants.{HIGH_PAGE}
-use Rattle.mig_base.proofs.RangeLemmas.{least_below_tells, least_below-some}
+use Rattle.mig_base.proofs.RangeLemmas.{least_below-some}
 use Rattle.mig_base.proofs.SetLemmas.{member_below}
 use Rattle.mig_model.specs.Host.{Host, IsSound}
 use Rattle.mig_model.specs.Wire.{Frame, Sent, sending}
@@ -24,6 +24,7 @@ use Rattle.mig_model.specs.Log.{no_pages}
 use Rattle.mig_model.specs.Owed.{home, origins, owes_to}
 use Rattle.mig_model.proofs.HeldLemmas.{fits-more, fits-none}
 use Rattle.mig_model.proofs.Facts.{and_second, eqb-self}
+use Rattle.mig_model.proofs.SettledLemmas.{home_tells}
 
 -- The pages that are still needed
 
@@ -36,9 +37,6 @@ pair_by (Some x) origin h = ap (λ n. Some n) (eqb-true x origin h)
 
 pub pair-owes_to : (owed : FinMap nat_cmp ℕ) (page origin : ℕ) → owes_to owed origin page ≡ true → get owed page ≡ Some origin
 pair-owes_to owed page origin h = pair_by (get owed page) origin h
-
-pub home_tells : (owed : FinMap nat_cmp ℕ) (page origin : ℕ) → home owed origin ≡ Some page → get owed page ≡ Some origin
-home_tells owed page origin h = pair-owes_to owed page origin (least_below_tells (owes_to owed origin) HIGH_PAGE page h)
 
 low_or : (page : ℕ) → (HIGH_PAGE ≤ page → ⊥) → ltb page HIGH_PAGE ≡ true
 low_or page h = grind (arith, nat_tests, h)
@@ -56,7 +54,7 @@ pub pair-origins : (owed : FinMap nat_cmp ℕ) (origin : ℕ) → contains (orig
 pair-origins owed origin h =
     elim (home owed origin) as (λ o. home owed origin ≡ o → (page : ℕ) × (get owed page ≡ Some origin)) [
       | None ↦ λ e. absurd (false≢true (sym (ap is_some e) ∙ and_second (ltb origin HIGH_PAGE) (is_some (home owed origin)) (sym (member_below _ HIGH_PAGE origin) ∙ h)))
-      | Some page ↦ λ e. (page, home_tells owed page origin e)
+      | Some page ↦ λ e. (page, home_tells owed origin page e)
     ] refl
 
 -- The answer

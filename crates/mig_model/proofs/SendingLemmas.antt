@@ -53,9 +53,6 @@ has_copy-append (copy ∷ a) b page = ap (λ t. eqb copy.page page || t) (has_co
 
 -- Behind a Package
 
-none_package : (o : Option Frame) (frame : Frame) → None ≡ Some frame → ⊥
-none_package o frame h = cc
-
 -- a wire on which a Package is has the same Package, and the same is kept before it, whatever is put behind
 pub record HasPackage (kept : FinMap nat_cmp (List ℕ)) (wire more : List Sent) : Type 0 where
   pub same : package_in (wire ++ more) ≡ package_in wire
@@ -81,7 +78,7 @@ found_later true frame found o no_here h = absurd (false≢true (sym no_here))
 found_later false frame found o no_here h = h
 
 pub has_package : (kept : FinMap nat_cmp (List ℕ)) (wire more : List Sent) (frame : Frame) → package_in wire ≡ Some frame → HasPackage kept wire more
-has_package kept [] more frame h = absurd (none_package None frame h)
+has_package kept [] more frame h = absurd (none-some frame h)
 has_package kept (sent ∷ wire) more frame h =
     has_package_by (is_package sent.frame) kept sent wire more refl (λ later. has_package (kept_after kept sent.frame) wire more frame (found_later (is_package sent.frame) sent.frame frame (package_in wire) later h))
 

@@ -12,6 +12,7 @@ use Rattle.mig_model.specs.Invariant.Flow.{BeforeAdvise, Copies, BeforePackage, 
 use Rattle.mig_model.proofs.HostLemmas.{get-put}
 use Rattle.mig_model.specs.Migration.{next}
 use Rattle.mig_model.proofs.Facts.{none_absurd, zero_bytes, kept_page}
+use Rattle.mig_model.proofs.FirstFrame.{stays_late}
 
 -- The frame of a page
 
@@ -47,37 +48,8 @@ copies_whole-push (first ∷ rest) sent copy is n are = whole_more (copy_in firs
 
 -- No Package before the switch
 
--- whether a wire has come to its Discard
-abbrev is_late : Flow → Bool
-is_late BeforeAdvise = false
-is_late Copies = false
-is_late BeforePackage = true
-is_late Pushed = true
-is_late AfterEnd = true
-
-next_late : (flow : Flow) (frame : Frame) (next : Flow) → is_late flow ≡ true → flow_next flow frame ≡ Some next → is_late next ≡ true
-next_late BeforeAdvise frame next late h = none_absurd late
-next_late Copies frame next late h = none_absurd late
-next_late BeforePackage (Package areas owed commands) next late h = let same : Pushed ≡ next = cc in ap is_late (sym same)
-next_late BeforePackage _ next late h = absurd (cc)
-next_late Pushed (Page page bytes) next late h = let same : Pushed ≡ next = cc in ap is_late (sym same)
-next_late Pushed (Zero page) next late h = let same : Pushed ≡ next = cc in ap is_late (sym same)
-next_late Pushed (End count) next late h = let same : AfterEnd ≡ next = cc in ap is_late (sym same)
-next_late Pushed _ next late h = absurd (cc)
-next_late AfterEnd _ next late h = absurd (cc)
-
-late_by : {A : Type 0} (o : Option Flow) (rest : List Sent) → ((next : Flow) → o ≡ Some next → is_late next ≡ true) → ((next : Flow) → is_late next ≡ true → flow_after next rest ≡ Some Copies → A) →
-    option_and_then (λ next. flow_after next rest) o ≡ Some Copies → A
-late_by None rest late never h = absurd (cc)
-late_by (Some next) rest late never h = never next (late next refl) h
-
--- it does not come back to copies that are to be kept
-late_never : (wire : List Sent) (flow : Flow) → is_late flow ≡ true → flow_after flow wire ≡ Some Copies → ⊥
-late_never [] flow late h = let same : flow ≡ Copies = cc in false≢true (sym (ap is_late same) ∙ late)
-late_never (first ∷ rest) flow late h = late_by (flow_next flow first.frame) rest (λ next e. next_late flow first.frame next late e) (λ next l e. late_never rest next l e) h
-
 plain_head : (flow : Flow) (frame : Frame) (rest : List Sent) → option_and_then (λ next. flow_after next rest) (flow_next flow frame) ≡ Some Copies → is_package frame ≡ false
-plain_head BeforePackage (Package areas owed commands) rest h = absurd (late_never rest Pushed refl h)
+plain_head BeforePackage (Package areas owed commands) rest h = absurd (stays_late Pushed rest refl h)
 plain_head BeforeAdvise (Package areas owed commands) rest h = absurd (cc)
 plain_head Copies (Package areas owed commands) rest h = absurd (cc)
 plain_head Pushed (Package areas owed commands) rest h = absurd (cc)

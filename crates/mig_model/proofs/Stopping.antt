@@ -262,10 +262,6 @@ some_least test bound q l h none = false≢true (sym (ap is_some none) ∙ least
 pub present_below : (space : Space) (page : ℕ) → IsSound space.host → is_present space page ≡ true → page < HIGH_PAGE
 present_below space page sound present = low_or (λ past. false≢true (sym (ap is_some (sound.mapped page (sound.bound page past))) ∙ present))
 
-found_some : (o : Option ℕ) → is_some o ≡ false → o ≡ None
-found_some None h = refl
-found_some (Some page) h = none_absurd (sym h)
-
 nothing_remains : (world : World) → IsSoundWorld world → least_of world.source.remaining ≡ None → world.source.remaining ≡ no_pages
 nothing_remains world kept none =
     same_members world.source.remaining no_pages (λ q.

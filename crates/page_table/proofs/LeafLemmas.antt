@@ -14,22 +14,15 @@ use Rattle.std.proofs.lemmas.Option.{same_Some}
 use Rattle.std.proofs.lemmas.Bool.{eq-eqb, ne_eqb}
 use Rattle.mig_base.specs.Bytes.{overwrite}
 use Rattle.mig_base.proofs.RangeLemmas.{in_range-none}
+use Rattle.mig_base.proofs.TestLemmas.{cond_true, cond_false}
 use Rattle.page_table.specs.Bytes.{Page, bytes_of, IsWhole, AreWhole}
 use Rattle.page_table.specs.Leaves.{Cell, no_cell}
 
-or_cond : (b c : Bool) → (b || c) ≡ cond b true c
-or_cond true c = refl
-or_cond false c = refl
-
-and_cond : (b c : Bool) → (not b && c) ≡ cond b false c
-and_cond true c = refl
-and_cond false c = refl
-
 pub member_set : (s : FinSet nat_cmp) (i j : ℕ) → contains (insert s i) j ≡ cond (eqb j i) true (contains s j)
-member_set s i j = member_inserted s i j ∙ or_cond (eqb j i) (contains s j)
+member_set s i j = member_inserted s i j ∙ sym (cond_true (eqb j i) (contains s j))
 
 pub member_unset : (s : FinSet nat_cmp) (i j : ℕ) → contains (remove s i) j ≡ cond (eqb j i) false (contains s j)
-member_unset s i j = member_removed s i j ∙ and_cond (eqb j i) (contains s j)
+member_unset s i j = member_removed s i j ∙ sym (cond_false (eqb j i) (contains s j))
 
 pub put_cell : (old new : List Page) (before after : Bool) (i j : ℕ) (page : Page) (flag : Bool) → i < length old → new ≡ set old i page → after ≡ cond (eqb j i) flag before → ◌≡◌ {A = Cell} (bytes_of (get_or new j None), after) (cond (eqb j i) (bytes_of page, flag) (bytes_of (get_or old j None), before))
 put_cell old new before after i j page flag inside e h =

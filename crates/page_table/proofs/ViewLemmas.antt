@@ -18,7 +18,7 @@ use native.Mathlib.Decide.{ℕ_discrete}
 use Rattle.std.proofs.Common.{get_or, ◌%◌, ◌*◌}
 use Rattle.page_table.specs.Leaves.{Cell, Place, cell_at, cell_in, is_place, has_place, no_cell, written_cell, moved_cell}
 use Rattle.mig_base.specs.Bytes.{overwrite, page_at}
-use Rattle.mig_base.proofs.TestLemmas.{none_below_zero, all_below, cond_false}
+use Rattle.mig_base.proofs.TestLemmas.{none_below_zero, all_below, cond_false, cond_true, and_not}
 use Rattle.page_table.specs.Views.{Pages, pages_of, IsTable}
 use Rattle.page_table.proofs.TableLemmas.{past_places, at_place}
 
@@ -60,16 +60,6 @@ cond_flag : (b : Bool) (x y : Cell) → (cond b x y).1 ≡ cond b x.1 y.1
 cond_flag true x y = refl
 cond_flag false x y = refl
 
-flag_off : (b c : Bool) → cond b false c ≡ (c && not b)
-flag_off true true = refl
-flag_off true false = refl
-flag_off false true = refl
-flag_off false false = refl
-
-flag_on : (b c : Bool) → cond b true c ≡ (b || c)
-flag_on true c = refl
-flag_on false c = refl
-
 -- a range made missing
 pub dropped_bytes : (old new : List Place) (value : Pages) (first count : ℕ) → length old ≤ 1024 → length new ≤ 1024 → pages_of old ≡ value → ((q : ℕ) → cell_at new q ≡ cond (in_range first count q) no_cell (cell_at old q)) → (pages_of new).bytes ≡ remove_range value.bytes first count
 dropped_bytes old new value first count few still view h =
@@ -79,7 +69,7 @@ dropped_bytes old new value first count few still view h =
 pub dropped_flags : (old new : List Place) (value : Pages) (first count : ℕ) → length old ≤ 1024 → length new ≤ 1024 → pages_of old ≡ value → ((q : ℕ) → cell_at new q ≡ cond (in_range first count q) no_cell (cell_at old q)) → (pages_of new).protected ≡ without value.protected first count
 dropped_flags old new value first count few still view h =
     flags_by new (without value.protected first count) still
-    (λ q. ap (λ x. x.1) (h q) ∙ cond_flag (in_range first count q) no_cell (cell_at old q) ∙ flag_off (in_range first count q) (cell_at old q).1 ∙ ap (λ b. b && not (in_range first count q)) (flag_seen old value q few view) ∙ sym (member_without value.protected first count q))
+    (λ q. ap (λ x. x.1) (h q) ∙ cond_flag (in_range first count q) no_cell (cell_at old q) ∙ sym (and_not (cell_at old q).1 (in_range first count q)) ∙ ap (λ b. b && not (in_range first count q)) (flag_seen old value q few view) ∙ sym (member_without value.protected first count q))
 
 -- a page put in
 pub put_bytes : (old new : List Place) (value : Pages) (page : ℕ) (bytes : List ℕ) (flag : Bool) → length old ≤ 1024 → length new ≤ 1024 → pages_of old ≡ value → ((q : ℕ) → cell_at new q ≡ cond (eqb q page) (Some bytes, flag) (cell_at old q)) → (pages_of new).bytes ≡ map.insert value.bytes page bytes
@@ -129,7 +119,7 @@ flagged_bytes old new value page flag few still view h =
 pub protected_flags : (old new : List Place) (value : Pages) (page : ℕ) → length old ≤ 1024 → length new ≤ 1024 → pages_of old ≡ value → ((q : ℕ) → cell_at new q ≡ cond (eqb q page) ((cell_at old page).0, true) (cell_at old q)) → (pages_of new).protected ≡ set.insert value.protected page
 protected_flags old new value page few still view h =
     flags_by new (set.insert value.protected page) still
-    (λ q. ap (λ x. x.1) (h q) ∙ cond_flag (eqb q page) ((cell_at old page).0, true) (cell_at old q) ∙ flag_on (eqb q page) (cell_at old q).1 ∙ ap (λ b. eqb q page || b) (flag_seen old value q few view) ∙ sym (member_inserted value.protected page q))
+    (λ q. ap (λ x. x.1) (h q) ∙ cond_flag (eqb q page) ((cell_at old page).0, true) (cell_at old q) ∙ cond_true (eqb q page) (cell_at old q).1 ∙ ap (λ b. eqb q page || b) (flag_seen old value q few view) ∙ sym (member_inserted value.protected page q))
 
 pub removed_flags : (old new : List Place) (value : Pages) (page : ℕ) (o : Option (List ℕ)) → length old ≤ 1024 → length new ≤ 1024 → pages_of old ≡ value → ((q : ℕ) → cell_at new q ≡ cond (eqb q page) (o, false) (cell_at old q)) → (pages_of new).protected ≡ set.remove value.protected page
 removed_flags old new value page o few still view h =
