@@ -176,9 +176,6 @@ own_free forth back count page links own free =
 pub range_none : (first q : ℕ) (x : Option ℕ) → x ≡ cond (in_range first 0 q) None x
 range_none first q x = sym (rw (in_range-none first q) refl)
 
-pub range_one_more : (first i q : ℕ) (x : Option ℕ) → cond (eqb q (first + i)) None (cond (in_range first i q) None x) ≡ cond (in_range first (i + 1) q) None x
-range_one_more first i q x = grind (arith, nat_tests)
-
 pub range_on : (first page next q : ℕ) (x : Option ℕ) → first ≤ page → page ≤ next → cond (in_range page (next - page) q) None (cond (in_range first (page - first) q) None x) ≡ cond (in_range first (next - first) q) None x
 range_on first page next q x a b = grind (arith, nat_tests)
 

@@ -84,21 +84,11 @@ own_places-is pages (suc bound) = ap (λ m. put m bound (own pages bound)) (own_
 abbrev pub AreOwn : List Place → FinSet nat_cmp → ℕ → Type 0
 AreOwn forth pages bound = (q : ℕ) → number_at forth q ≡ cond (ltb q bound) (own pages q) None
 
-under : (q : ℕ) (o : Option ℕ) → cond (ltb q HIGH_PAGE) o None ≡ cond (ltb q HIGH_PAGE) (cond (ltb q HIGH_PAGE) o None) None
-under q o = by_case (ltb q HIGH_PAGE)
-  where
-    by_case : (b : Bool) → cond b o None ≡ cond b (cond b o None) None
-    by_case true = refl
-    by_case false = refl
-
 pub own_all : (forth : List Place) (pages : FinSet nat_cmp) (bound : ℕ) → length forth ≤ 1024 → HIGH_PAGE ≤ bound → bound ≤ HIGH_PAGE → AreOwn forth pages bound → pairs_of forth ≡ own_places pages HIGH_PAGE
 own_all forth pages bound few a b is =
     let end : bound ≡ HIGH_PAGE = omega arith in
     pairs_of-is forth (own_places pages HIGH_PAGE) few
     (λ q. is q ∙ ap (λ n. cond (ltb q n) (own pages q) None) end ∙ sym (get-map_below (own pages) HIGH_PAGE q) ∙ ap (λ m. get m q) (sym (own_places-is pages HIGH_PAGE)))
-
-none_before : (q : ℕ) (o : Option ℕ) → cond (ltb q 0) o None ≡ None
-none_before q o = grind (arith, nat_tests)
 
 own_none-by : (q first : ℕ) (b : Bool) (o : Option ℕ) → (q < first → b ≡ false) → None ≡ cond (ltb q first) (cond b o None) None
 own_none-by q first b o h = grind (arith, nat_tests)

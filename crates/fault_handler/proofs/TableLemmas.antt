@@ -4,7 +4,7 @@ use mathlib.Core.Logic.{dite}
 use native.Mathlib.Decide.{ℕ_discrete}
 use Rattle.std.proofs.lemmas.Bool.{eq-eqb, ne_eqb}
 use Rattle.fault_handler.specs.Tables.{Place, number_in, number_at, is_place, has_place}
-use Rattle.mig_base.proofs.PlaceLemmas.{said_at, said_here, said_past, said-set, said_same, said-push, said-put}
+use Rattle.mig_base.proofs.PlaceLemmas.{said_at, said_here, said_past, said_same, said-push, said-put}
 
 abbrev pub Places : Type 0
 Places = List Place
@@ -21,11 +21,6 @@ at_own_place places place q inside h = said_here number_in places place q inside
 pub past_places : (places : Places) (q : ℕ) → length places ≤ q / 1024 → number_at places q ≡ None
 unfolding number_at
 past_places places q h = said_past number_in places q h
-
--- one table changed
-pub number_at-set : (places : Places) (at : ℕ) (place : Place) (q : ℕ) → at < length places → number_at (set places at place) q ≡ cond (eqb (q / 1024) at) (number_in place (q % 1024)) (number_at places q)
-unfolding number_at
-number_at-set places at place q inside = said-set number_in places at place q inside
 
 -- a table with the same cells
 pub numbers_stay : (places : Places) (at : ℕ) (place : Place) → at < length places → ((i : ℕ) → number_in place i ≡ number_in (get_or places at None) i) → (q : ℕ) → number_at (set places at place) q ≡ number_at places q

@@ -13,7 +13,6 @@ use Rattle.std.specs.Option.{option_map}
 use Rattle.std.proofs.lemmas.Option.{same_Some}
 use Rattle.std.proofs.lemmas.Bool.{eq-eqb, ne_eqb}
 use Rattle.mig_base.specs.Bytes.{overwrite}
-use Rattle.mig_base.proofs.RangeLemmas.{in_range-none}
 use Rattle.mig_base.proofs.TestLemmas.{cond_true, cond_false}
 use Rattle.page_table.specs.Bytes.{Page, bytes_of, IsWhole, AreWhole}
 use Rattle.page_table.specs.Leaves.{Cell, no_cell}
@@ -57,25 +56,13 @@ clear_cell old new s t first count j e h = clear_pair (in_range first count j) (
 abbrev pub IsBare : List Page → List Page → ℕ → ℕ → Type 0
 IsBare old new first count = (i : ℕ) → get_or new i None ≡ cond (in_range first count i) None (get_or old i None)
 
-pub bare_none : (pages : List Page) (first i : ℕ) → get_or pages i None ≡ cond (in_range first 0 i) None (get_or pages i None)
-bare_none pages first i = ap (λ b. cond b None (get_or pages i None)) (sym (in_range-none first i))
-
 pub grows_here : (first count i : ℕ) → i ≡ first + count → in_range first (count + 1) i ≡ true
 grows_here first count i e = grind (arith, nat_tests)
 
 pub grows_not : (first count i : ℕ) → i ≢ first + count → in_range first (count + 1) i ≡ in_range first count i
 grows_not first count i n = grind (arith, nat_tests)
 
-pub bare_more : (old pages : List Page) (first count : ℕ) → first + count < length pages → IsBare old pages first count → IsBare old (set pages (first + count) None) first (count + 1)
-bare_more old pages first count inside is = λ i.
-    dite (ℕ_discrete i (first + count))
-    (λ e. rw (grows_here first count i e) (ap (λ k. get_or (set pages (first + count) None) k None) e ∙ get_or-set_same pages (first + count) None None inside))
-    (λ n. rw (grows_not first count i n) (get_or-set_other pages (first + count) i None None n ∙ is i))
-
 -- the present pages of a leaf, gathered one by one
-
-pub none_of_leaf : (q first : ℕ) (member there : Bool) → member ≡ (member || (in_range first 0 q && there))
-none_of_leaf q first member there = grind (arith, nat_tests)
 
 pub one_of_leaf : (q at i : ℕ) (member there : Bool) → (q ≡ at * 1024 + i → there ≡ true) → (eqb q (at * 1024 + i) || (member || (in_range (1024 * at) i q && there))) ≡ (member || (in_range (1024 * at) (i + 1) q && there))
 one_of_leaf q at i member there h = grind (arith, nat_tests)

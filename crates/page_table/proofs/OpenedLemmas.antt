@@ -6,7 +6,7 @@ use Rattle.std.proofs.lemmas.Bool.{eq-eqb, ne_eqb}
 use Rattle.mig_base.specs.Ranges.{in_range}
 use Rattle.mig_base.specs.Sets.{without}
 use Rattle.mig_base.proofs.SetLemmas.{member_without}
-use Rattle.mig_base.proofs.PlaceLemmas.{nothing_yet, all_now, in_this, before_this, not_this}
+use Rattle.mig_base.proofs.PlaceLemmas.{in_this, before_this, not_this}
 use Rattle.mig_base.proofs.TestLemmas.{and_true, and_first}
 use Rattle.page_table.specs.Leaves.{Cell, Place, cell_in, cell_at, opened_cell}
 use Rattle.page_table.specs.Views.{Pages, pages_of, IsTable}
@@ -19,12 +19,6 @@ opened_not cell = λ i. (cell.0, and_true cell.1 i)
 -- the pages of the range that lie below a bound are no longer protected
 abbrev pub IsOpened : Places → Places → ℕ → ℕ → ℕ → Type 0
 IsOpened old new first count bound = (q : ℕ) → cell_at new q ≡ opened_cell (cell_at old q) (ltb q bound && in_range first count q)
-
-pub opened_none : (places : Places) (first count : ℕ) → IsOpened places places first count (1024 * (first / 1024))
-opened_none places first count = λ q. sym (opened_not (cell_at places q)) ∙ ap (opened_cell (cell_at places q)) (sym (nothing_yet q first count))
-
-pub opened_all : (old new : Places) (first count at : ℕ) → first + count ≤ 1024 * at → IsOpened old new first count (1024 * at) → (q : ℕ) → cell_at new q ≡ opened_cell (cell_at old q) (in_range first count q)
-opened_all old new first count at h is q = is q ∙ ap (opened_cell (cell_at old q)) (all_now q first count at h)
 
 pub opened_more : (old places : Places) (first count at low high : ℕ) (place : Place) → at < length places → IsOpened old places first count (1024 * at)
     → ((i : ℕ) → cell_in place i ≡ opened_cell (cell_in (get_or places at None) i) (in_range low (high - low) i)) → low ≡ first - 1024 * at → high ≡ min (first + count - 1024 * at) 1024 → low ≤ high

@@ -397,13 +397,6 @@ and_is : (a b : Bool) → b ≡ true → a ≡ (a && b)
 and_is true b h = sym h
 and_is false b h = refl
 
-and_false : (a b : Bool) → b ≡ false → false ≡ (a && b)
-and_false true b h = sym h
-and_false false b h = refl
-
-pub grows_past : (host : Host) (addr old_len new_len : ℕ) → HIGH < addr + rounded new_len → false ≡ can_grow (memory host) addr (rounded old_len) (rounded new_len)
-grows_past host addr old_len new_len past = and_false (is_unmapped (memory host) (addr + rounded old_len) (rounded new_len - rounded old_len)) (leb (addr + rounded new_len) HIGH) (lt-leb (addr + rounded new_len) HIGH past)
-
 pub grows : (host : Host) (addr old_len new_len count new_count added : ℕ) → addr % 4096 ≡ 0 → pages_of old_len < pages_of new_len → addr + rounded new_len ≤ HIGH → count ≡ pages_of old_len → new_count ≡ pages_of new_len → added ≡ mapped_in host.areas (addr / 4096 + count) (new_count - count) → eqb added 0 ≡ can_grow (memory host) addr (rounded old_len) (rounded new_len)
 grows host addr old_len new_len count new_count added whole long high pages new_pages is =
     let size : 4096 * (new_count - count) ≡ rounded new_len - rounded old_len = omega arith in
