@@ -1,5 +1,5 @@
 -- The list once an edit is made: it has runs, and the protection in the range.
-use Rattle.std.proofs.Common.{◌≡◌, ℕ, ◌+◌, ◌-◌, ◌<◌, ◌≤◌, false, cond, Option, Some, None, List, ◌++◌, refl, sym, ap, ◌∙◌, subst, ◌⊎◌, ⊎_elim, arith, length, take, drop, append_assoc, get_or, get_or-take, length-take}
+use Rattle.std.proofs.Common.{◌≡◌, ℕ, ◌+◌, ◌-◌, ◌<◌, ◌≤◌, false, cond, Option, Some, None, List, ◌++◌, refl, sym, ap, ◌∙◌, subst, ⊎_elim, arith, length, take, drop, append_assoc, get_or, get_or-take, length-take}
 use Rattle.std.specs.Option.{option_or, option_to_list}
 use Rattle.std.specs.List.{All}
 use Rattle.std.proofs.lemmas.Bool.Decides.{nat_tests}
@@ -9,15 +9,13 @@ use Rattle.mig_base.specs.declared.Prot.{Prot}
 use Rattle.mig_base.specs.declared.Area.{Area}
 use Rattle.mig_base.specs.Ranges.{in_range}
 use Rattle.mig_base.proofs.RangeLemmas.{in_range-false_below}
+use Rattle.mig_base.proofs.TestLemmas.{at_or_below}
 use Rattle.area_map.specs.declared.edit.Side.{Side}
 use Rattle.area_map.specs.Areas.{prot_in, IsBefore, AreRuns, EndsBefore, BeginsAfter}
 use Rattle.area_map.specs.Edits.{StandsBelow, StandsAbove, kept_below, kept_above, IsBelow, IsAbove, edited, IsEdit}
 use Rattle.area_map.proofs.AreaLemmas.{no_area, EndsBy, AreRuns-append, prot_in-append, prot_in-past, prot_in-before, All-drop_at, option_or-none}
 
 -- Indices
-
-at_or_below : (a b : ℕ) → (a ≤ b) ⊎ (b < a)
-at_or_below a b = grind (arith, nat_tests)
 
 -- an area that ends before the range and begins behind it
 crossed : (areas : List Area) (low high first end : ℕ) → low ≤ length areas → first ≤ end → All (EndsBefore first) (take low areas) → All (BeginsAfter end) (drop high areas) → high < low → ⊥

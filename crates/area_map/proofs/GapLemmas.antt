@@ -1,14 +1,14 @@
 -- The search for a free place.
-use Rattle.std.proofs.Common.{◌≡◌, ℕ, ◌+◌, ◌*◌, ◌/◌, ◌<◌, ◌≤◌, Bool, false, cond, Option, Some, None, is_some, List, [], ◌∷◌, refl, sym, ap, ◌∙◌, subst, ◌⊎◌, ⊎_elim, arith, max}
+use Rattle.std.proofs.Common.{◌≡◌, ℕ, ◌+◌, ◌*◌, ◌/◌, ◌<◌, ◌≤◌, Bool, false, cond, Option, Some, None, is_some, List, [], ◌∷◌, refl, sym, ap, ◌∙◌, subst, ⊎_elim, arith, max}
 use Rattle.std.specs.FinMap.{FinMap, get, contains_key}
 use Rattle.std.specs.Ordering.{nat_cmp}
-use Rattle.std.proofs.lemmas.Bool.{false≢true}
-use Rattle.std.proofs.lemmas.Bool.Decides.{nat_tests}
+use Rattle.std.proofs.lemmas.Bool.{cases_lt}
 use Rattle.mig_base.specs.declared.TheConstants.{LOW_PAGE, HIGH_PAGE}
 use Rattle.mig_base.specs.declared.Prot.{Prot}
 use Rattle.mig_base.specs.declared.Area.{Area}
 use Rattle.mig_base.specs.Ranges.{free_place}
 use Rattle.mig_base.proofs.RangeLemmas.{in_range-true, in_range-false_above, IsFreeRun, free_place-is, free_place-none}
+use Rattle.mig_base.proofs.TestLemmas.{at_or_below, some_is_none, missing_none}
 use Rattle.area_map.specs.Areas.{pages_in, prot_in, AreRuns}
 use Rattle.area_map.specs.Gaps.{IsFreeRange, IsFreePage}
 use Rattle.area_map.proofs.AreaLemmas.{prot_in-rest_below, prot_in-behind}
@@ -25,21 +25,12 @@ pub record IsSearched (areas rest : List Area) (count start : ℕ) : Type 0 wher
 pub IsSearched-none : (areas : List Area) (count : ℕ) → AreRuns areas → IsSearched areas areas count LOW_PAGE
 IsSearched-none areas count h = record { low = omega arith; high = omega arith; left = h; past = λ q l. refl; least = λ other f. f.low }
 
-not_some : (x : Prot) (o : Option Prot) → o ≡ Some x → o ≡ None → ⊥
-not_some x o some none = let e : Some x ≡ None = sym some ∙ none in cc
-
-at_or_below : (a b : ℕ) → (a ≤ b) ⊎ (b < a)
-at_or_below a b = grind (arith, nat_tests)
-
-below_or_above : (a b : ℕ) → (a < b) ⊎ (b ≤ a)
-below_or_above a b = grind (arith, nat_tests)
-
 taken_before : (areas rest : List Area) (a : Area) (count start other : ℕ) → 0 < count → IsSearched areas (a ∷ rest) count start → a.first < start + count → IsFreeRange areas count other → a.first + a.count ≤ other
 unfolding prot_in
 taken_before areas rest a count start other some h meets free =
     let above = h.least other free in
     let meets_at : (q : ℕ) → other ≤ q → q < other + count → a.first ≤ q → q < a.first + a.count → ⊥ =
-    λ q l u i j. not_some a.prot (prot_in areas q)
+    λ q l u i j. some_is_none a.prot (prot_in areas q)
     (h.past q (omega arith) ∙ ap (λ b. cond b (Some a.prot) (prot_in rest q)) (in_range-true a.first a.count q i j))
     (free.free q l u) in
     let is = h.left.0.some in
@@ -49,7 +40,7 @@ taken_before areas rest a count start other some h meets free =
     (λ (below : other < a.first). absurd (meets_at a.first (omega arith) (omega arith) (omega arith) (omega arith)))
     (at_or_below a.first other))
     (λ (after : a.first + a.count ≤ other). after)
-    (below_or_above other (a.first + a.count))
+    (cases_lt other (a.first + a.count))
 
 pub IsSearched-more : (areas rest : List Area) (a : Area) (count start : ℕ) → 0 < count → IsSearched areas (a ∷ rest) count start → a.first < start + count → IsSearched areas rest count (max start (a.first + a.count))
 unfolding prot_in
@@ -97,10 +88,6 @@ no_free_page areas count start h past other free =
 has_none : (o : Option Prot) → o ≡ None → is_some o ≡ false
 has_none o h = rw h refl
 
-none_from : (o : Option Prot) → is_some o ≡ false → o ≡ None
-none_from None h = refl
-none_from (Some x) h = absurd (false≢true (sym h))
-
 abbrev pub is_taken : List Area → ℕ → Bool
 is_taken areas page = contains_key (pages_in areas) page
 
@@ -108,7 +95,7 @@ IsFreeRun-from : (areas : List Area) (count start : ℕ) → IsFreeRange areas c
 IsFreeRun-from areas count start h = record { low = h.low; high = h.high; free = λ q l u. has_none (get (pages_in areas) q) (get-pages_in areas q ∙ h.free q l u) }
 
 IsFreeRange-from : (areas : List Area) (count start : ℕ) → IsFreeRun (is_taken areas) count start → IsFreeRange areas count start
-IsFreeRange-from areas count start h = record { low = h.low; high = h.high; free = λ q l u. sym (get-pages_in areas q) ∙ none_from (get (pages_in areas) q) (h.free q l u) }
+IsFreeRange-from areas count start h = record { low = h.low; high = h.high; free = λ q l u. sym (get-pages_in areas q) ∙ missing_none (get (pages_in areas) q) (h.free q l u) }
 
 pub gap-found : (areas : List Area) (len start : ℕ) → 0 < len → IsFreePage areas ((len + 4095) / 4096) start → free_place (λ addr. is_taken areas (addr / 4096)) len ≡ Some (start * 4096)
 gap-found areas len start some h =

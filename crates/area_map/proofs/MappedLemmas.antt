@@ -1,5 +1,5 @@
 -- How many pages of a range areas have, area by area.
-use Rattle.std.proofs.Common.{◌≡◌, ℕ, zero, suc, ◌+◌, ◌-◌, ◌<◌, ◌≤◌, Bool, true, false, cond, Option, Some, List, [], refl, sym, ap, ◌∙◌, arith, min, max, length, take, drop, get_or, length-drop, is_some}
+use Rattle.std.proofs.Common.{◌≡◌, ℕ, zero, suc, ◌+◌, ◌-◌, ◌<◌, ◌≤◌, Bool, true, false, cond, List, [], refl, sym, ap, ◌∙◌, arith, min, max, length, take, drop, get_or, length-drop, is_some}
 use Rattle.std.specs.Option.{option_or}
 use Rattle.std.specs.List.{All}
 use Rattle.std.specs.FinMap.{FinMap, contains_key}
@@ -10,7 +10,8 @@ use Rattle.std.proofs.lemmas.List.Elements.{All-weaker}
 use Rattle.mig_base.specs.declared.Prot.{Prot}
 use Rattle.mig_base.specs.declared.Area.{Area}
 use Rattle.mig_base.specs.Ranges.{in_range, count_below}
-use Rattle.mig_base.proofs.RangeLemmas.{count_below-same, count_below-constant}
+use Rattle.mig_base.proofs.RangeLemmas.{count_below-same, count_below-constant, in_range_bounds}
+use Rattle.mig_base.proofs.TestLemmas.{is_some-cond}
 use Rattle.area_map.specs.Areas.{prot_in, pages_in, AreRuns, EndsBefore, BeginsAfter}
 use Rattle.area_map.proofs.AreaLemmas.{no_area, AreRuns-take, AreRuns-drop, EndsBy, ends_at, prot_in-split, prot_in-past, prot_in-before, option_or-none}
 use Rattle.area_map.proofs.MoveLemmas.{IsPart, one_more}
@@ -19,16 +20,6 @@ use Rattle.area_map.proofs.ViewLemmas.{prot_at_answer}
 -- how many pages of the range the areas have
 abbrev pub mapped_of : List Area → ℕ → ℕ → ℕ
 mapped_of areas first count = count_below (λ i. is_some (prot_in areas (first + i))) count
-
-few : (b : Bool) (count n : ℕ) → count ≤ n → count + cond b 1 0 ≤ suc n
-few true count n h = omega arith
-few false count n h = omega arith
-
--- no more than all
-pub count_below-few : (p : ℕ → Bool) (n : ℕ) → count_below p n ≤ n
-unfolding count_below
-count_below-few p zero = omega arith
-count_below-few p (suc n) = few (p n) (count_below p n) n (count_below-few p n)
 
 either : (p q : Bool) (a b : ℕ) → (p ≡ true → q ≡ false) → a + b + cond (cond p true q) 1 0 ≡ (a + cond q 1 0) + (b + cond p 1 0)
 either true q a b h = rw (h refl) (omega arith)
@@ -51,13 +42,6 @@ unfolding count_below
 count_below-met first count from zero = omega arith
 count_below-met first count from (suc n) = met first count from n (count_below (λ i. in_range first count (from + i)) n) (count_below-met first count from n)
 
-is_some-cond : (b : Bool) (x : Prot) (o : Option Prot) → is_some (cond b (Some x) o) ≡ cond b true (is_some o)
-is_some-cond true x o = refl
-is_some-cond false x o = refl
-
-starts_by : (first count q : ℕ) → in_range first count q ≡ true → first ≤ q
-starts_by first count q h = grind (arith, nat_tests)
-
 pub mapped_of-none : (first count : ℕ) → 0 ≡ mapped_of [] first count
 unfolding prot_in
 mapped_of-none first count = sym (count_below-constant (λ i. is_some (prot_in [] (first + i))) false count (λ i l. refl))
@@ -74,7 +58,7 @@ mapped_of-more areas i first count mapped part runs below is h =
     let all : mapped_of (take (i + 1) areas) first count ≡ count_below (λ k. cond (in_range a.first a.count (first + k)) true (is_some (prot_in before (first + k)))) count =
     count_below-same _ _ count (λ k l. ap is_some (sym (one_more areas i (first + k) runs below)) ∙ is_some-cond (in_range a.first a.count (first + k)) a.prot (prot_in before (first + k))) in
     let sum = count_below-either (λ k. in_range a.first a.count (first + k)) (λ k. is_some (prot_in before (first + k))) count
-    (λ k e. ap is_some (prot_in-past before a.first (first + k) (ends_at areas i runs below) (starts_by a.first a.count (first + k) e))) in
+    (λ k e. ap is_some (prot_in-past before a.first (first + k) (ends_at areas i runs below) (in_range_bounds a.first a.count (first + k) e).0)) in
     omega (arith, all, sum, shared, begins, ends, h)
 
 -- Areas that a range does not meet

@@ -1,13 +1,15 @@
 -- A move of a range, area by area.
-use Rattle.std.proofs.Common.{◌≡◌, ℕ, ◌+◌, ◌-◌, ◌<◌, ◌≤◌, Bool, true, false, cond, Option, Some, None, List, [], ◌∷◌, refl, sym, ap, ◌∙◌, ◌⊎◌, ⊎_elim, inl, inr, arith, min, max, length, take, get_or}
+use Rattle.std.proofs.Common.{◌≡◌, ℕ, ◌+◌, ◌-◌, ◌<◌, Bool, true, false, cond, Option, Some, None, List, [], ◌∷◌, refl, sym, ap, ◌∙◌, ⊎_elim, arith, min, max, length, take, get_or}
 use Rattle.std.specs.Option.{option_or}
 use Rattle.std.specs.FinMap.{FinMap, get}
 use Rattle.std.specs.Ordering.{nat_cmp}
 use Rattle.std.proofs.lemmas.Bool.Decides.{nat_tests}
 use Rattle.std.proofs.lemmas.List.{take_more}
+use Rattle.std.proofs.lemmas.Bool.{cases_Bool}
 use Rattle.mig_base.specs.declared.Prot.{Prot}
 use Rattle.mig_base.specs.declared.Area.{Area}
 use Rattle.mig_base.specs.Ranges.{in_range}
+use Rattle.mig_base.proofs.RangeLemmas.{in_range_bounds}
 use Rattle.mig_base.specs.Pages.{set_range, remove_range}
 use Rattle.mig_base.proofs.PageLemmas.{get-set_range, get-remove_range}
 use Rattle.area_map.specs.Areas.{pages_in, prot_in, AreRuns}
@@ -25,17 +27,13 @@ pub record IsPart (low high : ℕ) (a part : Area) : Type 0 where
   pub end : part.first + part.count ≡ min high (max low (a.first + a.count))
   pub prot : part.prot ≡ a.prot
 
-bool_cases : (b : Bool) → (b ≡ true) ⊎ (b ≡ false)
-bool_cases true = inl refl
-bool_cases false = inr refl
-
 pub IsMovedFrom-none : (old : FinMap nat_cmp Prot) (from to count : ℕ) → ((q : ℕ) → in_range to count q ≡ true → get old q ≡ None) → IsMovedFrom [] old old from to count
 unfolding prot_in
 IsMovedFrom-none old from to count free q =
     ⊎_elim
     (λ (e : in_range to count q ≡ true). rw e (free q e))
     (λ (e : in_range to count q ≡ false). rw e refl)
-    (bool_cases (in_range to count q))
+    (cases_Bool (in_range to count q))
 
 part_inside : (first count part_first part_count from to range q : ℕ) → part_first ≡ min (from + range) (max from first) → part_first + part_count ≡ min (from + range) (max from (first + count)) → in_range to range q ≡ true → in_range ((part_first - from) + to) part_count q ≡ in_range first count (from + (q - to))
 part_inside first count part_first part_count from to range q f e t = grind (arith, nat_tests)
@@ -49,15 +47,12 @@ behind true x o h = rw (h refl) refl
 behind false x None h = refl
 behind false x (Some y) h = refl
 
-starts_by : (first count q : ℕ) → in_range first count q ≡ true → first ≤ q
-starts_by first count q h = grind (arith, nat_tests)
-
 -- the areas up to an index, and one more
 pub one_more : (areas : List Area) (i p : ℕ) → AreRuns areas → i < length areas → cond (in_range (get_or areas i no_area).first (get_or areas i no_area).count p) (Some (get_or areas i no_area).prot) (prot_in (take i areas) p) ≡ prot_in (take (i + 1) areas) p
 unfolding prot_in
 one_more areas i p runs below =
     let a = get_or areas i no_area in
-    behind (in_range a.first a.count p) a.prot (prot_in (take i areas) p) (λ e. prot_in-past (take i areas) a.first p (ends_at areas i runs below) (starts_by a.first a.count p e))
+    behind (in_range a.first a.count p) a.prot (prot_in (take i areas) p) (λ e. prot_in-past (take i areas) a.first p (ends_at areas i runs below) (in_range_bounds a.first a.count p e).0)
     ∙ sym (ap (λ xs. prot_in xs p) (take_more areas i no_area below) ∙ prot_in-append (take i areas) (a ∷ []) p)
 
 pub IsMovedFrom-more : (areas : List Area) (i : ℕ) (old cur new : FinMap nat_cmp Prot) (part : Area) (from to count : ℕ) → AreRuns areas → i < length areas → IsPart from (from + count) (get_or areas i no_area) part → IsMovedFrom (take i areas) old cur from to count → new ≡ set_range cur ((part.first - from) + to) part.count part.prot → IsMovedFrom (take (i + 1) areas) old new from to count
@@ -79,7 +74,7 @@ IsMovedFrom-more areas i old cur new part from to count runs below is so_far mad
     ∙ so_far q
     ∙ ap (λ b. cond b (prot_in (take i areas) p) (get old q)) e
     ∙ sym (ap (λ b. cond b (prot_in (take (i + 1) areas) p) (get old q)) e))
-    (bool_cases (in_range to count q))
+    (cases_Bool (in_range to count q))
 
 inner : (b : Bool) (x o : Option Prot) → cond b x (cond b None o) ≡ cond b x o
 inner true x o = refl

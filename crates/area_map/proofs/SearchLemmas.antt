@@ -1,16 +1,9 @@
 -- What a binary search of areas needs, and what it gives.
-use Rattle.std.proofs.Common.{◌≡◌, ℕ, zero, suc, ◌+◌, ◌<◌, ◌≤◌, Bool, true, false, leb, ltb, List, [], ◌∷◌, sym, subst, arith, length, take, drop, get_or, length-take-le, length-drop, get_or-take, get_or-drop}
+use Rattle.std.proofs.Common.{◌≡◌, ℕ, zero, suc, ◌+◌, ◌<◌, ◌≤◌, Bool, true, false, List, [], ◌∷◌, sym, subst, arith, length, take, drop, get_or, length-take-le, length-drop, get_or-take, get_or-drop}
 use Rattle.std.specs.List.{All, AllWithin}
 use Rattle.std.specs.List.Sorted.{IsNonDecreasingBy}
-use Rattle.std.proofs.lemmas.Bool.Decides.{nat_tests}
 use Rattle.mig_base.specs.declared.Area.{Area}
 use Rattle.area_map.specs.Areas.{AreRuns}
-
-pub above_test : (a b : ℕ) → leb a b ≡ false → b < a
-above_test a b h = grind (arith, nat_tests)
-
-pub from_test : (a b : ℕ) → ltb a b ≡ false → b ≤ a
-from_test a b h = grind (arith, nat_tests)
 
 -- each area begins, and ends, no later than those behind it
 pub begin_in_order : (areas : List Area) → AreRuns areas → IsNonDecreasingBy (λ a. a.first) areas

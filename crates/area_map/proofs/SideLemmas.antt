@@ -1,22 +1,17 @@
 -- What stays of areas below a page, and above one.
-use Rattle.std.proofs.Common.{◌≡◌, ◌≢◌, ℕ, ◌+◌, ◌-◌, ◌<◌, ◌≤◌, Option, Some, None, List, [], ◌∷◌, sym, ap, ◌∙◌, subst, ◌⊎◌, ⊎_elim, arith, length, take, drop, get_or}
+use Rattle.std.proofs.Common.{◌≡◌, ◌≢◌, ℕ, ◌+◌, ◌-◌, ◌<◌, ◌≤◌, Option, Some, None, List, [], ◌∷◌, sym, ap, ◌∙◌, subst, ⊎_elim, arith, length, take, drop, get_or}
 use Rattle.std.specs.Option.{option_or}
 use Rattle.std.specs.List.{All}
 use Rattle.std.proofs.lemmas.List.{append-nil}
-use Rattle.std.proofs.lemmas.Bool.Decides.{nat_tests}
 use Rattle.std.proofs.lemmas.List.Elements.{All-nil, All-cons, All-weaker, All-push}
+use Rattle.std.proofs.lemmas.Option.{same_Some}
 use Rattle.mig_base.specs.declared.TheConstants.{HIGH_PAGE}
 use Rattle.mig_base.specs.declared.Prot.{Prot}
 use Rattle.mig_base.specs.declared.Area.{Area}
+use Rattle.mig_base.proofs.TestLemmas.{at_or_below}
 use Rattle.area_map.specs.Areas.{prot_in, IsArea, IsBefore, AreRuns, EndsBefore, BeginsAfter}
 use Rattle.area_map.specs.Edits.{StandsBelow, StandsAbove, IsBelow, IsAbove}
 use Rattle.area_map.proofs.AreaLemmas.{no_area, AreRuns-take, AreRuns-drop, AreRuns-append, runs_at, before_at, ends_by, prot_in-append, option_or-none, prot_in-split, prot_in-past, prot_in-first, prot_in-rest_above, prot_in-rest_below, prot_in-behind, prot_in-from, prot_in-at, drop_at_area}
-
-one_prot : (x y : Prot) → Some x ≡ Some y → x ≡ y
-one_prot x y h = cc
-
-at_or_below : (a b : ℕ) → (a ≤ b) ⊎ (b < a)
-at_or_below a b = grind (arith, nat_tests)
 
 -- Below a page
 
@@ -56,7 +51,7 @@ IsBelow-joined areas at page prot runs below front from until same =
     let a = get_or areas at no_area in
     let rest = runs_at areas at runs below in
     IsBelow-none areas at a.first page prot runs (omega arith) front (omega arith)
-    (All-weaker (λ x. IsBefore x a) (StandsBelow a.first prot) (λ x b. record { apart = b.apart; differ = λ e alike. b.differ e (one_prot x.prot a.prot (alike ∙ same)) }) (take at areas) (before_at areas at runs below))
+    (All-weaker (λ x. IsBefore x a) (StandsBelow a.first prot) (λ x b. record { apart = b.apart; differ = λ e alike. b.differ e (same_Some x.prot a.prot (alike ∙ same)) }) (take at areas) (before_at areas at runs below))
     (λ q l. ap (λ xs. prot_in xs q) (drop_at_area areas at below) ∙ prot_in-rest_below a (drop (at + 1) areas) q l ∙ prot_in-behind a (drop (at + 1) areas) q rest (omega arith))
     (λ q l u. prot_in-at areas at q runs below l (omega arith) ∙ sym same)
 
@@ -125,7 +120,7 @@ IsAbove-joined areas n at page prot runs below is back from until same =
     let end = a.first + a.count in
     let rest = runs_at areas n runs below in
     IsAbove-none areas at page end prot runs (omega arith) back (omega arith) rest.0.bound
-    (subst (λ m. All (StandsAbove end prot) (drop m areas)) (sym is) (All-weaker (IsBefore a) (StandsAbove end prot) (λ x b. record { apart = b.apart; differ = λ e alike. b.differ e (one_prot a.prot x.prot (sym same ∙ sym alike)) }) (drop (n + 1) areas) rest.1))
+    (subst (λ m. All (StandsAbove end prot) (drop m areas)) (sym is) (All-weaker (IsBefore a) (StandsAbove end prot) (λ x b. record { apart = b.apart; differ = λ e alike. b.differ e (same_Some a.prot x.prot (sym same ∙ sym alike)) }) (drop (n + 1) areas) rest.1))
     (λ q l. prot_in-past (take at areas) end q (ends_by areas n at end runs below is (omega arith)) l)
     (λ q l u. prot_in-at areas n q runs below (omega arith) u ∙ sym same)
 

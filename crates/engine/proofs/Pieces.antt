@@ -10,7 +10,7 @@ use Rattle.script.specs.Spelling.{Spells}
 use Rattle.script.specs.Lines.{HasNoFeed, LastLine, BeginsWrong}
 use Rattle.engine.specs.Engine.{Gathered, Place, Work, language_of, Works, Made, MakeFault, Advances, Fed, Faults, FedUntil, Front, Passes, Halts, Closes, CloseFault}
 use Rattle.script.proofs.Cuts.{feed_inside}
-use Rattle.engine.proofs.Runs.{fed_none, fed_then, until_then, until_more, fed_held, one_work}
+use Rattle.engine.proofs.Runs.{fed_then, until_then, until_more, fed_held, one_work}
 
 -- ---- the lines of a piece
 
@@ -19,9 +19,6 @@ pub record Feeds (a : Place) (bytes rest : List ℕ) (b : Place) : Type 0 where
   pub front : List ℕ
   pub parts : bytes ≡ front ++ rest
   pub fed : Fed a front b
-
-pub feeds_none : (a : Place) (bytes : List ℕ) → Feeds a bytes bytes a
-feeds_none a bytes = record { front = []; parts = refl; fed = fed_none a }
 
 parts_then : (bytes front rest line behind : List ℕ) → bytes ≡ front ++ rest → rest ≡ line ++ 10 ∷ behind → bytes ≡ (front ++ (line ++ 10 ∷ [])) ++ behind
 parts_then bytes front rest line behind e cut =

@@ -192,13 +192,6 @@ until_line a text output fault one e h kept = record { text = []; faults = make_
 
 -- ---- pieces
 
-pub fed_none : (a : Place) → Fed a [] a
-fed_none a = record {
-  text = [];
-  advances = record { lines = []; reads = append-nil a.line; number = omega arith; works = (refl, refl) };
-  gathers = sym (append-nil a.output);
-}
-
 pub fed_then : (a b c : Place) (xs ys : List ℕ) → Fed a xs b → Fed b ys c → Fed a (xs ++ ys) c
 fed_then a b c xs ys p q = record {
   text = p.text ++ q.text;

@@ -4,15 +4,13 @@ use Rattle.std.specs.Ordering.{nat_cmp}
 use Rattle.std.specs.FinSet.{FinSet, contains, insert, empty, contains-empty}
 use Rattle.std.proofs.lemmas.Bool.Decides.{nat_tests}
 use Rattle.mig_base.proofs.SetLemmas.{member_inserted}
+use Rattle.mig_base.proofs.TestLemmas.{none_below_zero, all_below}
 use Rattle.fault_handler.specs.Tables.{Place, number_at}
 use Rattle.fault_handler.proofs.TableLemmas.{past_places}
 
 -- the set has the pages below the bound that have a number
 abbrev pub IsGathered : List Place → FinSet nat_cmp → ℕ → Type 0
 IsGathered places pages bound = (q : ℕ) → contains pages q ≡ (ltb q bound && is_some (number_at places q))
-
-none_below_zero : (q : ℕ) (b : Bool) → false ≡ (ltb q 0 && b)
-none_below_zero q b = grind (arith, nat_tests)
 
 pub gathered_none : (places : List Place) → IsGathered places empty 0
 gathered_none places q = contains-empty nat_cmp q ∙ none_below_zero q (is_some (number_at places q))
@@ -22,9 +20,6 @@ below_or_at q page b h = grind (arith, nat_tests)
 
 passed : (q page next : ℕ) (b : Bool) → page ≤ next → (page ≤ q → q < next → b ≡ false) → (ltb q page && b) ≡ (ltb q next && b)
 passed q page next b l h = grind (arith, nat_tests)
-
-pub all_below : (q bound : ℕ) (b : Bool) → (bound ≤ q → b ≡ false) → (ltb q bound && b) ≡ b
-all_below q bound b h = grind (arith, nat_tests)
 
 pub gathered_more : (places : List Place) (pages : FinSet nat_cmp) (page : ℕ) → IsGathered places pages page → is_some (number_at places page) ≡ true → IsGathered places (insert pages page) (page + 1)
 gathered_more places pages page is here q =

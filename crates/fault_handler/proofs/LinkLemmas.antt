@@ -1,21 +1,21 @@
 -- Pairs of pages and origins: the map that they show, one pair taken out or put in, and ranges of them.
-use Rattle.std.proofs.Common.{◌≡◌, ℕ, zero, suc, ◌+◌, ◌-◌, ◌/◌, ◌<◌, ◌≤◌, ◌⊎◌, Bool, true, false, cond, eqb, ltb, refl, sym, ap, ◌∙◌, ⊎_elim, inl, inr, arith, List, length, Option, Some, None, is_some}
+use Rattle.std.proofs.Common.{◌≡◌, ℕ, ◌+◌, ◌-◌, ◌/◌, ◌<◌, ◌≤◌, ◌⊎◌, Bool, true, false, cond, eqb, ltb, refl, sym, ap, ◌∙◌, ⊎_elim, inl, inr, arith, List, length, Option, Some, None, is_some}
 use mathlib.Core.Logic.{dite}
 use native.Mathlib.Decide.{ℕ_discrete}
 use Rattle.std.specs.Ordering.{nat_cmp}
 use Rattle.std.specs.Cmp.{nat_cmp_total, unsigned_tied}
 use Rattle.std.specs.FinMap.{FinMap, get, empty, insert, remove, contains_key, len, get-empty, get-insert, get-remove, len-insert, len-remove, len-empty, empty_of_len}
 use Rattle.std.proofs.lemmas.Bool.Decides.{nat_tests}
-use Rattle.std.proofs.lemmas.Bool.{eq-eqb}
+use Rattle.std.proofs.lemmas.Bool.{eq-eqb, cases_lt, ne_eqb}
 use Rattle.std.proofs.lemmas.Option.{same_Some}
-use Rattle.mig_base.proofs.RangeLemmas.{in_range-true}
+use Rattle.mig_base.proofs.RangeLemmas.{in_range-true, count_below-few, in_range-none, in_range_bounds, in_range-out, in_range-one}
 use Rattle.mig_base.specs.declared.TheConstants.{HIGH_PAGE}
 use Rattle.mig_base.specs.Ranges.{in_range, count_below}
 use Rattle.mig_base.proofs.PageLemmas.{same_pages, get-map_below, count_below-contains_key}
-use Rattle.mig_base.proofs.BitLemmas.{below_or_past}
+use Rattle.mig_base.proofs.PlaceLemmas.{place_inside}
 use Rattle.fault_handler.specs.Tables.{Place, number_at, moved_number}
 use Rattle.fault_handler.specs.Owed.{pairs_of, AreLinks}
-use Rattle.fault_handler.proofs.TableLemmas.{eqb-false, past_places, place_of_number, place_inside}
+use Rattle.fault_handler.proofs.TableLemmas.{past_places, place_of_number}
 
 -- The map that the pairs show
 
@@ -40,19 +40,11 @@ number_below places q number few h =
 
 -- How many pairs there are
 
-most_below : (test : ℕ → Bool) (n : ℕ) → count_below test n ≤ n
-unfolding count_below
-most_below test zero = omega arith
-most_below test (suc n) = one_at_most (test n) (count_below test n) n (most_below test n)
-  where
-    one_at_most : (b : Bool) (k n : ℕ) → k ≤ n → k + cond b 1 0 ≤ suc n
-    one_at_most b k n h = grind (arith, nat_tests)
-
 pub few_pairs : (forth : List Place) → length forth ≤ 1024 → len (pairs_of forth) ≤ HIGH_PAGE
 few_pairs forth few =
     let counted : count_below (λ q. contains_key (pairs_of forth) q) HIGH_PAGE ≡ len (pairs_of forth) =
     count_below-contains_key HIGH_PAGE (pairs_of forth) (λ q h. get-pairs_of forth q few ∙ none_past forth q few h) in
-    let most : count_below (λ q. contains_key (pairs_of forth) q) HIGH_PAGE ≤ HIGH_PAGE = most_below (λ q. contains_key (pairs_of forth) q) HIGH_PAGE in
+    let most : count_below (λ q. contains_key (pairs_of forth) q) HIGH_PAGE ≤ HIGH_PAGE = count_below-few (λ q. contains_key (pairs_of forth) q) HIGH_PAGE in
     omega (arith, counted, most)
 
 pub unlinked_map : (old new : List Place) (page : ℕ) → length old ≤ 1024 → length new ≤ 1024 → ((q : ℕ) → number_at new q ≡ cond (eqb q page) None (number_at old q)) → pairs_of new ≡ remove (pairs_of old) page
@@ -79,20 +71,20 @@ pub cut_answers : (f g after back : ℕ → Option ℕ) (page origin : ℕ) → 
 cut_answers f g after back page origin is_after is_back here answers p s h =
     dite (ℕ_discrete p page)
     (λ e. none_some s (sym (is_after p ∙ ap (λ b. cond b None (f p)) (eq-eqb p page e)) ∙ h))
-    (λ n. let there : g s ≡ Some p = answers p s (sym (is_after p ∙ ap (λ b. cond b None (f p)) (eqb-false p page n)) ∙ h) in
+    (λ n. let there : g s ≡ Some p = answers p s (sym (is_after p ∙ ap (λ b. cond b None (f p)) (ne_eqb p page n)) ∙ h) in
     dite (ℕ_discrete s origin)
     (λ e. absurd (n (same_Some p page (sym there ∙ ap g e ∙ here))))
-    (λ m. is_back s ∙ ap (λ b. cond b None (g s)) (eqb-false s origin m) ∙ there))
+    (λ m. is_back s ∙ ap (λ b. cond b None (g s)) (ne_eqb s origin m) ∙ there))
 
 pub joined_answers : (f g after back : ℕ → Option ℕ) (page origin : ℕ) → ((p : ℕ) → after p ≡ cond (eqb p page) (Some origin) (f p)) → ((s : ℕ) → back s ≡ cond (eqb s origin) (Some page) (g s)) → g origin ≡ None → Answers f g → Answers after back
 joined_answers f g after back page origin is_after is_back free answers p s h =
     dite (ℕ_discrete p page)
     (λ e. let same : s ≡ origin = sym (same_Some origin s (sym (is_after p ∙ ap (λ b. cond b (Some origin) (f p)) (eq-eqb p page e)) ∙ h)) in
     is_back s ∙ ap (λ b. cond b (Some page) (g s)) (eq-eqb s origin same) ∙ ap (λ k. Some k) (sym e))
-    (λ n. let there : g s ≡ Some p = answers p s (sym (is_after p ∙ ap (λ b. cond b (Some origin) (f p)) (eqb-false p page n)) ∙ h) in
+    (λ n. let there : g s ≡ Some p = answers p s (sym (is_after p ∙ ap (λ b. cond b (Some origin) (f p)) (ne_eqb p page n)) ∙ h) in
     dite (ℕ_discrete s origin)
     (λ e. none_some p (sym (ap g e ∙ free) ∙ there))
-    (λ m. is_back s ∙ ap (λ b. cond b (Some page) (g s)) (eqb-false s origin m) ∙ there))
+    (λ m. is_back s ∙ ap (λ b. cond b (Some page) (g s)) (ne_eqb s origin m) ∙ there))
 
 -- no pair
 pub no_pairs : (forth back : List Place) → length forth ≤ 0 → length back ≤ 0 → AreLinks forth back 0
@@ -157,7 +149,7 @@ some_pair forth back count page origin links here =
     ⊎_elim
     (λ (none : count < 1). none_some origin (sym (ap (λ m. get m page) (empty_of_len (pairs_of forth) (links.counted ∙ omega arith)) ∙ get-empty nat_cmp page) ∙ get-pairs_of forth page links.few ∙ here))
     (λ (some : 1 ≤ count). some)
-    (below_or_past count 1)
+    (cases_lt count 1)
 
 -- the same pairs in other tables
 pub same_links : (forth back after after_back : List Place) (count : ℕ) → AreLinks forth back count → length after ≤ 1024 → length after_back ≤ 1024 → ((q : ℕ) → number_at after q ≡ number_at forth q) → ((s : ℕ) → number_at after_back s ≡ number_at back s) → AreLinks after after_back count
@@ -181,20 +173,11 @@ own_free forth back count page links own free =
 
 -- Ranges taken out
 
-nothing_in : (first q : ℕ) → in_range first 0 q ≡ false
-nothing_in first q = grind (arith, nat_tests)
-
 pub range_none : (first q : ℕ) (x : Option ℕ) → x ≡ cond (in_range first 0 q) None x
-range_none first q x = sym (rw (nothing_in first q) refl)
-
-pub range_one_more : (first i q : ℕ) (x : Option ℕ) → cond (eqb q (first + i)) None (cond (in_range first i q) None x) ≡ cond (in_range first (i + 1) q) None x
-range_one_more first i q x = grind (arith, nat_tests)
+range_none first q x = sym (rw (in_range-none first q) refl)
 
 pub range_on : (first page next q : ℕ) (x : Option ℕ) → first ≤ page → page ≤ next → cond (in_range page (next - page) q) None (cond (in_range first (page - first) q) None x) ≡ cond (in_range first (next - first) q) None x
 range_on first page next q x a b = grind (arith, nat_tests)
-
-in_range_bounds : (first count q : ℕ) → in_range first count q ≡ true → (first ≤ q) × (q < first + count)
-in_range_bounds first count q h = grind (arith, nat_tests)
 
 -- pages with no number stay as they are
 pub range_skipped : (first count q : ℕ) (f : ℕ → Option ℕ) → ((p : ℕ) → first ≤ p → p < first + count → f p ≡ None) → f q ≡ cond (in_range first count q) None (f q)
@@ -206,35 +189,29 @@ range_skipped first count q f none = by_case (in_range first count q) refl
 
 -- Ranges moved
 
-out_of : (first count q : ℕ) → (q < first) ⊎ (first + count ≤ q) → in_range first count q ≡ false
-out_of first count q h = grind (arith, nat_tests)
-
 -- what a move leaves at the pages that it has yet to read and to fill
 pub not_read_yet : (f : ℕ → Option ℕ) (from to done count r : ℕ) → (from + count ≤ to) ⊎ (to + count ≤ from) → done ≤ count → from + done ≤ r → r < from + count → moved_number f from to done r ≡ f r
 not_read_yet f from to done count r apart few a b =
-    let other : in_range to done r ≡ false = out_of to done r (⊎_elim (λ (x : from + count ≤ to). inl (omega arith)) (λ (x : to + count ≤ from). inr (omega arith)) apart) in
-    let past : in_range from done r ≡ false = out_of from done r (inr (omega arith)) in
+    let other : in_range to done r ≡ false = in_range-out to done r (⊎_elim (λ (x : from + count ≤ to). inl (omega arith)) (λ (x : to + count ≤ from). inr (omega arith)) apart) in
+    let past : in_range from done r ≡ false = in_range-out from done r (inr (omega arith)) in
     rw (other, past) refl
 
 pub not_filled_yet : (f : ℕ → Option ℕ) (from to done count r : ℕ) → (from + count ≤ to) ⊎ (to + count ≤ from) → done ≤ count → to + done ≤ r → r < to + count → moved_number f from to done r ≡ f r
 not_filled_yet f from to done count r apart few a b =
-    let past : in_range to done r ≡ false = out_of to done r (inr (omega arith)) in
-    let other : in_range from done r ≡ false = out_of from done r (⊎_elim (λ (x : from + count ≤ to). inr (omega arith)) (λ (x : to + count ≤ from). inl (omega arith)) apart) in
+    let past : in_range to done r ≡ false = in_range-out to done r (inr (omega arith)) in
+    let other : in_range from done r ≡ false = in_range-out from done r (⊎_elim (λ (x : from + count ≤ to). inr (omega arith)) (λ (x : to + count ≤ from). inl (omega arith)) apart) in
     rw (past, other) refl
 
 pub moved_none : (f : ℕ → Option ℕ) (from to q : ℕ) → f q ≡ moved_number f from to 0 q
-moved_none f from to q = sym (rw (nothing_in to q, nothing_in from q) refl)
-
-one_in : (first q : ℕ) → in_range first 1 q ≡ eqb q first
-one_in first q = grind (arith, nat_tests)
+moved_none f from to q = sym (rw (in_range-none to q, in_range-none from q) refl)
 
 -- one page moved
 pub moved_one : (f : ℕ → Option ℕ) (from to q : ℕ) (x : Option ℕ) → x ≡ f from → cond (eqb q to) x (cond (eqb q from) None (f q)) ≡ moved_number f from to 1 q
 moved_one f from to q x taken =
-    rw (one_in to q, one_in from q)
+    rw (in_range-one to q, in_range-one from q)
     (dite (ℕ_discrete q to)
     (λ e. let at : from ≡ from + (q - to) = omega arith in rw (eq-eqb q to e) (taken ∙ ap f at))
-    (λ n. rw (eqb-false q to n) refl))
+    (λ n. rw (ne_eqb q to n) refl))
 
 -- pages with no number are moved by doing nothing
 pub moved_nothing : (f : ℕ → Option ℕ) (from to count q : ℕ) → ((p : ℕ) → from ≤ p → p < from + count → f p ≡ None) → ((p : ℕ) → to ≤ p → p < to + count → f p ≡ None) → f q ≡ moved_number f from to count q
@@ -251,7 +228,7 @@ moved_on f now from to done more count apart few is q = by_target (in_range (to 
     by_source : (b : Bool) → in_range (to + done) more q ≡ false → in_range (from + done) more q ≡ b → cond b None (now q) ≡ moved_number f from to (done + more) q
     by_source true out e =
         let bounds = in_range_bounds (from + done) more q e in
-        let other : in_range to (done + more) q ≡ false = out_of to (done + more) q (⊎_elim (λ (x : from + count ≤ to). inl (omega (arith, bounds))) (λ (x : to + count ≤ from). inr (omega (arith, bounds))) apart) in
+        let other : in_range to (done + more) q ≡ false = in_range-out to (done + more) q (⊎_elim (λ (x : from + count ≤ to). inl (omega (arith, bounds))) (λ (x : to + count ≤ from). inr (omega (arith, bounds))) apart) in
         let here : in_range from (done + more) q ≡ true = in_range-true from (done + more) q (omega (arith, bounds)) (omega (arith, bounds)) in
         rw (other, here) refl
     by_source false out e =

@@ -1,5 +1,5 @@
 -- What an owed table shows, in the machine's words.
-use Rattle.std.proofs.Common.{◌≡◌, ◌≢◌, ℕ, zero, suc, ◌+◌, ◌-◌, ◌<◌, ◌≤◌, ◌&&◌, ◌⊎◌, Bool, true, false, cond, eqb, ltb, refl, sym, ap, ◌∙◌, ⊎_elim, inl, inr, arith, List, length, Option, Some, None, is_some, IfSome, OnErr, Result, Ok, Err}
+use Rattle.std.proofs.Common.{◌≡◌, ◌≢◌, ℕ, zero, suc, ◌+◌, ◌-◌, ◌<◌, ◌≤◌, ◌&&◌, ◌⊎◌, Bool, true, false, cond, eqb, ltb, refl, sym, ap, ◌∙◌, ⊎_elim, inl, inr, arith, List, length, Option, Some, None, is_some, IfSome}
 use mathlib.Core.Logic.{dite}
 use native.Mathlib.Decide.{ℕ_discrete}
 use Rattle.std.specs.Ordering.{nat_cmp}
@@ -7,18 +7,17 @@ use Rattle.std.specs.FinMap.{FinMap, get, empty, remove, get-empty, get-remove}
 use Rattle.std.specs.FinSet.{FinSet, contains}
 use Rattle.std.specs.Cmp.{nat_cmp_total, unsigned_tied}
 use Rattle.std.proofs.lemmas.Bool.Decides.{nat_tests}
-use Rattle.std.proofs.lemmas.Bool.{eq-eqb}
+use Rattle.std.proofs.lemmas.Bool.{eq-eqb, ne_eqb}
 use Rattle.std.proofs.lemmas.Option.{same_Some}
-use Rattle.fault_handler.proofs.GatherLemmas.{all_below}
 use Rattle.mig_base.specs.declared.TheConstants.{HIGH_PAGE}
 use Rattle.mig_base.specs.Ranges.{in_range}
 use Rattle.mig_base.specs.Pages.{map_below, put, remove_range, moved_range}
 use Rattle.mig_base.proofs.PageLemmas.{get-map_below, get-remove_range, get-moved_range}
 use Rattle.mig_base.proofs.RangeLemmas.{least_below-is, least_below-none}
 use Rattle.mig_base.proofs.SetLemmas.{same_members, member_below}
+use Rattle.mig_base.proofs.TestLemmas.{all_below}
 use Rattle.fault_handler.specs.Tables.{Place, number_at, moved_number}
 use Rattle.fault_handler.specs.Owed.{pairs_of, AreLinks, owes_to, home, origins, own_places}
-use Rattle.fault_handler.proofs.TableLemmas.{eqb-false}
 use Rattle.fault_handler.proofs.LinkLemmas.{get-pairs_of, pairs_of-is, none_past, number_below, none_some}
 
 pub seen : (forth : List Place) (owed : FinMap nat_cmp ℕ) (q : ℕ) → length forth ≤ 1024 → pairs_of forth ≡ owed → number_at forth q ≡ get owed q
@@ -34,10 +33,6 @@ pub if_some : (o : Option ℕ) (P : ℕ → Type 0) → ((x : ℕ) → o ≡ Som
 if_some None P h = tt
 if_some (Some x) P h = h x refl
 
-pub on_err : {T E : Type 0} (r : Result T E) (P : Type 0) → P → OnErr r P
-on_err (Ok x) P h = tt
-on_err (Err e) P h = h
-
 -- The home of an origin
 
 owes_to-true : (owed : FinMap nat_cmp ℕ) (origin page : ℕ) → get owed page ≡ Some origin → owes_to owed origin page ≡ true
@@ -48,7 +43,7 @@ owes_to-false owed origin page h = by_case (get owed page) refl
   where
     by_case : (o : Option ℕ) → get owed page ≡ o → elim o [ None ↦ false | Some s ↦ eqb s origin ] ≡ false
     by_case None e = refl
-    by_case (Some s) e = eqb-false s origin (λ same. h (e ∙ ap (λ k. Some k) same))
+    by_case (Some s) e = ne_eqb s origin (λ same. h (e ∙ ap (λ k. Some k) same))
 
 -- the one page of an origin is its home
 pub home-is : (owed : FinMap nat_cmp ℕ) (origin : ℕ) (o : Option ℕ) → ((q : ℕ) → o ≡ Some q → (get owed q ≡ Some origin) × (q < HIGH_PAGE)) → ((q : ℕ) → get owed q ≡ Some origin → o ≡ Some q) → o ≡ home owed origin
@@ -89,21 +84,11 @@ own_places-is pages (suc bound) = ap (λ m. put m bound (own pages bound)) (own_
 abbrev pub AreOwn : List Place → FinSet nat_cmp → ℕ → Type 0
 AreOwn forth pages bound = (q : ℕ) → number_at forth q ≡ cond (ltb q bound) (own pages q) None
 
-under : (q : ℕ) (o : Option ℕ) → cond (ltb q HIGH_PAGE) o None ≡ cond (ltb q HIGH_PAGE) (cond (ltb q HIGH_PAGE) o None) None
-under q o = by_case (ltb q HIGH_PAGE)
-  where
-    by_case : (b : Bool) → cond b o None ≡ cond b (cond b o None) None
-    by_case true = refl
-    by_case false = refl
-
 pub own_all : (forth : List Place) (pages : FinSet nat_cmp) (bound : ℕ) → length forth ≤ 1024 → HIGH_PAGE ≤ bound → bound ≤ HIGH_PAGE → AreOwn forth pages bound → pairs_of forth ≡ own_places pages HIGH_PAGE
 own_all forth pages bound few a b is =
     let end : bound ≡ HIGH_PAGE = omega arith in
     pairs_of-is forth (own_places pages HIGH_PAGE) few
     (λ q. is q ∙ ap (λ n. cond (ltb q n) (own pages q) None) end ∙ sym (get-map_below (own pages) HIGH_PAGE q) ∙ ap (λ m. get m q) (sym (own_places-is pages HIGH_PAGE)))
-
-none_before : (q : ℕ) (o : Option ℕ) → cond (ltb q 0) o None ≡ None
-none_before q o = grind (arith, nat_tests)
 
 own_none-by : (q first : ℕ) (b : Bool) (o : Option ℕ) → (q < first → b ≡ false) → None ≡ cond (ltb q first) (cond b o None) None
 own_none-by q first b o h = grind (arith, nat_tests)
@@ -120,7 +105,7 @@ own_more forth after pages page next l here between is put q =
     ∙ own_more-by q page next (contains pages q) l (λ e. ap (contains pages) e ∙ here) (between q)
   where
     own_number : cond (eqb q page) (Some page) (number_at forth q) ≡ cond (eqb q page) (Some q) (number_at forth q)
-    own_number = dite (ℕ_discrete q page) (λ e. ap (λ k. cond (eqb q page) (Some k) (number_at forth q)) (sym e)) (λ n. rw (eqb-false q page n) refl)
+    own_number = dite (ℕ_discrete q page) (λ e. ap (λ k. cond (eqb q page) (Some k) (number_at forth q)) (sym e)) (λ n. rw (ne_eqb q page n) refl)
 
 -- a page that is not reached yet is neither owed nor owes
 own_below-by : (q page : ℕ) (b : Bool) → cond (ltb q page) (cond b (Some q) None) None ≡ Some page → q ≡ page

@@ -1,9 +1,11 @@
 -- Tables of one number, or none, for each page.
-use Rattle.std.specs.Prelude.{ℕ, ◌+◌, ◌-◌, ◌/◌, ◌%◌, if◌then◌else◌, Bool, true, false, List, Option, Some, None, slice_index_or}
+use Rattle.std.specs.Prelude.{ℕ, ◌+◌, ◌-◌, ◌/◌, ◌%◌, if◌then◌else◌, List, Option, Some, None, slice_index_or}
 use Rattle.std.specs.declared.boxed.Box.{Box}
 use Rattle.std.specs.declared.alloc.Global.{Global}
 use Rattle.mig_base.specs.declared.chunk.TheConstants.{CHUNK}
 use Rattle.mig_base.specs.Ranges.{in_range}
+pub use Rattle.mig_base.specs.Places.{is_place}
+unfoldable pub use Rattle.mig_base.specs.Places.{has_place}
 
 -- a place for the numbers of 1024 pages
 abbrev pub Place : Type 0
@@ -14,18 +16,9 @@ abbrev pub number_in : Place → ℕ → Option ℕ
 number_in None i = None
 number_in (Some leaf) i = slice_index_or leaf.value i None
 
--- whether a place has a leaf
-abbrev pub is_place : Place → Bool
-is_place None = false
-is_place (Some leaf) = true
-
 -- the number of a page
 unfoldable pub number_at : List Place → ℕ → Option ℕ
 number_at places page = number_in (slice_index_or places (page / CHUNK) None) (page % CHUNK)
-
--- whether there is a leaf for a page
-unfoldable pub has_place : List Place → ℕ → Bool
-has_place places page = is_place (slice_index_or places (page / CHUNK) None)
 
 -- the numbers once a range was moved to another that it does not overlap
 abbrev pub moved_number : (ℕ → Option ℕ) → ℕ → ℕ → ℕ → ℕ → Option ℕ

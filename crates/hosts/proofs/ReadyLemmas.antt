@@ -1,9 +1,8 @@
 -- In a world that keeps what every world keeps, the destination can take the first frame of its wire.
-use Rattle.std.proofs.Common.{◌≡◌, ℕ, ◌<◌, ◌≤◌, Bool, true, false, cond, eqb, Option, Some, List, [], ◌∷◌, ◌++◌, refl, sym, ap, ◌∙◌, subst, ⊎_elim, is_some}
+use Rattle.std.proofs.Common.{◌≡◌, ℕ, ◌<◌, ◌≤◌, Bool, true, false, List, [], ◌∷◌, ◌++◌, refl, sym, ap, ◌∙◌, subst, ⊎_elim, is_some}
 use Rattle.std.proofs.lemmas.Bool.{cases_lt, false≢true}
 use Rattle.std.specs.Ordering.{nat_cmp}
-use Rattle.std.specs.Cmp.{nat_cmp_total, unsigned_tied}
-use Rattle.std.specs.FinMap.{FinMap, get, insert, contains_key, get-insert}
+use Rattle.std.specs.FinMap.{FinMap, insert, contains_key}
 use Rattle.std.specs.FinSet as finset
 use Rattle.mig_base.specs.declared.TheConstants.{HIGH_PAGE}
 use Rattle.mig_base.specs.declared.step.SourcePhase.{SourcePhase}
@@ -19,15 +18,10 @@ use Rattle.mig_model.specs.World.{World}
 use Rattle.mig_base.specs.Tests.{is_empty}
 use Rattle.mig_model.specs.Kept.{IsKept, IsOnTheWay, AreCopies, kept_by}
 use Rattle.mig_model.proofs.WorldLemmas.{at_stage}
-use Rattle.mig_model.proofs.Taking.{kept_takes}
+use Rattle.mig_model.proofs.Taking.{kept_takes, none_is_first, same_first}
 use Rattle.hosts.specs.Frames.{IsFrameSound, IsReady}
 use Rattle.uffd_ioctl.proofs.AnswerLemmas.{has_put}
-
-none_is_first : (wire : List Sent) (sent : Sent) (rest : List Sent) → wire ≡ [] → wire ≡ sent ∷ rest → ⊥
-none_is_first wire sent rest none first = cc
-
-same_first : (wire : List Sent) (a b : Sent) (c d : List Sent) → wire ≡ a ∷ c → wire ≡ b ∷ d → a ≡ b
-same_first wire a b c d p q = cc
+use Rattle.uffd_ioctl.proofs.AccessLemmas.{stays_present}
 
 sound_first : (node : Destination) (wire : List Sent) (first sent : Sent) (others rest : List Sent) → wire ≡ first ∷ others → wire ≡ sent ∷ rest → IsFrameSound node first.frame → IsFrameSound node sent.frame
 sound_first node wire first sent others rest is here sound = subst (λ s. IsFrameSound node s.frame) (same_first wire first sent others rest is here) sound
@@ -42,19 +36,10 @@ present_below host page sound has =
 
 -- a copy that is kept stays, as long as copies come
 
-still_some : (b : Bool) (bytes : List ℕ) (o : Option (List ℕ)) → is_some o ≡ true → is_some (cond b (Some bytes) o) ≡ true
-still_some true bytes o h = refl
-still_some false bytes o h = h
-
-has_put_other : (kept : FinMap nat_cmp (List ℕ)) (page q : ℕ) (bytes : List ℕ) → contains_key kept q ≡ true → contains_key (insert kept page bytes) q ≡ true
-has_put_other kept page q bytes has =
-    ap is_some (get-insert nat_cmp_total kept page bytes q ∙ ap (λ b. cond b (Some bytes) (get kept q)) (unsigned_tied q page))
-    ∙ still_some (eqb q page) bytes (get kept q) has
-
 still_kept : (kept : FinMap nat_cmp (List ℕ)) (copies : List Frame) (q : ℕ) → AreCopies copies → contains_key kept q ≡ true → contains_key (kept_by kept copies) q ≡ true
 still_kept kept [] q are has = has
-still_kept kept (Page page bytes ∷ copies) q are has = still_kept (insert kept page bytes) copies q are (has_put_other kept page q bytes has)
-still_kept kept (Zero page ∷ copies) q are has = still_kept (insert kept page zero_page) copies q are (has_put_other kept page q zero_page has)
+still_kept kept (Page page bytes ∷ copies) q are has = still_kept (insert kept page bytes) copies q are (stays_present kept page q bytes has)
+still_kept kept (Zero page ∷ copies) q are has = still_kept (insert kept page zero_page) copies q are (stays_present kept page q zero_page has)
 still_kept kept (_ ∷ copies) q are has = absurd are
 
 copy_below : (host : Host) (kept : FinMap nat_cmp (List ℕ)) (page : ℕ) (bytes : List ℕ) (copies : List Frame) → IsSound host → AreCopies copies → kept_by (insert kept page bytes) copies ≡ host.bytes → page < HIGH_PAGE

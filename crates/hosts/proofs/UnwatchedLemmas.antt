@@ -2,7 +2,7 @@
 use Rattle.std.proofs.Common.{◌≡◌, ℕ, ◌+◌, ◌&&◌, ◌||◌, ◌-◌, ◌++◌, [], Bool, true, false, cond, not, eqb, ltb, List, refl, sym, ap, ◌∙◌, subst}
 use Rattle.std.specs.Ordering.{nat_cmp}
 use Rattle.std.specs.FinMap.{contains_key}
-use Rattle.std.specs.FinSet.{FinSet, contains, empty, remove, contains-empty}
+use Rattle.std.specs.FinSet.{FinSet, contains, empty, remove}
 use Rattle.mig_base.specs.declared.TheConstants.{HIGH_PAGE}
 use Rattle.mig_base.specs.declared.command.Command.{Command}
 use Rattle.mig_base.specs.declared.command.Command.TheVariants.{Load, Store, Mmap, Munmap, Mremap, DontNeed}
@@ -22,11 +22,9 @@ use Rattle.mig_model.specs.Userfault.{fresh_object, is_registered, is_watched}
 use Rattle.mig_model.specs.Space.{Space, access_of, accessed_by, accessed, is_made, told, call_messages, modes_after, protected_after, all_queued, called_with, called}
 use Rattle.mig_base.specs.Commands.{is_store, page_of, is_access}
 use Rattle.mig_model.proofs.CommandLemmas.{memory-changed}
-use Rattle.mig_model.proofs.SpaceLemmas.{IsSoundSpace-accessed, IsSoundSpace-called}
+use Rattle.mig_model.proofs.SpaceLemmas.{IsSoundSpace-accessed, IsSoundSpace-called, no_member}
+use Rattle.mig_model.proofs.SourceEvents.{untold}
 use Rattle.hosts.specs.Spaces.{IsUnwatched}
-
-no_member : (page : ℕ) → contains {R = nat_cmp} empty page ≡ false
-no_member page = contains-empty nat_cmp page
 
 -- Accesses
 
@@ -92,9 +90,6 @@ nothing_moved from count to new_count =
 no_watch : (first count : ℕ) → is_watched fresh_object first count ≡ false
 no_watch first count =
     ap not (none_below-from (λ i. is_registered fresh_object (first + i)) count (λ i l. ap (λ b. b || contains {R = nat_cmp} empty (first + i)) (no_member (first + i)) ∙ no_member (first + i)))
-
-untold : (due : Bool) (message : Message) → due ≡ false → told due message ≡ []
-untold due message h = ap (λ b. told b message) h
 
 protected_fresh : (command : Command) (reply : Reply) → protected_after empty command reply ≡ empty
 protected_fresh (Load addr width) reply = refl

@@ -1,14 +1,11 @@
 -- Pages of zeros, and pages that others were written into.
-use Rattle.std.proofs.Common.{◌≡◌, ℕ, ◌+◌, ◌-◌, ◌<◌, ◌≤◌, List, ◌++◌, refl, sym, ap, ◌∙◌, subst, arith, length, take, drop, get_or, ◌⊎◌, ⊎_elim, length-append}
+use Rattle.std.proofs.Common.{◌≡◌, ℕ, ◌+◌, ◌-◌, ◌<◌, ◌≤◌, List, ◌++◌, refl, sym, ap, ◌∙◌, subst, arith, length, take, drop, get_or, ⊎_elim, length-append}
 use Rattle.std.specs.Prelude.{replicate}
 use Rattle.std.proofs.lemmas.List.{drop-drop, get_or-take, get_or_append_left, get_or-append_right, get_or-drop, get_or-replicate, length-take, length-drop, length-replicate}
 use Rattle.std.proofs.Math.ListN.{get_or-eq_default}
-use Rattle.std.proofs.lemmas.Bool.Decides.{nat_tests}
+use Rattle.std.proofs.lemmas.Bool.{cases_lt}
 use borrow.Rule.Slice.PartMut.{put_mid}
 use Rattle.mig_base.specs.Bytes.{zero_page, overwrite}
-
-below_or_past : (i n : ℕ) → (i < n) ⊎ (n ≤ i)
-below_or_past i n = grind (arith, nat_tests)
 
 zeros : ℕ → List ℕ
 zeros n = replicate {A = ℕ} n 0
@@ -18,7 +15,7 @@ unfolding zeros
 get_or-same n i = ⊎_elim
     (λ (below : i < n). get_or-replicate {A = ℕ} n i 0 0 below)
     (λ (past : n ≤ i). get_or-eq_default (replicate {A = ℕ} n 0) 0 (subst (λ k. k ≤ i) (sym (length-replicate {A = ℕ} n 0)) past))
-    (below_or_past i n)
+    (cases_lt i n)
 
 pub length-zero_page : length zero_page ≡ 4096
 unfolding zero_page

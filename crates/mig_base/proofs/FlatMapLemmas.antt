@@ -1,9 +1,10 @@
 -- The finite map has the look-ups of the function.
-use Rattle.std.proofs.Common.{◌≡◌, ◌≢◌, ℕ, zero, suc, ◌+◌, ◌-◌, ◌/◌, ◌%◌, ◌^◌, Bool, true, false, cond, eqb, Option, Some, None, List, [], ◌∷◌, refl, sym, ap, ◌∙◌, subst, ◌⊎◌, inr, ⊎_elim, arith}
+use Rattle.std.proofs.Common.{◌≡◌, ◌≢◌, ℕ, zero, suc, ◌+◌, ◌-◌, ◌/◌, ◌%◌, ◌^◌, cond, eqb, Option, Some, None, List, [], ◌∷◌, refl, sym, ap, ◌∙◌, subst, inr, ⊎_elim, arith}
 use Rattle.std.proofs.lemmas.Bool.Decides.{nat_tests}
 use Rattle.std.specs.Cmp.{nat_cmp_total, unsigned_tied}
 use Rattle.std.specs.FinMap.{len, get, empty, get-empty, get-insert}
 use Rattle.std.specs.Ordering.{nat_cmp}
+use Rattle.std.proofs.lemmas.Bool.{eq-eqb, cond-true, cond-false, ne_eqb, cases_eq}
 use Rattle.mig_base.specs.declared.command.Entry.{Entry}
 use Rattle.mig_base.specs.declared.command.Command.{Command}
 use Rattle.mig_base.specs.declared.command.Command.TheVariants.{Store, Mmap, Munmap, Mremap, DontNeed}
@@ -16,52 +17,29 @@ use Rattle.mig_base.specs.FlatMap.{Map, look, put_byte, write_map, zeroed_map, c
 use Rattle.mig_base.proofs.PageLemmas.{get-set_range, get-remove_range, get-moved_range, count_below-contains_key}
 use Rattle.mig_base.proofs.BoundLemmas.{memory_of_bounded}
 use Rattle.mig_base.specs.declared.TheConstants.{HIGH}
-
-same_or_other : (a b : ℕ) → (a ≡ b) ⊎ (a ≢ b)
-same_or_other a b = grind (arith, nat_tests)
-
-eqb-other : (a b : ℕ) → a ≢ b → eqb a b ≡ false
-eqb-other a b h = grind (arith, nat_tests)
-
-eqb-at : (a b : ℕ) → a ≡ b → eqb a b ≡ true
-eqb-at a b h = grind (arith, nat_tests)
-
-chosen : {A : Type 0} (b : Bool) (x y : A) → b ≡ true → cond b x y ≡ x
-chosen b x y h = ap (λ c. cond c x y) h
-
-other : {A : Type 0} (b : Bool) (x y : A) → b ≡ false → cond b x y ≡ y
-other b x y h = ap (λ c. cond c x y) h
-
-nothing : (first n : ℕ) → in_range first 0 n ≡ false
-nothing first n = grind (arith, nat_tests)
-
-past : (first count : ℕ) → in_range first count (first + count) ≡ false
-past first count = grind (arith, nat_tests)
+use Rattle.mig_base.proofs.RangeLemmas.{in_range-none, in_range-end, in_range-last}
 
 before : (first count q : ℕ) → q ≢ first + count → in_range first (suc count) q ≡ in_range first count q
 before first count q h = grind (arith, nat_tests)
-
-inside : (first count : ℕ) → in_range first (suc count) (first + count) ≡ true
-inside first count = grind (arith, nat_tests)
 
 joined : (addr width value q : ℕ) (m : Memory) → cond (eqb q (addr + width)) (written (m (addr + width)) (value / 256 ^ width % 256)) (write m addr width value q) ≡ write m addr (suc width) value q
 joined addr width value q m = ⊎_elim
     (λ (e : q ≡ addr + width).
     let at : addr + width - addr ≡ width = omega arith in
     subst (λ p. cond (eqb p (addr + width)) (written (m (addr + width)) (value / 256 ^ width % 256)) (write m addr width value p) ≡ write m addr (suc width) value p) (sym e)
-    (chosen (eqb (addr + width) (addr + width)) _ (write m addr width value (addr + width)) (eqb-at (addr + width) (addr + width) refl)
+    (cond-true (eqb (addr + width) (addr + width)) _ (write m addr width value (addr + width)) (eq-eqb (addr + width) (addr + width) refl)
     ∙ ap (λ w. written (m (addr + width)) (value / 256 ^ w % 256)) (sym at)
-    ∙ sym (chosen (in_range addr (suc width) (addr + width)) _ (m (addr + width)) (inside addr width))))
+    ∙ sym (cond-true (in_range addr (suc width) (addr + width)) _ (m (addr + width)) (in_range-last addr width))))
     (λ (n : q ≢ addr + width).
-    other (eqb q (addr + width)) _ (write m addr width value q) (eqb-other q (addr + width) n)
+    cond-false (eqb q (addr + width)) _ (write m addr width value q) (ne_eqb q (addr + width) n)
     ∙ ap (λ b. cond b (written (m q) (value / 256 ^ (q - addr) % 256)) (m q)) (sym (before addr width q n)))
-    (same_or_other q (addr + width))
+    (cases_eq q (addr + width))
 
 get-put_byte : (m : Map) (addr byte q : ℕ) (o : Option Cell) → o ≡ get m addr → get (put_byte m addr byte o) q ≡ cond (eqb q addr) (written (get m addr) byte) (get m q)
 get-put_byte m addr byte q None h = ⊎_elim
-    (λ (e : q ≡ addr). ap (get m) e ∙ sym h ∙ ap (λ c. written c byte) h ∙ sym (chosen (eqb q addr) (written (get m addr) byte) (get m q) (eqb-at q addr e)))
-    (λ (n : q ≢ addr). sym (other (eqb q addr) (written (get m addr) byte) (get m q) (eqb-other q addr n)))
-    (same_or_other q addr)
+    (λ (e : q ≡ addr). ap (get m) e ∙ sym h ∙ ap (λ c. written c byte) h ∙ sym (cond-true (eqb q addr) (written (get m addr) byte) (get m q) (eq-eqb q addr e)))
+    (λ (n : q ≢ addr). sym (cond-false (eqb q addr) (written (get m addr) byte) (get m q) (ne_eqb q addr n)))
+    (cases_eq q addr)
 get-put_byte m addr byte q (Some cell) h =
     get-insert nat_cmp_total m addr (record cell { byte = byte }) q
     ∙ ap (λ b. cond b (Some (record cell { byte = byte })) (get m q)) (unsigned_tied q addr)
@@ -69,11 +47,11 @@ get-put_byte m addr byte q (Some cell) h =
 
 get-write_map : (m : Map) (addr width value q : ℕ) → get (write_map m addr width value) q ≡ write (look m) addr width value q
 unfolding write_map
-get-write_map m addr zero value q = sym (other (in_range addr 0 q) _ (get m q) (nothing addr q))
+get-write_map m addr zero value q = sym (cond-false (in_range addr 0 q) _ (get m q) (in_range-none addr q))
 get-write_map m addr (suc width) value q =
     let less = write_map m addr width value in
     get-put_byte less (addr + width) (value / 256 ^ width % 256) q (get less (addr + width)) refl
-    ∙ ap (λ c. cond (eqb q (addr + width)) (written c (value / 256 ^ width % 256)) (get less q)) (get-write_map m addr width value (addr + width) ∙ other (in_range addr width (addr + width)) _ (get m (addr + width)) (past addr width))
+    ∙ ap (λ c. cond (eqb q (addr + width)) (written c (value / 256 ^ width % 256)) (get less q)) (get-write_map m addr width value (addr + width) ∙ cond-false (in_range addr width (addr + width)) _ (get m (addr + width)) (in_range-end addr width))
     ∙ ap (λ c. cond (eqb q (addr + width)) (written (get m (addr + width)) (value / 256 ^ width % 256)) c) (get-write_map m addr width value q)
     ∙ joined addr width value q (get m)
 
@@ -81,20 +59,20 @@ joined_zero : (start len q : ℕ) (m : Memory) → cond (eqb q (start + len)) (w
 joined_zero start len q m = ⊎_elim
     (λ (e : q ≡ start + len).
     subst (λ p. cond (eqb p (start + len)) (written (m (start + len)) 0) (zeroed m start len p) ≡ zeroed m start (suc len) p) (sym e)
-    (chosen (eqb (start + len) (start + len)) _ (zeroed m start len (start + len)) (eqb-at (start + len) (start + len) refl)
-    ∙ sym (chosen (in_range start (suc len) (start + len)) _ (m (start + len)) (inside start len))))
+    (cond-true (eqb (start + len) (start + len)) _ (zeroed m start len (start + len)) (eq-eqb (start + len) (start + len) refl)
+    ∙ sym (cond-true (in_range start (suc len) (start + len)) _ (m (start + len)) (in_range-last start len))))
     (λ (n : q ≢ start + len).
-    other (eqb q (start + len)) _ (zeroed m start len q) (eqb-other q (start + len) n)
+    cond-false (eqb q (start + len)) _ (zeroed m start len q) (ne_eqb q (start + len) n)
     ∙ ap (λ b. cond b (written (m q) 0) (m q)) (sym (before start len q n)))
-    (same_or_other q (start + len))
+    (cases_eq q (start + len))
 
 get-zeroed_map : (m : Map) (start len q : ℕ) → get (zeroed_map m start len) q ≡ zeroed (look m) start len q
 unfolding zeroed_map
-get-zeroed_map m start zero q = sym (other (in_range start 0 q) _ (get m q) (nothing start q))
+get-zeroed_map m start zero q = sym (cond-false (in_range start 0 q) _ (get m q) (in_range-none start q))
 get-zeroed_map m start (suc len) q =
     let less = zeroed_map m start len in
     get-put_byte less (start + len) 0 q (get less (start + len)) refl
-    ∙ ap (λ c. cond (eqb q (start + len)) (written c 0) (get less q)) (get-zeroed_map m start len (start + len) ∙ other (in_range start len (start + len)) _ (get m (start + len)) (past start len))
+    ∙ ap (λ c. cond (eqb q (start + len)) (written c 0) (get less q)) (get-zeroed_map m start len (start + len) ∙ cond-false (in_range start len (start + len)) _ (get m (start + len)) (in_range-end start len))
     ∙ ap (λ c. cond (eqb q (start + len)) (written (get m (start + len)) 0) c) (get-zeroed_map m start len q)
     ∙ joined_zero start len q (get m)
 

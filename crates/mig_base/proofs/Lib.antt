@@ -1,4 +1,6 @@
+pub mod TestLemmas
 pub mod RangeLemmas
+pub mod PlaceLemmas
 pub mod PageLemmas
 pub mod ByteLemmas
 pub mod FlatLemmas

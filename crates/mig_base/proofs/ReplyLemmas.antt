@@ -1,7 +1,6 @@
 -- What the reply of a map call tells of its arguments.
-use Rattle.std.proofs.Common.{◌≡◌, ℕ, ◌+◌, ◌-◌, ◌*◌, ◌%◌, ◌<◌, ◌≤◌, ◌&&◌, ◌||◌, Bool, true, false, cond, not, eqb, ltb, leb, Option, Some, None, List, [], ◌∷◌, ◌++◌, refl, sym, ap, ◌∙◌, arith}
-use Rattle.std.proofs.lemmas.Bool.Decides.{nat_tests}
-use Rattle.std.proofs.lemmas.Bool.{false≢true}
+use Rattle.std.proofs.Common.{◌≡◌, ℕ, ◌+◌, ◌-◌, ◌*◌, ◌%◌, ◌<◌, ◌≤◌, ◌||◌, Bool, true, false, cond, not, eqb, ltb, leb, Option, Some, None, List, [], ◌∷◌, ◌++◌, refl, sym, ap, ◌∙◌}
+use Rattle.std.proofs.lemmas.Bool.{false≢true, eqb-true, not-false, ltb-false, leb-true}
 use Rattle.mig_base.specs.declared.TheConstants.{LOW, HIGH, MAX_PAGES}
 use Rattle.mig_base.specs.declared.Prot.{Prot}
 use Rattle.mig_base.specs.declared.command.Errno.{Errno}
@@ -13,6 +12,7 @@ use Rattle.mig_base.specs.declared.command.Reply.TheVariants.{Done, At, Refused}
 use Rattle.mig_base.specs.Ranges.{rounded, free_place}
 use Rattle.mig_base.specs.Flat.{Memory, is_mapped, mapped_count, fill, zeros_with, is_page_start, is_unmapped, exceeds_limit, place_refusals, first_refusal, at_place, mmap_reply, munmap_reply, dontneed_reply, has_one_prot, moved, is_bad_target, can_grow, overlaps, mremap_place, mremap_target, mremap_reply}
 use Rattle.mig_base.proofs.RangeLemmas.{place_found, four_hold}
+use Rattle.mig_base.proofs.TestLemmas.{or_first, or_second, positive}
 
 -- no refusal of the list applies
 abbrev pub NoneApplies : List (Bool × Errno) → Type 0
@@ -54,25 +54,6 @@ at_some_place (Some found) start h = cc
 pub same_at : (a b : ℕ) → At a ≡ At b → a ≡ b
 same_at a b h = cc
 
-not_false : (b : Bool) → not b ≡ false → b ≡ true
-not_false true h = refl
-not_false false h = absurd (false≢true (sym h))
-
-eqb_true : (a b : ℕ) → eqb a b ≡ true → a ≡ b
-eqb_true a b h = grind (arith, nat_tests)
-
-eqb_false : (a : ℕ) → eqb a 0 ≡ false → 0 < a
-eqb_false a h = grind (arith, nat_tests)
-
-ltb_false : (a b : ℕ) → ltb a b ≡ false → b ≤ a
-ltb_false a b h = grind (arith, nat_tests)
-
-leb_true : (a b : ℕ) → leb a b ≡ true → a ≤ b
-leb_true a b h = grind (arith, nat_tests)
-
-leb_false : (a b : ℕ) → leb a b ≡ false → b < a
-leb_false a b h = grind (arith, nat_tests)
-
 -- a page range of the address space
 pub record IsInside (start size : ℕ) : Type 0 where
   pub whole : start % 4096 ≡ 0
@@ -80,12 +61,12 @@ pub record IsInside (start size : ℕ) : Type 0 where
   pub high : start + size ≤ HIGH
 
 asked_inside : (addr size : ℕ) → (not (is_page_start addr) ≡ false) → (ltb addr LOW ≡ false) → (ltb HIGH (addr + size) ≡ false) → IsInside addr size
-asked_inside addr size a b c = record { whole = eqb_true (addr % 4096) 0 (not_false (is_page_start addr) a); low = ltb_false addr LOW b; high = ltb_false HIGH (addr + size) c }
+asked_inside addr size a b c = record { whole = eqb-true (addr % 4096) 0 (not-false (is_page_start addr) a); low = ltb-false addr LOW b; high = ltb-false HIGH (addr + size) c }
 
 pub found_inside : (taken : ℕ → Bool) (size start : ℕ) → free_place taken size ≡ Some start → IsInside start size
 found_inside taken size start h =
     let parts = four_hold _ _ _ _ (place_found taken size start h) in
-    record { whole = eqb_true (start % 4096) 0 parts.one; low = leb_true LOW start parts.two; high = leb_true (start + size) HIGH parts.three }
+    record { whole = eqb-true (start % 4096) 0 parts.one; low = leb-true LOW start parts.two; high = leb-true (start + size) HIGH parts.three }
 
 -- where mmap put a range
 pub mmap_inside : (memory : Memory) (len : ℕ) (prot : Prot) (place : Place) (start : ℕ) → At start ≡ mmap_reply memory len prot place → IsInside start (rounded len)
@@ -104,7 +85,7 @@ mmap_inside memory len prot (NoReplace addr) start h =
 pub munmap_whole : (addr len : ℕ) → Done ≡ munmap_reply addr len → addr % 4096 ≡ 0
 munmap_whole addr len h =
     let told = done_passed ((not (is_page_start addr), Einval) ∷ (eqb len 0, Einval) ∷ (ltb HIGH (addr + rounded len), Einval) ∷ []) Done h in
-    eqb_true (addr % 4096) 0 (not_false (is_page_start addr) told.0.0)
+    eqb-true (addr % 4096) 0 (not-false (is_page_start addr) told.0.0)
 
 unless_invalid : (a : Bool) (reply rest : Reply) → (reply ≡ Refused Einval → ⊥) → reply ≡ cond (not a) (Refused Einval) rest → a ≡ true
 unless_invalid true reply rest h is = refl
@@ -112,28 +93,12 @@ unless_invalid false reply rest h is = absurd (h is)
 
 -- a DontNeed that is done, or reaches a hole
 pub dontneed_done : (memory : Memory) (addr len : ℕ) → Done ≡ dontneed_reply memory addr len → addr % 4096 ≡ 0
-dontneed_done memory addr len h = eqb_true (addr % 4096) 0 (unless_invalid (is_page_start addr) Done _ (λ e. absurd (cc)) h)
+dontneed_done memory addr len h = eqb-true (addr % 4096) 0 (unless_invalid (is_page_start addr) Done _ (λ e. absurd (cc)) h)
 
 pub dontneed_hole : (memory : Memory) (addr len : ℕ) → Refused Enomem ≡ dontneed_reply memory addr len → addr % 4096 ≡ 0
-dontneed_hole memory addr len h = eqb_true (addr % 4096) 0 (unless_invalid (is_page_start addr) (Refused Enomem) _ (λ e. absurd (cc)) h)
+dontneed_hole memory addr len h = eqb-true (addr % 4096) 0 (unless_invalid (is_page_start addr) (Refused Enomem) _ (λ e. absurd (cc)) h)
 
 -- Mremap
-
-or_left : (a b : Bool) → (a || b) ≡ false → a ≡ false
-or_left true b h = h
-or_left false b h = refl
-
-or_right : (a b : Bool) → (a || b) ≡ false → b ≡ false
-or_right true b h = absurd (false≢true (sym h))
-or_right false b h = h
-
-and_left : (a b : Bool) → (a && b) ≡ true → a ≡ true
-and_left true b h = refl
-and_left false b h = h
-
-and_right : (a b : Bool) → (a && b) ≡ true → b ≡ true
-and_right true b h = h
-and_right false b h = absurd (false≢true h)
 
 -- a fixed target lies in the address space, apart from the old range
 pub record IsTarget (addr old_size target new_size : ℕ) : Type 0 where
@@ -146,10 +111,10 @@ target_told addr old_size new_size target may_move h =
     let low = ltb target LOW in
     let high = ltb HIGH (target + new_size) in
     let over = overlaps target new_size addr old_size in
-    let one = or_left (not may_move || not start || low || high) over h in
-    let two = or_left (not may_move || not start || low) high one in
-    let three = or_left (not may_move || not start) low two in
-    record { inside = asked_inside target new_size (or_right (not may_move) (not start) three) (or_right (not may_move || not start) low two) (or_right (not may_move || not start || low) high one); apart = or_right (not may_move || not start || low || high) over h }
+    let one = or_first (not may_move || not start || low || high) over h in
+    let two = or_first (not may_move || not start || low) high one in
+    let three = or_first (not may_move || not start) low two in
+    record { inside = asked_inside target new_size (or_second (not may_move) (not start) three) (or_second (not may_move || not start) low two) (or_second (not may_move || not start || low) high one); apart = or_second (not may_move || not start || low || high) over h }
 
 -- where an mremap without a fixed target put the range: it is no longer than it was, or grew where it was, or moved
 pub data IsWhere (memory : Memory) (addr old_size new_size target : ℕ) : Type 0 where
@@ -160,7 +125,7 @@ pub data IsWhere (memory : Memory) (addr old_size new_size target : ℕ) : Type 
 
 stays_or_moves : (fits grows may_move : Bool) (memory : Memory) (addr old_size new_size target : ℕ) → fits ≡ leb new_size old_size → grows ≡ can_grow memory addr old_size new_size
     → At target ≡ cond (fits || grows) (At addr) (cond may_move (at_place (free_place (is_mapped memory) new_size)) (Refused Enomem)) → IsWhere memory addr old_size new_size target
-stays_or_moves true grows may_move memory addr old_size new_size target fits can h = Shrunk (same_at target addr h) (leb_true new_size old_size (sym fits))
+stays_or_moves true grows may_move memory addr old_size new_size target fits can h = Shrunk (same_at target addr h) (leb-true new_size old_size (sym fits))
 stays_or_moves false true may_move memory addr old_size new_size target fits can h = Grew (same_at target addr h) (sym can)
 stays_or_moves false false true memory addr old_size new_size target fits can h = Moved (at_some_place (free_place (is_mapped memory) new_size) target h)
 stays_or_moves false false false memory addr old_size new_size target fits can h = absurd (cc)
@@ -198,12 +163,12 @@ mremap_told memory addr old_len new_len may_move fixed target h =
     let one = has_one_prot memory addr (rounded old_len) in
     let told = at_passed ((not start || none || nothing || bad, Einval) ∷ (not one, Efault) ∷ []) (mremap_target memory addr (rounded old_len) (rounded new_len) may_move fixed) target h in
     let wrong = told.0.0 in
-    let three = or_left (not start || none || nothing) bad wrong in
-    let two = or_left (not start || none) nothing three in
+    let three = or_first (not start || none || nothing) bad wrong in
+    let two = or_first (not start || none) nothing three in
     record {
-      whole = eqb_true (addr % 4096) 0 (not_false start (or_left (not start) none two));
-      old_some = eqb_false old_len (or_right (not start) none two);
-      new_some = eqb_false new_len (or_right (not start || none) nothing three);
-      one_prot = not_false one told.0.1.0;
-      place = where_told memory addr (rounded old_len) (rounded new_len) target may_move fixed (or_right (not start || none || nothing) bad wrong) told.1;
+      whole = eqb-true (addr % 4096) 0 (not-false start (or_first (not start) none two));
+      old_some = positive old_len (or_second (not start) none two);
+      new_some = positive new_len (or_second (not start || none) nothing three);
+      one_prot = not-false one told.0.1.0;
+      place = where_told memory addr (rounded old_len) (rounded new_len) target may_move fixed (or_second (not start || none || nothing) bad wrong) told.1;
     }

@@ -8,5 +8,6 @@ pub mod Bytes
 pub mod Codes
 pub mod Sets
 pub mod Bits
+pub mod Places
 pub mod PageSets
 pub mod Messages

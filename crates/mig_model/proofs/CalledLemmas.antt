@@ -7,14 +7,15 @@ use Rattle.mig_base.specs.declared.TheConstants.{LOW, HIGH}
 use Rattle.mig_base.specs.declared.message.Message.TheVariants.{Remap, Unmap}
 use Rattle.mig_base.specs.Ranges.{in_range, lesser, none_below, pages_of, rounded}
 use Rattle.mig_base.specs.Flat.{Memory, is_mapped, has_one_prot, overlaps}
-use Rattle.mig_base.proofs.RangeLemmas.{none_below_tells, place_found, four_hold}
+use Rattle.mig_base.proofs.RangeLemmas.{none_below_tells, place_found, four_hold, in_range-true}
 use Rattle.mig_base.proofs.ReplyLemmas.{IsRemapped}
 use Rattle.mig_base.proofs.ReplyLemmas.IsWhere.{Shrunk, Grew, Moved, Told}
+use Rattle.mig_base.proofs.BoundLemmas.{apart_of, one_prot_some}
 use Rattle.mig_model.specs.Host.{Host, memory, IsSound}
 use Rattle.mig_model.specs.Userfault.{Object, is_registered, is_watched}
 use Rattle.mig_model.specs.Space.{told, remap_messages}
 use Rattle.mig_model.proofs.HostLemmas.{is_mapped-memory}
-use Rattle.mig_model.proofs.CommandLemmas.{one_prot_some, remapped_place}
+use Rattle.mig_model.proofs.CommandLemmas.{remapped_place}
 use Rattle.mig_model.proofs.SeenLemmas.{AreMapped, owed_none}
 use Rattle.mig_model.proofs.SettledCalls.{AreInside, settled_messages, settled-append, gone_if, shifted_if, moved_owed, told_gone, told_shifted, unmap_right, cut_right, remap_right}
 use Rattle.mig_model.proofs.Facts.{none_absurd, and_left, eqb-self, lesser_right}
@@ -74,9 +75,6 @@ goes here from count to new_count a b apart = Goes (not_same from count to new_c
 some_pages : (len : ℕ) → 0 < len → 0 < pages_of len
 some_pages len h = omega arith
 
-overlap_not : (a b c d : ℕ) → overlaps c d a b ≡ false → (a + b ≤ c) ⊎ (c + d ≤ a)
-overlap_not a b c d h = grind (arith, nat_tests)
-
 some_size : (len : ℕ) → 0 < len → 0 < rounded len
 some_size len h = omega arith
 
@@ -98,7 +96,7 @@ remapped_laid here addr old_len new_len target sound is =
       | Moved found ↦
           let free = (four_hold (eqb (target % 4096) 0) (leb LOW target) (leb (target + rounded new_len) HIGH) (none_below (λ i. is_mapped (memory here) (target + i)) (rounded new_len)) (place_found (is_mapped (memory here)) (rounded new_len) target found)).four in
           goes here (addr / 4096) (pages_of old_len) (target / 4096) (pages_of new_len) (some_pages old_len is.old_some) (some_pages new_len is.new_some) (pages_apart addr old_len target new_len whole target_whole (free_apart (memory here) addr (rounded old_len) target (rounded new_len) old_some new_some is.one_prot free))
-      | Told at ↦ goes here (addr / 4096) (pages_of old_len) (target / 4096) (pages_of new_len) (some_pages old_len is.old_some) (some_pages new_len is.new_some) (pages_apart addr old_len target new_len whole target_whole (overlap_not addr (rounded old_len) target (rounded new_len) at.apart))
+      | Told at ↦ goes here (addr / 4096) (pages_of old_len) (target / 4096) (pages_of new_len) (some_pages old_len is.old_some) (some_pages new_len is.new_some) (pages_apart addr old_len target new_len whole target_whole (apart_of target (rounded new_len) addr (rounded old_len) at.apart))
     ]
 
 -- The events of an mremap
@@ -110,9 +108,6 @@ inside_gone object owed b first count inside page origin h = kept_one b (in_rang
     kept_one true true o r inside origin h = absurd (cc)
     kept_one true false o r inside origin h = inside origin h
     kept_one false c o r inside origin h = inside origin h
-
-in_range-is : (first count page : ℕ) → first ≤ page → page < first + count → in_range first count page ≡ true
-in_range-is first count page a b = grind (arith, nat_tests)
 
 -- the pages of a target that was cleared first
 cleared : (b c : Bool) (x y : Option ℕ) → b ≡ true → c ≡ true → cond b (cond c None x) y ≡ None
@@ -183,7 +178,7 @@ settled_remapped object here owed addr count target new_count inside mapped laid
     (λ (is : away ≡ true) page low high.
     let less = lesser_right count new_count in
     gone_still shorter (in_range (from + new_count) (count - new_count) page) (first page)
-    (cleared away (in_range to new_count page) (owed page) (owed page) is (in_range-is to new_count page low (omega (arith, high, less)))))
+    (cleared away (in_range to new_count page) (owed page) (owed page) is (in_range-true to new_count page low (omega (arith, high, less)))))
     (remap_right second addr target (lesser count new_count)) in
     settled-append (one ++ two) three owed
     ∙ ap (settled_messages three) (settled-append one two owed ∙ ap (settled_messages two) did_one ∙ did_two)

@@ -1,9 +1,8 @@
 -- A command changes the pages of a host as it changes the flat memory that they mean.
-use Rattle.std.proofs.Common.{◌≡◌, ℕ, ◌+◌, ◌-◌, ◌*◌, ◌/◌, ◌%◌, ◌^◌, ◌<◌, ◌≤◌, ◌&&◌, Bool, true, false, cond, not, ltb, Option, Some, None, List, [], refl, sym, ap, ◌∙◌, arith, length, is_some, unwrap_or, zero-add}
+use Rattle.std.proofs.Common.{◌≡◌, ℕ, ◌+◌, ◌-◌, ◌*◌, ◌/◌, ◌%◌, ◌^◌, ◌≤◌, ◌&&◌, Bool, true, false, cond, ltb, Option, Some, None, List, [], refl, sym, ap, ◌∙◌, arith, length, is_some, unwrap_or, zero-add}
 use Rattle.std.specs.Int.{bytes_low_first}
 use Rattle.std.specs.FinMap.{get, contains_key}
-use Rattle.std.proofs.lemmas.Bool.Decides.{nat_tests}
-use Rattle.std.proofs.lemmas.Bool.{false≢true, not-false, leb-true}
+use Rattle.std.proofs.lemmas.Bool.{false≢true, leb-true}
 use Rattle.std.proofs.lemmas.List.{get_or-take, length-take}
 use Rattle.mig_base.specs.declared.TheConstants.{HIGH, HIGH_PAGE}
 use Rattle.mig_base.specs.declared.Prot.{Prot}
@@ -15,11 +14,11 @@ use Rattle.mig_base.specs.declared.command.Reply.{Reply}
 use Rattle.mig_base.specs.declared.command.Reply.TheVariants.{Done, At, BadAccess, Refused}
 use Rattle.mig_base.specs.Ranges.{rounded, pages_of}
 use Rattle.mig_base.specs.Bytes.{zero_page, contents, overwrite, low_bytes}
-use Rattle.mig_base.specs.Flat.{Memory, Cell, is_mapped, fill, zeros_with, clear, zeroed, moved, same_prot, has_one_prot, write, is_aligned, allows_store, access_reply, reply_of, changed}
-use Rattle.mig_base.proofs.RangeLemmas.{none_below_tells}
+use Rattle.mig_base.specs.Flat.{Memory, Cell, is_mapped, fill, zeros_with, clear, zeroed, moved, write, is_aligned, allows_store, access_reply, reply_of, changed}
 use Rattle.mig_base.proofs.ReplyLemmas.{IsRemapped, found_inside, mmap_inside, munmap_whole, dontneed_done, dontneed_hole, mremap_told}
 use Rattle.mig_base.proofs.ReplyLemmas.IsWhere.{Shrunk, Grew, Moved, Told}
 use Rattle.mig_base.proofs.ByteLemmas.{get_or-zero_page, length-zero_page, length-overwrite}
+use Rattle.mig_base.proofs.BoundLemmas.{one_prot_some, high_or}
 use Rattle.mig_model.specs.Host.{Host, memory, host_changed, host_moved, host_dropped, IsSound}
 use Rattle.mig_model.proofs.NumberLemmas.{aligned_inside, get_or-bytes_low_first}
 use Rattle.mig_model.proofs.HostLemmas.{AreDigits, ReadsAs, is_mapped-memory, memory-none, memory-write, memory-map, memory-unmap, memory-dropped, memory-moved, IsSound-put, IsSound-map, IsSound-unmap, IsSound-dropped, IsSound-moved}
@@ -40,9 +39,6 @@ some_cell : (o : Option Cell) (a : Bool) → a ≡ true → Done ≡ cond a (acc
 some_cell None true e h = absurd (cc)
 some_cell (Some cell) true e h = refl
 some_cell o false e h = absurd (false≢true e)
-
-is_some-None : {A : Type 0} (o : Option A) → o ≡ None → is_some o ≡ false
-is_some-None o h = ap is_some h
 
 -- and its page is mapped
 pub stored_mapped : (host : Host) (addr width value : ℕ) → Done ≡ reply_of (memory host) (Store addr width value) → contains_key host.areas (addr / 4096) ≡ true
@@ -115,19 +111,7 @@ memory-remapped host addr old_len new_len target old new =
 
 -- The place of an mremap
 
-same_prot_some : (a b : Option Cell) → same_prot a b ≡ true → b ≡ None → ⊥
-same_prot_some (Some a) (Some b) h e = cc
-same_prot_some (Some a) None h e = false≢true h
-same_prot_some None b h e = false≢true h
-
-pub one_prot_some : (m : Memory) (start size i : ℕ) → has_one_prot m start size ≡ true → i < size → m (start + i) ≡ None → ⊥
-one_prot_some m start size i one l none =
-    same_prot_some (m start) (m (start + i)) (not-false _ (none_below_tells (λ k. not (same_prot (m start) (m (start + k)))) size i one l)) none
-
-below_or : {addr : ℕ} → (HIGH ≤ addr → ⊥) → addr < HIGH
-below_or h = grind (arith, nat_tests, h)
-
-past_none : (host : Host) (addr : ℕ) → IsSound host → HIGH ≤ addr → memory host addr ≡ None
+pub past_none : (host : Host) (addr : ℕ) → IsSound host → HIGH ≤ addr → memory host addr ≡ None
 past_none host addr sound l = memory-none host addr (sound.bound (addr / 4096) (omega arith))
 
 -- the new range of an mremap begins with a page, and ends in the address space
@@ -141,7 +125,7 @@ remapped_place host addr old_len new_len target sound told =
     let whole = told.whole in
     elim told.place [
       | Shrunk same shorter ↦
-          let last = below_or (λ past. one_prot_some (memory host) addr (rounded old_len) (rounded new_len - 1) told.one_prot (omega (arith, shorter, some)) (past_none host (addr + (rounded new_len - 1)) sound past)) in
+          let last = high_or (λ past. one_prot_some (memory host) addr (rounded old_len) (rounded new_len - 1) told.one_prot (omega (arith, shorter, some)) (past_none host (addr + (rounded new_len - 1)) sound past)) in
           rw same (record { whole = whole; high = omega (arith, last, some) })
       | Grew same can ↦ rw same (record { whole = whole; high = leb-true (addr + rounded new_len) HIGH (and_second _ _ can) })
       | Moved found ↦ let inside = found_inside (is_mapped (memory host)) (rounded new_len) target found in record { whole = inside.whole; high = inside.high }

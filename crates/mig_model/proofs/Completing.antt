@@ -1,6 +1,6 @@
 -- A complete migration, and which parts of a world each step changes.
 use Rattle.std.proofs.Common.{◌≡◌, ℕ, ◌==◌, ◌^◌, ◌-◌, Bool, true, false, not, List, [], ◌∷◌, refl, sym, ap, ◌∙◌}
-use Rattle.std.proofs.lemmas.Bool.{false≢true}
+use Rattle.std.proofs.lemmas.Bool.{false≢true, not-false}
 use Rattle.mig_base.specs.declared.command.Command.{Command}
 use Rattle.mig_base.specs.declared.step.Step.{Step}
 use Rattle.mig_base.specs.declared.step.Step.TheVariants as step
@@ -18,7 +18,7 @@ use Rattle.mig_model.specs.Node.{Source, is_idle, is_precopy, has_run, source_to
 use Rattle.mig_model.specs.World.{World, active_host, with_active, refusal_of, issued, started, switched, delivered, delivered_back, end_sent, next, after_steps, phase_by, phase_of}
 use Rattle.mig_model.specs.Kept.{IsKept}
 use Rattle.mig_model.proofs.WorldLemmas.{at_stage}
-use Rattle.mig_model.proofs.Every.{by_refusal, not_false, first_test}
+use Rattle.mig_model.proofs.Every.{by_refusal, first_test}
 
 complete_released : (from : SourcePhase) (runs : Bool) → phase_by from runs ≡ phase.Complete → from ≡ source.Released
 complete_released source.Released runs h = refl
@@ -72,10 +72,10 @@ next-released world (step.Issue cpu command) h =
 next-released world step.Start h =
     by_refusal IsReleased (refusal_of world step.Start) world (started world) h
     (λ none. let idle = first_test (not (is_idle world.source.phase)) Phase ((world.source.epoch == 2 ^ 32 - 1, CountUsed) ∷ []) none in
-    absurd (false≢true (sym (ap is_idle h) ∙ not_false (is_idle world.source.phase) idle)))
+    absurd (false≢true (sym (ap is_idle h) ∙ not-false (is_idle world.source.phase) idle)))
 next-released world step.Switch h =
     by_refusal IsReleased (refusal_of world step.Switch) world (switched world) h
-    (λ none. absurd (false≢true (sym (ap is_precopy h) ∙ not_false (is_precopy world.source.phase) (first_test (not (is_precopy world.source.phase)) Phase [] none))))
+    (λ none. absurd (false≢true (sym (ap is_precopy h) ∙ not-false (is_precopy world.source.phase) (first_test (not (is_precopy world.source.phase)) Phase [] none))))
 next-released world step.Deliver h = by_refusal IsReleased (refusal_of world step.Deliver) world (delivered world world.forward) h (λ _. delivered-released world world.forward h)
 next-released world step.DeliverBack h = by_refusal IsReleased (refusal_of world step.DeliverBack) world (delivered_back world world.back) h (λ _. delivered_back-released world world.back h)
 next-released world step.End h = by_refusal IsReleased (refusal_of world step.End) world (end_sent world) h (λ _. h)

@@ -17,7 +17,6 @@ use Rattle.mig_model.specs.Migration.{World, is_end, after_deliver}
 use Rattle.mig_model.specs.Invariant.{Wires, IsSoundWorld, AreOf, AreWhole, AreFaithful, copies_of, has_copy, flow_of, EpochAt, AreSoundWires, is_urgent_or_left}
 use Rattle.mig_model.specs.Invariant.Flow.{Copies}
 use Rattle.mig_model.proofs.HostLemmas.{get-put}
-use Rattle.mig_model.proofs.WireLemmas.{has_copy-append}
 use Rattle.mig_model.proofs.FirstFrame.{at_state, first_in_place, ends_late, delivered}
 use Rattle.mig_model.proofs.PackageTaken.{package_taken}
 use Rattle.mig_model.proofs.EndTaken.{end_taken}
@@ -26,6 +25,7 @@ use Rattle.mig_model.specs.Source.{Source}
 use Rattle.mig_model.specs.Destination.{Destination}
 use Rattle.mig_model.proofs.HeldLemmas.{fits-none}
 use Rattle.mig_model.proofs.Facts.{not_up, put_whole, AreFaithful-append}
+use Rattle.mig_model.proofs.SendingLemmas.{has_copy-append}
 
 -- Advise: the wires are what they were
 advise_taken : (from : SourcePhase) (ran : Bool) (epoch : ℕ) (rest : List Sent) (world : World) →

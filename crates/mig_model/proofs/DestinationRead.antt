@@ -5,6 +5,7 @@ use Rattle.std.specs.FinMap as finmap
 use Rattle.std.specs.FinMap.{FinMap, get, get-empty}
 use Rattle.std.specs.FinSet.{contains}
 use Rattle.std.proofs.lemmas.Bool.{false≢true}
+pub use Rattle.std.proofs.lemmas.Option.{none-some as none_is}
 use Rattle.mig_base.specs.declared.cpu_state.CpuState.{CpuState}
 use Rattle.mig_base.specs.declared.phase.DestPhase.{DestPhase}
 use Rattle.mig_base.specs.declared.phase.Received.{Received}
@@ -249,9 +250,6 @@ fault_in (PageFault addr write wp tid) cpu faults events world kept runs =
 fault_in (Remap from to len) cpu faults events world kept runs = absurd kept.spaces.destination_faults.0
 fault_in (Remove start end) cpu faults events world kept runs = absurd kept.spaces.destination_faults.0
 fault_in (Unmap start end) cpu faults events world kept runs = absurd kept.spaces.destination_faults.0
-
-pub none_is : (b : Noted) → None ≡ Some b → ⊥
-none_is b h = cc
 
 read_in : (faults events : List Noted) (noted : Noted) (world : World) → next_of faults events ≡ Some noted → IsSoundWorld (at_queues faults events world) → world.destination.has_run ≡ true → IsSoundWorld (after_dest_read (at_queues faults events world) noted)
 read_in [] [] noted world is kept runs = absurd (none_is noted is)

@@ -1,5 +1,5 @@
 -- The destination takes End: nothing is owed, and Done goes back.
-use Rattle.std.proofs.Common.{◌≡◌, ◌≢◌, ℕ, ◌||◌, Bool, true, false, cond, eqb, Option, Some, None, List, [], ◌∷◌, refl, sym, ap, ◌∙◌}
+use Rattle.std.proofs.Common.{◌≡◌, ◌≢◌, ℕ, ◌||◌, Bool, true, false, cond, eqb, List, [], ◌∷◌, refl, sym, ap, ◌∙◌}
 use Rattle.std.specs.Ordering.{nat_cmp}
 use Rattle.std.specs.FinMap as finmap
 use Rattle.std.specs.FinMap.{get, get-empty}
@@ -8,6 +8,7 @@ use Rattle.std.proofs.lemmas.Bool.{false≢true, eqb-true}
 use Rattle.mig_base.specs.declared.phase.DestPhase.{DestPhase}
 use Rattle.mig_base.specs.declared.phase.SourcePhase.{SourcePhase}
 use Rattle.mig_base.proofs.PageLemmas.{same_pages}
+use Rattle.mig_base.proofs.TestLemmas.{never_some}
 use Rattle.mig_model.specs.Wire.{Sent, Copy}
 use Rattle.mig_model.specs.Wire.Frame.{End, Done}
 use Rattle.mig_model.specs.Migration.{World}
@@ -35,10 +36,6 @@ nowhere remaining rest urgent arrivals origin none last came free h =
     sym (ap (λ b. (b || false) || false || false) (contains-empty nat_cmp origin))
     ∙ sym (λ i. is_urgent_or_left (none i) (came i) origin || has_copy (copies_of (last i)) origin || has_copy (free i) origin) ∙ h)
 
-pub none_owed : {X : Type 0} (o : Option X) → ((x : X) → o ≡ Some x → ⊥) → o ≡ None
-none_owed None never = refl
-none_owed (Some x) never = absurd (never x refl)
-
 pub end_taken : (epoch count : ℕ) (rest : List Sent) (world : World) →
     let old : World = at_state SourcePhase.Stopped DestPhase.Running true true (record { epoch = epoch; frame = End count } ∷ rest) world in
     world.destination.arrivals ≡ [] → world.urgent.frames ≡ [] → IsSoundWorld old → IsSoundWorld (delivered old old.forward.frames)
@@ -51,7 +48,7 @@ end_taken epoch count rest world free came kept =
     let flowing : IsFlowing old.source old.destination old.forward.frames old.urgent.frames = w.2 in
     let no_pair : world.destination.owed ≡ finmap.empty =
     same_pages world.destination.owed finmap.empty (λ page.
-    none_owed (get world.destination.owed page) (λ origin h. nowhere world.source.remaining rest world.urgent.frames world.destination.arrivals origin (kept.pushing.end_sent ended) last.0 came free (flowing.whereabouts page origin h))
+    never_some (get world.destination.owed page) (λ origin h. nowhere world.source.remaining rest world.urgent.frames world.destination.arrivals origin (kept.pushing.end_sent ended) last.0 came free (flowing.whereabouts page origin h))
     ∙ sym (get-empty nat_cmp page)) in
     let destination_phase : RanAt new.destination.phase new.destination.has_run new.destination.ended = refl in
     let ended_after_run : new.destination.ended ≡ true → new.destination.has_run ≡ true = λ h. refl in

@@ -1,5 +1,5 @@
 -- Small facts on tests, options, numbers and lists, each in one place.
-use Rattle.std.proofs.Common.{◌≡◌, ◌≢◌, ℕ, zero, suc, ◌+◌, ◌*◌, ◌/◌, ◌%◌, ◌<◌, ◌≤◌, ◌&&◌, ◌||◌, Bool, true, false, cond, not, eqb, ltb, if◌then◌else◌, Option, Some, None, is_some, List, [], ◌∷◌, ◌++◌, length, refl, sym, ap, ◌∙◌, ◌⊎◌, arith}
+use Rattle.std.proofs.Common.{◌≡◌, ℕ, zero, suc, ◌+◌, ◌*◌, ◌/◌, ◌%◌, ◌<◌, ◌≤◌, ◌||◌, Bool, true, false, cond, not, eqb, ltb, if◌then◌else◌, Option, Some, None, is_some, List, [], ◌∷◌, ◌++◌, length, refl, sym, ap, ◌∙◌, arith}
 use Rattle.std.proofs.lemmas.Bool.Decides.{nat_tests}
 use Rattle.std.proofs.lemmas.Bool.{false≢true, and_parts, eqb-true}
 use Rattle.std.specs.Prelude.{replicate}
@@ -10,6 +10,8 @@ use Rattle.std.specs.List.{list_all}
 use Rattle.std.specs.Ordering.{nat_cmp}
 use Rattle.std.specs.FinMap.{FinMap, insert}
 use Rattle.std.specs.FinSet.{contains, contains-empty, contains-retain, nat_cmp-IsAntisymmetric}
+pub use Rattle.std.proofs.lemmas.Option.{same_Some as some_command, same_Some as some_is}
+pub use Rattle.std.proofs.lemmas.Bool.{ne_eqb as eqb_other}
 use Rattle.mig_base.proofs.SetLemmas.{member_below}
 use Rattle.mig_base.specs.declared.TheConstants.{HIGH_PAGE}
 use Rattle.mig_base.specs.declared.command.Access.TheVariants.{Answered}
@@ -20,8 +22,10 @@ use Rattle.mig_base.specs.declared.command.Reply.{Reply}
 use Rattle.mig_base.specs.declared.command.Reply.TheVariants.{Done, At}
 use Rattle.mig_base.specs.declared.effect.Effect.{Effect}
 use Rattle.mig_base.specs.declared.message.Message.{Message}
-use Rattle.mig_base.specs.Ranges.{in_range, lesser}
+use Rattle.mig_base.specs.Ranges.{lesser}
 use Rattle.mig_base.specs.Bytes.{zero_page}
+pub use Rattle.mig_base.proofs.RangeLemmas.{in_range_bounds as in_range_first, in_range-one as only_one}
+pub use Rattle.mig_base.proofs.TestLemmas.{and_second, and_first as and_left, eqb-self, same_or_other, and_false, and_true, or_assoc, missing_none, below_or_at, cond_none as none_or}
 use Rattle.mig_model.specs.Userfault.{Noted, Object, event_queued}
 use Rattle.mig_model.specs.Space.{all_queued, modes_after}
 use Rattle.mig_model.specs.Cpus.{call_took, entries_of}
@@ -37,31 +41,11 @@ use Rattle.mig_model.specs.Parts.{Grows}
 pub none_absurd : {A : Type 0} → false ≡ true → A
 none_absurd h = absurd (false≢true h)
 
-pub and_second : (a b : Bool) → (a && b) ≡ true → b ≡ true
-and_second true b h = h
-and_second false b h = absurd (false≢true h)
-
-pub and_left : (a b : Bool) → (a && b) ≡ true → a ≡ true
-and_left true b h = refl
-and_left false b h = h
-
-pub eqb-self : (n : ℕ) → eqb n n ≡ true
-eqb-self n = grind (arith, nat_tests)
-
-pub in_range_first : (first count q : ℕ) → in_range first count q ≡ true → (first ≤ q) × (q < first + count)
-in_range_first first count q h = grind (arith, nat_tests)
-
 pub not_up : true ≡ false → ⊥
 not_up h = false≢true (sym h)
 
 pub no_page : {A : Type 0} (page : ℕ) → contains no_pages page ≡ true → A
 no_page page h = absurd (false≢true (sym (contains-empty nat_cmp page) ∙ h))
-
-pub eqb_other : (a b : ℕ) → a ≢ b → eqb a b ≡ false
-eqb_other a b h = grind (arith, nat_tests)
-
-pub same_or_other : (a b : ℕ) → (a ≡ b) ⊎ (eqb a b ≡ false)
-same_or_other a b = grind (arith, nat_tests)
 
 pub low_or : {page : ℕ} → (HIGH_PAGE ≤ page → ⊥) → page < HIGH_PAGE
 low_or h = grind (arith, nat_tests, h)
@@ -74,9 +58,6 @@ pub queued_protect : (object : Object) (messages : List Message) (cpu : ℕ) →
 queued_protect object [] cpu = refl
 queued_protect object (message ∷ messages) cpu = queued_protect (event_queued object message cpu) messages cpu
 
-pub some_command : (a b : Command) → Some a ≡ Some b → a ≡ b
-some_command a b h = cc
-
 pub lesser_right : (a b : ℕ) → lesser a b ≤ b
 lesser_right a b = grind (arith, nat_tests)
 
@@ -87,9 +68,6 @@ put_whole false put held o n rest h = rest h
 pub up_not_down : {A : Type 0} (up : Bool) → up ≡ true → up ≡ false → A
 up_not_down up h k = none_absurd (sym k ∙ h)
 
-pub some_is : (a b : Noted) → Some a ≡ Some b → a ≡ b
-some_is a b h = cc
-
 pub whole_page : (addr n : ℕ) → addr % 4096 ≡ 0 → (addr + 4096 * n) % 4096 ≡ 0
 whole_page addr n h = omega arith
 
@@ -99,10 +77,6 @@ lesser_left a b = grind (arith, nat_tests)
 pub either : {A : Type 0} (a b : Bool) → (a || b) ≡ true → (a ≡ true → A) → (b ≡ true → A) → A
 either true b h one two = one refl
 either false b h one two = two h
-
-pub and_false : (b : Bool) → (b && false) ≡ false
-and_false true = refl
-and_false false = refl
 
 pub all_zero : (bytes : List ℕ) → list_all (λ byte. eqb byte 0) bytes ≡ true → bytes ≡ replicate (length bytes) 0
 all_zero [] h = refl
@@ -117,17 +91,6 @@ zero_bytes bytes n h = all_zero bytes h ∙ ap (λ k. replicate {A = ℕ} k 0) n
 pub kept_page : (b : Bool) (kept : FinMap nat_cmp (List ℕ)) (page : ℕ) (bytes : List ℕ) → (b ≡ true → bytes ≡ zero_page) → kept_after kept (if b then Zero page else Page page bytes) ≡ insert kept page bytes
 kept_page true kept page bytes h = ap (insert kept page) (sym (h refl))
 kept_page false kept page bytes h = refl
-
-pub none_or : (b : Bool) (p : Option (List ℕ)) → p ≡ None → cond b None p ≡ None
-none_or true p h = refl
-none_or false p h = h
-
-pub only_one : (page q : ℕ) → in_range page 1 q ≡ eqb q page
-only_one page q = grind (arith, nat_tests)
-
-pub missing_none : (o : Option (List ℕ)) → is_some o ≡ false → o ≡ None
-missing_none None h = refl
-missing_none (Some bytes) h = absurd (false≢true (sym h))
 
 pub dropped_not : (a c d : ℕ) → Effect.Dropped a ≡ Effect.Installed c d → ⊥
 dropped_not a c d h = cc
@@ -162,9 +125,6 @@ pub settled-push : (events : List Noted) (noted : Noted) (owed : ℕ → Option 
 settled-push [] noted owed = refl
 settled-push (first ∷ events) noted owed = settled-push events noted (owed_after first.message owed)
 
-pub below_or_at : (i n : ℕ) → i < suc n → (i < n) ⊎ (i ≡ n)
-below_or_at i n h = grind (arith, nat_tests)
-
 pub page_again : (page addr : ℕ) → 4096 * page ≡ addr → page ≡ addr / 4096
 page_again page addr h = omega (arith, h)
 
@@ -178,12 +138,8 @@ modes_events object (Munmap addr len) Done = refl
 modes_events object (Mremap addr old_len new_len may_move fixed) (At target) = refl
 modes_events object _ _ = refl
 
-pub or_assoc : (a b c : Bool) → (a || (b || c)) ≡ ((a || b) || c)
-or_assoc true b c = refl
-or_assoc false b c = refl
-
-pub member_not_clean : (source : Source) (page : ℕ) → contains (not_clean source) page ≡ true → is_present (space_of source) page ≡ true
-member_not_clean source page h =
+pub owed_is_present : (source : Source) (page : ℕ) → contains (not_clean source) page ≡ true → is_present (space_of source) page ≡ true
+owed_is_present source page h =
     let both = and_parts (contains (present (space_of source)) page) (not (contains source.log.clean page))
     (sym (contains-retain (present (space_of source)) (λ q. not (contains source.log.clean q)) page (λ x e. ap (λ q. not (contains source.log.clean q)) (sym (nat_cmp-IsAntisymmetric page x e)))) ∙ h) in
     (and_parts (ltb page HIGH_PAGE) (is_present (space_of source) page) (sym (member_below _ HIGH_PAGE page) ∙ both.0)).1
@@ -191,10 +147,6 @@ member_not_clean source page h =
 pub no_event : (events : List Noted) → ltb 0 (length events) ≡ false → events ≡ []
 no_event [] h = refl
 no_event (noted ∷ events) h = absurd (grind (arith, nat_tests))
-
-pub and_true : (b : Bool) → (b && true) ≡ b
-and_true true = refl
-and_true false = refl
 
 pub some_either : {X : Type 0} (here : Bool) (value : X) (o : Option X) → is_some o ≡ true → is_some (cond here (Some value) o) ≡ true
 some_either true value o h = refl

@@ -10,9 +10,8 @@ use Rattle.mig_model.specs.Ioctls.{all_features}
 use Rattle.mig_model.specs.Migration.{first_world_with}
 use Rattle.mig_model.specs.Invariant.{IsSoundWorld}
 use Rattle.mig_model.proofs.HostLemmas.{memory-empty}
-use Rattle.mig_model.proofs.SpaceLemmas.{IsSoundSpace-fresh}
+use Rattle.mig_model.proofs.SpaceLemmas.{IsSoundSpace-fresh, no_member}
 use Rattle.mig_model.proofs.IoctlLemmas.{IsSoundSpace-enabled}
-use Rattle.mig_model.proofs.Stopping.{no_member}
 use Rattle.mig_model.proofs.Facts.{no_page}
 
 no_pair : {X : Type 0} {A : Type 0} (page : ℕ) (x : X) → get {R = nat_cmp} empty page ≡ Some x → A

@@ -16,7 +16,7 @@ use Rattle.mig_base.specs.Flat.{Cell, Memory, no_memory, is_mapped, mapped_count
 use Rattle.mig_base.proofs.RangeLemmas.{count_below-append, count_below-constant, ranges, in_range-true, in_range-false_above, in_range-false_below}
 use Rattle.mig_base.proofs.ReplyLemmas.{at_passed, mmap_inside, mremap_told, same_at}
 use Rattle.mig_base.proofs.BoundLemmas.{IsBounded, changed_bounded, remapped_inside, high_or}
-use Rattle.mig_model.proofs.CommandLemmas.{one_prot_some}
+use Rattle.mig_base.proofs.BoundLemmas.{one_prot_some}
 use Rattle.mig_model.proofs.SetSizes.{count_below-few}
 
 -- Counts

@@ -12,6 +12,7 @@ use Rattle.mig_base.specs.declared.phase.Received.{Received}
 use Rattle.mig_base.specs.declared.phase.SourcePhase.{SourcePhase}
 use Rattle.mig_base.specs.declared.schedule.Step.{Step}
 use Rattle.mig_base.specs.Tests.{is_empty}
+use Rattle.mig_base.proofs.TestLemmas.{none_is_some}
 use Rattle.mig_model.specs.Wire.{Frame, Sent, wire_with}
 use Rattle.mig_model.specs.Wire.Frame.{Page, Zero, Package, End, Request, Done}
 use Rattle.mig_model.specs.Guest.{is_present}
@@ -172,9 +173,6 @@ recv_tells world kept there =
     recv_in_phases world.source.phase world.destination.phase world (true_from_ne_false world.up (λ down. no_recv world.back.frames (ap has_recv (kept.flight.down down).1) there)) kept there
 
 -- Switch
-
-none_is_some : {X : Type 0} (o : Option X) → o ≡ None → is_some o ≡ true → ⊥
-none_is_some o none some = false≢true (ap is_some (sym none) ∙ some)
 
 below_or_not : (page : ℕ) → (ltb page HIGH_PAGE ≡ true) ⊎ (HIGH_PAGE ≤ page)
 below_or_not page = grind (arith, nat_tests)

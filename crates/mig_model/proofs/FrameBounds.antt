@@ -26,7 +26,7 @@ use Rattle.mig_model.specs.Migration.{World}
 use Rattle.mig_model.specs.Bounds.{AreFewPages, ArePageBytes, ArePages, AreUrgentFew, IsCpuCount, IsFrame, IsMapping, IsPage}
 use Rattle.mig_model.proofs.PageBytes.{AreBytes, HasBytes, contents_bytes}
 use Rattle.mig_model.proofs.CommandLemmas.{length-contents}
-use Rattle.mig_model.proofs.Facts.{member_not_clean, no_page}
+use Rattle.mig_model.proofs.Facts.{owed_is_present, no_page}
 use Rattle.mig_model.proofs.ResumeTaken.{pair-origins}
 use Rattle.mig_model.proofs.RightCommands.{AllRight, right_commands}
 use Rattle.mig_model.proofs.SetSizes.{count_below-few, len-below, only_where}
@@ -140,7 +140,7 @@ package_good source discarded owed sound mapping are here right count =
 
 pub switch_good : (source : Source) → IsSound (space_of source).host → IsMapping (space_of source).host.areas → ArePages source.log.sent → AllRight source.guest.cpus → IsCpuCount (length source.guest.cpus) → AllFrames (switch_frames source)
 switch_good source sound mapping sent right count =
-    package_good source (less source.log.sent source.log.clean) (not_clean source) sound mapping (less_pages source.log.sent source.log.clean sent) (λ page h. member_not_clean source page h) right count
+    package_good source (less source.log.sent source.log.clean) (not_clean source) sound mapping (less_pages source.log.sent source.log.clean sent) (λ page h. owed_is_present source page h) right count
 
 member_present : (space : Space) (page : ℕ) → contains (present space) page ≡ true → is_present space page ≡ true
 member_present space page h = (and_parts (ltb page HIGH_PAGE) (is_present space page) (sym (member_below (λ q. is_present space q) HIGH_PAGE page) ∙ h)).1

@@ -12,6 +12,7 @@ use Rattle.mig_base.specs.declared.Prot.{Prot}
 use Rattle.mig_base.specs.declared.command.Command.{Command}
 use Rattle.mig_base.proofs.PageLemmas.{same_pages}
 use Rattle.mig_base.specs.Tests.{is_empty}
+use Rattle.mig_base.proofs.TestLemmas.{never_some}
 use Rattle.mig_model.specs.Host.{IsSound}
 use Rattle.std.specs.Prelude.{length}
 use Rattle.std.proofs.lemmas.Option.{same_Some}
@@ -24,15 +25,15 @@ use Rattle.mig_model.specs.Migration.{World}
 use Rattle.mig_model.specs.Invariant.{IsSoundWorld, IsSwitching, IsFlowing, IsReceiving, EpochAt, AreOf, flow_of, is_request, is_done, are_requests, are_requests_and_done, AreSoundUrgent}
 use Rattle.mig_model.proofs.Taken.{IsOwnEpoch, IsGood, IsTaken, IsInPlaceBack}
 use Rattle.mig_model.specs.Faults.{is_in_place}
-use Rattle.mig_model.proofs.Stopping.{no_member}
-use Rattle.mig_model.proofs.FirstFrame.{comes, first_in_place, nothing_behind}
-use Rattle.mig_model.proofs.EndTaken.{ended_now, nowhere, none_owed}
+use Rattle.mig_model.proofs.FirstFrame.{comes, first_in_place, nothing_behind, empty_not}
+use Rattle.mig_model.proofs.EndTaken.{ended_now, nowhere}
 use Rattle.mig_model.specs.Cpus.{outstanding}
 use Rattle.mig_model.specs.Log.{no_pages, present}
 use Rattle.mig_model.specs.Source.{Source, commands_of, is_source_paused, is_stopped, space_of}
 use Rattle.mig_model.specs.Destination.{Destination}
 use Rattle.mig_model.proofs.Facts.{none_absurd, and_left}
 use Rattle.mig_model.proofs.UrgentWire.{EndTells, end_tells}
+use Rattle.mig_model.proofs.SpaceLemmas.{no_member}
 
 -- In place
 
@@ -123,7 +124,7 @@ end_good epoch count rest world up kept free came =
     let ended : old.source.end_epoch ≡ old.source.epoch = ended_now old.source last.1 in
     let flowing : IsFlowing old.source old.destination old.forward.frames old.urgent.frames = w.2 in
     same_pages world.destination.owed finmap.empty (λ page.
-    none_owed (get world.destination.owed page) (λ origin h. nowhere world.source.remaining rest world.urgent.frames world.destination.arrivals origin (kept.pushing.end_sent ended) last.0 came free (flowing.whereabouts page origin h))
+    never_some (get world.destination.owed page) (λ origin h. nowhere world.source.remaining rest world.urgent.frames world.destination.arrivals origin (kept.pushing.end_sent ended) last.0 came free (flowing.whereabouts page origin h))
     ∙ sym (get-empty nat_cmp page))
 
 good_of : (from : SourcePhase) (to : DestPhase) (epoch : ℕ) (frame : Frame) (rest : List Sent) (world : World) → comes from to frame ≡ true → world.up ≡ true → IsSoundWorld (with_first from to epoch frame rest world) → AreAsMany world → EndTells frame world → IsGood (with_first from to epoch frame rest world).destination frame
@@ -160,9 +161,6 @@ is_taken world sent rest kept urgent many up first =
 
 -- The wire back
 
-empty_first : (sent : Sent) (rest : List Sent) → sent ∷ rest ≡ [] → ⊥
-empty_first sent rest h = cc
-
 first_is : (sent other : Sent) (rest more : List Sent) → sent ∷ rest ≡ other ∷ more → sent.frame ≡ other.frame
 first_is sent other rest more h = ap (λ (wire : List Sent). elim wire [ [] ↦ sent.frame | s ∷ _ ↦ s.frame ]) h
 
@@ -187,7 +185,7 @@ back_in : (from : SourcePhase) (to : DestPhase) (sent : Sent) (rest : List Sent)
 back_in SourcePhase.Stopped DestPhase.Running sent rest world up kept = request_place sent.frame (with_back SourcePhase.Stopped DestPhase.Running sent rest world).source refl (and_left (is_request sent.frame) (are_requests rest) (kept.flight.wires up).1)
 back_in SourcePhase.Stopped DestPhase.Ended sent rest world up kept = done_place sent.frame (with_back SourcePhase.Stopped DestPhase.Ended sent rest world).source (are_requests_and_done rest) (is_empty rest) refl (kept.flight.wires up).2 (kept.flight.wires up).1
 back_in SourcePhase.Stopped DestPhase.Paused sent rest world up kept = absurd (kept.flight.wires up)
-back_in SourcePhase.Stopped _ sent rest world up kept = absurd (empty_first sent rest (kept.flight.wires up).1)
+back_in SourcePhase.Stopped _ sent rest world up kept = absurd (empty_not sent rest (kept.flight.wires up).1)
 back_in SourcePhase.Paused DestPhase.Advised sent rest world up kept =
     recv_place sent.frame Received.NotRun no_pages (with_back SourcePhase.Paused DestPhase.Advised sent rest world).source refl (λ page h. none_absurd (sym (no_member page) ∙ h)) (λ other. refl) (λ other. absurd (other refl)) (first_is sent _ rest [] (kept.flight.wires up).1)
 back_in SourcePhase.Paused DestPhase.Running sent rest world up kept =
@@ -198,12 +196,12 @@ back_in SourcePhase.Paused DestPhase.Ended sent rest world up kept =
     recv_place sent.frame Received.Ended told.owed (with_back SourcePhase.Paused DestPhase.Ended sent rest world).source refl told.owed_present told.none_listed (λ other. kept.phases.ran_after_switch (kept.phases.ended_after_run kept.phases.destination_phase)) (first_is sent _ rest told.rest told.first)
 back_in SourcePhase.Paused DestPhase.Idle sent rest world up kept = absurd (kept.flight.wires up)
 back_in SourcePhase.Paused DestPhase.Discarding sent rest world up kept = absurd (kept.flight.wires up)
-back_in SourcePhase.Paused DestPhase.Paused sent rest world up kept = absurd (empty_first sent rest (kept.flight.wires up).1)
-back_in SourcePhase.Precopy DestPhase.Idle sent rest world up kept = absurd (empty_first sent rest (kept.flight.wires up).1)
-back_in SourcePhase.Precopy DestPhase.Advised sent rest world up kept = absurd (empty_first sent rest (kept.flight.wires up).1)
+back_in SourcePhase.Paused DestPhase.Paused sent rest world up kept = absurd (empty_not sent rest (kept.flight.wires up).1)
+back_in SourcePhase.Precopy DestPhase.Idle sent rest world up kept = absurd (empty_not sent rest (kept.flight.wires up).1)
+back_in SourcePhase.Precopy DestPhase.Advised sent rest world up kept = absurd (empty_not sent rest (kept.flight.wires up).1)
 back_in SourcePhase.Precopy _ sent rest world up kept = absurd (kept.flight.wires up)
-back_in SourcePhase.Idle to sent rest world up kept = absurd (empty_first sent rest (kept.flight.wires up).2)
-back_in SourcePhase.Released to sent rest world up kept = absurd (empty_first sent rest (kept.flight.wires up).2)
+back_in SourcePhase.Idle to sent rest world up kept = absurd (empty_not sent rest (kept.flight.wires up).2)
+back_in SourcePhase.Released to sent rest world up kept = absurd (empty_not sent rest (kept.flight.wires up).2)
 
 -- the first frame on the wire back, and its epoch
 pub is_taken_back : (world : World) (sent : Sent) (rest : List Sent) → IsSoundWorld world → world.up ≡ true → world.back.frames ≡ sent ∷ rest → IsInPlaceBack world.source sent.frame

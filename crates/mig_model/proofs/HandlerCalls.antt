@@ -41,7 +41,7 @@ use Rattle.mig_model.proofs.OpenObjects.{IsOpen, idle_unreleased}
 use Rattle.mig_model.proofs.PageCalls.{IsCalled, copy_made, range_protect_made, write_protect_made, zero_page_made}
 use Rattle.mig_model.proofs.PromiseLemmas.{destination_zero, source_zero}
 use Rattle.mig_model.proofs.Registering.{CanRegister, areas_registered, every_registered, left_new, registered_by}
-use Rattle.mig_model.proofs.ResumeTaken.{home_tells}
+use Rattle.mig_model.proofs.SettledLemmas.{home_tells}
 use Rattle.mig_model.proofs.SourceRounds.{precopy_unswitched}
 use Rattle.mig_model.proofs.StepCases.{made-deliver, made-dest_act, made-install, made-round, made-send, made-send_run, made-source_act, made-start}
 use Rattle.mig_model.proofs.StepLemmas.{holds-effect, leaves-ok}
@@ -222,7 +222,7 @@ home_copied : (cpus : ℕ) (world : World) (copy : Copy) (rest : List Copy) (pag
 home_copied cpus world copy rest page all ran first quiet found =
     let space = world.destination.guest.space in
     let kept = all.ready.kept in
-    let alone = kept.owing.pairs_missing page copy.page (ap (λ events. settled_by events (get world.destination.owed) page) (no_event space.object.events quiet) ∙ home_tells world.destination.owed page copy.page found) in
+    let alone = kept.owing.pairs_missing page copy.page (ap (λ events. settled_by events (get world.destination.owed) page) (no_event space.object.events quiet) ∙ home_tells world.destination.owed copy.page page found) in
     let faithful : AreFaithful (space_of world.source).host.bytes (copy ∷ rest) = subst (AreFaithful (space_of world.source).host.bytes) first (kept.owing.arrivals_faithful ran) in
     let registered : is_registered space.object page ≡ true = or_left (contains space.object.missing page) (contains space.object.protect page) alone.0 in
     let mapped = kept.spaces.destination_space.mapped page registered in

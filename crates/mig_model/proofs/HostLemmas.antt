@@ -5,7 +5,7 @@ use Rattle.std.specs.Ordering.{nat_cmp}
 use Rattle.std.specs.Cmp.{nat_cmp_total, unsigned_tied}
 use Rattle.std.specs.FinMap.{FinMap, get, insert, empty, len, contains_key, get-insert, get-empty}
 use Rattle.std.proofs.lemmas.Bool.Decides.{nat_tests}
-use Rattle.std.proofs.lemmas.Bool.{false≢true, eqb-true, eq-eqb}
+use Rattle.std.proofs.lemmas.Bool.{false≢true, eqb-true, eq-eqb, cases_eq}
 use Rattle.std.proofs.lemmas.Option.{none-some}
 use Rattle.mig_base.specs.declared.TheConstants.{HIGH, HIGH_PAGE}
 use Rattle.mig_base.specs.declared.Prot.{Prot}
@@ -16,6 +16,7 @@ use Rattle.mig_base.specs.Flat.{Memory, Cell, no_memory, is_mapped, mapped_count
 use Rattle.mig_base.proofs.RangeLemmas.{count_below-blocks, in_range_tells, in_range-true, in_range-false_below, in_range-false_above}
 use Rattle.mig_base.proofs.PageLemmas.{get-set_range, get-remove_range, get-moved_range, count_below-contains_key}
 use Rattle.mig_base.proofs.ByteLemmas.{get_or-overwrite_below, get_or-overwrite_in, get_or-overwrite_above}
+use Rattle.mig_base.proofs.TestLemmas.{cond_none}
 use Rattle.mig_model.specs.Host.{Host, byte_in, memory, host_moved, host_dropped, IsSound}
 use Rattle.mig_model.proofs.Facts.{in_range_first, eqb_other, put_whole, none_or}
 
@@ -93,9 +94,6 @@ IsSound-put host page held sound has n =
 
 -- A write
 
-same_or_other : (a b : ℕ) → (a ≡ b) ⊎ (a ≢ b)
-same_or_other a b = grind (arith, nat_tests)
-
 outside_page : (bytes : FinMap nat_cmp (List ℕ)) (page addr : ℕ) (held : List ℕ) → addr / 4096 ≢ page → byte_in (insert bytes page held) addr ≡ byte_in bytes addr
 outside_page bytes page addr held other =
     ap (λ o. get_or (unwrap_or o []) (addr % 4096) 0) (get-put bytes page (addr / 4096) held ∙ ap (λ b. cond b (Some held) (get bytes (addr / 4096))) (eqb_other (addr / 4096) page other))
@@ -139,7 +137,7 @@ byte_in-write bytes addr width value held digits same n are inside q =
     t.1
     ∙ old_byte here)
     (λ (other : q / 4096 ≢ addr / 4096). outside_page bytes (addr / 4096) q written_page other)
-    (same_or_other (q / 4096) (addr / 4096))
+    (cases_eq (q / 4096) (addr / 4096))
     ∙ sym (ap (λ b. cond b (value / 256 ^ (q - addr) % 256) (byte_in bytes q)) t.0))
     (in_range_tells addr width q)
 
@@ -242,10 +240,6 @@ memory-unmap host first count =
 none_kept : (b : Bool) (a o : Option Prot) (p : Option (List ℕ)) → cond b None o ≡ None → (o ≡ None → p ≡ None) → cond b None p ≡ None
 none_kept true a o p h rest = refl
 none_kept false a o p h rest = rest h
-
-cond_none : (b : Bool) (o : Option Prot) → o ≡ None → cond b None o ≡ None
-cond_none true o h = refl
-cond_none false o h = h
 
 pub IsSound-unmap : (host : Host) (first count : ℕ) → IsSound host → IsSound (record { areas = remove_range host.areas first count; bytes = remove_range host.bytes first count })
 IsSound-unmap host first count sound =

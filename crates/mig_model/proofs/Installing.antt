@@ -33,7 +33,8 @@ use Rattle.mig_model.specs.Cpus.{all_woken}
 use Rattle.mig_model.specs.Owed.{home, without_request}
 use Rattle.mig_model.specs.Source.{space_of}
 use Rattle.mig_model.specs.Destination.{install_by}
-use Rattle.mig_model.proofs.Facts.{none_absurd, eqb-self, only_one, missing_none, dropped_not}
+use Rattle.mig_model.proofs.Facts.{page_again, none_absurd, eqb-self, only_one, missing_none, dropped_not}
+use Rattle.mig_model.proofs.FirstFrame.{empty_not}
 
 -- One page put
 
@@ -120,9 +121,6 @@ at_copies events arrivals world =
       };
     }
 
-some_first : (copy : Copy) (rest : List Copy) → copy ∷ rest ≡ [] → ⊥
-some_first copy rest h = cc
-
 -- what is known where a copy has a page: the page is owed from it, is registered and is missing, and the copy is the source's page
 record HasHome (world : World) (copy : Copy) (page : ℕ) : Type 0 where
   pair : get world.destination.owed page ≡ Some copy.page
@@ -170,7 +168,7 @@ put_there copy rest world page kept runs found =
           let alone = kept.owing.pairs_missing q origin was.1 in
           (alone.0, put-missing space page q copy.bytes was.0 alone.1);
       faithful = faithful.1;
-      ended = λ h. absurd (some_first copy rest (kept.owing.ended_empty h).1);
+      ended = λ h. absurd (empty_not copy rest (kept.owing.ended_empty h).1);
     })
 
 given_up : (copy : Copy) (rest : List Copy) (world : World) → IsSoundWorld (at_copies [] (copy ∷ rest) world) → world.destination.has_run ≡ true → home world.destination.owed copy.page ≡ None →
@@ -194,7 +192,7 @@ given_up copy rest world kept runs lost =
           (λ e. home-none world.destination.owed copy.page q lost (kept.owing.owed_below q origin h) (h ∙ ap Some (sym (eqb-true copy.page origin e)))) k;
       missing = kept.owing.pairs_missing;
       faithful = faithful.1;
-      ended = λ h. absurd (some_first copy rest (kept.owing.ended_empty h).1);
+      ended = λ h. absurd (empty_not copy rest (kept.owing.ended_empty h).1);
     })
 
 install_at : (o : Option ℕ) (copy : Copy) (rest : List Copy) (world : World) → IsSoundWorld (at_copies [] (copy ∷ rest) world) → world.destination.has_run ≡ true → home world.destination.owed copy.page ≡ o →
@@ -220,9 +218,6 @@ kept-install world copy rest kept first runs quiet =
 same_effect : (a b c d : ℕ) → Effect.Installed a b ≡ Effect.Installed c d → (a ≡ c) × (b ≡ d)
 same_effect a b c d h = (cc, cc)
 
-page_again : (addr page : ℕ) → 4096 * page ≡ addr → page ≡ addr / 4096
-page_again addr page h = omega arith
-
 put_at : (o : Option ℕ) (copy : Copy) (rest : List Copy) (world : World) (addr source : ℕ) → IsSoundWorld (at_copies [] (copy ∷ rest) world) → world.destination.has_run ≡ true → home world.destination.owed copy.page ≡ o →
     install_effect o copy.page ≡ Effect.Installed addr source →
     IsPut (at_copies [] (copy ∷ rest) world) (record (at_copies [] (copy ∷ rest) world) { destination = install_by o (at_copies [] (copy ∷ rest) world).destination copy rest }) (addr / 4096) (source / 4096)
@@ -244,7 +239,7 @@ put_at (Some page) copy rest world addr source kept runs found same =
       source = there.same ∙ sym now;
       present = ap is_some now;
     } in
-    subst (λ p. IsPut old new p (source / 4096)) (page_again addr page both.0) (subst (λ p. IsPut old new page p) (page_again source copy.page both.1) put)
+    subst (λ p. IsPut old new p (source / 4096)) (page_again page addr both.0) (subst (λ p. IsPut old new page p) (page_again copy.page source both.1) put)
 
 put_in : (events : List Noted) (copy : Copy) (rest : List Copy) (world : World) (addr source : ℕ) → IsSoundWorld (at_copies events (copy ∷ rest) world) → world.destination.has_run ≡ true → ltb 0 (length events) ≡ false →
     install_effect (home world.destination.owed copy.page) copy.page ≡ Effect.Installed addr source →

@@ -14,7 +14,7 @@ use Rattle.mig_base.specs.Bytes.{zero_page}
 use Rattle.mig_base.specs.Ranges.{in_range, least_below}
 use Rattle.mig_base.specs.Sets.{without, pages_where}
 use Rattle.mig_base.proofs.ByteLemmas.{length-zero_page}
-use Rattle.mig_base.proofs.RangeLemmas.{none_below_tells}
+use Rattle.mig_base.proofs.RangeLemmas.{none_below_tells, in_range-none, in_range-last, in_range-but_last}
 use Rattle.mig_base.proofs.SetLemmas.{member_without, member_below}
 use Rattle.mig_model.specs.Userfault.{Object, Noted, Mode, is_registered, has_modes, registered_where, message_read, read_by, enabled_with}
 use Rattle.mig_model.specs.Space.{Space, IsSoundSpace}
@@ -22,7 +22,7 @@ use Rattle.mig_model.specs.Ioctls.{left_by, mode_of, is_mapped_in, registered_in
 use Rattle.mig_base.specs.Tests.{first_holding, same_bool, is_every}
 use Rattle.mig_model.proofs.HostLemmas.{get-put}
 use Rattle.mig_model.specs.Log.{present}
-use Rattle.mig_model.proofs.Facts.{none_absurd, and_second, and_left, eqb-self, in_range_first, same_or_other}
+use Rattle.mig_model.proofs.Facts.{none_absurd, and_second, and_left, eqb-self, in_range_first, same_or_other, some_either}
 
 -- Registered pages
 
@@ -110,34 +110,21 @@ IsSoundSpace-unregistered space first count sound =
 
 -- Pages put
 
-nothing_in : (first n : ℕ) → in_range first 0 n ≡ false
-nothing_in first n = grind (arith, nat_tests)
-
-last_of : (first count : ℕ) → in_range first (suc count) (first + count) ≡ true
-last_of first count = grind (arith, nat_tests)
-
-but_the_last : (first count q : ℕ) → eqb q (first + count) ≡ false → in_range first count q ≡ in_range first (suc count) q
-but_the_last first count q h = grind (arith, nat_tests)
-
 one_more : {A : Type 0} (first count q : ℕ) (f : ℕ → A) (old : A) → cond (eqb q (first + count)) (f count) (cond (in_range first count q) (f (q - first)) old) ≡ cond (in_range first (suc count) q) (f (q - first)) old
 one_more first count q f old = ⊎_elim
     (λ (e : q ≡ first + count).
     let away : first + count - first ≡ count = omega arith in
-    rw (e, eqb-self (first + count), last_of first count, away) refl)
-    (λ (other : eqb q (first + count) ≡ false). rw (other, but_the_last first count q other) refl)
+    rw (e, eqb-self (first + count), in_range-last first count, away) refl)
+    (λ (other : eqb q (first + count) ≡ false). rw (other, in_range-but_last first count q other) refl)
     (same_or_other q (first + count))
 
 pub get-put_pages : (pages : FinMap nat_cmp (List ℕ)) (first count q : ℕ) (bytes : ℕ → List ℕ) → get (put_pages pages first count bytes) q ≡ cond (in_range first count q) (Some (bytes (q - first))) (get pages q)
 unfolding put_pages
-get-put_pages pages first zero q bytes = ap (λ b. cond b (Some (bytes (q - first))) (get pages q)) (sym (nothing_in first q))
+get-put_pages pages first zero q bytes = ap (λ b. cond b (Some (bytes (q - first))) (get pages q)) (sym (in_range-none first q))
 get-put_pages pages first (suc count) q bytes =
     get-put (put_pages pages first count bytes) (first + count) q (bytes count)
     ∙ ap (λ o. cond (eqb q (first + count)) (Some (bytes count)) o) (get-put_pages pages first count q bytes)
     ∙ one_more first count q (λ i. Some (bytes i)) (get pages q)
-
-put_or_was : (here : Bool) (bytes : List ℕ) (o : Option (List ℕ)) → is_some o ≡ true → is_some (cond here (Some bytes) o) ≡ true
-put_or_was true bytes o h = refl
-put_or_was false bytes o h = h
 
 put_here : (here : Bool) (bytes : List ℕ) (o : Option (List ℕ)) → here ≡ true → is_some (cond here (Some bytes) o) ≡ true
 put_here true bytes o h = refl
@@ -175,7 +162,7 @@ IsSoundSpace-installed space first count bytes protect can sound =
       present = λ page h.
           ap is_some (get-put_pages space.host.bytes first count page bytes)
           ∙ ⊎_elim
-          (λ was. put_or_was (in_range first count page) (bytes (page - first)) (get space.host.bytes page) (sound.present page was))
+          (λ was. some_either (in_range first count page) (bytes (page - first)) (get space.host.bytes page) (sound.present page was))
           (λ new. put_here (in_range first count page) (bytes (page - first)) (get space.host.bytes page) (and_second protect (in_range first count page) new))
           (told page h);
       watched = λ page h.
@@ -344,7 +331,3 @@ IsSoundSpace-zeropaged space start len bits sound =
     let told = none_holds (zeropage_errors space start len bits) e in
     IsSoundSpace-installed space first (missing_run space first count) (λ i. zero_page) false
     (can_put space first count (λ i. zero_page) false sound (not-false (is_one_area space first count) told.1.1.1.1.0) (λ i l. length-zero_page) (λ e. none_absurd e)) sound)
-
--- the name by which other crates have the standard library's lemma
-pub not_false : (b : Bool) → not b ≡ false → b ≡ true
-not_false b h = not-false b h

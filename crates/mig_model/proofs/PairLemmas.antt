@@ -4,7 +4,7 @@ use Rattle.std.proofs.Common.{◌≡◌, ℕ, ◌+◌, ◌-◌, ◌/◌, ◌<◌
 use Rattle.std.specs.Ordering.{nat_cmp}
 use Rattle.std.specs.FinMap.{get, contains_key}
 use Rattle.std.specs.FinSet.{FinSet, contains}
-use Rattle.std.proofs.lemmas.Bool.{cases_lt, lt-ltb}
+use Rattle.std.proofs.lemmas.Bool.{cases_lt, lt-ltb, and_left}
 use Rattle.mig_base.specs.declared.TheConstants.{HIGH, HIGH_PAGE}
 use Rattle.mig_base.specs.declared.command.Errno.TheVariants.{Enomem}
 use Rattle.mig_base.specs.declared.command.Command.{Command}
@@ -99,10 +99,6 @@ pairs_called space owed _ _ call sound is pairs page origin h = pairs page origi
 abbrev pub HasNone : FinSet nat_cmp → Type 0
 HasNone set = (page : ℕ) → contains set page ≡ false
 
-still_none : (c m : Bool) → m ≡ false → (m && not c) ≡ false
-still_none c true h = none_absurd (sym h)
-still_none c false h = refl
-
 none_moved : (low new old from m1 m2 mg : Bool) → m1 ≡ false → m2 ≡ false → mg ≡ false → (low && cond new (cond old m1 mg) (not from && m2)) ≡ false
 none_moved false new old from m1 m2 mg a b c = refl
 none_moved true true true from m1 m2 mg a b c = a
@@ -111,7 +107,7 @@ none_moved true false old true m1 m2 mg a b c = refl
 none_moved true false old false m1 m2 mg a b c = b
 
 none-without : (set : Set) (first count : ℕ) → HasNone set → HasNone (without set first count)
-none-without set first count none page = member_without set first count page ∙ still_none (in_range first count page) (contains set page) (none page)
+none-without set first count none page = member_without set first count page ∙ and_left (contains set page) (not (in_range first count page)) (none page)
 
 none-moved : (set : Set) (from count to new_count : ℕ) (growth : Bool) → growth ≡ false → HasNone set → HasNone (moved_set set from count to new_count growth)
 none-moved set from count to new_count growth never none page =

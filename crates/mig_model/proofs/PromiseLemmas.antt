@@ -1,5 +1,5 @@
 -- The promises of the whole migration from what every world of it keeps.
-use Rattle.std.proofs.Common.{◌≡◌, ℕ, ◌≤◌, ◌||◌, Bool, true, false, cond, ltb, Option, Some, None, List, [], ◌∷◌, refl, sym, ap, ◌∙◌, subst, arith}
+use Rattle.std.proofs.Common.{◌≡◌, ℕ, ◌≤◌, ◌||◌, Bool, true, false, cond, ltb, Option, Some, None, List, refl, sym, ap, ◌∙◌, subst, arith}
 use Rattle.std.specs.Option.{option_and_then}
 use Rattle.std.specs.Ordering.{nat_cmp}
 use Rattle.std.specs.FinMap.{FinMap, get, get-empty}
@@ -11,44 +11,22 @@ use Rattle.mig_base.specs.declared.phase.DestPhase.{DestPhase}
 use Rattle.mig_base.specs.declared.phase.Received.{Received}
 use Rattle.mig_base.specs.declared.phase.SourcePhase.{SourcePhase}
 use Rattle.mig_base.specs.declared.TheConstants.{HIGH_PAGE}
-use Rattle.mig_base.specs.declared.message.Message.{Message}
-use Rattle.mig_base.specs.declared.message.Message.TheVariants.{PageFault, Remap, Remove, Unmap}
 use Rattle.mig_base.specs.Pages.{map_below}
 use Rattle.mig_base.proofs.PageLemmas.{same_pages, get-map_below}
 use Rattle.mig_model.specs.Host.{Host, memory, IsSound}
-use Rattle.mig_model.specs.Userfault.{Noted}
 use Rattle.mig_model.specs.Guest.{Fault, is_present}
 use Rattle.mig_model.specs.Guest.Act.{Zeroed}
-use Rattle.mig_model.specs.Migration.{World, runs, start}
+use Rattle.mig_model.specs.Migration.{World, runs}
 use Rattle.mig_model.specs.Invariant.{IsSoundWorld, IsPrecopying, IsSwitching, IsReceiving, RanAt, seen_bytes, seen_host, current_by, copies_of, has_copy, is_urgent_or_left, AreSoundUrgent}
 use Rattle.mig_model.specs.Promises.{IsComplete, IsAlone, ArePaired, AreUnderWay}
 use Rattle.mig_model.proofs.Stopping.{in_phases}
-use Rattle.mig_model.proofs.SettledLemmas.{IsOneToOne-settled, values-settled}
+use Rattle.mig_model.proofs.SettledLemmas.{IsOneToOne-settled, values-settled, none-settled}
 use Rattle.mig_model.specs.Log.{present}
-use Rattle.mig_model.specs.Owed.{owed_after, settled_by}
 use Rattle.mig_model.specs.Source.{is_precopy, is_released, is_source_paused, is_stopped, released, source_act, source_act_by, space_of}
 use Rattle.mig_model.specs.Destination.{destination_act, destination_act_by, is_running, settled}
 use Rattle.mig_model.proofs.Facts.{none_absurd}
 
 -- A table without pairs
-
-cond_none : {A : Type 0} (b : Bool) (o : Option A) → o ≡ None → cond b None o ≡ None
-cond_none true o h = refl
-cond_none false o h = h
-
-both_none : {A : Type 0} (b : Bool) (x y : Option A) → x ≡ None → y ≡ None → cond b x y ≡ None
-both_none true x y hx hy = hx
-both_none false x y hx hy = hy
-
-none_after : (message : Message) (owed : ℕ → Option ℕ) → ((page : ℕ) → owed page ≡ None) → (page : ℕ) → owed_after message owed page ≡ None
-none_after (Remap from to len) owed none page = both_none _ _ _ (none _) (cond_none _ (owed page) (none page))
-none_after (Remove start end) owed none page = cond_none _ (owed page) (none page)
-none_after (Unmap start end) owed none page = cond_none _ (owed page) (none page)
-none_after (PageFault addr write wp tid) owed none page = none page
-
-settled_none : (events : List Noted) (owed : ℕ → Option ℕ) → ((page : ℕ) → owed page ≡ None) → (page : ℕ) → settled_by events owed page ≡ None
-settled_none [] owed none page = none page
-settled_none (noted ∷ events) owed none page = settled_none events (owed_after noted.message owed) (none_after noted.message owed none) page
 
 own_bytes : (o : Option (List ℕ)) (there : FinMap nat_cmp (List ℕ)) (owed : Option ℕ) → owed ≡ None → (elim o [ Some bytes ↦ Some bytes | None ↦ option_and_then (get there) owed ]) ≡ o
 own_bytes None there owed h = ap (option_and_then (get there)) h
@@ -93,7 +71,7 @@ complete_in SourcePhase.Released world released kept =
     let ran = told.1 in
     let empty_now = kept.owing.ended_empty told.0 in
     let none_owed = λ (page : ℕ). ap (λ m. get m page) empty_now.0 ∙ get-empty nat_cmp page in
-    let none = settled_none world.destination.guest.space.object.events (get world.destination.owed) none_owed in
+    let none = none-settled world.destination.guest.space.object.events (get world.destination.owed) none_owed in
     let host = world.destination.guest.space.host in
     let there = world.source.guest.space.host in
     record {

@@ -38,9 +38,9 @@ filled false cell o p h = h
 same_fill : (m n : Memory) (start len : ℕ) (cell : Cell) → is_mapped m ≡ is_mapped n → is_mapped (fill m start len cell) ≡ is_mapped (fill n start len cell)
 same_fill m n start len cell h = λ i addr. (filled (in_range start len addr) cell (m addr) (n addr) (ap (λ f. f addr) h)) i
 
-mapped_written : (o : Option Cell) (byte : ℕ) → is_some (written o byte) ≡ is_some o
-mapped_written None byte = refl
-mapped_written (Some cell) byte = refl
+pub is_some-written : (o : Option Cell) (byte : ℕ) → is_some (written o byte) ≡ is_some o
+is_some-written None byte = refl
+is_some-written (Some cell) byte = refl
 
 moved_one : (new old from : Bool) (a b c p q r : Option Cell) → is_some a ≡ is_some p → is_some b ≡ is_some q → is_some c ≡ is_some r → is_some (cond new (cond old a b) (cond from None c)) ≡ is_some (cond new (cond old p q) (cond from None r))
 moved_one true true from a b c p q r x y z = x
@@ -53,7 +53,7 @@ same_moved m n old old_size new new_size h =
     λ i addr.
     (moved_one (in_range new new_size addr) (ltb (addr - new) old_size) (in_range old old_size addr) (m (old + (addr - new))) (grown (m old)) (m addr) (n (old + (addr - new))) (grown (n old)) (n addr)
     (ap (λ f. f (old + (addr - new))) h)
-    (mapped_written (m old) 0 ∙ ap (λ f. f old) h ∙ sym (mapped_written (n old) 0))
+    (is_some-written (m old) 0 ∙ ap (λ f. f old) h ∙ sym (is_some-written (n old) 0))
     (ap (λ f. f addr) h)) i
 
 same_exceeds : (m n : Memory) → is_mapped m ≡ is_mapped n → exceeds_limit m ≡ exceeds_limit n

@@ -1,5 +1,5 @@
 -- The destination takes Resume: it goes on where it was, and tells how far that is.
-use Rattle.std.proofs.Common.{◌≡◌, ◌≢◌, ℕ, zero, suc, ◌<◌, ◌≤◌, Bool, true, false, cond, eqb, ltb, Option, Some, None, is_some, List, [], ◌∷◌, map, refl, sym, ap, ◌∙◌, ◌⊎◌, inl, inr, ⊎_elim, subst, arith, length}
+use Rattle.std.proofs.Common.{◌≡◌, ◌≢◌, ℕ, ◌<◌, ◌≤◌, Bool, true, false, eqb, ltb, Option, Some, None, is_some, List, [], ◌∷◌, map, refl, sym, ap, ◌∙◌, subst, arith, length}
 use Rattle.std.specs.Ordering.{nat_cmp}
 use Rattle.std.specs.FinMap as finmap
 use Rattle.std.specs.FinMap.{FinMap, get, contains_key, get-empty}
@@ -11,8 +11,7 @@ use Rattle.mig_base.specs.declared.phase.DestPhase.{DestPhase}
 use Rattle.mig_base.specs.declared.phase.Received.{Received}
 use Rattle.mig_base.specs.declared.phase.SourcePhase.{SourcePhase}
 use Rattle.mig_base.specs.declared.TheConstants.{HIGH_PAGE}
-use Rattle.mig_base.specs.Ranges.{least_below}
-use Rattle.mig_base.proofs.RangeLemmas.{least_below_tells}
+use Rattle.mig_base.proofs.RangeLemmas.{least_below-some}
 use Rattle.mig_base.proofs.SetLemmas.{member_below}
 use Rattle.mig_model.specs.Host.{Host, IsSound}
 use Rattle.mig_model.specs.Wire.{Frame, Sent, sending}
@@ -25,24 +24,9 @@ use Rattle.mig_model.specs.Log.{no_pages}
 use Rattle.mig_model.specs.Owed.{home, origins, owes_to}
 use Rattle.mig_model.proofs.HeldLemmas.{fits-more, fits-none}
 use Rattle.mig_model.proofs.Facts.{and_second, eqb-self}
+use Rattle.mig_model.proofs.SettledLemmas.{home_tells}
 
 -- The pages that are still needed
-
-at_or_below : (k bound : ℕ) → k < suc bound → (k ≡ bound) ⊎ (k < bound)
-at_or_below k bound l = grind (arith, nat_tests)
-
-least_or : (o : Option ℕ) (test : Bool) (bound : ℕ) → (test ≡ true) ⊎ (is_some o ≡ true) → is_some (elim o [ Some least ↦ Some least | None ↦ cond test (Some bound) None ]) ≡ true
-least_or (Some least) test bound h = refl
-least_or None true bound h = refl
-least_or None false bound h = ⊎_elim (λ e. absurd (false≢true e)) (λ e. absurd (false≢true e)) h
-
--- a number that passes is found, or a lesser one
-pub least_below-some : (test : ℕ → Bool) (bound k : ℕ) → k < bound → test k ≡ true → is_some (least_below test bound) ≡ true
-unfolding least_below
-least_below-some test zero k l h = absurd (omega arith)
-least_below-some test (suc bound) k l h =
-    least_or (least_below test bound) (test bound) bound
-    (⊎_elim (λ (e : k ≡ bound). inl (ap test (sym e) ∙ h)) (λ (m : k < bound). inr (least_below-some test bound k m h)) (at_or_below k bound l))
 
 pub owes_to-pair : (owed : FinMap nat_cmp ℕ) (page origin : ℕ) → get owed page ≡ Some origin → owes_to owed origin page ≡ true
 owes_to-pair owed page origin h = ap (λ o. elim o [ None ↦ false | Some x ↦ eqb x origin ]) h ∙ eqb-self origin
@@ -53,9 +37,6 @@ pair_by (Some x) origin h = ap (λ n. Some n) (eqb-true x origin h)
 
 pub pair-owes_to : (owed : FinMap nat_cmp ℕ) (page origin : ℕ) → owes_to owed origin page ≡ true → get owed page ≡ Some origin
 pair-owes_to owed page origin h = pair_by (get owed page) origin h
-
-pub home_tells : (owed : FinMap nat_cmp ℕ) (page origin : ℕ) → home owed origin ≡ Some page → get owed page ≡ Some origin
-home_tells owed page origin h = pair-owes_to owed page origin (least_below_tells (owes_to owed origin) HIGH_PAGE page h)
 
 low_or : (page : ℕ) → (HIGH_PAGE ≤ page → ⊥) → ltb page HIGH_PAGE ≡ true
 low_or page h = grind (arith, nat_tests, h)
@@ -73,7 +54,7 @@ pub pair-origins : (owed : FinMap nat_cmp ℕ) (origin : ℕ) → contains (orig
 pair-origins owed origin h =
     elim (home owed origin) as (λ o. home owed origin ≡ o → (page : ℕ) × (get owed page ≡ Some origin)) [
       | None ↦ λ e. absurd (false≢true (sym (ap is_some e) ∙ and_second (ltb origin HIGH_PAGE) (is_some (home owed origin)) (sym (member_below _ HIGH_PAGE origin) ∙ h)))
-      | Some page ↦ λ e. (page, home_tells owed page origin e)
+      | Some page ↦ λ e. (page, home_tells owed origin page e)
     ] refl
 
 -- The answer

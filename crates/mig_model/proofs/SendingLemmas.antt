@@ -11,8 +11,8 @@ use Rattle.mig_model.specs.Wire.{Frame, Sent, Copy, page_frame, copies_in, kept_
 use Rattle.mig_model.specs.Wire.Frame.{Advise, Page, Zero, Run, Discard, Package, End}
 use Rattle.mig_model.specs.Invariant.{Flow, flow_next, flow_after, copies_of, has_copy, is_package, kept_by, behind, package_in}
 use Rattle.mig_model.specs.Invariant.Flow.{BeforeAdvise, Copies, BeforePackage, Pushed, AfterEnd}
-use Rattle.mig_model.proofs.FrameLemmas.{zero_bytes}
 use Rattle.mig_model.specs.Migration.{next}
+use Rattle.mig_model.proofs.Facts.{zero_bytes}
 
 -- One frame more
 
@@ -42,9 +42,6 @@ has_copy-append (copy ∷ a) b page = ap (λ t. eqb copy.page page || t) (has_co
 
 -- Behind a Package
 
-none_package : (o : Option Frame) (frame : Frame) → None ≡ Some frame → ⊥
-none_package o frame h = cc
-
 -- a wire on which a Package is has the same Package, and the same is kept before it, whatever is put behind
 pub record HasPackage (kept : FinMap nat_cmp (List ℕ)) (wire more : List Sent) : Type 0 where
   pub same : package_in (wire ++ more) ≡ package_in wire
@@ -70,7 +67,7 @@ found_later true frame found o no_here h = absurd (false≢true (sym no_here))
 found_later false frame found o no_here h = h
 
 pub has_package : (kept : FinMap nat_cmp (List ℕ)) (wire more : List Sent) (frame : Frame) → package_in wire ≡ Some frame → HasPackage kept wire more
-has_package kept [] more frame h = absurd (none_package None frame h)
+has_package kept [] more frame h = absurd (none-some frame h)
 has_package kept (sent ∷ wire) more frame h =
     has_package_by (is_package sent.frame) kept sent wire more refl (λ later. has_package (kept_after kept sent.frame) wire more frame (found_later (is_package sent.frame) sent.frame frame (package_in wire) later h))
 

@@ -1,5 +1,5 @@
 -- The owed table and its look-up once events are applied, and the page to which a page of the source is owed.
-use Rattle.std.proofs.Common.{◌≡◌, ℕ, zero, suc, ◌+◌, ◌-◌, ◌/◌, ◌<◌, ◌≤◌, Bool, true, false, cond, eqb, ltb, Option, Some, None, List, [], ◌∷◌, refl, sym, ap, ◌∙◌, ◌⊎◌, ⊎_elim, arith, is_some, if◌then◌else◌}
+use Rattle.std.proofs.Common.{◌≡◌, ℕ, ◌+◌, ◌-◌, ◌/◌, ◌<◌, ◌≤◌, Bool, true, false, eqb, ltb, Option, Some, None, List, [], ◌∷◌, refl, sym, ap, ◌∙◌, ◌⊎◌, ⊎_elim, arith, is_some, if◌then◌else◌}
 use Rattle.std.specs.Ordering.{nat_cmp}
 use Rattle.std.specs.FinMap.{FinMap, get}
 use Rattle.std.proofs.lemmas.Bool.Decides.{nat_tests}
@@ -8,14 +8,14 @@ use Rattle.std.proofs.lemmas.Option.{same_Some, none-some}
 use Rattle.mig_base.specs.declared.TheConstants.{HIGH_PAGE}
 use Rattle.mig_base.specs.declared.message.Message.{Message}
 use Rattle.mig_base.specs.declared.message.Message.TheVariants.{PageFault, Remap, Remove, Unmap}
-use Rattle.mig_base.specs.Ranges.{in_range, least_below}
-use Rattle.mig_base.proofs.RangeLemmas.{least_below_tells, least_below-is}
+use Rattle.mig_base.specs.Ranges.{in_range}
+use Rattle.mig_base.proofs.RangeLemmas.{least_below_tells, least_below-is, least_below-some}
 use Rattle.mig_base.proofs.PageLemmas.{get-remove_range, get-moved_range}
 use Rattle.mig_model.specs.Userfault.{Noted}
 use Rattle.mig_model.specs.Invariant.{IsRight}
 use Rattle.mig_model.specs.Owed.{home, owed_after, owed_table_after, owes_to, settled_by}
 use Rattle.mig_model.specs.Migration.{start}
-use Rattle.mig_model.proofs.Facts.{none_absurd, eqb-self, below_or_at}
+use Rattle.mig_model.proofs.Facts.{none_absurd, eqb-self}
 
 -- no source page has two pages
 abbrev pub IsOneToOne : (ℕ → Option ℕ) → Type 0
@@ -158,25 +158,6 @@ owes_so (Some origin) source h = ap (λ n. eqb n source) (same_Some origin sourc
 
 pub home_tells : (owed : FinMap nat_cmp ℕ) (source page : ℕ) → home owed source ≡ Some page → get owed page ≡ Some source
 home_tells owed source page h = owes_told (get owed page) source (least_below_tells (owes_to owed source) HIGH_PAGE page h)
-
-some_left : (o : Option ℕ) (here : Bool) (bound : ℕ) → is_some o ≡ true → is_some (elim o [ Some least ↦ Some least | None ↦ cond here (Some bound) None ]) ≡ true
-some_left (Some least) here bound h = refl
-some_left None here bound h = none_absurd h
-
-some_here : (o : Option ℕ) (here : Bool) (bound : ℕ) → here ≡ true → is_some (elim o [ Some least ↦ Some least | None ↦ cond here (Some bound) None ]) ≡ true
-some_here (Some least) here bound h = refl
-some_here None true bound h = refl
-some_here None false bound h = none_absurd h
-
--- something is found where something passes
-pub least_below-some : (test : ℕ → Bool) (bound k : ℕ) → k < bound → test k ≡ true → is_some (least_below test bound) ≡ true
-unfolding least_below
-least_below-some test zero k l h = absurd (omega arith)
-least_below-some test (suc bound) k l h =
-    ⊎_elim
-    (λ (below : k < bound). some_left (least_below test bound) (test bound) bound (least_below-some test bound k below h))
-    (λ (at : k ≡ bound). some_here (least_below test bound) (test bound) bound (ap test (sym at) ∙ h))
-    (below_or_at k bound l)
 
 pub home-some : (owed : FinMap nat_cmp ℕ) (source page : ℕ) → page < HIGH_PAGE → get owed page ≡ Some source → is_some (home owed source) ≡ true
 home-some owed source page l h = least_below-some (owes_to owed source) HIGH_PAGE page l (owes_so (get owed page) source h)

@@ -3,7 +3,6 @@ use Rattle.std.proofs.Common.{◌≡◌, ℕ, ◌+◌, ◌-◌, ◌*◌, ◌/◌
 use Rattle.std.specs.Ordering.{nat_cmp}
 use Rattle.std.specs.FinMap.{FinMap, get, contains_key}
 use Rattle.std.specs.FinSet.{FinSet, contains}
-use Rattle.std.proofs.lemmas.Bool.Decides.{nat_tests}
 use Rattle.std.proofs.lemmas.Bool.{false≢true, or_left, and_parts, false_from_ne_true, cases_lt, lt-ltb, or_parts}
 use Rattle.mig_base.specs.declared.TheConstants.{LOW, HIGH, HIGH_PAGE}
 use Rattle.mig_base.specs.declared.command.Errno.TheVariants.{Enomem}
@@ -15,7 +14,7 @@ use Rattle.mig_base.specs.declared.message.Message.TheVariants.{Remap, Unmap}
 use Rattle.mig_base.specs.Ranges.{in_range, lesser, none_below, pages_of, rounded, free_place}
 use Rattle.mig_base.specs.Pages.{remove_range}
 use Rattle.mig_base.specs.Sets.{without, moved_set}
-use Rattle.mig_base.specs.Flat.{is_mapped, has_one_prot, overlaps, reply_of}
+use Rattle.mig_base.specs.Flat.{is_mapped, has_one_prot, reply_of}
 use Rattle.mig_base.proofs.RangeLemmas.{none_below_tells, place_found, four_hold}
 use Rattle.mig_base.proofs.PageLemmas.{get-remove_range, get-moved_range}
 use Rattle.mig_base.proofs.SetLemmas.{member_without, member_below}
@@ -23,11 +22,11 @@ use Rattle.mig_base.proofs.ReplyLemmas.{IsRemapped, found_inside, mremap_told}
 use Rattle.mig_base.proofs.ReplyLemmas.IsWhere.{Shrunk, Grew, Moved, Told}
 use Rattle.mig_model.specs.Host.{Host, memory, host_changed}
 use Rattle.mig_base.specs.Commands.{is_access}
+use Rattle.mig_base.proofs.BoundLemmas.{one_prot_some, apart_of}
 use Rattle.mig_model.specs.Guest.{in_bytes}
 use Rattle.mig_model.specs.Userfault.{Object, is_registered, is_watched}
 use Rattle.mig_model.specs.Space.{Space, IsSoundSpace, told, remap_messages, call_messages, modes_after, protected_after}
 use Rattle.mig_model.proofs.HostLemmas.{is_mapped-memory, memory-none}
-use Rattle.mig_model.proofs.CommandLemmas.{one_prot_some}
 use Rattle.mig_model.proofs.SourceMessages.{tells, tells-append, unmapped_outside, removed_outside, dropped_outside, outside_told, in_bytes-pages, Stays, stays_there, moved_away}
 use Rattle.mig_model.proofs.Facts.{none_absurd, in_range_first, same_or_other, low_or, and_true}
 
@@ -74,10 +73,6 @@ mapped_page host addr size page one low high =
       | None ↦ λ e. absurd (one_prot_some (memory host) addr size (4096 * page - addr) one (omega arith) (memory-none host (addr + (4096 * page - addr)) (ap (get host.areas) at ∙ e)))
       | Some prot ↦ λ e. refl
     ] refl
-
--- two ranges that do not overlap
-apart_of : (a b c d : ℕ) → overlaps a b c d ≡ false → (c + d ≤ a) ⊎ (a + b ≤ c)
-apart_of a b c d h = grind (arith, nat_tests)
 
 not_both : (b : Bool) → b ≡ true → b ≡ false → ⊥
 not_both b is isnt = false≢true (sym isnt ∙ is)

@@ -5,17 +5,15 @@ use Rattle.std.specs.FinMap.{FinMap, get, insert, contains_key}
 use Rattle.std.specs.FinSet.{contains}
 use Rattle.std.proofs.lemmas.Bool.{false≢true, eqb-true, false_from_ne_true, and_from, or_right, or_parts}
 use Rattle.mig_base.specs.declared.cpu_state.CpuState.{CpuState}
-use Rattle.mig_base.specs.declared.command.Entry.{Entry}
 use Rattle.mig_base.specs.declared.command.Command.{Command}
 use Rattle.mig_base.specs.declared.command.Command.TheVariants.{Load, Store, Mmap, Munmap, Mremap, DontNeed}
 use Rattle.mig_base.specs.declared.command.Reply.{Reply}
 use Rattle.mig_base.specs.declared.command.Reply.TheVariants.{Done}
 use Rattle.mig_base.specs.declared.command.Access.{Access}
 use Rattle.mig_base.specs.declared.command.Access.TheVariants.{Answered, Missing, Protected}
-use Rattle.mig_base.specs.Flat.{no_memory, reply_of, after, memory_of, IsFlatRun}
-use Rattle.mig_base.proofs.FlatLemmas.{memory_from-push, IsRunFrom-push}
+use Rattle.mig_base.specs.Flat.{reply_of, memory_of, IsFlatRun}
 use Rattle.mig_base.proofs.SetLemmas.{same_members}
-use Rattle.mig_model.specs.Host.{Host, memory, host_changed, host_after, IsSound}
+use Rattle.mig_model.specs.Host.{Host, memory, host_changed, host_after}
 use Rattle.mig_base.specs.Commands.{is_access}
 use Rattle.mig_model.specs.Userfault.{Object, fault_queued, waits_fault}
 use Rattle.mig_model.specs.Space.{Space, IsSoundSpace, is_made, access_of, accessed_by, called, queued_by, call_messages, modes_after}
@@ -23,7 +21,6 @@ use Rattle.mig_model.specs.Guest.{took_by, tried}
 use Rattle.mig_model.specs.Migration.{World, after_command}
 use Rattle.mig_model.specs.Invariant.{IsSoundWorld, AreRight, is_unread}
 use Rattle.mig_model.proofs.HostLemmas.{get-put}
-use Rattle.mig_model.proofs.CommandLemmas.{memory-changed}
 use Rattle.mig_model.proofs.SpaceLemmas.{IsSoundSpace-accessed, IsSoundSpace-called, access_reply}
 use Rattle.mig_model.proofs.SourceKept.{source_holds, IsChanged, changed}
 use Rattle.mig_model.proofs.SourceMessages.{noted_all, events_queued, tells, is_unread-append, AreRight-append}
@@ -33,20 +30,7 @@ use Rattle.mig_model.proofs.SourceTests.{append_nil}
 use Rattle.mig_model.specs.Cpus.{access_took, call_took, entries_of}
 use Rattle.mig_model.specs.Source.{space_of}
 use Rattle.mig_model.proofs.Facts.{none_absurd, queued_missing, queued_protect, entered_once, modes_events, some_either}
-
--- The transcript
-
-abbrev entry_of : Host → ℕ → Command → Entry
-entry_of host cpu command = record { cpu = cpu; command = command; reply = reply_of (memory host) command }
-
-flat_entered : (host : Host) (transcript : List Entry) (cpu : ℕ) (command : Command) → memory host ≡ memory_of transcript → IsFlatRun transcript → IsFlatRun (transcript ++ entry_of host cpu command ∷ [])
-flat_entered host transcript cpu command holds flat = IsRunFrom-push no_memory transcript (entry_of host cpu command) flat (ap (λ m. reply_of m command) holds)
-
-holds_entered : (host : Host) (transcript : List Entry) (cpu : ℕ) (command : Command) → IsSound host → memory host ≡ memory_of transcript → memory (host_after host command) ≡ memory_of (transcript ++ entry_of host cpu command ∷ [])
-holds_entered host transcript cpu command sound holds =
-    memory-changed host command (reply_of (memory host) command) sound refl
-    ∙ ap (λ m. after m command) holds
-    ∙ sym (memory_from-push no_memory transcript (entry_of host cpu command))
+use Rattle.mig_model.proofs.WorldLemmas.{entry_of, flat_after, holds_after}
 
 -- Loads and stores that are answered
 
@@ -104,8 +88,8 @@ answered_changed world cpu command reply processors kept bare unswitched access 
     let entered : (world.transcript ++ entry_of space.host cpu command ∷ []) ≡ (world.transcript ++ record { cpu = cpu; command = command; reply = reply } ∷ []) =
     ap (λ r. world.transcript ++ record { cpu = cpu; command = command; reply = r } ∷ []) (sym same) in
     record {
-      flat = subst IsFlatRun entered (flat_entered space.host world.transcript cpu command holds kept.memory.flat);
-      holds = holds_entered space.host world.transcript cpu command sound.host holds ∙ ap memory_of entered;
+      flat = subst IsFlatRun entered (flat_after space.host world.transcript cpu command holds kept.memory.flat);
+      holds = holds_after space.host world.transcript cpu command sound.host holds ∙ ap memory_of entered;
       space = subst (λ a. IsSoundSpace (accessed_by a space cpu command)) answered (IsSoundSpace-accessed space cpu command access sound);
       modes = kept.spaces.both_modes;
       events = kept.spaces.source_events;
@@ -186,8 +170,8 @@ call_changed world cpu command processors kept bare unswitched call =
     let registered = λ (page : ℕ) (h : contains space.object.protect page ≡ true). or_right (contains space.object.missing page) (contains space.object.protect page) h in
     let same = λ (page : ℕ) (h : contains space.object.protect page ≡ true) (u : is_unread new.object.events page ≡ false). untouched space command reply page sound call refl (registered page h) (unread page u).1 in
     record {
-      flat = subst IsFlatRun entered (flat_entered space.host world.transcript cpu command holds kept.memory.flat);
-      holds = holds_entered space.host world.transcript cpu command sound.host holds ∙ ap memory_of entered;
+      flat = subst IsFlatRun entered (flat_after space.host world.transcript cpu command holds kept.memory.flat);
+      holds = holds_after space.host world.transcript cpu command sound.host holds ∙ ap memory_of entered;
       space = IsSoundSpace-called space cpu command call sound;
       modes = λ page. ap (λ s. contains s page) (missing ∙ modes_same space.object command reply both ∙ sym protect);
       events = subst AreRight (sym events) (AreRight-append space.object.events messages cpu kept.spaces.source_events (right_messages space.host space.object command reply sound.host refl));

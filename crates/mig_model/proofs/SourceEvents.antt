@@ -22,10 +22,10 @@ use Rattle.mig_model.specs.Host.{Host, IsSound, memory}
 use Rattle.mig_model.specs.Userfault.{Object, is_registered, is_watched}
 use Rattle.mig_model.specs.Space.{told, remap_messages, call_messages, modes_after}
 use Rattle.mig_model.proofs.CommandLemmas.{remapped_place}
-use Rattle.mig_model.proofs.SourceMessages.{AllRight, AllRight-append, told_right}
 use Rattle.mig_model.proofs.SourceCalls.{moved_apart}
 use Rattle.mig_model.proofs.SourceTests.{lesser_is}
 use Rattle.mig_model.proofs.Facts.{none_absurd, lesser_right, whole_page, lesser_left}
+use Rattle.mig_model.proofs.SettledCalls.{AllRight, right-append, right-told}
 
 -- Right messages
 
@@ -51,16 +51,16 @@ right_remap host object addr old_len new_len target may_move fixed sound is =
     let fewer = lesser_right count new_count in
     let length : 4096 * lesser count new_count / 4096 ≡ lesser count new_count = omega arith in
     let inside : target / 4096 + lesser count new_count ≤ HIGH_PAGE = omega (arith, high, fewer) in
-    AllRight-append
+    right-append
     (told (not (eqb (target / 4096) (addr / 4096)) && is_watched object (target / 4096) new_count) (Unmap target (target + 4096 * new_count))
     ++ told (ltb new_count count && is_watched object (addr / 4096 + new_count) (count - new_count)) (Unmap (addr + 4096 * new_count) (addr + 4096 * count)))
     (told (not (eqb (target / 4096) (addr / 4096)) && is_watched object (addr / 4096) (lesser count new_count)) (Remap addr target (4096 * lesser count new_count)))
-    (AllRight-append
+    (right-append
     (told (not (eqb (target / 4096) (addr / 4096)) && is_watched object (target / 4096) new_count) (Unmap target (target + 4096 * new_count)))
     (told (ltb new_count count && is_watched object (addr / 4096 + new_count) (count - new_count)) (Unmap (addr + 4096 * new_count) (addr + 4096 * count)))
-    (told_right _ _ (λ h. (start, whole_page target new_count start)))
-    (told_right _ _ (λ h. (whole_page addr new_count whole, whole_page addr count whole))))
-    (told_right _ _ (λ h. (
+    (right-told _ _ (λ h. (start, whole_page target new_count start)))
+    (right-told _ _ (λ h. (whole_page addr new_count whole, whole_page addr count whole))))
+    (right-told _ _ (λ h. (
       whole,
       start,
       whole_times (lesser count new_count),
@@ -70,11 +70,11 @@ right_remap host object addr old_len new_len target may_move fixed sound is =
     )))
 
 pub right_messages : (host : Host) (object : Object) (command : Command) (reply : Reply) → IsSound host → reply ≡ reply_of (memory host) command → AllRight (call_messages object command reply)
-right_messages host object (Mmap len prot place) (At start) sound is = told_right _ _ (λ h. let inside = mmap_inside (memory host) len prot place start is in (inside.whole, whole_page start (pages_of len) inside.whole))
-right_messages host object (Munmap addr len) Done sound is = told_right _ _ (λ h. let whole = munmap_whole addr len is in (whole, whole_page addr (pages_of len) whole))
+right_messages host object (Mmap len prot place) (At start) sound is = right-told _ _ (λ h. let inside = mmap_inside (memory host) len prot place start is in (inside.whole, whole_page start (pages_of len) inside.whole))
+right_messages host object (Munmap addr len) Done sound is = right-told _ _ (λ h. let whole = munmap_whole addr len is in (whole, whole_page addr (pages_of len) whole))
 right_messages host object (Mremap addr old_len new_len may_move fixed) (At target) sound is = right_remap host object addr old_len new_len target may_move fixed sound is
-right_messages host object (DontNeed addr len) Done sound is = told_right _ _ (λ h. let whole = dontneed_done (memory host) addr len is in (whole, whole_page addr (pages_of len) whole))
-right_messages host object (DontNeed addr len) (Refused Enomem) sound is = told_right _ _ (λ h. let whole = dontneed_hole (memory host) addr len is in (whole, whole_lesser addr (pages_of len) whole))
+right_messages host object (DontNeed addr len) Done sound is = right-told _ _ (λ h. let whole = dontneed_done (memory host) addr len is in (whole, whole_page addr (pages_of len) whole))
+right_messages host object (DontNeed addr len) (Refused Enomem) sound is = right-told _ _ (λ h. let whole = dontneed_hole (memory host) addr len is in (whole, whole_lesser addr (pages_of len) whole))
 right_messages host object _ _ sound is = tt
 
 -- Nothing is told where nothing is registered
@@ -85,7 +85,7 @@ IsUnregistered object = (page : ℕ) → is_registered object page ≡ false
 unwatched : (object : Object) (first count : ℕ) → IsUnregistered object → is_watched object first count ≡ false
 unwatched object first count none = ap not (none_below-from (λ i. is_registered object (first + i)) count (λ i l. none (first + i)))
 
-untold : (reason : Bool) (message : Message) → reason ≡ false → told reason message ≡ []
+pub untold : (reason : Bool) (message : Message) → reason ≡ false → told reason message ≡ []
 untold true message h = none_absurd (sym h)
 untold false message h = refl
 

@@ -14,6 +14,7 @@ use Rattle.mig_base.specs.Bytes.{zero_page}
 use Rattle.mig_base.specs.Ranges.{in_range}
 use Rattle.mig_base.proofs.ByteLemmas.{length-zero_page}
 use Rattle.mig_base.proofs.SetLemmas.{member_below, member_removed}
+use Rattle.mig_base.proofs.TestLemmas.{missing_none}
 use Rattle.mig_model.specs.Userfault.{Noted, Object, is_registered, next_of, next_message, read_by, message_read}
 use Rattle.mig_model.specs.Space.{Space, IsSoundSpace}
 use Rattle.mig_model.specs.Ioctls.{protected_in}
@@ -24,7 +25,7 @@ use Rattle.mig_model.specs.Invariant.{IsSoundWorld, AreRight, is_unread}
 use Rattle.mig_model.proofs.IoctlLemmas.{IsSoundSpace-read, IsSoundSpace-protected, IsSoundSpace-installed, CanPut}
 use Rattle.mig_model.proofs.SourceKept.{source_holds, IsChanged, changed}
 use Rattle.mig_model.proofs.SourceCalls.{registered_below}
-use Rattle.mig_model.proofs.SourceZeros.{memory_zeroed, missing_none, more_present, elsewhere}
+use Rattle.mig_model.proofs.SourceZeros.{memory_zeroed, more_present, elsewhere}
 use Rattle.mig_model.proofs.SourceTests.{in_one_is}
 use Rattle.mig_model.specs.Log.{present, unchanged}
 use Rattle.mig_model.specs.Source.{is_source_idle, source_act, source_act_by, source_acted_by, space_of}

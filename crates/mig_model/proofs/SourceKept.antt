@@ -3,7 +3,7 @@ use Rattle.std.proofs.Common.{◌≡◌, ◌≢◌, ℕ, ◌≤◌, Bool, true, 
 use Rattle.std.specs.Ordering.{nat_cmp}
 use Rattle.std.specs.FinMap as finmap
 use Rattle.std.specs.FinMap.{FinMap, get, get-empty}
-use Rattle.std.specs.FinSet.{FinSet, contains, contains-empty}
+use Rattle.std.specs.FinSet.{FinSet, contains}
 use Rattle.mig_base.specs.declared.phase.DestPhase.{DestPhase}
 use Rattle.mig_base.specs.declared.phase.SourcePhase.{SourcePhase}
 use Rattle.mig_base.specs.declared.command.Entry.{Entry}
@@ -18,12 +18,10 @@ use Rattle.mig_model.specs.Log.{no_pages}
 use Rattle.mig_model.specs.Source.{Source, space_of}
 use Rattle.mig_model.specs.Destination.{Destination, settled}
 use Rattle.mig_model.proofs.Facts.{none_absurd}
-
-pub no_page : (page : ℕ) → contains no_pages page ≡ false
-no_page page = contains-empty nat_cmp page
+use Rattle.mig_model.proofs.SpaceLemmas.{no_member}
 
 pub no_page_absurd : {A : Type 0} (set : FinSet nat_cmp) (page : ℕ) → set ≡ no_pages → contains set page ≡ true → A
-no_page_absurd set page none h = none_absurd (sym (ap (λ s. contains s page) none ∙ no_page page) ∙ h)
+no_page_absurd set page none h = none_absurd (sym (ap (λ s. contains s page) none ∙ no_member page) ∙ h)
 
 -- A world whose source, forward wire and transcript have changed before the switch
 

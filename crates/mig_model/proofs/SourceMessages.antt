@@ -10,9 +10,10 @@ use Rattle.mig_base.proofs.RangeLemmas.{none_below_tells}
 use Rattle.mig_model.specs.Userfault.{Noted, Object, is_registered, event_queued, is_watched}
 use Rattle.mig_model.specs.Guest.{is_changed_by, in_bytes}
 use Rattle.mig_model.specs.Space.{told, all_queued}
-use Rattle.mig_model.specs.Invariant.{is_unread, IsRight, AreRight}
+use Rattle.mig_model.specs.Invariant.{is_unread, AreRight}
 use Rattle.mig_model.proofs.SourceTests.{append_nil, lesser_is}
 use Rattle.mig_model.specs.Migration.{start}
+use Rattle.mig_model.proofs.SettledCalls.{AllRight}
 use Rattle.mig_model.proofs.Facts.{none_absurd, in_range_first, or_assoc}
 
 -- Messages and the events that they become
@@ -41,22 +42,10 @@ pub tells-append : (a b : List Message) (page : ℕ) → tells (a ++ b) page ≡
 tells-append [] b page = refl
 tells-append (message ∷ a) b page = ap (λ t. is_changed_by message page || t) (tells-append a b page) ∙ or_assoc (is_changed_by message page) (tells a page) (tells b page)
 
-abbrev pub AllRight : List Message → Type 0
-AllRight [] = Unit {0}
-AllRight (message ∷ messages) = IsRight message × AllRight messages
-
 pub AreRight-append : (events : List Noted) (messages : List Message) (cpu : ℕ) → AreRight events → AllRight messages → AreRight (events ++ noted_all messages cpu)
 AreRight-append [] [] cpu old new = tt
 AreRight-append [] (message ∷ messages) cpu old new = (new.0, AreRight-append [] messages cpu tt new.1)
 AreRight-append (noted ∷ events) messages cpu old new = (old.0, AreRight-append events messages cpu old.1 new)
-
-pub AllRight-append : (a b : List Message) → AllRight a → AllRight b → AllRight (a ++ b)
-AllRight-append [] b one two = two
-AllRight-append (message ∷ a) b one two = (one.0, AllRight-append a b one.1 two)
-
-pub told_right : (reason : Bool) (message : Message) → (reason ≡ true → IsRight message) → AllRight (told reason message)
-told_right true message right = (right refl, tt)
-told_right false message right = tt
 
 -- A message is told where a page of its range was registered
 

@@ -30,7 +30,7 @@ use Rattle.mig_model.specs.Log.{no_pages}
 use Rattle.mig_model.specs.Source.{Source, all_registered, for_both, is_precopy, is_source_idle, not_clean, source_started, space_of}
 use Rattle.mig_model.specs.Destination.{Destination}
 use Rattle.mig_model.proofs.HeldLemmas.{fits-more}
-use Rattle.mig_model.proofs.Facts.{none_absurd, low_or, member_not_clean, and_true}
+use Rattle.mig_model.proofs.Facts.{none_absurd, low_or, and_true, owed_is_present}
 
 -- The source makes rounds of pre-copy
 
@@ -94,7 +94,7 @@ round_changed world kept precopy unswitched =
       idle = λ h. never_idle world.source.phase precopy h;
       protected = λ page h u. still_protected space page sound (kept.precopy.clean_protected unswitched page h u);
       sendable = λ page h u.
-          let here = member_not_clean world.source page h in
+          let here = owed_is_present world.source page h in
           (here, mapped_registered space page sound (present_mapped space page sound here));
       copies = λ page h u. (h, u, refl);
     }

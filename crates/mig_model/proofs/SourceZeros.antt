@@ -16,7 +16,7 @@ use Rattle.mig_model.proofs.HostLemmas.{same_memory, memory-at}
 use Rattle.mig_model.proofs.IoctlLemmas.{get-put_pages}
 use Rattle.mig_model.proofs.SourceTests.{in_one_is}
 use Rattle.mig_model.specs.Log.{present}
-use Rattle.mig_model.proofs.Facts.{none_absurd, some_either}
+use Rattle.mig_model.proofs.Facts.{some_either}
 
 zero_bytes : (here : Bool) (o : Option (List ℕ)) (i : ℕ) → (here ≡ true → o ≡ None) → get_or (unwrap_or (cond here (Some zero_page) o) []) i 0 ≡ get_or (unwrap_or o []) i 0
 zero_bytes true o i h = get_or-zero_page i ∙ sym (ap (λ p. get_or (unwrap_or p []) i 0) (h refl))
@@ -36,10 +36,6 @@ memory_zeroed host page none =
     (ap (λ o. get_or (unwrap_or o []) (addr % 4096) 0) (get-put_pages host.bytes page 1 (addr / 4096) (λ i. zero_page))
     ∙ zero_bytes (in_range page 1 (addr / 4096)) (get host.bytes (addr / 4096)) (addr % 4096) (λ here. ap (get host.bytes) (in_one_is page (addr / 4096) here) ∙ none))
     ∙ sym (memory-at host addr))
-
-pub missing_none : {X : Type 0} (o : Option X) → is_some o ≡ false → o ≡ None
-missing_none None h = refl
-missing_none (Some x) h = none_absurd (sym h)
 
 pub more_present : (space : Space) (page q : ℕ) → is_present space q ≡ true → is_present (zero_installed space page) q ≡ true
 more_present space page q h = ap is_some (get-put_pages space.host.bytes page 1 q (λ i. zero_page)) ∙ some_either (in_range page 1 q) zero_page (get space.host.bytes q) h

@@ -22,10 +22,11 @@ use Rattle.mig_base.proofs.SetLemmas.{member_without, member_below}
 use Rattle.mig_base.proofs.ReplyLemmas.{IsRemapped, mremap_told}
 use Rattle.mig_model.specs.Host.{Host, memory, host_changed, host_after, IsSound}
 use Rattle.mig_base.specs.Commands.{is_access}
+use Rattle.mig_base.proofs.BoundLemmas.{one_prot_some}
 use Rattle.mig_model.specs.Userfault.{Object, Mode, mode_at, fault_queued, waits_fault}
 use Rattle.mig_model.specs.Space.{Space, fresh_space, IsSoundSpace, access_of, accessed_by, accessed, called, modes_after, protected_after, call_messages}
 use Rattle.mig_model.proofs.HostLemmas.{IsSound-empty, memory-none, get-put}
-use Rattle.mig_model.proofs.CommandLemmas.{IsSound-changed, one_prot_some}
+use Rattle.mig_model.proofs.CommandLemmas.{IsSound-changed}
 use Rattle.mig_model.proofs.Facts.{none_absurd, queued_missing, queued_protect, answered_as, some_either}
 
 abbrev PageMap : Type 0 → Type 0
@@ -254,7 +255,7 @@ accessed_sound Protected space cpu command is sound = faulted_sound space _ _ _ 
 pub IsSoundSpace-accessed : (space : Space) (cpu : ℕ) (command : Command) → is_access command ≡ true → IsSoundSpace space → IsSoundSpace (accessed space cpu command)
 IsSoundSpace-accessed space cpu command is sound = accessed_sound (access_of space command) space cpu command is sound
 
-no_member : (page : ℕ) → contains {R = nat_cmp} empty page ≡ false
+pub no_member : (page : ℕ) → contains {R = nat_cmp} empty page ≡ false
 no_member page = contains-empty nat_cmp page
 
 none_registered : (a b : Bool) → a ≡ false → b ≡ false → (a || b) ≡ true → ⊥

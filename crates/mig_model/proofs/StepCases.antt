@@ -1,5 +1,5 @@
 -- Each step that is not refused: what its tests tell, and what it makes. A fact about every step is one answer for each of these.
-use Rattle.std.proofs.Common.{◌≡◌, ℕ, ◌&&◌, ◌||◌, Bool, true, false, not, eqb, Option, Some, None, is_some, List, [], ◌∷◌, refl, sym, ◌+◌, ◌*◌}
+use Rattle.std.proofs.Common.{◌≡◌, ℕ, ◌&&◌, ◌||◌, Bool, true, false, not, eqb, Option, Some, None, List, [], ◌∷◌, refl, sym, ◌+◌, ◌*◌}
 use Rattle.std.specs.FinSet as finset
 use Rattle.std.specs.FinSet.{contains}
 use Rattle.std.proofs.lemmas.Bool.{false≢true, not-false, and_parts, or_parts}
@@ -12,6 +12,7 @@ use Rattle.mig_base.specs.declared.schedule.Ticket.{Ticket}
 use Rattle.mig_base.specs.Sets.{run_length}
 use Rattle.mig_base.specs.Tests.{is_empty}
 use Rattle.mig_base.specs.Commands.{is_access}
+use Rattle.mig_base.proofs.TestLemmas.{missing_none}
 use Rattle.mig_model.specs.Userfault.{Noted, next_message}
 use Rattle.mig_model.specs.Guest.{Fault, is_present, took_by}
 use Rattle.mig_model.specs.Wire.{Sent, Copy}
@@ -24,10 +25,6 @@ use Rattle.mig_model.specs.Source.{bytes_of, is_precopy, is_released, is_source_
 use Rattle.mig_model.specs.Destination.{destination_act, is_dest_paused}
 
 -- Tests
-
-none_empty : {A : Type 0} (o : Option A) → is_some o ≡ false → o ≡ None
-none_empty None h = refl
-none_empty (Some x) h = absurd (false≢true (sym h))
 
 -- the source has started and still runs the processors
 unswitched : (a b : Bool) → not (not a && not b) ≡ false → (a ≡ false) × (b ≡ false)
@@ -139,7 +136,7 @@ pub made-end : (Q : Made → Type 0) (world : World) → (is_stopped world.sourc
 made-end Q world h =
     holds-unless Q _ _ (λ t.
     let told = or_parts (not (is_stopped world.source.phase)) (eqb world.source.end_epoch world.source.epoch) t.0 in
-    h (not-false _ told.0) told.1 (not-false _ t.1.0) (none_empty (least_of world.source.remaining) t.1.1.0))
+    h (not-false _ told.0) told.1 (not-false _ t.1.0) (missing_none (least_of world.source.remaining) t.1.1.0))
 
 -- Deliveries
 

@@ -1,9 +1,9 @@
 -- Push, Serve and End keep what every world of the whole migration keeps: a stopped source sends.
-use Rattle.std.proofs.Common.{◌≡◌, ◌≢◌, ℕ, zero, suc, ◌<◌, ◌&&◌, ◌||◌, Bool, true, false, cond, not, eqb, Option, Some, None, List, [], ◌∷◌, ◌++◌, refl, sym, ap, ◌∙◌, subst, ◌⊎◌, inl, inr, ⊎_elim, arith, length, is_some, unwrap_or}
+use Rattle.std.proofs.Common.{◌≡◌, ◌≢◌, ℕ, ◌<◌, ◌&&◌, ◌||◌, Bool, true, false, cond, not, eqb, Option, Some, None, List, [], ◌∷◌, ◌++◌, refl, sym, ap, ◌∙◌, subst, ⊎_elim, arith, length, is_some, unwrap_or}
 use Rattle.std.specs.Ordering.{nat_cmp}
 use Rattle.std.specs.FinMap.{FinMap, get}
 use Rattle.std.specs.FinSet as finset
-use Rattle.std.specs.FinSet.{FinSet, contains, contains-empty}
+use Rattle.std.specs.FinSet.{FinSet, contains}
 use Rattle.std.proofs.lemmas.Bool.{false≢true, false_from_ne_true, eq-eqb}
 use Rattle.mig_base.specs.declared.phase.DestPhase.{DestPhase}
 use Rattle.mig_base.specs.declared.phase.SourcePhase.{SourcePhase}
@@ -11,6 +11,7 @@ use Rattle.mig_base.specs.declared.TheConstants.{HIGH_PAGE}
 use Rattle.mig_base.specs.Bytes.{zero_page}
 use Rattle.mig_base.specs.Ranges.{least_below}
 use Rattle.mig_base.proofs.SetLemmas.{member_removed, same_members}
+use Rattle.mig_base.proofs.RangeLemmas.{least_below-some}
 use Rattle.mig_model.specs.Host.{IsSound}
 use Rattle.mig_model.specs.Space.{Space}
 use Rattle.mig_model.specs.Wire.{Sent, Copy, page_frame}
@@ -23,14 +24,12 @@ use Rattle.mig_model.proofs.SendingLemmas.{flow_sent, has_copy-append, has_packa
 use Rattle.mig_model.specs.Log.{least_of, no_pages, present}
 use Rattle.mig_model.specs.Source.{Source, bytes_of, is_stopped, page_pushed, request_served, space_of}
 use Rattle.mig_model.proofs.HeldLemmas.{fits-more}
-use Rattle.mig_model.proofs.Facts.{none_absurd, eqb-self, eqb_other, same_or_other, low_or, copies_of-append, AreWhole-append, AreFaithful-append, AreOf-one, below_or_at}
+use Rattle.mig_model.proofs.Facts.{none_absurd, eqb-self, eqb_other, same_or_other, low_or, copies_of-append, AreWhole-append, AreFaithful-append, AreOf-one}
+use Rattle.mig_model.proofs.SpaceLemmas.{no_member}
 
 -- a world in these phases
 abbrev pub in_phases : SourcePhase → DestPhase → World → World
 in_phases from to world = record world { source = record world.source { phase = from }; destination = record world.destination { phase = to } }
-
-pub no_member : (page : ℕ) → contains no_pages page ≡ false
-no_member page = contains-empty nat_cmp page
 
 -- as long as a page remains End was not sent
 pub not_ended : (source : Source) (page : ℕ) → (source.end_epoch ≡ source.epoch → source.remaining ≡ no_pages) → contains source.remaining page ≡ true → source.end_epoch ≢ source.epoch
@@ -250,27 +249,12 @@ pub append-nil : {A : Type 0} (xs : List A) → xs ++ [] ≡ xs
 append-nil [] = refl
 append-nil (x ∷ xs) = ap (λ l. x ∷ l) (append-nil xs)
 
-found_step : (o : Option ℕ) (here : Bool) (bound : ℕ) → (is_some o ≡ true) ⊎ (here ≡ true) → is_some (elim o [ Some least ↦ Some least | None ↦ cond here (Some bound) None ]) ≡ true
-found_step (Some least) here bound h = refl
-found_step None true bound h = refl
-found_step None false bound h = ⊎_elim (λ e. none_absurd e) (λ e. none_absurd e) h
-
-least_found : (test : ℕ → Bool) (bound q : ℕ) → q < bound → test q ≡ true → is_some (least_below test bound) ≡ true
-unfolding least_below
-least_found test zero q l h = absurd (omega arith)
-least_found test (suc bound) q l h =
-    found_step (least_below test bound) (test bound) bound (⊎_elim (λ below. inl (least_found test bound q below h)) (λ (at : q ≡ bound). inr (ap test (sym at) ∙ h)) (below_or_at q bound l))
-
 -- where a number below the bound passes, one is found
 some_least : (test : ℕ → Bool) (bound q : ℕ) → q < bound → test q ≡ true → least_below test bound ≡ None → ⊥
-some_least test bound q l h none = false≢true (sym (ap is_some none) ∙ least_found test bound q l h)
+some_least test bound q l h none = false≢true (sym (ap is_some none) ∙ least_below-some test bound q l h)
 
 pub present_below : (space : Space) (page : ℕ) → IsSound space.host → is_present space page ≡ true → page < HIGH_PAGE
 present_below space page sound present = low_or (λ past. false≢true (sym (ap is_some (sound.mapped page (sound.bound page past))) ∙ present))
-
-found_some : (o : Option ℕ) → is_some o ≡ false → o ≡ None
-found_some None h = refl
-found_some (Some page) h = none_absurd (sym h)
 
 nothing_remains : (world : World) → IsSoundWorld world → least_of world.source.remaining ≡ None → world.source.remaining ≡ no_pages
 nothing_remains world kept none =

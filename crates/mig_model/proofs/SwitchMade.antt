@@ -11,6 +11,7 @@ use Rattle.mig_base.specs.declared.phase.DestPhase.{DestPhase}
 use Rattle.mig_base.specs.declared.phase.SourcePhase.{SourcePhase}
 use Rattle.mig_base.specs.declared.TheConstants.{HIGH_PAGE}
 use Rattle.mig_base.proofs.SetLemmas.{member_below}
+use Rattle.mig_base.proofs.TestLemmas.{cond_not}
 use Rattle.mig_model.specs.Wire.{Sent, kept_after}
 use Rattle.mig_model.specs.Wire.Frame.{Discard, Package}
 use Rattle.mig_model.specs.Guest.{is_present}
@@ -22,14 +23,10 @@ use Rattle.mig_model.proofs.Stopping.{in_phases, flow_open, append-nil, present_
 use Rattle.mig_model.specs.Log.{less, present}
 use Rattle.mig_model.specs.Source.{Source, commands_of, is_precopy, not_clean, space_of, switch_made, switch_frames}
 use Rattle.mig_model.proofs.HeldLemmas.{fits-more}
-use Rattle.mig_model.proofs.Facts.{none_absurd, and_second, and_left, and_false, missing_none, copies_of-append, AreOf-one, no_event, and_true}
+use Rattle.mig_model.proofs.Facts.{none_absurd, and_false, missing_none, copies_of-append, AreOf-one, no_event, and_true, owed_is_present}
 
 pub member_less : (set other : FinSet nat_cmp) (q : ℕ) → contains (less set other) q ≡ (contains set q && not (contains other q))
 member_less set other q = contains-retain set (λ page. not (contains other page)) q (λ x e. ap (λ k. not (contains other k)) (sym (nat_cmp-IsAntisymmetric q x e)))
-
-cond_not : {A : Type 0} (b : Bool) (x y : A) → cond (not b) x y ≡ cond b y x
-cond_not true x y = refl
-cond_not false x y = refl
 
 pub get-discarded : (kept : FinMap nat_cmp (List ℕ)) (pages : FinSet nat_cmp) (q : ℕ) → get (kept_after kept (Discard pages)) q ≡ cond (contains pages q) None (get kept q)
 get-discarded kept pages q =
@@ -73,9 +70,6 @@ low_true page l = grind (arith, nat_tests)
 
 pub member_not_clean : (source : Source) (page : ℕ) → contains (not_clean source) page ≡ ((ltb page HIGH_PAGE && is_present (space_of source) page) && not (contains source.log.clean page))
 member_not_clean source page = member_less (present (space_of source)) source.log.clean page ∙ ap (λ b. b && not (contains source.log.clean page)) (member_below (λ q. is_present (space_of source) q) HIGH_PAGE page)
-
-owed_is_present : (source : Source) (page : ℕ) → contains (not_clean source) page ≡ true → is_present (space_of source) page ≡ true
-owed_is_present source page h = and_second (ltb page HIGH_PAGE) _ (and_left (ltb page HIGH_PAGE && is_present (space_of source) page) _ (sym (member_not_clean source page) ∙ h))
 
 switching : (flow : Flow) (world : World) → IsSoundWorld world → (space_of world.source).object.events ≡ [] → flow_after flow world.forward.frames ≡ Some Copies → IsPrecopying world.source world.destination.kept world.forward.frames →
     IsSwitching (switch_made world.source) world.destination.kept (switched_wire world.source world.forward.frames) world.urgent.frames

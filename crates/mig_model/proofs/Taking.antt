@@ -17,10 +17,10 @@ use Rattle.mig_model.specs.World.{World}
 use Rattle.mig_model.specs.Kept.{IsKept, IsOnTheWay, AreCopies}
 use Rattle.mig_model.proofs.WorldLemmas.{at_stage}
 
-none_is_first : (wire : List Sent) (sent : Sent) (rest : List Sent) → wire ≡ [] → wire ≡ sent ∷ rest → ⊥
+pub none_is_first : (wire : List Sent) (sent : Sent) (rest : List Sent) → wire ≡ [] → wire ≡ sent ∷ rest → ⊥
 none_is_first wire sent rest none first = cc
 
-same_first : (wire : List Sent) (a b : Sent) (c d : List Sent) → wire ≡ a ∷ c → wire ≡ b ∷ d → a ≡ b
+pub same_first : (wire : List Sent) (a b : Sent) (c d : List Sent) → wire ≡ a ∷ c → wire ≡ b ∷ d → a ≡ b
 same_first wire a b c d p q = cc
 
 -- The wire to the destination

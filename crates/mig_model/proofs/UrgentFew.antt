@@ -28,7 +28,7 @@ use Rattle.mig_model.proofs.Taken.{IsInPlaceBack}
 use Rattle.mig_model.specs.Bounds.{AreUrgentFew, IsUrgentFew}
 use Rattle.mig_model.proofs.Calls.{stopped_switched}
 use Rattle.mig_model.proofs.EveryStep.{kept-next, runs_source}
-use Rattle.mig_model.proofs.Facts.{member_not_clean}
+use Rattle.mig_model.proofs.Facts.{owed_is_present}
 use Rattle.mig_model.proofs.FirstWorld.{kept-first}
 use Rattle.mig_model.proofs.FramesTaken.{is_taken_back}
 use Rattle.mig_model.proofs.PushOrder.{idle_unswitched}
@@ -96,7 +96,7 @@ switch_few world kept precopy h =
     let none = h.before_switch (precopy_unswitched world.source.phase world.source.switched precopy kept.phases.source_phase) in
     record {
       before_switch = λ s. none;
-      few = λ s p. sum_fresh world.source.urgent_sent (len (not_clean world.source)) _ none (few_present (space_of world.source) (not_clean world.source) kept.spaces.source_space.host (λ page m. member_not_clean world.source page m));
+      few = λ s p. sum_fresh world.source.urgent_sent (len (not_clean world.source)) _ none (few_present (space_of world.source) (not_clean world.source) kept.spaces.source_space.host (λ page m. owed_is_present world.source page m));
     }
 
 push_few : (world : World) (page : ℕ) → contains world.source.remaining page ≡ true → AreUrgentFew world →

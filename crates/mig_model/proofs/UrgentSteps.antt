@@ -3,6 +3,7 @@ use Rattle.std.proofs.Common.{◌≡◌, ◌≢◌, ℕ, suc, ◌+◌, ◌||◌,
 use Rattle.std.specs.FinMap.{get}
 use Rattle.std.specs.FinSet.{contains}
 use Rattle.std.proofs.lemmas.Bool.{false≢true}
+use Rattle.std.proofs.lemmas.List.{length_push}
 use Rattle.mig_base.specs.declared.phase.DestPhase.{DestPhase}
 use Rattle.mig_base.specs.declared.phase.SourcePhase.{SourcePhase}
 use Rattle.mig_base.specs.declared.phase.Received.{Received}
@@ -31,7 +32,7 @@ use Rattle.mig_model.proofs.Stopping.{not_ended, present_bytes}
 use Rattle.mig_model.proofs.FirstFrame.{comes, empty_not}
 use Rattle.mig_model.proofs.Delivery.{AllCame}
 use Rattle.mig_model.proofs.SourceRounds.{idle_forward}
-use Rattle.mig_model.proofs.UrgentWire.{are_copies-push, comes_advise, comes_resume, comes_unpaused, idle_not_paused, idle_unstopped, is_copy_page, length-push, none_faithful, none_of_epoch, not_stopped, other_bytes, other_forward, paused_unstopped, placed, precopy_unstopped, stopped_unpaused, told-push, told-sending, told_ended, told_open, told_page, all_came, not_none}
+use Rattle.mig_model.proofs.UrgentWire.{are_copies-push, comes_advise, comes_resume, comes_unpaused, idle_not_paused, idle_unstopped, is_copy_page, none_faithful, none_of_epoch, not_stopped, other_bytes, other_forward, paused_unstopped, placed, precopy_unstopped, stopped_unpaused, told-push, told-sending, told_ended, told_open, told_page, all_came, not_none}
 use Rattle.mig_model.proofs.FramesTaken.{is_taken_back}
 
 pub urgent-first : (cpus epoch rounds : ℕ) → AreSoundUrgent (first_world_with cpus epoch rounds)
@@ -176,7 +177,7 @@ push_urgent_kept world page kept stopped up present remains h =
       stopped = λ s. absurd (false≢true (sym s ∙ stopped));
       down = λ d. absurd (false≢true (sym d ∙ up));
       ended = λ e. absurd (other (ended_told source.phase world.destination.phase source world.destination world.forward.frames world.back.frames world.urgent.frames stopped e (kept.flight.wires up)));
-      counted = λ u p. one_more source.urgent_sent world.destination.urgent_taken (length world.urgent.frames) (length (world.urgent.frames ++ sent ∷ [])) (h.counted u p) (length-push world.urgent.frames sent);
+      counted = λ u p. one_more source.urgent_sent world.destination.urgent_taken (length world.urgent.frames) (length (world.urgent.frames ++ sent ∷ [])) (h.counted u p) (length_push world.urgent.frames sent);
       told = told_open source.epoch source.end_epoch source.urgent_sent (source.urgent_sent + 1) world.forward.frames other h.told;
       fresh = λ u paused. absurd (stopped_unpaused source.phase stopped paused);
       none_taken = h.none_taken;

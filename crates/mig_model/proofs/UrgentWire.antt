@@ -1,9 +1,8 @@
 -- The urgent wire: what each step keeps of it.
-use Rattle.std.proofs.Common.{◌≡◌, ◌≢◌, ℕ, ◌+◌, ◌≤◌, ◌&&◌, Bool, true, false, not, ltb, List, [], ◌∷◌, ◌++◌, refl, sym, ap, ◌∙◌, subst, arith, length, if◌then◌else◌}
+use Rattle.std.proofs.Common.{◌≡◌, ◌≢◌, ℕ, ◌+◌, ◌≤◌, ◌&&◌, Bool, true, false, not, ltb, List, [], ◌∷◌, ◌++◌, refl, sym, ap, ◌∙◌, subst, arith, length, if◌then◌else◌, is_some}
 use Rattle.std.specs.Ordering.{nat_cmp}
 use Rattle.std.specs.FinMap.{FinMap}
-use Rattle.std.proofs.lemmas.Bool.{false≢true}
-use Rattle.std.proofs.lemmas.Bool.Decides.{nat_tests}
+use Rattle.std.proofs.lemmas.Bool.{false≢true, ltb-false}
 use Rattle.mig_base.specs.declared.phase.DestPhase.{DestPhase}
 use Rattle.mig_base.specs.declared.phase.SourcePhase.{SourcePhase}
 use Rattle.mig_model.specs.Wire.{Frame, Sent, Wire, is_copy, is_zeros, page_frame, sending}
@@ -210,11 +209,8 @@ end_tells world sent rest kept h first up count is =
       λ late. none_left count world.destination.urgent_taken (length world.urgent.frames) world.urgent.frames counted late refl,
     )
 
-not_early : (count taken : ℕ) → ltb taken count ≡ false → count ≤ taken
-not_early count taken h = grind (arith, nat_tests, h)
-
 -- End is taken once all urgent frames have come
 pub all_came : (world : World) (sent : Sent) (rest : List Sent) → IsSoundWorld world → AreSoundUrgent world → world.forward.frames ≡ sent ∷ rest → world.up ≡ true → is_early world.destination sent.frame ≡ false →
     (count : ℕ) → sent.frame ≡ End count → world.urgent.frames ≡ []
 all_came world sent rest kept h first up early count is =
-    (end_tells world sent rest kept h first up count is).1 (not_early count world.destination.urgent_taken (subst (λ f. is_early world.destination f ≡ false) is early))
+    (end_tells world sent rest kept h first up count is).1 (ltb-false world.destination.urgent_taken count (subst (λ f. is_early world.destination f ≡ false) is early))

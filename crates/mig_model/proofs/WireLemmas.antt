@@ -1,13 +1,12 @@
 -- Frames in flight: what each word on a wire says of two wires joined, and of a wire to which frames were sent.
-use Rattle.std.proofs.Common.{◌≡◌, ℕ, ◌&&◌, ◌||◌, Bool, true, false, cond, eqb, Option, Some, None, is_some, List, [], ◌∷◌, ◌++◌, map, refl, sym, ap, ◌∙◌, append_assoc, if◌then◌else◌}
+use Rattle.std.proofs.Common.{◌≡◌, ℕ, ◌&&◌, ◌||◌, Bool, true, false, cond, Option, Some, None, is_some, List, [], ◌∷◌, ◌++◌, map, refl, sym, ap, ◌∙◌, append_assoc, if◌then◌else◌}
 use Rattle.std.specs.Option.{option_and_then}
 use Rattle.std.specs.Ordering.{nat_cmp}
 use Rattle.std.specs.FinMap.{FinMap}
 use Rattle.std.proofs.lemmas.Bool.{false≢true}
-use Rattle.mig_model.specs.Wire.{Frame, Sent, Copy, kept_after, sending}
+use Rattle.mig_model.specs.Wire.{Frame, Sent, kept_after, sending}
 use Rattle.mig_model.specs.Wire.Frame.{Request}
-use Rattle.mig_model.specs.Invariant.{Flow, flow_next, flow_after, has_copy, is_package, kept_by, behind, package_in, AreOf, is_request, is_done, are_requests, are_requests_and_done}
-use Rattle.mig_model.proofs.Facts.{or_assoc}
+use Rattle.mig_model.specs.Invariant.{Flow, flow_next, flow_after, is_package, kept_by, behind, package_in, AreOf, is_request, is_done, are_requests, are_requests_and_done}
 
 -- Frames that are sent stand behind those in flight
 
@@ -33,10 +32,6 @@ flow_after-append flow (sent ∷ a) b =
     ∙ and_then_twice (λ next. flow_after next b) (λ next. flow_after next a) (flow_next flow sent.frame)
 
 -- Copies
-
-pub has_copy-append : (a b : List Copy) (page : ℕ) → has_copy (a ++ b) page ≡ (has_copy a page || has_copy b page)
-has_copy-append [] b page = refl
-has_copy-append (copy ∷ a) b page = ap (λ t. eqb copy.page page || t) (has_copy-append a b page) ∙ or_assoc (eqb copy.page page) (has_copy a page) (has_copy b page)
 
 -- Epochs
 

@@ -11,43 +11,31 @@ use Rattle.mig_base.proofs.SetLemmas.{member_inserted, member_removed, member_wi
 use Rattle.mig_base.specs.declared.TheConstants.{PAGE_SIZE}
 use Rattle.std.specs.Option.{option_map}
 use Rattle.std.proofs.lemmas.Option.{same_Some}
+use Rattle.std.proofs.lemmas.Bool.{eq-eqb, ne_eqb}
 use Rattle.mig_base.specs.Bytes.{overwrite}
+use Rattle.mig_base.proofs.TestLemmas.{cond_true, cond_false}
 use Rattle.page_table.specs.Bytes.{Page, bytes_of, IsWhole, AreWhole}
 use Rattle.page_table.specs.Leaves.{Cell, no_cell}
 
-pub eqb-true : (a b : ℕ) → a ≡ b → eqb a b ≡ true
-eqb-true a b h = grind (arith, nat_tests)
-
-pub eqb-false : (a b : ℕ) → a ≢ b → eqb a b ≡ false
-eqb-false a b h = grind (arith, nat_tests)
-
-or_cond : (b c : Bool) → (b || c) ≡ cond b true c
-or_cond true c = refl
-or_cond false c = refl
-
-and_cond : (b c : Bool) → (not b && c) ≡ cond b false c
-and_cond true c = refl
-and_cond false c = refl
-
 pub member_set : (s : FinSet nat_cmp) (i j : ℕ) → contains (insert s i) j ≡ cond (eqb j i) true (contains s j)
-member_set s i j = member_inserted s i j ∙ or_cond (eqb j i) (contains s j)
+member_set s i j = member_inserted s i j ∙ sym (cond_true (eqb j i) (contains s j))
 
 pub member_unset : (s : FinSet nat_cmp) (i j : ℕ) → contains (remove s i) j ≡ cond (eqb j i) false (contains s j)
-member_unset s i j = member_removed s i j ∙ and_cond (eqb j i) (contains s j)
+member_unset s i j = member_removed s i j ∙ sym (cond_false (eqb j i) (contains s j))
 
 pub put_cell : (old new : List Page) (before after : Bool) (i j : ℕ) (page : Page) (flag : Bool) → i < length old → new ≡ set old i page → after ≡ cond (eqb j i) flag before → ◌≡◌ {A = Cell} (bytes_of (get_or new j None), after) (cond (eqb j i) (bytes_of page, flag) (bytes_of (get_or old j None), before))
 put_cell old new before after i j page flag inside e h =
     dite (ℕ_discrete j i)
     (λ s. let same : get_or new j None ≡ page = ap (λ xs. get_or xs j None) e ∙ ap (λ k. get_or (set old i page) k None) s ∙ get_or-set_same old i page None inside in
-    rw (eqb-true j i s) (λ k. (bytes_of (same k), (h ∙ ap (λ b. cond b flag before) (eqb-true j i s)) k)))
+    rw (eq-eqb j i s) (λ k. (bytes_of (same k), (h ∙ ap (λ b. cond b flag before) (eq-eqb j i s)) k)))
     (λ n. let other : get_or new j None ≡ get_or old j None = ap (λ xs. get_or xs j None) e ∙ get_or-set_other old i j page None n in
-    rw (eqb-false j i n) (λ k. (bytes_of (other k), (h ∙ ap (λ b. cond b flag before) (eqb-false j i n)) k)))
+    rw (ne_eqb j i n) (λ k. (bytes_of (other k), (h ∙ ap (λ b. cond b flag before) (ne_eqb j i n)) k)))
 
 pub protect_cell : (pages : List Page) (s t : ℕ → Bool) (i j : ℕ) (flag : Bool) → t j ≡ cond (eqb j i) flag (s j) → ◌≡◌ {A = Cell} (bytes_of (get_or pages j None), t j) (cond (eqb j i) (bytes_of (get_or pages i None), flag) (bytes_of (get_or pages j None), s j))
 protect_cell pages s t i j flag h =
     dite (ℕ_discrete j i)
-    (λ e. rw (eqb-true j i e) (λ k. (bytes_of (get_or pages (e k) None), (h ∙ ap (λ b. cond b flag (s j)) (eqb-true j i e)) k)))
-    (λ n. rw (eqb-false j i n) (λ k. (bytes_of (get_or pages j None), (h ∙ ap (λ b. cond b flag (s j)) (eqb-false j i n)) k)))
+    (λ e. rw (eq-eqb j i e) (λ k. (bytes_of (get_or pages (e k) None), (h ∙ ap (λ b. cond b flag (s j)) (eq-eqb j i e)) k)))
+    (λ n. rw (ne_eqb j i n) (λ k. (bytes_of (get_or pages j None), (h ∙ ap (λ b. cond b flag (s j)) (ne_eqb j i n)) k)))
 
 clear_pair : (r : Bool) (new old : Page) (after before : Bool) → new ≡ cond r None old → after ≡ (before && not r) → ◌≡◌ {A = Cell} (bytes_of new, after) (cond r no_cell (bytes_of old, before))
 clear_pair true new old after before e h = λ k. (bytes_of (e k), (h ∙ none before) k)
@@ -68,28 +56,13 @@ clear_cell old new s t first count j e h = clear_pair (in_range first count j) (
 abbrev pub IsBare : List Page → List Page → ℕ → ℕ → Type 0
 IsBare old new first count = (i : ℕ) → get_or new i None ≡ cond (in_range first count i) None (get_or old i None)
 
-none_in : (first i : ℕ) → in_range first 0 i ≡ false
-none_in first i = grind (arith, nat_tests)
-
-pub bare_none : (pages : List Page) (first i : ℕ) → get_or pages i None ≡ cond (in_range first 0 i) None (get_or pages i None)
-bare_none pages first i = ap (λ b. cond b None (get_or pages i None)) (sym (none_in first i))
-
-grows_here : (first count i : ℕ) → i ≡ first + count → in_range first (count + 1) i ≡ true
+pub grows_here : (first count i : ℕ) → i ≡ first + count → in_range first (count + 1) i ≡ true
 grows_here first count i e = grind (arith, nat_tests)
 
-grows_not : (first count i : ℕ) → i ≢ first + count → in_range first (count + 1) i ≡ in_range first count i
+pub grows_not : (first count i : ℕ) → i ≢ first + count → in_range first (count + 1) i ≡ in_range first count i
 grows_not first count i n = grind (arith, nat_tests)
 
-pub bare_more : (old pages : List Page) (first count : ℕ) → first + count < length pages → IsBare old pages first count → IsBare old (set pages (first + count) None) first (count + 1)
-bare_more old pages first count inside is = λ i.
-    dite (ℕ_discrete i (first + count))
-    (λ e. rw (grows_here first count i e) (ap (λ k. get_or (set pages (first + count) None) k None) e ∙ get_or-set_same pages (first + count) None None inside))
-    (λ n. rw (grows_not first count i n) (get_or-set_other pages (first + count) i None None n ∙ is i))
-
 -- the present pages of a leaf, gathered one by one
-
-pub none_of_leaf : (q first : ℕ) (member there : Bool) → member ≡ (member || (in_range first 0 q && there))
-none_of_leaf q first member there = grind (arith, nat_tests)
 
 pub one_of_leaf : (q at i : ℕ) (member there : Bool) → (q ≡ at * 1024 + i → there ≡ true) → (eqb q (at * 1024 + i) || (member || (in_range (1024 * at) i q && there))) ≡ (member || (in_range (1024 * at) (i + 1) q && there))
 one_of_leaf q at i member there h = grind (arith, nat_tests)

@@ -1,20 +1,17 @@
 -- A range that is no longer protected, leaf by leaf.
-use Rattle.std.proofs.Common.{◌≡◌, ℕ, ◌+◌, ◌-◌, ◌*◌, ◌/◌, ◌%◌, ◌<◌, ◌≤◌, ◌&&◌, Bool, true, false, not, ltb, refl, sym, ap, ◌∙◌, arith, List, length, min, get_or, set, None, is_some}
+use Rattle.std.proofs.Common.{◌≡◌, ℕ, ◌+◌, ◌-◌, ◌*◌, ◌/◌, ◌%◌, ◌<◌, ◌≤◌, ◌&&◌, false, not, ltb, sym, ap, ◌∙◌, arith, List, length, min, get_or, set, None, is_some}
 use mathlib.Core.Logic.{dite}
 use native.Mathlib.Decide.{ℕ_discrete}
-use Rattle.std.proofs.lemmas.Bool.{false≢true}
+use Rattle.std.proofs.lemmas.Bool.{eq-eqb, ne_eqb}
 use Rattle.mig_base.specs.Ranges.{in_range}
 use Rattle.mig_base.specs.Sets.{without}
 use Rattle.mig_base.proofs.SetLemmas.{member_without}
+use Rattle.mig_base.proofs.PlaceLemmas.{in_this, before_this, not_this}
+use Rattle.mig_base.proofs.TestLemmas.{and_true, and_first}
 use Rattle.page_table.specs.Leaves.{Cell, Place, cell_in, cell_at, opened_cell}
 use Rattle.page_table.specs.Views.{Pages, pages_of, IsTable}
-use Rattle.page_table.proofs.LeafLemmas.{eqb-true, eqb-false}
-use Rattle.page_table.proofs.TableLemmas.{Places, at_place, past_places, cell_at-set, nothing_yet, all_now, in_this, before_this, not_this}
+use Rattle.page_table.proofs.TableLemmas.{Places, at_place, past_places, cell_at-set}
 use Rattle.page_table.proofs.ViewLemmas.{bytes_by, flags_by, bytes_seen, flag_seen}
-
-and_true : (b : Bool) → (b && true) ≡ b
-and_true true = refl
-and_true false = refl
 
 opened_not : (cell : Cell) → opened_cell cell false ≡ cell
 opened_not cell = λ i. (cell.0, and_true cell.1 i)
@@ -23,23 +20,17 @@ opened_not cell = λ i. (cell.0, and_true cell.1 i)
 abbrev pub IsOpened : Places → Places → ℕ → ℕ → ℕ → Type 0
 IsOpened old new first count bound = (q : ℕ) → cell_at new q ≡ opened_cell (cell_at old q) (ltb q bound && in_range first count q)
 
-pub opened_none : (places : Places) (first count : ℕ) → IsOpened places places first count (1024 * (first / 1024))
-opened_none places first count = λ q. sym (opened_not (cell_at places q)) ∙ ap (opened_cell (cell_at places q)) (sym (nothing_yet q first count))
-
-pub opened_all : (old new : Places) (first count at : ℕ) → first + count ≤ 1024 * at → IsOpened old new first count (1024 * at) → (q : ℕ) → cell_at new q ≡ opened_cell (cell_at old q) (in_range first count q)
-opened_all old new first count at h is q = is q ∙ ap (opened_cell (cell_at old q)) (all_now q first count at h)
-
 pub opened_more : (old places : Places) (first count at low high : ℕ) (place : Place) → at < length places → IsOpened old places first count (1024 * at)
     → ((i : ℕ) → cell_in place i ≡ opened_cell (cell_in (get_or places at None) i) (in_range low (high - low) i)) → low ≡ first - 1024 * at → high ≡ min (first + count - 1024 * at) 1024 → low ≤ high
     → IsOpened old (set places at place) first count (1024 * (at + 1))
 opened_more old places first count at low high place inside is here a b h = λ q.
     cell_at-set places at place q inside
     ∙ dite (ℕ_discrete (q / 1024) at)
-    (λ e. rw (eqb-true (q / 1024) at e)
+    (λ e. rw (eq-eqb (q / 1024) at e)
     (here (q % 1024)
     ∙ ap (λ t. opened_cell t (in_range low (high - low) (q % 1024))) (at_place places q at e ∙ is q ∙ ap (λ t. opened_cell (cell_at old q) (t && in_range first count q)) (before_this q at e) ∙ opened_not (cell_at old q))
     ∙ ap (opened_cell (cell_at old q)) (in_this q first count at low high e a b h)))
-    (λ n. rw (eqb-false (q / 1024) at n) (is q ∙ ap (λ t. opened_cell (cell_at old q) (t && in_range first count q)) (sym (not_this q at n))))
+    (λ n. rw (ne_eqb (q / 1024) at n) (is q ∙ ap (λ t. opened_cell (cell_at old q) (t && in_range first count q)) (sym (not_this q at n))))
 
 pub opened_past : (old places : Places) (first count at : ℕ) → length places ≡ length old → length places ≤ at → IsOpened old places first count (1024 * at) → IsOpened old places first count (1024 * (at + 1))
 opened_past old places first count at same past is = λ q.
@@ -59,12 +50,8 @@ opened_flags old new value first count few still view h =
     flags_by new (without value.protected first count) still
     (λ q. ap (λ x. x.1) (h q) ∙ ap (λ b. b && not (in_range first count q)) (flag_seen old value q few view) ∙ sym (member_without value.protected first count q))
 
-was_on : (a b : Bool) → (a && b) ≡ true → a ≡ true
-was_on true b h = refl
-was_on false b h = absurd (false≢true h)
-
 pub opened_table : (old new : List Place) (first count : ℕ) → IsTable old → length new ≡ length old → ((q : ℕ) → cell_at new q ≡ opened_cell (cell_at old q) (in_range first count q)) → IsTable new
 opened_table old new first count inv size h = record {
   few = let few = inv.few in omega arith;
-  inside = λ q on. ap (λ x. is_some x.0) (h q) ∙ inv.inside q (was_on (cell_at old q).1 (not (in_range first count q)) (sym (ap (λ x. x.1) (h q)) ∙ on));
+  inside = λ q on. ap (λ x. is_some x.0) (h q) ∙ inv.inside q (and_first (cell_at old q).1 (not (in_range first count q)) (sym (ap (λ x. x.1) (h q)) ∙ on));
 }

@@ -6,7 +6,7 @@ use Rattle.std.specs.Cmp.{nat_cmp_total, unsigned_tied}
 use Rattle.std.specs.FinMap as map
 use Rattle.std.specs.FinSet as set
 use Rattle.std.proofs.lemmas.Bool.Decides.{nat_tests}
-use Rattle.std.proofs.lemmas.Bool.{false≢true}
+use Rattle.std.proofs.lemmas.Bool.{false≢true, eq-eqb, cases_Bool, ne_eqb}
 use Rattle.mig_base.specs.declared.TheConstants.{HIGH_PAGE}
 use Rattle.mig_base.specs.Ranges.{in_range}
 use Rattle.mig_base.specs.Pages.{remove_range, map_below}
@@ -16,18 +16,14 @@ use Rattle.mig_base.proofs.SetLemmas.{same_members, member_inserted, member_remo
 use mathlib.Core.Logic.{dite}
 use native.Mathlib.Decide.{ℕ_discrete}
 use Rattle.std.proofs.Common.{get_or, ◌%◌, ◌*◌}
-use Rattle.mig_base.proofs.BitLemmas.{bool_cases}
-use Rattle.page_table.proofs.LeafLemmas.{eqb-true, eqb-false}
 use Rattle.page_table.specs.Leaves.{Cell, Place, cell_at, cell_in, is_place, has_place, no_cell, written_cell, moved_cell}
 use Rattle.mig_base.specs.Bytes.{overwrite, page_at}
+use Rattle.mig_base.proofs.TestLemmas.{none_below_zero, all_below, cond_false, cond_true, and_not}
 use Rattle.page_table.specs.Views.{Pages, pages_of, IsTable}
 use Rattle.page_table.proofs.TableLemmas.{past_places, at_place}
 
 all_bytes : (q : ℕ) (o : Option (List ℕ)) → (HIGH_PAGE ≤ q → o ≡ None) → cond (ltb q HIGH_PAGE) o None ≡ o
 all_bytes q o h = grind (arith, nat_tests)
-
-all_flags : (q : ℕ) (b : Bool) → (HIGH_PAGE ≤ q → b ≡ false) → (ltb q HIGH_PAGE && b) ≡ b
-all_flags q b h = grind (arith, nat_tests)
 
 -- a page's bytes and flag, from what is shown
 pub bytes_shown : (places : List Place) (q : ℕ) → length places ≤ 1024 → map.get (pages_of places).bytes q ≡ (cell_at places q).0
@@ -36,7 +32,7 @@ bytes_shown places q few = get-map_below (λ p. (cell_at places p).0) HIGH_PAGE 
 
 pub flag_shown : (places : List Place) (q : ℕ) → length places ≤ 1024 → set.contains (pages_of places).protected q ≡ (cell_at places q).1
 unfolding pages_of
-flag_shown places q few = member_below (λ p. (cell_at places p).1) HIGH_PAGE q ∙ all_flags q (cell_at places q).1 (λ h. ap (λ x. x.1) (past_places places q (omega arith)))
+flag_shown places q few = member_below (λ p. (cell_at places p).1) HIGH_PAGE q ∙ all_below q HIGH_PAGE (cell_at places q).1 (λ h. ap (λ x. x.1) (past_places places q (omega arith)))
 
 pub bytes_seen : (places : List Place) (value : Pages) (q : ℕ) → length places ≤ 1024 → pages_of places ≡ value → (cell_at places q).0 ≡ map.get value.bytes q
 bytes_seen places value q few view = sym (bytes_shown places q few) ∙ ap (λ v. map.get v.bytes q) view
@@ -64,20 +60,6 @@ cond_flag : (b : Bool) (x y : Cell) → (cond b x y).1 ≡ cond b x.1 y.1
 cond_flag true x y = refl
 cond_flag false x y = refl
 
-flag_off : (b c : Bool) → cond b false c ≡ (c && not b)
-flag_off true true = refl
-flag_off true false = refl
-flag_off false true = refl
-flag_off false false = refl
-
-flag_on : (b c : Bool) → cond b true c ≡ (b || c)
-flag_on true c = refl
-flag_on false c = refl
-
-flag_out : (b c : Bool) → cond b false c ≡ (not b && c)
-flag_out true c = refl
-flag_out false c = refl
-
 -- a range made missing
 pub dropped_bytes : (old new : List Place) (value : Pages) (first count : ℕ) → length old ≤ 1024 → length new ≤ 1024 → pages_of old ≡ value → ((q : ℕ) → cell_at new q ≡ cond (in_range first count q) no_cell (cell_at old q)) → (pages_of new).bytes ≡ remove_range value.bytes first count
 dropped_bytes old new value first count few still view h =
@@ -87,7 +69,7 @@ dropped_bytes old new value first count few still view h =
 pub dropped_flags : (old new : List Place) (value : Pages) (first count : ℕ) → length old ≤ 1024 → length new ≤ 1024 → pages_of old ≡ value → ((q : ℕ) → cell_at new q ≡ cond (in_range first count q) no_cell (cell_at old q)) → (pages_of new).protected ≡ without value.protected first count
 dropped_flags old new value first count few still view h =
     flags_by new (without value.protected first count) still
-    (λ q. ap (λ x. x.1) (h q) ∙ cond_flag (in_range first count q) no_cell (cell_at old q) ∙ flag_off (in_range first count q) (cell_at old q).1 ∙ ap (λ b. b && not (in_range first count q)) (flag_seen old value q few view) ∙ sym (member_without value.protected first count q))
+    (λ q. ap (λ x. x.1) (h q) ∙ cond_flag (in_range first count q) no_cell (cell_at old q) ∙ sym (and_not (cell_at old q).1 (in_range first count q)) ∙ ap (λ b. b && not (in_range first count q)) (flag_seen old value q few view) ∙ sym (member_without value.protected first count q))
 
 -- a page put in
 pub put_bytes : (old new : List Place) (value : Pages) (page : ℕ) (bytes : List ℕ) (flag : Bool) → length old ≤ 1024 → length new ≤ 1024 → pages_of old ≡ value → ((q : ℕ) → cell_at new q ≡ cond (eqb q page) (Some bytes, flag) (cell_at old q)) → (pages_of new).bytes ≡ map.insert value.bytes page bytes
@@ -97,10 +79,10 @@ put_bytes old new value page bytes flag few still view h =
     ∙ ap (λ b. cond b (Some bytes) (map.get value.bytes q)) (sym (unsigned_tied q page)) ∙ sym (map.get-insert nat_cmp_total value.bytes page bytes q))
 
 same_flag : (q page : ℕ) (f : ℕ → Bool) (flag : Bool) → f page ≡ flag → cond (eqb q page) flag (f q) ≡ f q
-same_flag q page f flag h = dite (ℕ_discrete q page) (λ e. rw (eqb-true q page e) (sym h ∙ ap f (sym e))) (λ n. rw (eqb-false q page n) refl)
+same_flag q page f flag h = dite (ℕ_discrete q page) (λ e. rw (eq-eqb q page e) (sym h ∙ ap f (sym e))) (λ n. rw (ne_eqb q page n) refl)
 
 same_bytes : (q page : ℕ) (f : ℕ → Option (List ℕ)) (o : Option (List ℕ)) → f page ≡ o → cond (eqb q page) o (f q) ≡ f q
-same_bytes q page f o h = dite (ℕ_discrete q page) (λ e. rw (eqb-true q page e) (sym h ∙ ap f (sym e))) (λ n. rw (eqb-false q page n) refl)
+same_bytes q page f o h = dite (ℕ_discrete q page) (λ e. rw (eq-eqb q page e) (sym h ∙ ap f (sym e))) (λ n. rw (ne_eqb q page n) refl)
 
 pub put_flags : (old new : List Place) (value : Pages) (page : ℕ) (o : Option (List ℕ)) → length old ≤ 1024 → length new ≤ 1024 → pages_of old ≡ value → (cell_at old page).1 ≡ false → ((q : ℕ) → cell_at new q ≡ cond (eqb q page) (o, false) (cell_at old q)) → (pages_of new).protected ≡ value.protected
 put_flags old new value page o few still view off h =
@@ -126,7 +108,7 @@ written_flags old new value page offset bytes few still view h =
 
 -- a missing page is not protected
 pub not_protected : (places : List Place) (page : ℕ) → IsTable places → is_some (cell_at places page).0 ≡ false → (cell_at places page).1 ≡ false
-not_protected places page inv none = ⊎_elim (λ (on : (cell_at places page).1 ≡ true). absurd (false≢true (sym none ∙ inv.inside page on))) (λ (off : (cell_at places page).1 ≡ false). off) (bool_cases (cell_at places page).1)
+not_protected places page inv none = ⊎_elim (λ (on : (cell_at places page).1 ≡ true). absurd (false≢true (sym none ∙ inv.inside page on))) (λ (off : (cell_at places page).1 ≡ false). off) (cases_Bool (cell_at places page).1)
 
 -- protection put on or ended
 pub flagged_bytes : (old new : List Place) (value : Pages) (page : ℕ) (flag : Bool) → length old ≤ 1024 → length new ≤ 1024 → pages_of old ≡ value → ((q : ℕ) → cell_at new q ≡ cond (eqb q page) ((cell_at old page).0, flag) (cell_at old q)) → (pages_of new).bytes ≡ value.bytes
@@ -137,12 +119,12 @@ flagged_bytes old new value page flag few still view h =
 pub protected_flags : (old new : List Place) (value : Pages) (page : ℕ) → length old ≤ 1024 → length new ≤ 1024 → pages_of old ≡ value → ((q : ℕ) → cell_at new q ≡ cond (eqb q page) ((cell_at old page).0, true) (cell_at old q)) → (pages_of new).protected ≡ set.insert value.protected page
 protected_flags old new value page few still view h =
     flags_by new (set.insert value.protected page) still
-    (λ q. ap (λ x. x.1) (h q) ∙ cond_flag (eqb q page) ((cell_at old page).0, true) (cell_at old q) ∙ flag_on (eqb q page) (cell_at old q).1 ∙ ap (λ b. eqb q page || b) (flag_seen old value q few view) ∙ sym (member_inserted value.protected page q))
+    (λ q. ap (λ x. x.1) (h q) ∙ cond_flag (eqb q page) ((cell_at old page).0, true) (cell_at old q) ∙ cond_true (eqb q page) (cell_at old q).1 ∙ ap (λ b. eqb q page || b) (flag_seen old value q few view) ∙ sym (member_inserted value.protected page q))
 
 pub removed_flags : (old new : List Place) (value : Pages) (page : ℕ) (o : Option (List ℕ)) → length old ≤ 1024 → length new ≤ 1024 → pages_of old ≡ value → ((q : ℕ) → cell_at new q ≡ cond (eqb q page) (o, false) (cell_at old q)) → (pages_of new).protected ≡ set.remove value.protected page
 removed_flags old new value page o few still view h =
     flags_by new (set.remove value.protected page) still
-    (λ q. ap (λ x. x.1) (h q) ∙ cond_flag (eqb q page) (o, false) (cell_at old q) ∙ flag_out (eqb q page) (cell_at old q).1 ∙ ap (λ b. not (eqb q page) && b) (flag_seen old value q few view) ∙ sym (member_removed value.protected page q))
+    (λ q. ap (λ x. x.1) (h q) ∙ cond_flag (eqb q page) (o, false) (cell_at old q) ∙ cond_false (eqb q page) (cell_at old q).1 ∙ ap (λ b. not (eqb q page) && b) (flag_seen old value q few view) ∙ sym (member_removed value.protected page q))
 
 pub unprotected_flags : (old new : List Place) (value : Pages) (page : ℕ) → length old ≤ 1024 → length new ≤ 1024 → pages_of old ≡ value → ((q : ℕ) → cell_at new q ≡ cond (eqb q page) ((cell_at old page).0, false) (cell_at old q)) → (pages_of new).protected ≡ set.remove value.protected page
 unprotected_flags old new value page few still view h = removed_flags old new value page (cell_at old page).0 few still view h
@@ -207,11 +189,8 @@ none_table places h few = record { few = few; inside = λ q on. absurd (false≢
 abbrev pub IsGathered : List Place → set.FinSet nat_cmp → ℕ → Type 0
 IsGathered places pages bound = (q : ℕ) → set.contains pages q ≡ (ltb q bound && is_some (cell_at places q).0)
 
-none_gathered : (q : ℕ) (b : Bool) → false ≡ (ltb q 0 && b)
-none_gathered q b = grind (arith, nat_tests)
-
 pub gathered_none : (places : List Place) → IsGathered places set.empty 0
-gathered_none places q = set.contains-empty nat_cmp q ∙ none_gathered q (is_some (cell_at places q).0)
+gathered_none places q = set.contains-empty nat_cmp q ∙ none_below_zero q (is_some (cell_at places q).0)
 
 gathered_leaf : (q at : ℕ) (b : Bool) → ((ltb q (1024 * at) && b) || (in_range (1024 * at) 1024 q && b)) ≡ (ltb q (1024 * (at + 1)) && b)
 gathered_leaf q at b = grind (arith, nat_tests)
@@ -221,7 +200,7 @@ in_leaf places place at q is =
     ⊎_elim
     (λ (here : in_range (1024 * at) 1024 q ≡ true). let own : q / 1024 ≡ at = this_leaf q at here in ap (λ x. in_range (1024 * at) 1024 q && is_some x.0) (ap (λ o. cell_in o (q % 1024)) is ∙ at_place places q at own))
     (λ (other : in_range (1024 * at) 1024 q ≡ false). rw other refl)
-    (bool_cases (in_range (1024 * at) 1024 q))
+    (cases_Bool (in_range (1024 * at) 1024 q))
   where
     this_leaf : (q at : ℕ) → in_range (1024 * at) 1024 q ≡ true → q / 1024 ≡ at
     this_leaf q at h = grind (arith, nat_tests)
@@ -232,8 +211,5 @@ gathered_more places place pages new at is old h q =
     ∙ ap (λ b. (ltb q (1024 * at) && is_some (cell_at places q).0) || b) (in_leaf places place at q is)
     ∙ gathered_leaf q at (is_some (cell_at places q).0)
 
-all_there : (q bound : ℕ) (b : Bool) → (bound ≤ q → b ≡ false) → (ltb q bound && b) ≡ b
-all_there q bound b h = grind (arith, nat_tests)
-
 pub gathered_all : (places : List Place) (pages : set.FinSet nat_cmp) (bound : ℕ) → 1024 * length places ≤ bound → IsGathered places pages bound → (q : ℕ) → set.contains pages q ≡ is_some (cell_at places q).0
-gathered_all places pages bound past is q = is q ∙ all_there q bound (is_some (cell_at places q).0) (λ h. ap (λ x. is_some x.0) (past_places places q (omega arith)))
+gathered_all places pages bound past is q = is q ∙ all_below q bound (is_some (cell_at places q).0) (λ h. ap (λ x. is_some x.0) (past_places places q (omega arith)))

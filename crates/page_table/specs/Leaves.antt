@@ -1,5 +1,5 @@
 -- Leaves of 1024 pages each, and what they say of a page.
-use Rattle.std.specs.Prelude.{ℕ, ◌+◌, ◌-◌, ◌/◌, ◌%◌, ◌&&◌, not, if◌then◌else◌, Bool, true, false, List, Option, Some, None, slice_index_or}
+use Rattle.std.specs.Prelude.{ℕ, ◌+◌, ◌-◌, ◌/◌, ◌%◌, ◌&&◌, not, if◌then◌else◌, Bool, false, List, Option, Some, None, slice_index_or}
 use Rattle.std.specs.Option.{option_map}
 use Rattle.std.specs.FinSet.{contains}
 use Rattle.std.specs.declared.boxed.Box.{Box}
@@ -9,6 +9,8 @@ use Rattle.mig_base.specs.declared.chunk.TheConstants.{CHUNK}
 use Rattle.page_table.specs.declared.leaf.Leaf.{Leaf}
 use Rattle.mig_base.specs.Bytes.{overwrite}
 use Rattle.page_table.specs.Bytes.{bytes_of}
+pub use Rattle.mig_base.specs.Places.{is_place}
+unfoldable pub use Rattle.mig_base.specs.Places.{has_place}
 
 -- a page's bytes, none where it is missing, and whether it is protected
 abbrev pub Cell : Type 0
@@ -26,11 +28,6 @@ leaf_cell leaf i = (bytes_of (slice_index_or leaf.pages.items i None), contains 
 abbrev pub cell_in : Place → ℕ → Cell
 cell_in None i = (None, false)
 cell_in (Some leaf) i = leaf_cell leaf.value i
-
--- whether a place has a leaf
-abbrev pub is_place : Place → Bool
-is_place None = false
-is_place (Some leaf) = true
 
 -- what a list of places says of a page
 unfoldable pub cell_at : List Place → ℕ → Cell
@@ -51,10 +48,6 @@ opened_cell cell here = (cell.0, cell.1 && not here)
 -- a cell after bytes were written from a place on, where the page is present
 abbrev pub written_cell : Cell → ℕ → List ℕ → Cell
 written_cell cell offset bytes = (option_map (λ held. overwrite held offset bytes) cell.0, cell.1)
-
--- whether there is a leaf for a page
-unfoldable pub has_place : List Place → ℕ → Bool
-has_place places q = is_place (slice_index_or places (q / CHUNK) None)
 
 -- the cells after a range was moved
 abbrev pub moved_cell : (ℕ → Cell) → ℕ → ℕ → ℕ → ℕ → Cell

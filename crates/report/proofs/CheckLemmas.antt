@@ -2,6 +2,7 @@
 use Rattle.std.proofs.Common.{◌≡◌, ℕ, zero, suc, ◌+◌, ◌<◌, List, [], ◌∷◌, Some, sym, ap, ◌∙◌, subst, arith, length, take, get_or}
 use Rattle.std.specs.Prelude.{slice_get}
 use Rattle.std.proofs.lemmas.List.{take_more, take_all}
+use Rattle.std.proofs.lemmas.Option.{slice_get_within}
 use Rattle.mig_base.specs.declared.command.Command.TheVariants.{Load}
 use Rattle.mig_base.specs.declared.command.Reply.{Reply}
 use Rattle.mig_base.specs.declared.command.Reply.TheVariants.{Value}
@@ -11,11 +12,6 @@ use Rattle.mig_base.proofs.FlatLemmas.{memory_from-push, IsRunFrom-push}
 use Rattle.report.specs.Checks.{FirstWrong}
 
 -- The laws
-
-pub inside_list : (entries : List Entry) (i : ℕ) (entry : Entry) → slice_get entries i ≡ Some entry → i < length entries
-inside_list [] i entry here = absurd (cc)
-inside_list (e ∷ entries) zero entry here = omega arith
-inside_list (e ∷ entries) (suc i) entry here = let below = inside_list entries i entry here in omega arith
 
 -- an entry before the end of a run is answered as the memory before it answers
 run_reply : (memory : Memory) (entries : List Entry) (i j : ℕ) (entry : Entry) → i < j → IsRunFrom memory (take j entries) → slice_get entries i ≡ Some entry → entry.reply ≡ reply_of (memory_from memory (take i entries)) entry.command
@@ -29,7 +25,7 @@ not_after : (entries : List Entry) (i j : ℕ) (r : Reply) → FirstWrong entrie
 not_after entries i j r wrong before run = wrong.differs (run_reply no_memory entries i j wrong.entry before run wrong.inside ∙ sym wrong.answers)
 
 pub wrong_inside : (entries : List Entry) (i : ℕ) (r : Reply) → FirstWrong entries i r → i < length entries
-wrong_inside entries i r wrong = inside_list entries i wrong.entry wrong.inside
+wrong_inside entries i r wrong = slice_get_within entries i wrong.entry wrong.inside
 
 pub wrong_no_run : (entries : List Entry) (i : ℕ) (r : Reply) → FirstWrong entries i r → IsFlatRun entries → ⊥
 wrong_no_run entries i r wrong run = not_after entries i (length entries) r wrong (wrong_inside entries i r wrong) (subst IsFlatRun (sym (take_all (length entries) entries (omega arith))) run)

@@ -1,20 +1,14 @@
 -- Where a byte first stands.
 use Rattle.std.proofs.Common.{◌≡◌, ℕ, zero, suc, ◌<◌, ◌≤◌, true, eqb, List, [], ◌∷◌, length, get_or, take, drop, Some, None, ap, arith}
-use Rattle.std.proofs.lemmas.Bool.Decides.{nat_tests}
+use Rattle.std.proofs.lemmas.Bool.{eq-eqb, eqb-true}
 use Rattle.memchr.specs.Find.{IsFirstByte, is_byte}
 use Rattle.script.specs.Words.{HasNone}
-
-same_byte : (a b : ℕ) → a ≡ b → eqb a b ≡ true
-same_byte a b e = grind (arith, nat_tests)
-
-equal_byte : (a b : ℕ) → eqb a b ≡ true → a ≡ b
-equal_byte a b e = grind (arith, nat_tests)
 
 -- no place has the byte
 has_none : (byte : ℕ) (bytes : List ℕ) → ((k : ℕ) → 0 ≤ k → k < length bytes → eqb (get_or bytes k 0) byte ≡ true → ⊥) → HasNone byte bytes
 has_none byte [] h = tt
 has_none byte (b ∷ bytes) h = (
-  λ e. h 0 (omega arith) (omega arith) (same_byte b byte e),
+  λ e. h 0 (omega arith) (omega arith) (eq-eqb b byte e),
   has_none byte bytes (λ k low lt. h (suc k) (omega arith) (omega (arith, lt))),
 )
 
@@ -24,14 +18,14 @@ none_found byte bytes h = has_none byte bytes h
 -- the byte at a place, and those after it
 cut : (byte : ℕ) (bytes : List ℕ) (n : ℕ) → n < length bytes → eqb (get_or bytes n 0) byte ≡ true → drop n bytes ≡ byte ∷ drop (suc n) bytes
 cut byte [] n lt e = absurd (omega (arith, lt))
-cut byte (b ∷ bytes) zero lt e = ap (λ (x : ℕ). x ∷ bytes) (equal_byte b byte e)
+cut byte (b ∷ bytes) zero lt e = ap (λ (x : ℕ). x ∷ bytes) (eqb-true b byte e)
 cut byte (b ∷ bytes) (suc n) lt e = cut byte bytes n (omega (arith, lt)) e
 
 before : (byte : ℕ) (bytes : List ℕ) (n : ℕ) → n < length bytes → ((k : ℕ) → 0 ≤ k → k < n → eqb (get_or bytes k 0) byte ≡ true → ⊥) → HasNone byte (take n bytes)
 before byte [] n lt h = absurd (omega (arith, lt))
 before byte (b ∷ bytes) zero lt h = tt
 before byte (b ∷ bytes) (suc n) lt h = (
-  λ e. h 0 (omega arith) (omega arith) (same_byte b byte e),
+  λ e. h 0 (omega arith) (omega arith) (eq-eqb b byte e),
   before byte bytes n (omega (arith, lt)) (λ k low less. h (suc k) (omega arith) (omega (arith, less))),
 )
 

@@ -86,15 +86,12 @@ the_arrow : (t : Token) → is_arrow t ≡ true → t ≡ Key key.Gives
 the_arrow (Key key.Gives) e = refl
 the_arrow _ e = cc
 
-same_parts : (p q : Parts) → just p ≡ just q → p ≡ q
-same_parts p q e = cc
-
 arrow_either : (t : Token) (ts : List Token) (b : Bool) (parts : Parts) → is_arrow t ≡ b → cond b (just ([], ts)) (at_arrow ts >>= λ parts. Some (t ∷ parts.0, parts.1)) ≡ Some parts
     → ((behind : Parts) → at_arrow ts ≡ Some behind → ts ≡ behind.0 ++ Key key.Gives ∷ behind.1) → t ∷ ts ≡ parts.0 ++ Key key.Gives ∷ parts.1
-arrow_either t ts true parts is e found = ap (λ (x : Token). x ∷ ts) (the_arrow t is) ∙ ap (λ (p : Parts). p.0 ++ Key key.Gives ∷ p.1) (same_parts ([], ts) parts e)
+arrow_either t ts true parts is e found = ap (λ (x : Token). x ∷ ts) (the_arrow t is) ∙ ap (λ (p : Parts). p.0 ++ Key key.Gives ∷ p.1) (some_is ([], ts) parts e)
 arrow_either t ts false parts is e found =
     let behind = bind_some (at_arrow ts) (λ parts. Some (t ∷ parts.0, parts.1)) parts e in
-    ap (λ (xs : List Token). t ∷ xs) (found behind.0 behind.1) ∙ ap (λ (p : Parts). p.0 ++ Key key.Gives ∷ p.1) (same_parts (t ∷ behind.0.0, behind.0.1) parts behind.2)
+    ap (λ (xs : List Token). t ∷ xs) (found behind.0 behind.1) ∙ ap (λ (p : Parts). p.0 ++ Key key.Gives ∷ p.1) (some_is (t ∷ behind.0.0, behind.0.1) parts behind.2)
 
 arrow_found : (ts : List Token) (parts : Parts) → at_arrow ts ≡ Some parts → ts ≡ parts.0 ++ Key key.Gives ∷ parts.1
 arrow_found [] parts e = cc

@@ -5,6 +5,5 @@ pub mod Grammar
 pub mod Keywords
 pub mod Meaning
 pub mod Numbers
-pub mod Slices
 pub mod Spaces
 pub mod Tokens

@@ -1,5 +1,5 @@
 -- The tokens of a list of words.
-use Rattle.std.proofs.Common.{◌≡◌, ℕ, ◌<◌, List, [], ◌∷◌, ◌++◌, arith, refl, ap, ◌∙◌, sym, subst, ◌≤◌, lit≤, cond, inl, inr, append_assoc, append-nil, Some}
+use Rattle.std.proofs.Common.{◌≡◌, ℕ, ◌<◌, List, [], ◌∷◌, ◌++◌, arith, refl, ap, ◌∙◌, sym, subst, ◌≤◌, lit≤, cond, inl, inr, append_assoc, Some}
 use Rattle.std.specs.Prelude.{slice_get}
 use Rattle.std.proofs.lemmas.Bool.Decides.{nat_tests}
 use Rattle.std.specs.Char.{digit_value}
@@ -31,9 +31,6 @@ pub record ReadsTokens (text : List ℕ) (tokens : List Token) (rest : List ℕ)
   pub words : words_of text ≡ front ++ words_of rest
   pub are : AreTokens tokens front
 
-pub tokens_none : (text : List ℕ) → ReadsTokens text [] text
-tokens_none text = record { front = []; words = refl; are = tt }
-
 pub tokens_more : (text : List ℕ) (tokens : List Token) (rest word behind : List ℕ) (token : Token) → ReadsTokens text tokens rest → FirstWord rest word behind → IsToken token word
     → ReadsTokens text (tokens ++ token ∷ []) behind
 tokens_more text tokens rest word behind token so_far first is = record {
@@ -41,11 +38,6 @@ tokens_more text tokens rest word behind token so_far first is = record {
   words = so_far.words ∙ ap (λ (ws : List (List ℕ)). so_far.front ++ ws) first.words ∙ sym (append_assoc so_far.front (word ∷ []) (words_of behind));
   are = tokens_push tokens so_far.front token word so_far.are is;
 }
-
-pub tokens_all : (text : List ℕ) (tokens : List Token) (rest : List ℕ) → ReadsTokens text tokens rest → words_of rest ≡ [] → AreTokens tokens (words_of text)
-tokens_all text tokens rest so_far none =
-    let whole : words_of text ≡ so_far.front = so_far.words ∙ ap (λ (ws : List (List ℕ)). so_far.front ++ ws) none ∙ append-nil so_far.front in
-    rw whole so_far.are
 
 -- a word that is no token
 pub tokens_wrong : (text : List ℕ) (tokens : List Token) (rest word behind : List ℕ) → ReadsTokens text tokens rest → FirstWord rest word behind → ((token : Token) → IsToken token word → ⊥)

@@ -19,18 +19,15 @@ use Rattle.mig_model.specs.Userfault.{Object}
 use Rattle.mig_model.specs.Space.{Space, IsSoundSpace, is_made, called}
 use Rattle.mig_model.proofs.CommandLemmas.{memory-changed}
 use Rattle.mig_model.proofs.HostLemmas.{is_mapped-memory, get-put}
+use Rattle.mig_model.proofs.Facts.{some_either}
 use Rattle.page_table.specs.Views.{Pages}
 use Rattle.uffd_ioctl.specs.Spaces.{space_of}
 use Rattle.uffd_ioctl.proofs.AnswerLemmas.{sound_put, put_is, sound_write, write_is}
 
 -- A page made present, and written
 
-some_or : (b : Bool) (held : List ℕ) (o : Option (List ℕ)) → is_some o ≡ true → is_some (cond b (Some held) o) ≡ true
-some_or true held o h = refl
-some_or false held o h = h
-
-stays_present : (bytes : FinMap nat_cmp (List ℕ)) (page q : ℕ) (held : List ℕ) → contains_key bytes q ≡ true → contains_key (insert bytes page held) q ≡ true
-stays_present bytes page q held h = ap is_some (get-put bytes page q held) ∙ some_or (eqb q page) held (get bytes q) h
+pub stays_present : (bytes : FinMap nat_cmp (List ℕ)) (page q : ℕ) (held : List ℕ) → contains_key bytes q ≡ true → contains_key (insert bytes page held) q ≡ true
+stays_present bytes page q held h = ap is_some (get-put bytes page q held) ∙ some_either (eqb q page) held (get bytes q) h
 
 -- a space stays sound whose host does, if all its present pages stay so
 sound_pages : (areas : FinMap nat_cmp Prot) (old new : Pages) (object : Object) (page : ℕ) (held : List ℕ) → IsSoundSpace (space_of areas old object) → IsSound (record { areas = areas; bytes = new.bytes }) →

@@ -2,10 +2,8 @@
 use Rattle.std.proofs.Common.{◌≡◌, ℕ, ◌+◌, ◌/◌, ◌%◌, ◌^◌, ◌<◌, ◌≤◌, ◌&&◌, Bool, true, false, cond, not, eqb, ltb, Option, Some, None, List, [], refl, sym, ap, ◌∙◌, subst, arith, length, get_or, take, drop, is_some, unwrap_or}
 use Rattle.std.specs.Int.{bytes_low_first}
 use Rattle.std.specs.Ordering.{nat_cmp}
-use Rattle.std.specs.FinMap.{FinMap, get, insert, contains_key, get-insert}
-use Rattle.std.specs.Cmp.{nat_cmp_total, unsigned_tied}
-use Rattle.std.proofs.lemmas.Bool.Decides.{nat_tests}
-use Rattle.std.proofs.lemmas.Bool.{false≢true}
+use Rattle.std.specs.FinMap.{FinMap, get, insert, contains_key}
+use Rattle.std.proofs.lemmas.Bool.{false≢true, eq-eqb, eqb-true, le-ltb}
 use Rattle.std.proofs.lemmas.List.{get_or-take, get_or-drop, length-take, length-drop}
 use Rattle.mig_base.specs.declared.TheConstants.{HIGH}
 use Rattle.mig_base.specs.declared.Prot.{Prot}
@@ -18,10 +16,12 @@ use Rattle.mig_base.specs.Bytes.{zero_page, page_at, contents, overwrite, little
 use Rattle.mig_base.specs.Flat.{Cell, byte_of, is_aligned, allows_load, allows_store, access_reply, number_at, munmap_reply, reply_of}
 use Rattle.mig_base.proofs.PageLemmas.{same_pages}
 use Rattle.mig_base.proofs.ByteLemmas.{length-overwrite}
+use Rattle.mig_base.proofs.TestLemmas.{eqb-self, eqb-above}
 use Rattle.mig_model.specs.Host.{Host, byte_in, memory, host_changed, IsSound}
 use Rattle.mig_model.proofs.NumberLemmas.{aligned_inside, number_at-bytes, number_at-zeros}
-use Rattle.mig_model.proofs.HostLemmas.{memory-none, memory-some, IsSound-put}
+use Rattle.mig_model.proofs.HostLemmas.{memory-none, memory-some, IsSound-put, get-put}
 use Rattle.mig_model.proofs.CommandLemmas.{length-contents}
+use Rattle.mig_model.proofs.Stopping.{present_bytes}
 
 -- Accesses
 
@@ -98,35 +98,17 @@ number_missing host addr width form has missing =
 
 -- Unmapping
 
-ltb-false : (a b : ℕ) → b ≤ a → ltb a b ≡ false
-ltb-false a b h = grind (arith, nat_tests)
-
-eqb-false : (a b : ℕ) → b < a → eqb a b ≡ false
-eqb-false a b h = grind (arith, nat_tests)
-
 first_of_three : (a b c : Bool) → a ≡ true → b ≡ false → c ≡ false → cond (not a) (Refused Einval) (cond b (Refused Einval) (cond c (Refused Einval) Done)) ≡ Done
 first_of_three a b c p q r = rw (p, q, r) refl
 
-eqb-true : (a b : ℕ) → a ≡ b → eqb a b ≡ true
-eqb-true a b h = grind (arith, nat_tests)
-
 pub munmap_done : (addr bytes : ℕ) → addr % 4096 ≡ 0 → 0 < bytes → addr + rounded bytes ≤ HIGH → Done ≡ munmap_reply addr bytes
 munmap_done addr bytes whole some high =
-    sym (first_of_three (eqb (addr % 4096) 0) (eqb bytes 0) (ltb HIGH (addr + rounded bytes)) (eqb-true (addr % 4096) 0 whole) (eqb-false bytes 0 some) (ltb-false HIGH (addr + rounded bytes) high))
+    sym (first_of_three (eqb (addr % 4096) 0) (eqb bytes 0) (ltb HIGH (addr + rounded bytes)) (eq-eqb (addr % 4096) 0 whole) (eqb-above bytes 0 some) (le-ltb HIGH (addr + rounded bytes) high))
 
 -- A page made present, and written
 
-eqb-same : (a : ℕ) → eqb a a ≡ true
-eqb-same a = grind (arith, nat_tests)
-
-eqb_tells : (a b : ℕ) → eqb a b ≡ true → a ≡ b
-eqb_tells a b h = grind (arith, nat_tests)
-
-get-put : (bytes : FinMap nat_cmp (List ℕ)) (page q : ℕ) (held : List ℕ) → get (insert bytes page held) q ≡ cond (eqb q page) (Some held) (get bytes q)
-get-put bytes page q held = get-insert nat_cmp_total bytes page held q ∙ ap (λ b. cond b (Some held) (get bytes q)) (unsigned_tied q page)
-
 pub get-put_same : (bytes : FinMap nat_cmp (List ℕ)) (page : ℕ) (held : List ℕ) → get (insert bytes page held) page ≡ Some held
-get-put_same bytes page held = get-put bytes page page held ∙ ap (λ b. cond b (Some held) (get bytes page)) (eqb-same page)
+get-put_same bytes page held = get-put bytes page page held ∙ ap (λ b. cond b (Some held) (get bytes page)) (eqb-self page)
 
 twice : (b : Bool) (x y : List ℕ) (o : Option (List ℕ)) → cond b (Some y) (cond b (Some x) o) ≡ cond b (Some y) o
 twice true x y o = refl
@@ -147,11 +129,7 @@ held_again false held o h = refl
 pub put-same : (bytes : FinMap nat_cmp (List ℕ)) (page : ℕ) (held : List ℕ) → get bytes page ≡ Some held → insert bytes page held ≡ bytes
 put-same bytes page held found =
     same_pages (insert bytes page held) bytes (λ q.
-    get-put bytes page q held ∙ held_again (eqb q page) held (get bytes q) (λ e. ap (get bytes) (eqb_tells q page e) ∙ found))
-
-some_contents : (o : Option (List ℕ)) → is_some o ≡ true → o ≡ Some (unwrap_or o zero_page)
-some_contents None h = absurd (false≢true h)
-some_contents (Some held) h = refl
+    get-put bytes page q held ∙ held_again (eqb q page) held (get bytes q) (λ e. ap (get bytes) (eqb-true q page e) ∙ found))
 
 none_contents : (o : Option (List ℕ)) → (is_some o ≡ true → ⊥) → zero_page ≡ unwrap_or o zero_page
 none_contents None h = refl
@@ -159,7 +137,7 @@ none_contents (Some held) h = absurd (h refl)
 
 -- a page that is present stays as it is
 pub kept_present : (bytes : FinMap nat_cmp (List ℕ)) (page : ℕ) → contains_key bytes page ≡ true → bytes ≡ insert bytes page (contents bytes page)
-kept_present bytes page has = sym (put-same bytes page (contents bytes page) (some_contents (get bytes page) has))
+kept_present bytes page has = sym (put-same bytes page (contents bytes page) (present_bytes (get bytes page) has))
 
 -- a page that is missing is zeros from now on
 pub made_present : (bytes : FinMap nat_cmp (List ℕ)) (page : ℕ) → (contains_key bytes page ≡ true → ⊥) → insert bytes page zero_page ≡ insert bytes page (contents bytes page)

@@ -1,10 +1,10 @@
 -- What the map calls make of a space.
-use Rattle.std.proofs.Common.{◌≡◌, ℕ, ◌+◌, ◌-◌, ◌*◌, ◌/◌, ◌%◌, ◌^◌, ◌<◌, ◌≤◌, ◌&&◌, ◌||◌, Bool, true, false, cond, not, eqb, ltb, leb, Option, None, List, [], ◌∷◌, ◌++◌, length, nat_lt, ◌==◌, refl, sym, ap, ◌∙◌, subst, ◌⊎◌, ⊎_elim, arith, min, is_some}
+use Rattle.std.proofs.Common.{◌≡◌, ℕ, ◌+◌, ◌-◌, ◌*◌, ◌/◌, ◌%◌, ◌^◌, ◌<◌, ◌≤◌, ◌&&◌, ◌||◌, Bool, true, false, cond, not, eqb, ltb, leb, Option, None, List, [], ◌∷◌, ◌++◌, length, nat_lt, ◌==◌, refl, sym, ap, ◌∙◌, subst, ◌⊎◌, ⊎_elim, arith, min}
 use Rattle.std.specs.Ordering.{nat_cmp}
 use Rattle.std.specs.FinMap.{FinMap, get}
 use Rattle.std.specs.FinSet.{FinSet, contains}
 use Rattle.std.proofs.lemmas.Bool.Decides.{nat_tests}
-use Rattle.std.proofs.lemmas.Bool.{false≢true}
+use Rattle.std.proofs.lemmas.Bool.{false≢true, eqb-true, false_from_ne_true}
 use Rattle.std.proofs.lemmas.List.{length-append}
 use Rattle.mig_base.specs.declared.TheConstants.{HIGH, HIGH_PAGE}
 use Rattle.mig_base.specs.declared.Prot.{Prot}
@@ -26,6 +26,7 @@ use Rattle.mig_base.proofs.SetLemmas.{same_members, member_without, member_below
 use Rattle.mig_base.proofs.ReplyLemmas.{mmap_inside, mremap_told}
 use Rattle.mig_model.specs.Host.{Host, memory, host_changed, host_dropped, IsSound}
 use Rattle.mig_base.specs.Commands.{is_access}
+use Rattle.mig_base.proofs.TestLemmas.{at_or_below, positive, none_is_some}
 use Rattle.mig_model.specs.Userfault.{Object, Mode, mode_at, is_registered, unregistered, registered_where, moved_modes, event_queued, is_watched}
 use Rattle.mig_model.specs.Space.{Space, IsSoundSpace, told, remap_messages, call_messages, modes_after, protected_after, all_queued, called, queued_by}
 use Rattle.mig_model.proofs.CommandLemmas.{remapped_place}
@@ -175,7 +176,7 @@ queued_more : (object : Object) (one two : List Message) (cpu : ℕ) → all_que
 queued_more object [] two cpu = refl
 queued_more object (message ∷ one) two cpu = queued_more (event_queued object message cpu) one two cpu
 
-page_again : (page : ℕ) → 4096 * page / 4096 ≡ page
+pub page_again : (page : ℕ) → 4096 * page / 4096 ≡ page
 page_again page = omega arith
 
 -- the modes once a range is moved
@@ -242,21 +243,14 @@ parts_are areas others pages bytes protected object other is_areas is_bytes is_p
 pub sound_called : (new space : Space) (cpu : ℕ) (command : Command) → is_access command ≡ false → IsSoundSpace space → new ≡ called space cpu command → IsSoundSpace new
 sound_called new space cpu command call sound is = subst IsSoundSpace (sym is) (IsSoundSpace-called space cpu command call sound)
 
-must_be_false : (b : Bool) → (b ≡ true → ⊥) → b ≡ false
-must_be_false true h = absurd (h refl)
-must_be_false false h = refl
-
-none_there : {X : Type 0} (o : Option X) → o ≡ None → is_some o ≡ true → ⊥
-none_there o none some = false≢true (sym (ap is_some none) ∙ some)
-
 -- past the address space no page is protected or registered
 pub protected_below : (space : Space) → IsSoundSpace space → (page : ℕ) → HIGH_PAGE ≤ page → contains space.protected page ≡ false
 protected_below space sound page past =
-    must_be_false (contains space.protected page) (λ h. none_there (get space.host.bytes page) (sound.host.mapped page (sound.host.bound page past)) (sound.present page h))
+    false_from_ne_true (contains space.protected page) (λ h. none_is_some (get space.host.bytes page) (sound.host.mapped page (sound.host.bound page past)) (sound.present page h))
 
 registered_below : (space : Space) → IsSoundSpace space → (page : ℕ) → HIGH_PAGE ≤ page → is_registered space.object page ≡ false
 registered_below space sound page past =
-    must_be_false (is_registered space.object page) (λ h. none_there (get space.host.areas page) (sound.host.bound page past) (sound.mapped page h))
+    false_from_ne_true (is_registered space.object page) (λ h. none_is_some (get space.host.areas page) (sound.host.bound page past) (sound.mapped page h))
 
 -- Pages mapped
 
@@ -389,24 +383,15 @@ dropped_told true false true all due addr last whole clip reply messages done ho
 dropped_told true false false true due addr last whole clip reply messages done hole is other nothing up cut = ap (λ e. told due (Remove addr e)) (up refl refl refl) ∙ sym (ap messages is ∙ done)
 dropped_told true false false false due addr last whole clip reply messages done hole is other nothing up cut = ap (λ e. told due (Remove addr e)) (cut refl) ∙ sym (ap messages is ∙ hole)
 
-eqb_tells : (a b : ℕ) → eqb a b ≡ true → a ≡ b
-eqb_tells a b h = grind (arith, nat_tests)
-
-eqb_denies : (a : ℕ) → eqb a 0 ≡ false → 0 < a
-eqb_denies a h = grind (arith, nat_tests)
-
 lesser_is : (a b : ℕ) → lesser a b ≡ min a b
 lesser_is a b = grind (arith, nat_tests)
 
 -- no page of no bytes is watched
 none_watched : (object : Object) (first bytes : ℕ) → eqb bytes 0 ≡ true → is_watched object first (pages_of bytes) ≡ false
 none_watched object first bytes h =
-    let e = eqb_tells bytes 0 h in
+    let e = eqb-true bytes 0 h in
     let pages : pages_of bytes ≡ 0 = omega arith in
     ap (is_watched object first) pages ∙ ap not (none_below-from (λ i. is_registered object (first + i)) 0 (λ i l. absurd (omega arith)))
-
-low_or_high : (a b : ℕ) → (a ≤ b) ⊎ (b < a)
-low_or_high a b = grind (arith, nat_tests)
 
 -- a range that is all mapped lies inside the address space
 mapped_inside : (host : Host) (addr bytes : ℕ) → IsSound host → 0 < bytes → is_all_mapped (memory host) addr (rounded bytes) ≡ true → addr + rounded bytes ≤ HIGH
@@ -414,7 +399,7 @@ mapped_inside host addr bytes sound some all =
     ⊎_elim
     (λ (low : addr + rounded bytes ≤ HIGH). low)
     (λ (past : HIGH < addr + rounded bytes). absurd (false≢true (sym (past_not_all host addr bytes sound past some) ∙ all)))
-    (low_or_high (addr + rounded bytes) HIGH)
+    (at_or_below (addr + rounded bytes) HIGH)
 
 drop_told : (space : Space) (addr bytes low end last : ℕ) (reply : Reply) → IsSoundSpace space → reply ≡ dontneed_reply (memory space.host) addr bytes → (reply ≡ Refused Einval → ⊥) → low ≡ min (addr / 4096) HIGH_PAGE → end ≡ min (addr / 4096 + pages_of bytes) HIGH_PAGE → last ≡ 4096 * end
     → told (is_watched space.object low (end - low)) (Remove addr last) ≡ call_messages space.object (DontNeed addr bytes) reply
@@ -426,11 +411,11 @@ drop_told space addr bytes low end last reply sound is other is_low is_end is_la
     ∙ dropped_told (is_page_start addr) (eqb bytes 0) (leb (2 ^ 64) (addr + rounded bytes)) all due addr last (addr + rounded bytes) (lesser (addr + rounded bytes) HIGH) reply (call_messages space.object (DontNeed addr bytes)) refl refl is other
     (none_watched space.object first bytes)
     (λ start some mapped.
-    let whole = eqb_tells (addr % 4096) 0 start in
-    let high = mapped_inside space.host addr bytes sound.host (eqb_denies bytes some) mapped in
+    let whole = eqb-true (addr % 4096) 0 start in
+    let high = mapped_inside space.host addr bytes sound.host (positive bytes some) mapped in
     omega arith)
     (λ start.
-    let whole = eqb_tells (addr % 4096) 0 start in
+    let whole = eqb-true (addr % 4096) 0 start in
     let least = lesser_is (addr + rounded bytes) HIGH in
     let clip : last ≡ min (addr + rounded bytes) HIGH = omega arith in
     clip ∙ sym least)

@@ -14,6 +14,7 @@ use Rattle.mig_base.proofs.RangeLemmas.{run_found}
 use Rattle.mig_base.proofs.PageLemmas.{same_pages, get-remove_range}
 use Rattle.mig_base.proofs.ReplyLemmas.{IsRemapped, mmap_inside, mremap_told}
 use Rattle.mig_base.proofs.ReplyLemmas.IsWhere.{Shrunk, Grew, Moved, Told}
+use Rattle.mig_base.proofs.BoundLemmas.{apart_of}
 use Rattle.mig_model.specs.Host.{Host, memory, IsSound}
 use Rattle.mig_model.proofs.HostLemmas.{is_mapped-memory}
 use Rattle.mig_model.proofs.CommandLemmas.{remapped_place}
@@ -47,9 +48,6 @@ dropped_below host first count low end sound is_low is_end =
     ∙ sym (get-remove_range host.bytes first count q))
 
 -- A range at its new place
-
-apart_of : (start size other other_size : ℕ) → overlaps start size other other_size ≡ false → (other + other_size ≤ start) ⊎ (start + size ≤ other)
-apart_of start size other other_size h = grind (arith, nat_tests)
 
 apart_or : (from count to new_count : ℕ) → ((from + count ≤ to) ⊎ (to + new_count ≤ from)) ⊎ ((to < from + count) × (from < to + new_count))
 apart_or from count to new_count = grind (arith, nat_tests)

@@ -3,26 +3,24 @@ use Rattle.std.proofs.Common.{◌≡◌, ℕ, ◌+◌, ◌-◌, ◌*◌, ◌<◌
 use Rattle.std.specs.Ordering.{nat_cmp}
 use Rattle.std.specs.FinSet.{FinSet, contains}
 use Rattle.std.proofs.lemmas.Bool.Decides.{nat_tests}
+use Rattle.std.proofs.lemmas.Bool.{not-false}
 use Rattle.mig_base.specs.declared.TheConstants.{HIGH_PAGE}
 use Rattle.mig_base.specs.declared.message.Message.{Message}
 use Rattle.mig_base.specs.Ranges.{in_range, lesser}
 use Rattle.mig_base.specs.Sets.{without, moved_set}
 use Rattle.mig_base.proofs.RangeLemmas.{none_below_tells, none_below-from}
 use Rattle.mig_base.proofs.SetLemmas.{same_members, member_without}
+use Rattle.mig_base.proofs.TestLemmas.{or_first, or_second}
 use Rattle.mig_model.specs.Userfault.{Object, mode_at, is_registered, is_watched, unregistered, moved_modes}
 use Rattle.mig_model.specs.Space.{told, remap_messages}
 use Rattle.userfault.proofs.ModeLemmas.{is_pages_where}
 use Rattle.uffd_ioctl.specs.declared.remap.Remap.{Remap}
 use Rattle.uffd_ioctl.specs.Remaps.{IsRemap, replaced_message, cut_message, moved_message}
 use Rattle.uffd_ioctl.proofs.CallLemmas.{messages_are}
-use Rattle.uffd_ioctl.proofs.RegisterLemmas.{AreLow, no_left, no_right}
+use Rattle.uffd_ioctl.proofs.RegisterLemmas.{AreLow}
 
 abbrev Set : Type 0
 Set = FinSet nat_cmp
-
-none_of : (b : Bool) → not b ≡ false → b ≡ true
-none_of true h = refl
-none_of false h = sym h
 
 -- a page of a range that is not watched is not registered
 unwatched_at : (object : Object) (first count page : ℕ) → is_watched object first count ≡ false → in_range first count page ≡ true → is_registered object page ≡ false
@@ -30,7 +28,7 @@ unwatched_at object first count page none here =
     let low : first ≤ page = grind (arith, nat_tests) in
     let high : page < first + count = grind (arith, nat_tests) in
     let same : first + (page - first) ≡ page = omega arith in
-    sym (ap (is_registered object) same) ∙ none_below_tells (λ i. is_registered object (first + i)) count (page - first) (none_of _ none) (omega arith)
+    sym (ap (is_registered object) same) ∙ none_below_tells (λ i. is_registered object (first + i)) count (page - first) (not-false _ none) (omega arith)
 
 -- taken out where nothing is in
 out_of : (here has : Bool) → (here ≡ true → has ≡ false) → has ≡ (has && not here)
@@ -46,8 +44,8 @@ without_none set first count none =
 -- a range that is not watched is no longer mapped
 pub unmap_unwatched : (object : Object) (first count : ℕ) → is_watched object first count ≡ false → object ≡ unregistered object first count
 unmap_unwatched object first count none =
-    let missing = without_none object.missing first count (λ q here. no_left _ _ (unwatched_at object first count q none here)) in
-    let protect = without_none object.protect first count (λ q here. no_right _ _ (unwatched_at object first count q none here)) in
+    let missing = without_none object.missing first count (λ q here. or_first _ _ (unwatched_at object first count q none here)) in
+    let protect = without_none object.protect first count (λ q here. or_second _ _ (unwatched_at object first count q none here)) in
     λ i. record object { missing = missing i; protect = protect i }
 
 -- a part of a range
@@ -79,8 +77,8 @@ pub remap_unwatched : (object : Object) (range : Remap) → IsRemap range → Ar
 remap_unwatched object range well low from to =
     let some = well.some in
     let last = unwatched_at object range.from range.count (range.from + (range.count - 1)) from (grind (arith, nat_tests)) in
-    let missing = moved_none object.missing range (contains object.missing (range.from + (range.count - 1))) well (λ q past. no_left _ _ (low q past)) (λ q here. no_left _ _ (unwatched_at object range.from range.count q from here)) (λ q here. no_left _ _ (unwatched_at object range.to range.new_count q to here)) (no_left _ _ last) in
-    let protect = moved_none object.protect range (contains object.protect (range.from + (range.count - 1))) well (λ q past. no_right _ _ (low q past)) (λ q here. no_right _ _ (unwatched_at object range.from range.count q from here)) (λ q here. no_right _ _ (unwatched_at object range.to range.new_count q to here)) (no_right _ _ last) in
+    let missing = moved_none object.missing range (contains object.missing (range.from + (range.count - 1))) well (λ q past. or_first _ _ (low q past)) (λ q here. or_first _ _ (unwatched_at object range.from range.count q from here)) (λ q here. or_first _ _ (unwatched_at object range.to range.new_count q to here)) (or_first _ _ last) in
+    let protect = moved_none object.protect range (contains object.protect (range.from + (range.count - 1))) well (λ q past. or_second _ _ (low q past)) (λ q here. or_second _ _ (unwatched_at object range.from range.count q from here)) (λ q here. or_second _ _ (unwatched_at object range.to range.new_count q to here)) (or_second _ _ last) in
     λ i. record object { missing = missing i; protect = protect i }
 
 -- Messages

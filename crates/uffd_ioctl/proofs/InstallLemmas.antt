@@ -5,7 +5,7 @@ use Rattle.std.specs.FinMap.{FinMap, get, insert, contains_key}
 use Rattle.std.specs.FinSet as set
 use Rattle.std.specs.FinSet.{FinSet, contains}
 use Rattle.std.proofs.lemmas.Bool.Decides.{nat_tests}
-use Rattle.std.proofs.lemmas.Bool.{false≢true}
+use Rattle.std.proofs.lemmas.Bool.{false≢true, eq-eqb, eqb-true, not-false, false_from_ne_true, and_parts}
 use Rattle.mig_base.specs.declared.TheConstants.{HIGH_PAGE}
 use Rattle.mig_base.specs.declared.Prot.{Prot}
 use Rattle.mig_base.specs.declared.command.Errno.{Errno}
@@ -16,12 +16,13 @@ use Rattle.mig_base.specs.Bytes.{zero_page}
 use Rattle.mig_base.specs.Ranges.{in_range, least_below}
 use Rattle.mig_base.proofs.ByteLemmas.{length-zero_page}
 use Rattle.mig_base.proofs.SetLemmas.{member_inserted}
-use Rattle.mig_base.proofs.RangeLemmas.{none_below-from, none_below-not, least_below-is, least_below-none, least_below_tells}
+use Rattle.mig_base.proofs.RangeLemmas.{none_below-from, none_below-not, least_below-is, least_below-none, least_below_tells, in_range-end}
 use Rattle.mig_model.specs.Userfault.{Object, is_registered}
 use Rattle.mig_model.specs.Space.{Space, IsSoundSpace}
 use Rattle.mig_model.specs.Ioctls.{put_pages, handed, installed, is_one_area, same_prot, missing_run, copy_errors, copy_error, zeropage_errors, zeropage_error, stop_error, wakes, put_answer, put_by, left_by}
 use Rattle.mig_base.specs.Tests.{same_bool, is_every}
-use Rattle.mig_model.proofs.IoctlLemmas.{CanPut, IsSoundSpace-installed, get-put_pages, every_page, none_holds, not_false, protect_told, can_put, length-handed}
+use Rattle.mig_base.proofs.TestLemmas.{eqb-self}
+use Rattle.mig_model.proofs.IoctlLemmas.{CanPut, IsSoundSpace-installed, get-put_pages, every_page, none_holds, protect_told, can_put, length-handed}
 use Rattle.page_table.specs.Views.{Pages}
 use Rattle.page_table.specs.declared.page_table.PutFault.{PutFault}
 use Rattle.page_table.specs.declared.page_table.PutFault.TheVariants as stop
@@ -34,6 +35,7 @@ use Rattle.uffd_ioctl.specs.declared.fault.Copied.{Copied}
 use Rattle.uffd_ioctl.specs.declared.fault.CopyFault.{CopyFault}
 use Rattle.uffd_ioctl.specs.Puts.{IsPut, IsShort, put_result, result_by, result_of, fault_of, stop_fault, own_fault, pages_put}
 use Rattle.uffd_ioctl.specs.Spaces.{space_of}
+use Rattle.uffd_ioctl.proofs.CallLemmas.{page_again, protected_below}
 
 -- One page
 
@@ -60,15 +62,12 @@ pub none_put : (pages : FinMap nat_cmp (List ℕ)) (first count : ℕ) (bytes : 
 unfolding put_pages
 none_put pages first count bytes = record { few = omega arith; missing = λ i l. absurd (omega arith); put = refl }
 
-past : (first count : ℕ) → in_range first count (first + count) ≡ false
-past first count = grind (arith, nat_tests)
-
 -- the next page is as it was
 next_page : (pages now : FinMap nat_cmp (List ℕ)) (first count : ℕ) (bytes : ℕ → List ℕ) → now ≡ put_pages pages first count bytes → contains_key now (first + count) ≡ contains_key pages (first + count)
 next_page pages now first count bytes put =
     ap (λ m. contains_key m (first + count)) put
     ∙ ap is_some (get-put_pages pages first count (first + count) bytes)
-    ∙ ap (λ b. is_some (cond b (Some (bytes (first + count - first))) (get pages (first + count)))) (past first count)
+    ∙ ap (λ b. is_some (cond b (Some (bytes (first + count - first))) (get pages (first + count)))) (in_range-end first count)
 
 put_next : (pages now new : FinMap nat_cmp (List ℕ)) (first done : ℕ) (bytes : ℕ → List ℕ) (held : List ℕ) → now ≡ put_pages pages first done bytes → new ≡ insert now (first + done) held → held ≡ bytes done → new ≡ put_pages pages first (done + 1) bytes
 unfolding put_pages
@@ -88,10 +87,6 @@ one_more_put pages now new first count done bytes held before room free put same
 pub all_put : (pages now : FinMap nat_cmp (List ℕ)) (first count done : ℕ) (bytes : ℕ → List ℕ) → ArePut pages now first count done bytes → count ≤ done → IsPut pages first count done None
 all_put pages now first count done bytes put end = let few = put.few in record { few = few; missing = put.missing; stops = omega arith }
 
-not_true : (b : Bool) → (b ≡ true → ⊥) → b ≡ false
-not_true true h = absurd (h refl)
-not_true false h = refl
-
 pub some_put : (pages now : FinMap nat_cmp (List ℕ)) (first count done : ℕ) (bytes : ℕ → List ℕ) (fault : PutFault) → ArePut pages now first count done bytes → done < count → ((fault ≡ stop.Present) ↔ (contains_key now (first + done) ≡ true)) → IsPut pages first count done (Some fault)
 some_put pages now first count done bytes stop.Present put room why = record {
   few = put.few;
@@ -101,7 +96,7 @@ some_put pages now first count done bytes stop.Present put room why = record {
 some_put pages now first count done bytes stop.NoMemory put room why = record {
   few = put.few;
   missing = put.missing;
-  stops = (room, not_true (contains_key pages (first + done)) (λ e. let wrong = why.1 (next_page pages now first done bytes put.put ∙ e) in absurd (cc)));
+  stops = (room, false_from_ne_true (contains_key pages (first + done)) (λ e. let wrong = why.1 (next_page pages now first done bytes put.put ∙ e) in absurd (cc)));
 }
 
 -- the bytes of a page, as the code takes them
@@ -121,14 +116,8 @@ protected_more first done q old protect now new before more = grind (arith, nat_
 
 -- One protection and one mode
 
-itself : (n : ℕ) → eqb n n ≡ true
-itself n = grind (arith, nat_tests)
-
-equal : (a b : ℕ) → eqb a b ≡ true → a ≡ b
-equal a b h = grind (arith, nat_tests)
-
 same_number : (a b : Prot) → eqb (prot_number a) (prot_number b) ≡ true → b ≡ a
-same_number a b h = sym (prot_numbered-prot_number b) ∙ ap prot_numbered (sym (equal (prot_number a) (prot_number b) h)) ∙ prot_numbered-prot_number a
+same_number a b h = sym (prot_numbered-prot_number b) ∙ ap prot_numbered (sym (eqb-true (prot_number a) (prot_number b) h)) ∙ prot_numbered-prot_number a
 
 same_tells : (a b : Option Prot) → same_prot a b ≡ true → b ≡ a
 same_tells (Some a) (Some b) h = ap Some (same_number a b h)
@@ -140,7 +129,7 @@ prot_there (Some prot) h = (prot, refl)
 prot_there None h = absurd (false≢true h)
 
 both_have : (a b : Option Prot) (prot : Prot) → a ≡ Some prot → b ≡ Some prot → same_prot a b ≡ true
-both_have a b prot p q = ap (λ o. same_prot o b) p ∙ ap (same_prot (Some prot)) q ∙ itself (prot_number prot)
+both_have a b prot p q = ap (λ o. same_prot o b) p ∙ ap (same_prot (Some prot)) q ∙ eqb-self (prot_number prot)
 
 -- what a search for one protection tells
 pub every_prot : (prots : ℕ → Option Prot) (first count : ℕ) (found : Option Prot) → 0 < count → IfSome found (HasOneProt prots first count) → IfNone found ((prot : Prot) → HasOneProt prots first count prot → ⊥) → is_some found ≡ is_every (λ page. same_prot (prots first) (prots page)) first count
@@ -148,7 +137,7 @@ every_prot prots first count (Some prot) some has none =
     sym (none_below-from (λ i. not (same_prot (prots first) (prots (first + i)))) count
     (λ i l. ap not (both_have (prots first) (prots (first + i)) prot (has first (omega arith) (omega arith)) (has (first + i) (omega arith) (omega arith)))))
 every_prot prots first count None some has none =
-    sym (not_true (is_every (λ page. same_prot (prots first) (prots page)) first count) (λ e.
+    sym (false_from_ne_true (is_every (λ page. same_prot (prots first) (prots page)) first count) (λ e.
     let one = prot_there (prots first) (every_page (λ page. same_prot (prots first) (prots page)) first count first e (omega arith) (omega arith)) in
     none one.0 (λ page a b. same_tells (prots first) (prots page) (every_page (λ q. same_prot (prots first) (prots q)) first count page e a b) ∙ one.1)))
 
@@ -162,15 +151,11 @@ same_value true b h = h
 same_value false true h = sym h
 same_value false false h = refl
 
-both_hold : (a b : Bool) → (a && b) ≡ true → (a ≡ true) × (b ≡ true)
-both_hold true b h = (refl, h)
-both_hold false b h = absurd (false≢true h)
-
 -- where the pages have one mode, they are all registered where the first is
 all_registered : (object : Object) (first count : ℕ) → 0 < count → is_every (has_mode_of object first) first count ≡ true → is_every (is_registered object) first count ≡ is_registered object first
 all_registered object first count some h =
     every_alike (is_registered object) (is_registered object first) first count some (λ page a b.
-    let one = both_hold (same_bool (contains object.missing first) (contains object.missing page)) (same_bool (contains object.protect first) (contains object.protect page)) (every_page (has_mode_of object first) first count page h a b) in
+    let one = and_parts (same_bool (contains object.missing first) (contains object.missing page)) (same_bool (contains object.protect first) (contains object.protect page)) (every_page (has_mode_of object first) first count page h a b) in
     ap (λ m. m || contains object.protect page) (same_value (contains object.missing first) (contains object.missing page) one.0)
     ∙ ap (λ p. contains object.missing first || p) (same_value (contains object.protect first) (contains object.protect page) one.1))
 
@@ -213,15 +198,6 @@ one_area_not space first count watched value enough here modes found =
 
 -- The space once pages are put
 
-is_past : (o : Option (List ℕ)) (here : Bool) → o ≡ None → (here ≡ true → is_some o ≡ true) → here ≡ false
-is_past o true none h = absurd (false≢true (sym (ap is_some none) ∙ h refl))
-is_past o false none h = refl
-
--- a protected page lies below the end
-protected_below : (space : Space) (page : ℕ) → IsSoundSpace space → HIGH_PAGE ≤ page → contains space.protected page ≡ false
-protected_below space page sound past =
-    is_past (get space.host.bytes page) (contains space.protected page) (sound.host.mapped page (sound.host.bound page past)) (sound.present page)
-
 new_below : (first done page : ℕ) (old protect : Bool) → first + done ≤ HIGH_PAGE → HIGH_PAGE ≤ page → old ≡ false → (old || (protect && in_range first done page)) ≡ false
 new_below first done page old protect inside past none = grind (arith, nat_tests)
 
@@ -231,7 +207,7 @@ is_installed areas old new object first done bytes protect sound inside put prot
     ap (λ b. space_of areas (record { bytes = b; protected = new.protected }) object) put
     ∙ ap (λ p. space_of areas (record { bytes = put_pages old.bytes first done bytes; protected = p }) object)
     (is_pages_where new.protected (λ q. contains old.protected q || (protect && in_range first done q)) protected
-    (λ q past. new_below first done q (contains old.protected q) protect inside past (protected_below (space_of areas old object) q sound past)))
+    (λ q past. new_below first done q (contains old.protected q) protect inside past (protected_below (space_of areas old object) sound q past)))
 
 none_added : (old here : Bool) → old ≡ (old || (false && here))
 none_added true here = refl
@@ -287,9 +263,6 @@ run_is space first count done (Some stop.NoMemory) put =
 
 -- What is answered
 
-same_count : (a b : ℕ) → a ≡ b → eqb a b ≡ true
-same_count a b h = grind (arith, nat_tests)
-
 other_count : (a b : ℕ) → a < b → eqb a b ≡ false
 other_count a b h = grind (arith, nat_tests)
 
@@ -306,13 +279,10 @@ answer_of start count done bits why h = ap (λ f. result_by (4096 * done) (wakes
 -- where memory was found
 row_answer : (bytes : FinMap nat_cmp (List ℕ)) (first start count done bits : ℕ) (why : Option PutFault) → IsPut bytes first count done why → (why ≡ Some stop.NoMemory → ⊥) → put_result start done (is_one bits 0) why ≡ result_of (put_answer start count done bits Eexist)
 row_answer bytes first start count done bits None put h =
-    answer_of start count done bits None (ap (λ b. fault_of (cond b None (Some (stop_error done Eexist)))) (sym (same_count done count put.stops)))
+    answer_of start count done bits None (ap (λ b. fault_of (cond b None (Some (stop_error done Eexist)))) (sym (eq-eqb done count put.stops)))
 row_answer bytes first start count done bits (Some stop.Present) put h =
     answer_of start count done bits (Some stop.Present) (stopped_by done ∙ ap (λ b. fault_of (cond b None (Some (stop_error done Eexist)))) (sym (other_count done count put.stops.0)))
 row_answer bytes first start count done bits (Some stop.NoMemory) put h = absurd (h refl)
-
-whole_pages_put : (done : ℕ) → 4096 * done / 4096 ≡ done
-whole_pages_put done = omega arith
 
 -- The row of a call
 
@@ -346,7 +316,7 @@ row_of error old new start count bits done bytes protect quiet (Some stop.Presen
 row_of error old new start count bits done bytes protect quiet (Some stop.NoMemory) result fine same put is after =
     let run = run_is old (start / 4096) count done (Some stop.NoMemory) put in
     let less = run.short refl in
-    let at : pages_put result ≡ done = ap pages_put is ∙ whole_pages_put done in
+    let at : pages_put result ≡ done = ap pages_put is ∙ page_again done in
     inr (
       fine,
       record {
@@ -390,7 +360,7 @@ copy_call areas old new object now start bits first done bytes protect quiet why
     let count = length bytes / 4096 in
     let none : copy_error space start (length bytes) bits ≡ None = ap (λ s. copy_error s start (length bytes) bits) view ∙ sym fine in
     let told = none_holds (copy_errors space start (length bytes) bits) none in
-    let can = can_put space (start / 4096) count (handed bytes) (is_one bits 1) sound (not_false (is_one_area space (start / 4096) count) told.1.1.1.1.0) (λ i l. length-handed bytes i l)
+    let can = can_put space (start / 4096) count (handed bytes) (is_one bits 1) sound (not-false (is_one_area space (start / 4096) count) told.1.1.1.1.0) (λ i l. length-handed bytes i l)
     (protect_told (is_one bits 1) (contains object.protect (start / 4096)) told.1.1.1.1.1.0) in
     subst (λ s. IsCall (copy_error s start (length bytes) bits) s (space_of areas new object) start count bits (handed bytes) (is_one bits 1) result) view
     (call_of (copy_error space start (length bytes) bits) areas old new object start count bits done (handed bytes) (is_one bits 1) quiet why result sound none can (subst (λ f. f + count ≤ HIGH_PAGE) at inside) same
@@ -404,7 +374,7 @@ zeropage_call areas old new object now start len bits first count done quiet why
     let space = space_of areas old object in
     let none : zeropage_error space start len bits ≡ None = ap (λ s. zeropage_error s start len bits) view ∙ sym fine in
     let told = none_holds (zeropage_errors space start len bits) none in
-    let can = can_put space (start / 4096) (len / 4096) (λ i. zero_page) false sound (not_false (is_one_area space (start / 4096) (len / 4096)) told.1.1.1.1.0) (λ i l. length-zero_page) (λ e. absurd (false≢true e)) in
+    let can = can_put space (start / 4096) (len / 4096) (λ i. zero_page) false sound (not-false (is_one_area space (start / 4096) (len / 4096)) told.1.1.1.1.0) (λ i l. length-zero_page) (λ e. absurd (false≢true e)) in
     subst (λ s. IsCall (zeropage_error s start len bits) s (space_of areas new object) start (len / 4096) bits (λ i. zero_page) false result) view
     (call_of (zeropage_error space start len bits) areas old new object start (len / 4096) bits done (λ i. zero_page) false quiet why result sound none can (omega (arith, at, size, inside)) same
     (subst (λ f. HasPut old new f (len / 4096) done (λ i. zero_page) false why) at (subst (λ n. HasPut old new first n done (λ i. zero_page) false why) size put)) is)

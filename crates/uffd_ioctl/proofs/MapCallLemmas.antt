@@ -1,9 +1,9 @@
 -- The memory of a host over ranges of whole pages: what is mapped there, how much, and with which protection.
-use Rattle.std.proofs.Common.{◌≡◌, ℕ, zero, suc, ◌+◌, ◌-◌, ◌*◌, ◌/◌, ◌%◌, ◌<◌, ◌≤◌, ◌&&◌, ◌||◌, Bool, true, false, cond, not, eqb, ltb, leb, Option, Some, None, List, ◌∷◌, refl, sym, ap, ◌∙◌, subst, ◌⊎◌, ⊎_elim, arith, is_some, IfSome, IfNone, inl, inr, add-zero}
+use Rattle.std.proofs.Common.{◌≡◌, ℕ, zero, suc, ◌+◌, ◌-◌, ◌*◌, ◌/◌, ◌%◌, ◌<◌, ◌≤◌, ◌&&◌, ◌||◌, Bool, true, false, cond, not, eqb, ltb, leb, Option, Some, None, List, ◌∷◌, refl, sym, ap, ◌∙◌, subst, ⊎_elim, arith, is_some, IfSome, IfNone, add-zero}
 use Rattle.std.specs.Ordering.{nat_cmp}
 use Rattle.std.specs.FinMap.{FinMap, get, contains_key, len}
 use Rattle.std.proofs.lemmas.Bool.Decides.{nat_tests}
-use Rattle.std.proofs.lemmas.Bool.{false≢true}
+use Rattle.std.proofs.lemmas.Bool.{false≢true, eq-eqb, eqb-true, not-false, cases_Bool, ltb-false, le-leb, le-ltb, or_from, lt-leb, lt-ltb, ltb-true, or_right, or_left}
 use Rattle.mig_base.specs.declared.TheConstants.{LOW, HIGH, LOW_PAGE, HIGH_PAGE, MAX_PAGES}
 use Rattle.mig_base.specs.declared.Prot.{Prot}
 use Rattle.mig_base.specs.declared.Prot.TheVariants.{NoAccess, Read, ReadWrite}
@@ -14,13 +14,16 @@ use Rattle.mig_base.specs.declared.command.Reply.TheVariants.{At, Refused}
 use Rattle.mig_base.specs.Codes.{prot_number}
 use Rattle.mig_base.specs.Ranges.{in_range, count_below, none_below, pages_of, rounded, free_place}
 use Rattle.mig_base.specs.Flat.{Cell, is_mapped, mapped_count, fill, written, same_prot, has_one_prot, is_unmapped, is_all_mapped, moved, overlaps, zeros_with, is_page_start, exceeds_limit, place_refusals, first_refusal, at_place, mmap_reply, can_grow, is_bad_target, mremap_place, mremap_target, mremap_reply}
-use Rattle.mig_base.proofs.RangeLemmas.{none_below_tells, none_below-from, none_below-not, count_below-same, count_below-append, count_below-constant, count_below-blocks, in_range-true, in_range-false_below, in_range-false_above}
+use Rattle.mig_base.proofs.RangeLemmas.{none_below_tells, none_below-from, none_below-not, count_below-same, count_below-append, count_below-constant, count_below-blocks, in_range-true, in_range-false_below, in_range-false_above, count_below-few}
 use Rattle.mig_base.proofs.PageLemmas.{count_below-contains_key}
 use Rattle.mig_base.proofs.ReplyLemmas.{IsTarget}
+use Rattle.mig_base.proofs.TestLemmas.{some_is_none, or_first, or_second, eqb-above, is_some-cond}
 use Rattle.area_map.specs.Ranges.{HasOneProt}
-use Rattle.area_map.proofs.MappedLemmas.{count_below-few}
 use Rattle.mig_model.specs.Host.{Host, memory, IsSound}
-use Rattle.mig_model.proofs.HostLemmas.{cell_at, memory-at, memory-none, memory-some, is_mapped-memory, mapped_count-memory}
+use Rattle.mig_model.proofs.HostLemmas.{cell_at, memory-at, memory-some, is_mapped-memory, mapped_count-memory}
+use Rattle.mig_model.proofs.CommandLemmas.{past_none}
+use Rattle.mig_model.proofs.Facts.{low_or}
+use Rattle.mig_model.proofs.ReplyOfLemmas.{is_some-written}
 
 -- how many of the pages are mapped
 abbrev pub mapped_in : FinMap nat_cmp Prot → ℕ → ℕ → ℕ
@@ -101,10 +104,6 @@ all_mapped_pages host addr count whole =
     ∙ ap (λ n. eqb n (4096 * count)) (count_pages host addr count whole)
     ∙ eqb-pages (mapped_in host.areas (addr / 4096) count) count
 
--- past the address space nothing is mapped
-past_none : (host : Host) (addr : ℕ) → IsSound host → HIGH ≤ addr → memory host addr ≡ None
-past_none host addr sound l = memory-none host addr (sound.bound (addr / 4096) (omega arith))
-
 past_not_mapped : (host : Host) (addr size : ℕ) → IsSound host → HIGH < addr + size → 0 < size → is_all_mapped (memory host) addr size ≡ false
 past_not_mapped host addr size sound past some =
     none_below-not (λ i. not (is_mapped (memory host) (addr + i))) size (size - 1) (omega arith)
@@ -155,10 +154,6 @@ prot_number-same NoAccess = refl
 prot_number-same Read = refl
 prot_number-same ReadWrite = refl
 
-not_false : (b : Bool) → not b ≡ false → b ≡ true
-not_false true h = refl
-not_false false h = absurd (false≢true (sym h))
-
 -- two pages of one protection
 pub record HaveProt (a b : Option Prot) : Type 0 where
   pub prot : Prot
@@ -175,10 +170,7 @@ prot_told host addr size i one l =
     same_prot_tells host.bytes addr (addr + i) (get host.areas (addr / 4096)) (get host.areas ((addr + i) / 4096))
     (ap (λ c. same_prot c (cell_at host.bytes (addr + i) (get host.areas ((addr + i) / 4096)))) (sym (memory-at host addr))
     ∙ ap (same_prot (memory host addr)) (sym (memory-at host (addr + i)))
-    ∙ not_false _ (none_below_tells (λ k. not (same_prot (memory host addr) (memory host (addr + k)))) size i one l))
-
-same_some : (a b : Prot) → Some a ≡ Some b → a ≡ b
-same_some a b h = cc
+    ∙ not-false _ (none_below_tells (λ k. not (same_prot (memory host addr) (memory host (addr + k)))) size i one l))
 
 -- the one protection of a range
 pub one_prot_pages : (host : Host) (addr count : ℕ) → addr % 4096 ≡ 0 → 0 < count → has_one_prot (memory host) addr (4096 * count) ≡ true → (prot : Prot) × HasOneProt (λ page. get host.areas page) (addr / 4096) count prot
@@ -202,16 +194,12 @@ has_prot host addr count prot whole has =
     let other = memory-some host (addr + i) prot (has ((addr + i) / 4096) (omega arith) (omega arith)) in
     ap not (both_prot (memory host addr) (memory host (addr + i)) _ _ one other (prot_number-same prot)))
 
-bool_cases : (b : Bool) → (b ≡ true) ⊎ (b ≡ false)
-bool_cases true = inl refl
-bool_cases false = inr refl
-
 pub has_no_prot : (host : Host) (addr count : ℕ) → addr % 4096 ≡ 0 → 0 < count → ((prot : Prot) → HasOneProt (λ page. get host.areas page) (addr / 4096) count prot → ⊥) → has_one_prot (memory host) addr (4096 * count) ≡ false
 has_no_prot host addr count whole some none =
     ⊎_elim
     (λ (e : has_one_prot (memory host) addr (4096 * count) ≡ true). let told = one_prot_pages host addr count whole some e in absurd (none told.0 told.1))
     (λ (e : has_one_prot (memory host) addr (4096 * count) ≡ false). e)
-    (bool_cases (has_one_prot (memory host) addr (4096 * count)))
+    (cases_Bool (has_one_prot (memory host) addr (4096 * count)))
 
 one_prot_is : (host : Host) (addr count : ℕ) (found : Option Prot) → addr % 4096 ≡ 0 → 0 < count → IfSome found (HasOneProt (λ page. get host.areas page) (addr / 4096) count) → IfNone found ((prot : Prot) → HasOneProt (λ page. get host.areas page) (addr / 4096) count prot → ⊥) → is_some found ≡ has_one_prot (memory host) addr (4096 * count)
 one_prot_is host addr count (Some prot) whole some has none = sym (has_prot host addr count prot whole has)
@@ -236,23 +224,13 @@ pub record IsMappedRange (host : Host) (addr count : ℕ) : Type 0 where
   pub all : mapped_in host.areas (addr / 4096) count ≡ count
   pub few : count ≤ len host.areas
 
-some_none : (prot : Prot) (o : Option Prot) → o ≡ Some prot → o ≡ None → ⊥
-some_none prot o some none = let e : Some prot ≡ None = sym some ∙ none in cc
-
-below_or : {page : ℕ} → (HIGH_PAGE ≤ page → ⊥) → page < HIGH_PAGE
-below_or h = grind (arith, nat_tests, h)
-
 pub mapped_range : (host : Host) (addr count : ℕ) → IsSound host → addr % 4096 ≡ 0 → 0 < count → has_one_prot (memory host) addr (4096 * count) ≡ true → IsMappedRange host addr count
 mapped_range host addr count sound whole some one =
     let told = one_prot_pages host addr count whole some one in
-    let last : addr / 4096 + (count - 1) < HIGH_PAGE = below_or (λ past. some_none told.0 _ (told.1 (addr / 4096 + (count - 1)) (omega arith) (omega arith)) (sound.bound (addr / 4096 + (count - 1)) past)) in
+    let last : addr / 4096 + (count - 1) < HIGH_PAGE = low_or (λ past. some_is_none told.0 _ (told.1 (addr / 4096 + (count - 1)) (omega arith) (omega arith)) (sound.bound (addr / 4096 + (count - 1)) past)) in
     let inside : addr / 4096 + count ≤ HIGH_PAGE = omega arith in
     let all : mapped_in host.areas (addr / 4096) count ≡ count = count_below-constant (λ i. contains_key host.areas (addr / 4096 + i)) true count (λ i l. ap is_some (told.1 (addr / 4096 + i) (omega arith) (omega arith))) in
     record { inside = inside; all = all; few = subst (λ n. n ≤ len host.areas) all (mapped_few host (addr / 4096) count sound inside) }
-
-is_some-fill : (t : Bool) (cell : Cell) (o : Option Cell) → is_some (cond t (Some cell) o) ≡ cond t true (is_some o)
-is_some-fill true cell o = refl
-is_some-fill false cell o = refl
 
 -- a range filled
 pub count_filled : (host : Host) (addr count : ℕ) (cell : Cell) → IsSound host → addr % 4096 ≡ 0 → addr + 4096 * count ≤ HIGH
@@ -261,23 +239,16 @@ count_filled host addr count cell sound whole high =
     let test : ℕ → Bool = is_mapped (memory host) in
     let put = count_below-put test true addr (4096 * count) HIGH high in
     let same : mapped_count (fill (memory host) addr (4096 * count) cell) ≡ count_below (λ i. cond (in_range addr (4096 * count) i) true (test i)) HIGH =
-    count_below-same _ _ HIGH (λ i l. is_some-fill (in_range addr (4096 * count) i) cell (memory host i)) in
+    count_below-same _ _ HIGH (λ i l. is_some-cond (in_range addr (4096 * count) i) cell (memory host i)) in
     let all = mapped_count-memory host sound in
     let replaced = count_pages host addr count whole in
     omega (arith, put, same, all, replaced)
-
-is_some-written : (o : Option Cell) (byte : ℕ) → is_some (written o byte) ≡ is_some o
-is_some-written None byte = refl
-is_some-written (Some cell) byte = refl
 
 is_some-moved : (t o : Bool) (b : Bool) (a kept old : Option Cell) → (b ≡ true → is_some a ≡ true) → is_some kept ≡ true → is_some (cond t (cond b a kept) (cond o None old)) ≡ cond t true (cond o false (is_some old))
 is_some-moved true o true a kept old h k = h refl
 is_some-moved true o false a kept old h k = k
 is_some-moved false true b a kept old h k = refl
 is_some-moved false false b a kept old h k = refl
-
-ltb_true : (a b : ℕ) → ltb a b ≡ true → a < b
-ltb_true a b h = grind (arith, nat_tests)
 
 apart_false : (start size other other_size i : ℕ) → overlaps start size other other_size ≡ false → i < size → in_range other other_size (start + i) ≡ false
 apart_false start size other other_size i h l = grind (arith, nat_tests)
@@ -302,25 +273,13 @@ count_moved host addr count target new_count sound whole even some one high apar
     count_below-same (λ i. out (target + i)) (λ i. test (target + i)) (4096 * new_count) (λ i l. keeps (in_range addr (4096 * count) (target + i)) (test (target + i)) (apart_false target (4096 * new_count) addr (4096 * count) i apart l)) in
     let same : mapped_count (moved (memory host) addr (4096 * count) target (4096 * new_count)) ≡ count_below (λ i. cond (in_range target (4096 * new_count) i) true (out i)) HIGH =
     count_below-same _ _ HIGH (λ i l. is_some-moved (in_range target (4096 * new_count) i) (in_range addr (4096 * count) i) (ltb (i - target) (4096 * count)) (memory host (addr + (i - target))) (written (memory host addr) 0) (memory host i)
-    (λ e. held (i - target) (ltb_true (i - target) (4096 * count) e))
+    (λ e. held (i - target) (ltb-true (i - target) (4096 * count) e))
     (is_some-written (memory host addr) 0 ∙ ap test (sym (add-zero addr)) ∙ held 0 (omega arith))) in
     let all = mapped_count-memory host sound in
     let replaced = count_pages host target new_count even in
     omega (arith, first, second, taken, met, same, all, replaced)
 
 -- Replies
-
-ltb-true : (a b : ℕ) → a < b → ltb a b ≡ true
-ltb-true a b h = grind (arith, nat_tests)
-
-ltb-false : (a b : ℕ) → b ≤ a → ltb a b ≡ false
-ltb-false a b h = grind (arith, nat_tests)
-
-eqb-false : (a b : ℕ) → b < a → eqb a b ≡ false
-eqb-false a b h = grind (arith, nat_tests)
-
-eqb-true : (a b : ℕ) → a ≡ b → eqb a b ≡ true
-eqb-true a b h = grind (arith, nat_tests)
 
 then_is : (t : Bool) (x y : Reply) → t ≡ true → x ≡ cond t x y
 then_is t x y h = ap (λ b. cond b x y) (sym h)
@@ -345,7 +304,7 @@ mmap_full host bytes count prot sound some pages short full =
     let mapped = mapped_count-memory host sound in
     sym (third (eqb bytes 0) (ltb (HIGH - LOW) (rounded bytes)) (ltb (4096 * MAX_PAGES) (mapped_count (memory host) + rounded bytes)) (Refused Einval) (Refused Enomem) (Refused Enomem)
     (at_place (free_place (is_mapped (memory host)) (rounded bytes)))
-    (eqb-false bytes 0 some) (ltb-false (HIGH - LOW) (rounded bytes) (omega arith)) (ltb-true (4096 * MAX_PAGES) (mapped_count (memory host) + rounded bytes) (omega arith)))
+    (eqb-above bytes 0 some) (le-ltb (HIGH - LOW) (rounded bytes) (omega arith)) (lt-ltb (4096 * MAX_PAGES) (mapped_count (memory host) + rounded bytes) (omega arith)))
 
 pub mmap_placed : (host : Host) (bytes count : ℕ) (prot : Prot) (found : Option ℕ) → IsSound host → 0 < bytes → count ≡ pages_of bytes → count ≤ HIGH_PAGE - LOW_PAGE → len host.areas + count ≤ MAX_PAGES → found ≡ free_place (λ addr. contains_key host.areas (addr / 4096)) (count * 4096) → at_place found ≡ mmap_reply (memory host) bytes prot Anywhere
 mmap_placed host bytes count prot found sound some pages short room h =
@@ -353,7 +312,7 @@ mmap_placed host bytes count prot found sound some pages short room h =
     ap at_place (h ∙ free_pages host bytes count pages)
     ∙ sym (last (eqb bytes 0) (ltb (HIGH - LOW) (rounded bytes)) (ltb (4096 * MAX_PAGES) (mapped_count (memory host) + rounded bytes)) (Refused Einval) (Refused Enomem) (Refused Enomem)
     (at_place (free_place (is_mapped (memory host)) (rounded bytes)))
-    (eqb-false bytes 0 some) (ltb-false (HIGH - LOW) (rounded bytes) (omega arith)) (ltb-false (4096 * MAX_PAGES) (mapped_count (memory host) + rounded bytes) (omega arith)))
+    (eqb-above bytes 0 some) (le-ltb (HIGH - LOW) (rounded bytes) (omega arith)) (le-ltb (4096 * MAX_PAGES) (mapped_count (memory host) + rounded bytes) (omega arith)))
 
 -- a place that is asked for, and that nothing refuses but what is mapped
 pub record IsAllowed (addr bytes : ℕ) : Type 0 where
@@ -366,7 +325,7 @@ fixed_full host addr bytes count replaced prot sound allowed pages met full =
     let high = allowed.high in
     let filled = count_filled host addr (pages_of bytes) (zeros_with prot) sound allowed.whole high in
     let same = ap (mapped_in host.areas (addr / 4096)) pages in
-    then_is (exceeds_limit (fill (memory host) addr (rounded bytes) (zeros_with prot))) (Refused Enomem) (At addr) (ltb-true (4096 * MAX_PAGES) (mapped_count (fill (memory host) addr (rounded bytes) (zeros_with prot))) (omega arith))
+    then_is (exceeds_limit (fill (memory host) addr (rounded bytes) (zeros_with prot))) (Refused Enomem) (At addr) (lt-ltb (4096 * MAX_PAGES) (mapped_count (fill (memory host) addr (rounded bytes) (zeros_with prot))) (omega arith))
     ∙ allowed.passes (cond (exceeds_limit (fill (memory host) addr (rounded bytes) (zeros_with prot))) (Refused Enomem) (At addr))
 
 pub fixed_placed : (host : Host) (addr bytes count replaced : ℕ) (prot : Prot) → IsSound host → IsAllowed addr bytes → count ≡ pages_of bytes → replaced ≡ mapped_in host.areas (addr / 4096) count → len host.areas + count ≤ MAX_PAGES + replaced → At addr ≡ mmap_reply (memory host) bytes prot (Fixed addr)
@@ -374,7 +333,7 @@ fixed_placed host addr bytes count replaced prot sound allowed pages met room =
     let high = allowed.high in
     let filled = count_filled host addr (pages_of bytes) (zeros_with prot) sound allowed.whole high in
     let same = ap (mapped_in host.areas (addr / 4096)) pages in
-    else_is (exceeds_limit (fill (memory host) addr (rounded bytes) (zeros_with prot))) (Refused Enomem) (At addr) (ltb-false (4096 * MAX_PAGES) (mapped_count (fill (memory host) addr (rounded bytes) (zeros_with prot))) (omega arith))
+    else_is (exceeds_limit (fill (memory host) addr (rounded bytes) (zeros_with prot))) (Refused Enomem) (At addr) (le-ltb (4096 * MAX_PAGES) (mapped_count (fill (memory host) addr (rounded bytes) (zeros_with prot))) (omega arith))
     ∙ allowed.passes (cond (exceeds_limit (fill (memory host) addr (rounded bytes) (zeros_with prot))) (Refused Enomem) (At addr))
 
 pub mapped_there : (host : Host) (addr bytes count replaced : ℕ) (prot : Prot) → IsAllowed addr bytes → count ≡ pages_of bytes → replaced ≡ mapped_in host.areas (addr / 4096) count → 0 < replaced → Refused Eexist ≡ mmap_reply (memory host) bytes prot (NoReplace addr)
@@ -382,7 +341,7 @@ mapped_there host addr bytes count replaced prot allowed pages met some =
     let same = ap (mapped_in host.areas (addr / 4096)) pages in
     let rest = cond (exceeds_limit (fill (memory host) addr (rounded bytes) (zeros_with prot))) (Refused Enomem) (At addr) in
     then_is (not (is_unmapped (memory host) addr (rounded bytes))) (Refused Eexist) rest
-    (ap not (unmapped_pages host addr (pages_of bytes) allowed.whole ∙ eqb-false (mapped_in host.areas (addr / 4096) (pages_of bytes)) 0 (omega arith)))
+    (ap not (unmapped_pages host addr (pages_of bytes) allowed.whole ∙ eqb-above (mapped_in host.areas (addr / 4096) (pages_of bytes)) 0 (omega arith)))
     ∙ allowed.passes (cond (not (is_unmapped (memory host) addr (rounded bytes))) (Refused Eexist) rest)
 
 pub unmapped_there : (host : Host) (addr bytes count replaced : ℕ) (prot : Prot) (reply : Reply) → IsAllowed addr bytes → count ≡ pages_of bytes → replaced ≡ mapped_in host.areas (addr / 4096) count → replaced ≡ 0 → reply ≡ mmap_reply (memory host) bytes prot (Fixed addr) → reply ≡ mmap_reply (memory host) bytes prot (NoReplace addr)
@@ -392,7 +351,7 @@ unmapped_there host addr bytes count replaced prot reply allowed pages met none 
     is
     ∙ sym (allowed.passes rest)
     ∙ else_is (not (is_unmapped (memory host) addr (rounded bytes))) (Refused Eexist) rest
-    (ap not (unmapped_pages host addr (pages_of bytes) allowed.whole ∙ eqb-true (mapped_in host.areas (addr / 4096) (pages_of bytes)) 0 (omega arith)))
+    (ap not (unmapped_pages host addr (pages_of bytes) allowed.whole ∙ eq-eqb (mapped_in host.areas (addr / 4096) (pages_of bytes)) 0 (omega arith)))
     ∙ allowed.passes (cond (not (is_unmapped (memory host) addr (rounded bytes))) (Refused Eexist) rest)
 
 -- Places of an mremap
@@ -402,47 +361,31 @@ remap_full host addr old_len new_len may_move sound whole some one full =
     let mapped = mapped_count-memory host sound in
     let few = (mapped_range host addr (pages_of old_len) sound whole (omega arith) one).few in
     then_is (ltb (4096 * MAX_PAGES) (mapped_count (memory host) - rounded old_len + rounded new_len)) (Refused Enomem) (mremap_place (memory host) addr (rounded old_len) (rounded new_len) may_move)
-    (ltb-true (4096 * MAX_PAGES) (mapped_count (memory host) - rounded old_len + rounded new_len) (omega arith))
+    (lt-ltb (4096 * MAX_PAGES) (mapped_count (memory host) - rounded old_len + rounded new_len) (omega arith))
 
 pub remap_room : (host : Host) (addr old_len new_len : ℕ) (may_move : Bool) → IsSound host → addr % 4096 ≡ 0 → 0 < old_len → has_one_prot (memory host) addr (rounded old_len) ≡ true → len host.areas + pages_of new_len ≤ MAX_PAGES + pages_of old_len → mremap_place (memory host) addr (rounded old_len) (rounded new_len) may_move ≡ mremap_target (memory host) addr (rounded old_len) (rounded new_len) may_move None
 remap_room host addr old_len new_len may_move sound whole some one room =
     let mapped = mapped_count-memory host sound in
     let few = (mapped_range host addr (pages_of old_len) sound whole (omega arith) one).few in
     else_is (ltb (4096 * MAX_PAGES) (mapped_count (memory host) - rounded old_len + rounded new_len)) (Refused Enomem) (mremap_place (memory host) addr (rounded old_len) (rounded new_len) may_move)
-    (ltb-false (4096 * MAX_PAGES) (mapped_count (memory host) - rounded old_len + rounded new_len) (omega arith))
-
-leb-true : (a b : ℕ) → a ≤ b → leb a b ≡ true
-leb-true a b h = grind (arith, nat_tests)
-
-leb-false : (a b : ℕ) → b < a → leb a b ≡ false
-leb-false a b h = grind (arith, nat_tests)
-
-left_true : (a b : Bool) → a ≡ true → (a || b) ≡ true
-left_true a b h = ap (λ x. x || b) h
-
-both_false : (a b : Bool) → a ≡ false → b ≡ false → (a || b) ≡ false
-both_false a b h k = ap (λ x. x || b) h ∙ k
-
-right_true : (a b : Bool) → b ≡ true → (a || b) ≡ true
-right_true true b h = refl
-right_true false b h = h
+    (le-ltb (4096 * MAX_PAGES) (mapped_count (memory host) - rounded old_len + rounded new_len) (omega arith))
 
 -- it stays where it is
 pub stays_short : (host : Host) (addr old_len new_len : ℕ) (may_move : Bool) → pages_of new_len ≤ pages_of old_len → At addr ≡ mremap_place (memory host) addr (rounded old_len) (rounded new_len) may_move
 stays_short host addr old_len new_len may_move short =
     then_is (leb (rounded new_len) (rounded old_len) || can_grow (memory host) addr (rounded old_len) (rounded new_len)) (At addr) (cond may_move (at_place (free_place (is_mapped (memory host)) (rounded new_len))) (Refused Enomem))
-    (left_true (leb (rounded new_len) (rounded old_len)) _ (leb-true (rounded new_len) (rounded old_len) (omega arith)))
+    (or_left (leb (rounded new_len) (rounded old_len)) _ (le-leb (rounded new_len) (rounded old_len) (omega arith)))
 
 pub stays_grown : (host : Host) (addr old_len new_len : ℕ) (may_move : Bool) → can_grow (memory host) addr (rounded old_len) (rounded new_len) ≡ true → At addr ≡ mremap_place (memory host) addr (rounded old_len) (rounded new_len) may_move
 stays_grown host addr old_len new_len may_move can =
     then_is (leb (rounded new_len) (rounded old_len) || can_grow (memory host) addr (rounded old_len) (rounded new_len)) (At addr) (cond may_move (at_place (free_place (is_mapped (memory host)) (rounded new_len))) (Refused Enomem))
-    (right_true (leb (rounded new_len) (rounded old_len)) (can_grow (memory host) addr (rounded old_len) (rounded new_len)) can)
+    (or_right (leb (rounded new_len) (rounded old_len)) (can_grow (memory host) addr (rounded old_len) (rounded new_len)) can)
 
 -- it cannot stay
 pub cannot_stay : (host : Host) (addr old_len new_len : ℕ) (may_move : Bool) → pages_of old_len < pages_of new_len → can_grow (memory host) addr (rounded old_len) (rounded new_len) ≡ false → cond may_move (at_place (free_place (is_mapped (memory host)) (rounded new_len))) (Refused Enomem) ≡ mremap_place (memory host) addr (rounded old_len) (rounded new_len) may_move
 cannot_stay host addr old_len new_len may_move long cannot =
     else_is (leb (rounded new_len) (rounded old_len) || can_grow (memory host) addr (rounded old_len) (rounded new_len)) (At addr) (cond may_move (at_place (free_place (is_mapped (memory host)) (rounded new_len))) (Refused Enomem))
-    (both_false (leb (rounded new_len) (rounded old_len)) (can_grow (memory host) addr (rounded old_len) (rounded new_len)) (leb-false (rounded new_len) (rounded old_len) (omega arith)) cannot)
+    (or_from (leb (rounded new_len) (rounded old_len)) (can_grow (memory host) addr (rounded old_len) (rounded new_len)) (lt-leb (rounded new_len) (rounded old_len) (omega arith)) cannot)
 
 pub goes_elsewhere : (host : Host) (addr old_len new_len : ℕ) (may_move : Bool) (count : ℕ) (found : Option ℕ) → pages_of old_len < pages_of new_len → count ≡ pages_of new_len → may_move ≡ true → false ≡ can_grow (memory host) addr (rounded old_len) (rounded new_len) → found ≡ free_place (λ addr. contains_key host.areas (addr / 4096)) (count * 4096) → at_place found ≡ mremap_place (memory host) addr (rounded old_len) (rounded new_len) may_move
 goes_elsewhere host addr old_len new_len may_move count found long pages may cannot is =
@@ -454,13 +397,6 @@ and_is : (a b : Bool) → b ≡ true → a ≡ (a && b)
 and_is true b h = sym h
 and_is false b h = refl
 
-and_false : (a b : Bool) → b ≡ false → false ≡ (a && b)
-and_false true b h = sym h
-and_false false b h = refl
-
-pub grows_past : (host : Host) (addr old_len new_len : ℕ) → HIGH < addr + rounded new_len → false ≡ can_grow (memory host) addr (rounded old_len) (rounded new_len)
-grows_past host addr old_len new_len past = and_false (is_unmapped (memory host) (addr + rounded old_len) (rounded new_len - rounded old_len)) (leb (addr + rounded new_len) HIGH) (leb-false (addr + rounded new_len) HIGH past)
-
 pub grows : (host : Host) (addr old_len new_len count new_count added : ℕ) → addr % 4096 ≡ 0 → pages_of old_len < pages_of new_len → addr + rounded new_len ≤ HIGH → count ≡ pages_of old_len → new_count ≡ pages_of new_len → added ≡ mapped_in host.areas (addr / 4096 + count) (new_count - count) → eqb added 0 ≡ can_grow (memory host) addr (rounded old_len) (rounded new_len)
 grows host addr old_len new_len count new_count added whole long high pages new_pages is =
     let size : 4096 * (new_count - count) ≡ rounded new_len - rounded old_len = omega arith in
@@ -469,21 +405,7 @@ grows host addr old_len new_len count new_count added whole long high pages new_
     ap (λ n. eqb n 0) (is ∙ ap (λ n. mapped_in host.areas n (new_count - count)) page)
     ∙ sym (unmapped_pages host (addr + rounded old_len) (new_count - count) (omega arith))
     ∙ ap (is_unmapped (memory host) (addr + rounded old_len)) size in
-    unmapped ∙ and_is (is_unmapped (memory host) (addr + rounded old_len) (rounded new_len - rounded old_len)) (leb (addr + rounded new_len) HIGH) (leb-true (addr + rounded new_len) HIGH high)
-
-or_left : (a b : Bool) → (a || b) ≡ false → a ≡ false
-or_left true b h = h
-or_left false b h = refl
-
-or_right : (a b : Bool) → (a || b) ≡ false → b ≡ false
-or_right true b h = absurd (false≢true (sym h))
-or_right false b h = h
-
-eqb_true : (a b : ℕ) → eqb a b ≡ true → a ≡ b
-eqb_true a b h = grind (arith, nat_tests)
-
-ltb_false : (a b : ℕ) → ltb a b ≡ false → b ≤ a
-ltb_false a b h = grind (arith, nat_tests)
+    unmapped ∙ and_is (is_unmapped (memory host) (addr + rounded old_len) (rounded new_len - rounded old_len)) (leb (addr + rounded new_len) HIGH) (le-leb (addr + rounded new_len) HIGH high)
 
 pub good_target : (addr old_size new_size target : ℕ) → is_bad_target addr old_size new_size true (Some target) ≡ false → IsTarget addr old_size target new_size
 good_target addr old_size new_size target h =
@@ -491,33 +413,33 @@ good_target addr old_size new_size target h =
     let low = ltb target LOW in
     let high = ltb HIGH (target + new_size) in
     let over = overlaps target new_size addr old_size in
-    let one = or_left (not start || low || high) over h in
-    let two = or_left (not start || low) high one in
+    let one = or_first (not start || low || high) over h in
+    let two = or_first (not start || low) high one in
     record {
-      inside = record { whole = eqb_true (target % 4096) 0 (not_false start (or_left (not start) low two)); low = ltb_false target LOW (or_right (not start) low two); high = ltb_false HIGH (target + new_size) (or_right (not start || low) high one) };
-      apart = or_right (not start || low || high) over h;
+      inside = record { whole = eqb-true (target % 4096) 0 (not-false start (or_first (not start) low two)); low = ltb-false target LOW (or_second (not start) low two); high = ltb-false HIGH (target + new_size) (or_second (not start || low) high one) };
+      apart = or_second (not start || low || high) over h;
     }
 
 pub fixed_move_full : (host : Host) (addr old_len new_len target replaced : ℕ) → IsSound host → addr % 4096 ≡ 0 → 0 < old_len → has_one_prot (memory host) addr (rounded old_len) ≡ true → IsTarget addr (rounded old_len) target (rounded new_len) → replaced ≡ mapped_in host.areas (target / 4096) (pages_of new_len) → MAX_PAGES + pages_of old_len + replaced < len host.areas + pages_of new_len → Refused Enomem ≡ mremap_target (memory host) addr (rounded old_len) (rounded new_len) true (Some target)
 fixed_move_full host addr old_len new_len target replaced sound whole some one at is full =
     let count = count_moved host addr (pages_of old_len) target (pages_of new_len) sound whole at.inside.whole (omega arith) one at.inside.high at.apart in
     then_is (exceeds_limit (moved (memory host) addr (rounded old_len) target (rounded new_len))) (Refused Enomem) (At target)
-    (ltb-true (4096 * MAX_PAGES) (mapped_count (moved (memory host) addr (rounded old_len) target (rounded new_len))) (omega arith))
+    (lt-ltb (4096 * MAX_PAGES) (mapped_count (moved (memory host) addr (rounded old_len) target (rounded new_len))) (omega arith))
 
 pub fixed_move_room : (host : Host) (addr old_len new_len target replaced : ℕ) → IsSound host → addr % 4096 ≡ 0 → 0 < old_len → has_one_prot (memory host) addr (rounded old_len) ≡ true → IsTarget addr (rounded old_len) target (rounded new_len) → replaced ≡ mapped_in host.areas (target / 4096) (pages_of new_len) → len host.areas + pages_of new_len ≤ MAX_PAGES + pages_of old_len + replaced → At target ≡ mremap_target (memory host) addr (rounded old_len) (rounded new_len) true (Some target)
 fixed_move_room host addr old_len new_len target replaced sound whole some one at is room =
     let count = count_moved host addr (pages_of old_len) target (pages_of new_len) sound whole at.inside.whole (omega arith) one at.inside.high at.apart in
     else_is (exceeds_limit (moved (memory host) addr (rounded old_len) target (rounded new_len))) (Refused Enomem) (At target)
-    (ltb-false (4096 * MAX_PAGES) (mapped_count (moved (memory host) addr (rounded old_len) target (rounded new_len))) (omega arith))
+    (le-ltb (4096 * MAX_PAGES) (mapped_count (moved (memory host) addr (rounded old_len) target (rounded new_len))) (omega arith))
 
 -- an mremap that nothing refuses but its target
 pub remap_answer : (host : Host) (addr old_len new_len : ℕ) (may_move : Bool) (fixed : Option ℕ) (reply : Reply) → addr % 4096 ≡ 0 → 0 < old_len → 0 < new_len → is_bad_target addr (rounded old_len) (rounded new_len) may_move fixed ≡ false → has_one_prot (memory host) addr (rounded old_len) ≡ true
     → reply ≡ mremap_target (memory host) addr (rounded old_len) (rounded new_len) may_move fixed → reply ≡ mremap_reply (memory host) addr old_len new_len may_move fixed
 remap_answer host addr old_len new_len may_move fixed reply whole some longer good one is =
     let bad = is_bad_target addr (rounded old_len) (rounded new_len) may_move fixed in
-    let start = ap not (eqb-true (addr % 4096) 0 whole) in
-    let two = both_false (not (is_page_start addr)) (eqb old_len 0) start (eqb-false old_len 0 some) in
-    let three = both_false (not (is_page_start addr) || eqb old_len 0) (eqb new_len 0) two (eqb-false new_len 0 longer) in
+    let start = ap not (eq-eqb (addr % 4096) 0 whole) in
+    let two = or_from (not (is_page_start addr)) (eqb old_len 0) start (eqb-above old_len 0 some) in
+    let three = or_from (not (is_page_start addr) || eqb old_len 0) (eqb new_len 0) two (eqb-above new_len 0 longer) in
     is
     ∙ else_is (not (has_one_prot (memory host) addr (rounded old_len))) (Refused Efault) (mremap_target (memory host) addr (rounded old_len) (rounded new_len) may_move fixed) (ap not one)
-    ∙ else_is (not (is_page_start addr) || eqb old_len 0 || eqb new_len 0 || bad) (Refused Einval) _ (both_false (not (is_page_start addr) || eqb old_len 0 || eqb new_len 0) bad three good)
+    ∙ else_is (not (is_page_start addr) || eqb old_len 0 || eqb new_len 0 || bad) (Refused Einval) _ (or_from (not (is_page_start addr) || eqb old_len 0 || eqb new_len 0) bad three good)

@@ -1,7 +1,7 @@
 -- Flags, and the registration and the protection of the pages of a range.
 use Rattle.std.proofs.Common.{◌≡◌, ◌≢◌, ℕ, ◌+◌, ◌-◌, ◌<◌, ◌≤◌, ◌&&◌, ◌||◌, Bool, true, false, cond, not, eqb, ltb, refl, sym, ap, ◌∙◌, subst, arith, Option, Some, None, is_some, List, [], length, take, get_or, min, max, Bor}
 use Rattle.std.proofs.lemmas.Bool.Decides.{nat_tests}
-use Rattle.std.proofs.lemmas.Bool.{false≢true}
+use Rattle.std.proofs.lemmas.Bool.{false≢true, false_from_ne_true, or_from, or_right, and_left, and_right}
 use Rattle.std.specs.Option.{option_copied}
 use Rattle.std.specs.Ordering.{nat_cmp}
 use Rattle.std.specs.FinMap.{FinMap, get, contains_key}
@@ -13,6 +13,7 @@ use Rattle.mig_base.specs.declared.command.Errno.{Errno}
 use Rattle.mig_base.specs.Ranges.{in_range}
 use Rattle.mig_base.specs.Sets.{without}
 use Rattle.mig_base.proofs.SetLemmas.{same_members, member_below}
+use Rattle.mig_base.proofs.TestLemmas.{or_first, or_second}
 use Rattle.area_map.specs.Areas.{AreRuns, pages_in, prot_in}
 use Rattle.area_map.proofs.AreaLemmas.{no_area, runs_at}
 use Rattle.area_map.proofs.MoveLemmas.{one_more}
@@ -24,14 +25,12 @@ use Rattle.mig_model.specs.Userfault.{Object, Mode, fresh_object, enabled_with, 
 use Rattle.mig_model.specs.Space.{Space, IsSoundSpace}
 use Rattle.mig_model.specs.Ioctls.{event_features, mode_of, left_by, is_mapped_in, registered_in, unregistered_in, protected_in}
 use Rattle.uffd_ioctl.specs.Spaces.{space_of, assembled_object}
+use Rattle.uffd_ioctl.proofs.CallLemmas.{protected_below}
 
 -- Flags
 
 pub is_unknown : (set known : Bool) → set ≡ true → known ≡ false → (set && not known) ≡ true
 is_unknown set known h k = rw (h, k) refl
-
-pub not_set : (set known : Bool) → set ≡ false → (set && not known) ≡ false
-not_set set known h = rw h refl
 
 pub is_known : (set known : Bool) → known ≡ true → (set && not known) ≡ false
 is_known true known h = ap not h
@@ -74,39 +73,18 @@ pub is_there : (now old : FinMap nat_cmp (List ℕ)) (page q : ℕ) (held : Opti
 is_there now old page q held answer value is same told v at =
     ap (contains_key old) at ∙ ap (λ m. contains_key m page) (sym same) ∙ sym (ap is_some is) ∙ copied_some held ∙ sym told ∙ v
 
-pub both_hold : (a b : Bool) → a ≡ true → b ≡ true → (a && b) ≡ true
-both_hold a b h k = rw (h, k) refl
-
-pub first_fails : (a b : Bool) → a ≡ false → (a && b) ≡ false
-first_fails a b h = rw h refl
-
-pub second_fails : (a b : Bool) → b ≡ false → (a && b) ≡ false
-second_fails true b h = h
-second_fails false b h = refl
-
 -- Registered pages
 
 -- a page that is registered lies below the end of the address space
 abbrev pub AreLow : Object → Type 0
 AreLow object = (page : ℕ) → HIGH_PAGE ≤ page → is_registered object page ≡ false
 
-pub no_left : (a b : Bool) → (a || b) ≡ false → a ≡ false
-no_left true b h = h
-no_left false b h = refl
-
-pub no_right : (a b : Bool) → (a || b) ≡ false → b ≡ false
-no_right true b h = absurd (false≢true (sym h))
-no_right false b h = h
-
 not_past : (q bound : ℕ) (b : Bool) → bound ≤ q → (ltb q bound && b) ≡ false
 not_past q bound b h = grind (arith, nat_tests)
 
-neither_of : (a b : Bool) → a ≡ false → b ≡ false → (a || b) ≡ false
-neither_of a b h k = rw (h, k) refl
-
 pub registered_low : (object : Object) (test : ℕ → Bool) (mode : Mode) → AreLow (registered_where object test mode)
 registered_low object test mode page past =
-    neither_of (contains (registered_where object test mode).missing page) (contains (registered_where object test mode).protect page)
+    or_from (contains (registered_where object test mode).missing page) (contains (registered_where object test mode).protect page)
     (member_below _ HIGH_PAGE page ∙ not_past page HIGH_PAGE _ past)
     (member_below _ HIGH_PAGE page ∙ not_past page HIGH_PAGE _ past)
 
@@ -121,8 +99,8 @@ pub nothing_where : (object : Object) (test : ℕ → Bool) (mode : Mode) → Ar
 nothing_where object test mode low none =
     let new = registered_where object test mode in
     let left : (value : Bool) (own : FinSet nat_cmp) (q : ℕ) → cond (test q && not (has_modes object q mode)) value (contains own q) ≡ contains own q = λ value own q. none_asked (test q) (has_modes object q mode) value (contains own q) (none q) in
-    let missing : object.missing ≡ new.missing = is_pages_where object.missing _ (λ q. sym (left mode.missing object.missing q)) (λ q past. left mode.missing object.missing q ∙ no_left _ _ (low q past)) in
-    let protect : object.protect ≡ new.protect = is_pages_where object.protect _ (λ q. sym (left mode.protect object.protect q)) (λ q past. left mode.protect object.protect q ∙ no_right _ _ (low q past)) in
+    let missing : object.missing ≡ new.missing = is_pages_where object.missing _ (λ q. sym (left mode.missing object.missing q)) (λ q past. left mode.missing object.missing q ∙ or_first _ _ (low q past)) in
+    let protect : object.protect ≡ new.protect = is_pages_where object.protect _ (λ q. sym (left mode.protect object.protect q)) (λ q past. left mode.protect object.protect q ∙ or_second _ _ (low q past)) in
     λ i. record object { missing = missing i; protect = protect i }
 
 -- whether a page has all modes asked for
@@ -219,7 +197,7 @@ mapped_same first count found areas h q = when_here (in_range first count q) (co
 
 pub mapped_none : (first count : ℕ) (q : ℕ) → is_mapped_by first count [] q ≡ false
 unfolding prot_in
-mapped_none first count q = ap (λ o. in_range first count q && is_some o) (get-pages_in [] q) ∙ second_fails (in_range first count q) false refl
+mapped_none first count q = ap (λ o. in_range first count q && is_some o) (get-pages_in [] q) ∙ and_right (in_range first count q) false refl
 
 -- one area more
 pub registered_more : (object before after : Object) (first count : ℕ) (areas : List Area) (i : ℕ) (mode : Mode) → AreRuns areas → i < length areas → before ≡ registered_where object (is_mapped_by first count (take i areas)) mode
@@ -233,10 +211,6 @@ registered_more object before after first count areas i mode runs below was is =
 
 -- Spaces changed
 
-pub none_by : {A : Type 0} (o : Option A) → ((x : A) → o ≡ Some x → ⊥) → o ≡ None
-none_by None h = refl
-none_by (Some x) h = absurd (h x refl)
-
 -- a call that nothing refuses
 pub made_by : (error : Option Errno) (old new made : Space) → error ≡ None → made ≡ new → made ≡ left_by error old new
 made_by error old new made none is = is ∙ ap (λ e. left_by e old new) (sym none)
@@ -247,37 +221,26 @@ pub opened : (areas : FinMap nat_cmp Prot) (pages new : Pages) (object after : O
 opened areas pages new object after first count bytes is same =
     λ i. record { host = record { areas = areas; bytes = bytes i }; protected = is i; object = same i }
 
-not_on : (b : Bool) → (b ≡ true → ⊥) → b ≡ false
-not_on true h = absurd (h refl)
-not_on false h = refl
-
 kept_false : (here protect present old : Bool) → present ≡ false → old ≡ false → cond here (protect && present) old ≡ false
 kept_false true true present old h k = h
 kept_false true false present old h k = refl
 kept_false false protect present old h k = k
-
-unprotected_past : (now : Space) (page : ℕ) → IsSoundSpace now → HIGH_PAGE ≤ page → contains now.protected page ≡ false
-unprotected_past now page sound past = not_on (contains now.protected page) (λ h. false≢true (sym (ap is_some (sound.host.mapped page (sound.host.bound page past))) ∙ sound.present page h))
 
 -- pages protected, or no longer
 pub set_in : (areas : FinMap nat_cmp Prot) (pages new : Pages) (object : Object) (first count : ℕ) (protect : Bool) → IsSoundSpace (space_of areas pages object) → new.bytes ≡ pages.bytes
     → ((q : ℕ) → contains new.protected q ≡ cond (in_range first count q) (protect && contains_key pages.bytes q) (contains pages.protected q)) → space_of areas new object ≡ protected_in (space_of areas pages object) first count protect
 set_in areas pages new object first count protect sound bytes is =
     let protected : new.protected ≡ (protected_in (space_of areas pages object) first count protect).protected = is_pages_where new.protected _ is
-    (λ q past. kept_false (in_range first count q) protect (contains_key pages.bytes q) (contains pages.protected q) (ap is_some (sound.host.mapped q (sound.host.bound q past))) (unprotected_past (space_of areas pages object) q sound past)) in
+    (λ q past. kept_false (in_range first count q) protect (contains_key pages.bytes q) (contains pages.protected q) (ap is_some (sound.host.mapped q (sound.host.bound q past))) (protected_below (space_of areas pages object) sound q past)) in
     λ i. record { host = record { areas = areas; bytes = bytes i }; protected = protected i; object = object }
 
 -- Pages registered in a space
 
 pub sound_low : (space : Space) → IsSoundSpace space → AreLow space.object
-sound_low space sound page past = not_on (is_registered space.object page) (λ h. false≢true (sym (ap is_some (sound.host.bound page past)) ∙ sound.mapped page h))
+sound_low space sound page past = false_from_ne_true (is_registered space.object page) (λ h. false≢true (sym (ap is_some (sound.host.bound page past)) ∙ sound.mapped page h))
 
 is_below : (q bound : ℕ) → (bound ≤ q → ⊥) → ltb q bound ≡ true
 is_below q bound h = grind (arith, nat_tests, h)
-
-or_on : (a b : Bool) → b ≡ true → (a || b) ≡ true
-or_on true b h = refl
-or_on false b h = h
 
 -- a page that was protected, and so lies in the address space, is mapped and is registered for that
 watched_at : (here has asked : Bool) → (not here || (true && cond ((here && true) && not has) asked true)) ≡ (asked || has || not (here && true))
@@ -285,7 +248,7 @@ watched_at true true true = refl
 watched_at true true false = refl
 watched_at true false true = refl
 watched_at true false false = refl
-watched_at false has asked = sym (or_on (asked || has) true refl)
+watched_at false has asked = sym (or_right (asked || has) true refl)
 
 still_protected : (old here low mapped has asked own : Bool) → (old ≡ true → low ≡ true) → (old ≡ true → mapped ≡ true) → (old ≡ true → own ≡ true) → (old && (not here || (low && cond ((here && mapped) && not has) asked own))) ≡ (old && (asked || has || not (here && mapped)))
 still_protected false here low mapped has asked own h k m = refl
@@ -298,17 +261,17 @@ watched_in areas pages new object after first count mode sound bytes is kept =
     let space = space_of areas pages object in
     let watching = registered_where object (is_mapped_in space first count) mode in
     let same : after ≡ watching = is in
-    let mapped : (q : ℕ) → contains pages.protected q ≡ true → contains_key areas q ≡ true = λ q h. sound.mapped q (or_on (contains object.missing q) (contains object.protect q) (sound.watched q h)) in
+    let mapped : (q : ℕ) → contains pages.protected q ≡ true → contains_key areas q ≡ true = λ q h. sound.mapped q (or_right (contains object.missing q) (contains object.protect q) (sound.watched q h)) in
     let protected : new.protected ≡ (registered_in space first count mode).protected = is_pages_where new.protected _
     (λ q.
     kept q
     ∙ ap (λ o. contains pages.protected q && (not (in_range first count q) || contains o.protect q)) same
     ∙ ap (λ b. contains pages.protected q && (not (in_range first count q) || b)) (member_below _ HIGH_PAGE q)
     ∙ still_protected (contains pages.protected q) (in_range first count q) (ltb q HIGH_PAGE) (contains_key areas q) (has_modes object q mode) mode.protect (contains object.protect q)
-    (λ h. is_below q HIGH_PAGE (λ past. false≢true (sym (unprotected_past space q sound past) ∙ h)))
+    (λ h. is_below q HIGH_PAGE (λ past. false≢true (sym (protected_below space sound q past) ∙ h)))
     (mapped q)
     (sound.watched q))
-    (λ q past. first_fails (contains pages.protected q) _ (unprotected_past space q sound past)) in
+    (λ q past. and_left (contains pages.protected q) _ (protected_below space sound q past)) in
     λ i. record { host = record { areas = areas; bytes = bytes i }; protected = protected i; object = same i }
 
 -- A space put together
@@ -317,7 +280,7 @@ empty_has : (page : ℕ) → contains (empty {R = nat_cmp}) page ≡ false
 empty_has page = contains-empty nat_cmp page
 
 fresh_has : (features page : ℕ) → is_registered (enabled_with fresh_object features) page ≡ false
-fresh_has features page = neither_of (contains (enabled_with fresh_object features).missing page) (contains (enabled_with fresh_object features).protect page) (empty_has page) (empty_has page)
+fresh_has features page = or_from (contains (enabled_with fresh_object features).missing page) (contains (enabled_with fresh_object features).protect page) (empty_has page) (empty_has page)
 
 pub enabled_low : (fresh object : Object) (features : ℕ) → fresh ≡ fresh_object → object ≡ enabled_with fresh features → AreLow object
 enabled_low fresh object features new is = subst AreLow (sym (is ∙ ap (λ o. enabled_with o features) new)) (λ page past. fresh_has features page)

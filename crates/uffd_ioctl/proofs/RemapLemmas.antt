@@ -4,6 +4,7 @@ use Rattle.std.specs.Ordering.{nat_cmp}
 use Rattle.std.specs.FinMap.{FinMap, get}
 use Rattle.std.specs.FinSet.{FinSet, contains}
 use Rattle.std.proofs.lemmas.Bool.Decides.{nat_tests}
+use Rattle.std.proofs.lemmas.Bool.{ltb-true}
 use Rattle.mig_base.specs.declared.TheConstants.{HIGH_PAGE}
 use Rattle.mig_base.specs.declared.Prot.{Prot}
 use Rattle.mig_base.specs.Ranges.{in_range}
@@ -12,6 +13,7 @@ use Rattle.mig_base.specs.Sets.{without, moved_set}
 use Rattle.mig_base.proofs.RangeLemmas.{in_range_tells}
 use Rattle.mig_base.proofs.PageLemmas.{same_pages, get-set_range, get-remove_range, get-moved_range}
 use Rattle.mig_base.proofs.SetLemmas.{member_without}
+use Rattle.mig_base.proofs.TestLemmas.{and_not, cond_false}
 use Rattle.userfault.proofs.ModeLemmas.{is_pages_where}
 use Rattle.area_map.specs.Ranges.{HasOneProt}
 
@@ -90,9 +92,6 @@ held_prot : (inside : Bool) (a b : Option Prot) (prot : Prot) → (inside ≡ tr
 held_prot true a b prot h k = sym (h refl)
 held_prot false a b prot h k = sym k
 
-ltb_true : (a b : ℕ) → ltb a b ≡ true → a < b
-ltb_true a b h = grind (arith, nat_tests)
-
 pub moved_prots : (areas new : FinMap nat_cmp Prot) (from count to new_count : ℕ) (prot : Prot) → 0 < count → HasOneProt (λ page. get areas page) from count prot → new ≡ set_range (remove_range areas from count) to new_count prot → new ≡ moved_range areas from count to new_count (get areas from)
 moved_prots areas new from count to new_count prot some has is =
     same_pages new (moved_range areas from count to new_count (get areas from)) (λ q.
@@ -100,7 +99,7 @@ moved_prots areas new from count to new_count prot some has is =
     ∙ get-set_range (remove_range areas from count) to new_count prot q
     ∙ ap (λ o. cond (in_range to new_count q) (Some prot) o) (get-remove_range areas from count q)
     ∙ ap (λ o. cond (in_range to new_count q) o (cond (in_range from count q) None (get areas q)))
-    (held_prot (ltb (q - to) count) (get areas (from + (q - to))) (get areas from) prot (λ e. let l = ltb_true (q - to) count e in has (from + (q - to)) (omega arith) (omega arith)) (has from (omega arith) (omega arith)))
+    (held_prot (ltb (q - to) count) (get areas (from + (q - to))) (get areas from) prot (λ e. let l = ltb-true (q - to) count e in has (from + (q - to)) (omega arith) (omega arith)) (has from (omega arith) (omega arith)))
     ∙ sym (get-moved_range areas from count to new_count q (get areas from)))
 
 -- what the steps of a move leave at a page
@@ -125,19 +124,9 @@ moved_pages pages first second new from count to new_count kept least apart one 
 abbrev Set : Type 0
 Set = FinSet nat_cmp
 
-taken_out : (gone b : Bool) → (b && not gone) ≡ cond gone false b
-taken_out true true = refl
-taken_out true false = refl
-taken_out false true = refl
-taken_out false false = refl
-
-out_or : (gone b : Bool) → cond gone false b ≡ (not gone && b)
-out_or true b = refl
-out_or false b = refl
-
 -- what a set without a range contains
 pub member_left : (set : Set) (first count q : ℕ) → contains (without set first count) q ≡ cond (in_range first count q) false (contains set q)
-member_left set first count q = member_without set first count q ∙ taken_out (in_range first count q) (contains set q)
+member_left set first count q = member_without set first count q ∙ and_not (contains set q) (in_range first count q)
 
 past_end : (from count to new_count q : ℕ) (along growth old : Bool) → to + new_count ≤ HIGH_PAGE → HIGH_PAGE ≤ q → old ≡ false → cond (in_range to new_count q) (cond (ltb (q - to) count) along growth) (not (in_range from count q) && old) ≡ false
 past_end from count to new_count q along growth old high past none = grind (arith, nat_tests)
@@ -148,7 +137,7 @@ moved_members : (set new : Set) (from count to new_count : ℕ) (growth : Bool) 
     → new ≡ moved_set set from count to new_count growth
 moved_members set new from count to new_count growth high past is =
     is_pages_where new (λ q. cond (in_range to new_count q) (cond (ltb (q - to) count) (contains set (from + (q - to))) growth) (not (in_range from count q) && contains set q))
-    (λ q. is q ∙ ap (cond (in_range to new_count q) (cond (ltb (q - to) count) (contains set (from + (q - to))) growth)) (out_or (in_range from count q) (contains set q)))
+    (λ q. is q ∙ ap (cond (in_range to new_count q) (cond (ltb (q - to) count) (contains set (from + (q - to))) growth)) (cond_false (in_range from count q) (contains set q)))
     (λ q out. past_end from count to new_count q (contains set (from + (q - to))) growth (contains set q) high out (past q out))
 
 pub shrunk_set : (set new : Set) (from count to new_count : ℕ) → to + new_count ≤ HIGH_PAGE → ((q : ℕ) → HIGH_PAGE ≤ q → contains set q ≡ false) → to ≡ from → new_count ≤ count → new ≡ without set (from + new_count) (count - new_count) → new ≡ moved_set set from count to new_count false

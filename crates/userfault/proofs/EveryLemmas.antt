@@ -1,9 +1,9 @@
 -- Tests of each page of a range.
 use Rattle.std.proofs.Common.{◌≡◌, ℕ, zero, suc, ◌+◌, ◌-◌, ◌<◌, ◌≤◌, ◌&&◌, ◌||◌, Bool, true, false, not, refl, sym, ap, ◌∙◌, ⊎_elim, arith, nat_le}
 use Rattle.std.proofs.lemmas.Bool.Decides.{nat_tests}
+use Rattle.std.proofs.lemmas.Bool.{cases_lt}
 use Rattle.mig_base.specs.Ranges.{none_below}
 use Rattle.mig_base.proofs.RangeLemmas.{none_below-from, none_below-not}
-use Rattle.mig_base.proofs.BitLemmas.{below_or_past}
 use Rattle.mig_base.specs.Tests.{same_bool, is_every}
 
 is_below : (a b : ℕ) → a < b → nat_le b a ≡ false
@@ -23,7 +23,7 @@ every_to test first count next low before here =
     (λ (past : first + count ≤ next).
     is_past next (first + count) past
     ∙ sym (none_below-from (λ i. not (test (first + i))) count (λ i l. ap not (before (first + i) (omega arith) (omega arith)))))
-    (below_or_past next (first + count))
+    (cases_lt next (first + count))
 
 four : (x y a b : Bool) → ((x && y) && not (not (a && b))) ≡ ((x && not (not a)) && (y && not (not b)))
 four true true true b = refl

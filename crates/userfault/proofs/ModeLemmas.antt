@@ -3,7 +3,7 @@ use Rattle.std.proofs.Common.{◌≡◌, ℕ, ◌+◌, ◌-◌, ◌<◌, ◌≤�
 use Rattle.std.specs.Ordering.{nat_cmp}
 use Rattle.std.specs.FinSet.{FinSet, contains}
 use Rattle.std.proofs.lemmas.Bool.Decides.{nat_tests}
-use Rattle.std.proofs.lemmas.Bool.{false≢true}
+use Rattle.std.proofs.lemmas.Bool.{false≢true, or_from}
 use Rattle.mig_base.specs.declared.TheConstants.{HIGH_PAGE}
 use Rattle.mig_base.specs.Ranges.{in_range, none_below}
 use Rattle.mig_base.specs.Sets.{pages_where, moved_set}
@@ -128,9 +128,6 @@ either : (a b : Bool) → (a ≡ true) ⊎ (b ≡ true) → (a || b) ≡ true
 either true b h = refl
 either false b h = ⊎_elim (λ (e : false ≡ true). absurd (false≢true e)) (λ (e : b ≡ true). e) h
 
-neither : (a b : Bool) → a ≡ false → b ≡ false → (a || b) ≡ false
-neither a b e f = rw (e, f) refl
-
 pub found : (missing protect : ℕ → Bool) (first count page : ℕ) → first ≤ page → page < first + count → (missing page ≡ true) ⊎ (protect page ≡ true) → true ≡ not (none_below (λ i. missing (first + i) || protect (first + i)) count)
 found missing protect first count page a b h =
     let at : page ≡ first + (page - first) = omega arith in
@@ -139,4 +136,4 @@ found missing protect first count page a b h =
 
 pub not_found : (missing protect : ℕ → Bool) (first count : ℕ) → ((q : ℕ) → first ≤ q → q < first + count → missing q ≡ false) → ((q : ℕ) → first ≤ q → q < first + count → protect q ≡ false) → false ≡ not (none_below (λ i. missing (first + i) || protect (first + i)) count)
 not_found missing protect first count h k =
-    ap not (sym (none_below-from (λ i. missing (first + i) || protect (first + i)) count (λ i l. neither (missing (first + i)) (protect (first + i)) (h (first + i) (omega arith) (omega arith)) (k (first + i) (omega arith) (omega arith)))))
+    ap not (sym (none_below-from (λ i. missing (first + i) || protect (first + i)) count (λ i l. or_from (missing (first + i)) (protect (first + i)) (h (first + i) (omega arith) (omega arith)) (k (first + i) (omega arith) (omega arith)))))

@@ -1,7 +1,8 @@
 use Rattle.std.proofs.Common.{leb, leb-true, rules}
 use Rattle.std.proofs.lemmas.List.Sorted.{IsPartitionPoint-from_clause, IsPartitionedBy-leb}
+use Rattle.std.proofs.lemmas.Bool.{leb-false}
 use Rattle.area_map.specs.Areas.{BeginsBy, BeginsAfter}
-use Rattle.area_map.proofs.SearchLemmas.{begin_in_order, above_test, below_point, above_point}
+use Rattle.area_map.proofs.SearchLemmas.{begin_in_order, below_point, above_point}
 use Rattle.area_map.proofs.search.beginning_by.Goals as goal
 
 pub returns : goal.returns
@@ -11,5 +12,5 @@ returns c =
     record {
       within = c.partition_point.ensures.bound;
       by = below_point (λ x. leb x.first c.args.page) (BeginsBy c.args.page) _ _ c.partition_point.ensures.bound (λ x h. leb-true _ _ h) point.0;
-      after = above_point (λ x. leb x.first c.args.page) (BeginsAfter c.args.page) _ _ c.partition_point.ensures.bound (λ x h. above_test x.first c.args.page h) point.1;
+      after = above_point (λ x. leb x.first c.args.page) (BeginsAfter c.args.page) _ _ c.partition_point.ensures.bound (λ x h. leb-false x.first c.args.page h) point.1;
     }

@@ -1,7 +1,8 @@
 use Rattle.std.proofs.Common.{ltb, ltb-true, rules, ◌+◌}
 use Rattle.std.proofs.lemmas.List.Sorted.{IsPartitionPoint-from_clause, IsPartitionedBy-ltb}
+use Rattle.std.proofs.lemmas.Bool.{ltb-false}
 use Rattle.area_map.specs.Areas.{EndsBefore, EndsFrom}
-use Rattle.area_map.proofs.SearchLemmas.{end_in_order, from_test, below_point, above_point}
+use Rattle.area_map.proofs.SearchLemmas.{end_in_order, below_point, above_point}
 use Rattle.area_map.proofs.search.ending_before.Goals as goal
 
 pub returns : goal.returns
@@ -11,5 +12,5 @@ returns c =
     record {
       within = c.partition_point.ensures.bound;
       before = below_point (λ x. ltb (x.first + x.count) c.args.page) (EndsBefore c.args.page) _ _ c.partition_point.ensures.bound (λ x h. ltb-true _ _ h) point.0;
-      from = above_point (λ x. ltb (x.first + x.count) c.args.page) (EndsFrom c.args.page) _ _ c.partition_point.ensures.bound (λ x h. from_test (x.first + x.count) c.args.page h) point.1;
+      from = above_point (λ x. ltb (x.first + x.count) c.args.page) (EndsFrom c.args.page) _ _ c.partition_point.ensures.bound (λ x h. ltb-false (x.first + x.count) c.args.page h) point.1;
     }

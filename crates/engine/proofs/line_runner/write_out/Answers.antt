@@ -1,7 +1,7 @@
-use Rattle.script.proofs.Slices.{slice_rest}
+use Rattle.std.proofs.lemmas.List.{take_rest}
 use Rattle.engine.proofs.Writes.{wrote_more}
 use Rattle.engine.proofs.line_runner.write_out.Goals as goal
 
 pub loop-rest-preserved : goal.loop-rest-preserved
 loop-rest-preserved g c =
-    rw (slice_rest c.in-Ok.taken c.loop-rest.rest.now) (wrote_more c.args.bytes.now c.loop-rest.rest.now c.in-Ok.taken _ _ _ c.loop-rest.invariant c.in-Ok.ensures.bytes)
+    rw (take_rest c.loop-rest.rest.now c.in-Ok.taken) (wrote_more c.args.bytes.now c.loop-rest.rest.now c.in-Ok.taken _ _ _ c.loop-rest.invariant c.in-Ok.ensures.bytes)

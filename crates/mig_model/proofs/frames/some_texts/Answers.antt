@@ -21,7 +21,7 @@ use Rattle.mig_model.proofs.Facts.{no_page, only_one, either}
 use Rattle.mig_model.proofs.OneArea.{one_area}
 use Rattle.mig_model.proofs.OneText.{text-is}
 use Rattle.mig_model.proofs.RunsInOrder.{runs_of-only}
-use Rattle.mig_model.proofs.Stopping.{no_member}
+use Rattle.mig_model.proofs.SpaceLemmas.{no_member}
 use Rattle.mig_model.proofs.frames.some_texts.Goals as goal
 
 -- the runs of one page, and of none

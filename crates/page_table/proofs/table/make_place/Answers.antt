@@ -1,8 +1,9 @@
 use Rattle.std.proofs.Common.{◌∙◌, ap, arith, ◌/◌, length-append}
 use Rattle.std.proofs.lemmas.Result.{IfOk-weaker}
 use Rattle.page_table.specs.Leaves.{cell_in, cell_at, has_place, is_place}
-use Rattle.page_table.proofs.TableLemmas.{cell_at-push, has_place-push, cells_stay, read_place, place_of_set, places_kept}
+use Rattle.page_table.proofs.TableLemmas.{cell_at-push, cells_stay}
 use Rattle.page_table.proofs.table.make_place.Goals as goal
+use Rattle.mig_base.proofs.PlaceLemmas.{read_place, has_place-push, place_of_set, places_kept}
 
 pub loop-places-preserved : goal.loop-places-preserved
 loop-places-preserved c = record {

@@ -1,8 +1,8 @@
 use Rattle.std.proofs.Common.{◌∙◌, ◌*◌, ap, arith}
 use Rattle.std.specs.FinSet.{contains}
-use Rattle.page_table.proofs.TableLemmas.{read_place}
 use Rattle.page_table.proofs.ViewLemmas.{gathered_none, gathered_more, gathered_all}
 use Rattle.page_table.proofs.table.present_of.Goals as goal
+use Rattle.mig_base.proofs.PlaceLemmas.{read_place}
 
 pub loop-at-init : goal.loop-at-init
 loop-at-init c = λ q. ap (λ s. contains s q) c.new-pages.ensures ∙ gathered_none c.args.places.now.items q

@@ -1,7 +1,8 @@
 use Rattle.std.proofs.Common.{◌∙◌, ap, cond, eqb, ◌/◌, ◌%◌, arith}
 use Rattle.page_table.specs.Leaves.{Cell, cell_in, cell_at, with_protection}
-use Rattle.page_table.proofs.TableLemmas.{place_inside, own_place, at_own_place, read_place, one_cell}
+use Rattle.page_table.proofs.TableLemmas.{at_own_place, one_cell}
 use Rattle.page_table.proofs.table.protect_at.Goals as goal
+use Rattle.mig_base.proofs.PlaceLemmas.{read_place, place_inside, own_place}
 
 pub index_mut-requires : goal.index_mut-requires
 index_mut-requires c = let inside = place_inside c.args.places.now.items c.args.page c.requires in omega arith

@@ -1,8 +1,9 @@
 use Rattle.std.proofs.Common.{◌∙◌, sym, ap, cond, eqb, ◌/◌, ◌%◌, arith}
 use Rattle.page_table.specs.Bytes.{bytes_of}
 use Rattle.page_table.specs.Leaves.{Cell, cell_in, is_place}
-use Rattle.page_table.proofs.TableLemmas.{place_inside, own_place, read_place, one_cell, places_stay}
+use Rattle.page_table.proofs.TableLemmas.{one_cell}
 use Rattle.page_table.proofs.table.put_at.Goals as goal
+use Rattle.mig_base.proofs.PlaceLemmas.{read_place, place_inside, own_place, places_stay}
 
 pub index_mut-requires : goal.index_mut-requires
 index_mut-requires c = let inside = place_inside c.args.places.now.items c.args.page c.requires.there in omega arith

@@ -1,7 +1,8 @@
 use Rattle.std.proofs.Common.{◌∙◌, sym, ap, cond, eqb, arith, ◌/◌, ◌%◌}
 use Rattle.page_table.specs.Leaves.{cell_in, is_place, no_cell}
-use Rattle.page_table.proofs.TableLemmas.{at_own_place, read_place, one_cell, places_stay, past_places, gone_already}
+use Rattle.page_table.proofs.TableLemmas.{at_own_place, one_cell, past_places, gone_already}
 use Rattle.page_table.proofs.table.take_at.Goals as goal
+use Rattle.mig_base.proofs.PlaceLemmas.{read_place, places_stay}
 
 pub returns-then-at-len-clause-taken : goal.returns-then-at-len-clause-taken
 returns-then-at-len-clause-taken c = c.place_take.ensures.taken ∙ at_own_place c.args.places.now.items c.index_mut.result.now c.args.page (omega arith) c.index_mut.ensures.value

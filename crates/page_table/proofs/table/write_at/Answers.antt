@@ -1,7 +1,8 @@
 use Rattle.std.proofs.Common.{◌∙◌, sym, ap, cond, eqb, arith, ◌/◌, ◌%◌}
 use Rattle.page_table.specs.Leaves.{Cell, cell_in, cell_at, written_cell}
-use Rattle.page_table.proofs.TableLemmas.{at_own_place, read_place, one_cell, past_places, gone_already}
+use Rattle.page_table.proofs.TableLemmas.{at_own_place, one_cell, past_places, gone_already}
 use Rattle.page_table.proofs.table.write_at.Goals as goal
+use Rattle.mig_base.proofs.PlaceLemmas.{read_place}
 
 pub returns-then-at-len-clause-written : goal.returns-then-at-len-clause-written
 returns-then-at-len-clause-written c =

@@ -1,8 +1,8 @@
 use Rattle.std.proofs.Common.{◌≡◌, ◌≤◌, ◌+◌, ◌-◌, ◌*◌, ◌∙◌, ap, arith, min, length}
 use Rattle.std.proofs.Math.ListN.{length-set}
 use Rattle.mig_base.specs.Ranges.{in_range}
+use Rattle.mig_base.proofs.PlaceLemmas.{read_place}
 use Rattle.page_table.specs.Leaves.{cell_in, cell_at, opened_cell}
-use Rattle.page_table.proofs.TableLemmas.{read_place}
 use Rattle.page_table.proofs.OpenedLemmas.{opened_more, opened_past}
 use Rattle.page_table.proofs.unprotect.unprotect_cells.Goals as goal
 use Rattle.page_table.proofs.unprotect.unprotect_cells.Goals.{then-at-len, else-at-len}

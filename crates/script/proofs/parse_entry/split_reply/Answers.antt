@@ -1,12 +1,12 @@
 use Rattle.std.proofs.Common.{sym, ◌∙◌, ◌+◌, add-one}
 use Rattle.std.proofs.lemmas.List.{take_all}
-use Rattle.script.proofs.Slices.{slice_rest}
+use Rattle.std.proofs.lemmas.List.{take_rest}
 use Rattle.script.proofs.Entries.{arrow_none, arrow_split, arrow_more}
 use Rattle.script.proofs.parse_entry.split_reply.Goals as goal
 
 pub returns-then-is_arrow-clause-found : goal.returns-then-is_arrow-clause-found
 returns-then-is_arrow-clause-found c =
-    rw (slice_rest (c.loop-at.at + 1) c.args.tokens.now, add-one)
+    rw (take_rest c.args.tokens.now (c.loop-at.at + 1), add-one)
     (arrow_split c.args.tokens.now c.loop-at.at _ c.loop-at-test.true c.loop-at.invariant (sym c.is_arrow.ensures ∙ c.if-is_arrow.true))
 
 pub loop-at-preserved : goal.loop-at-preserved

@@ -1,8 +1,9 @@
 use Rattle.std.proofs.Common.{◌∙◌, sym, ap, not, arith, ◌&&◌, below_more}
+use Rattle.std.proofs.lemmas.Bool.{and_left}
 use Rattle.mig_base.specs.Bits.{is_one}
 use Rattle.mig_base.proofs.RangeLemmas.{none_below-from, none_below-not}
 use Rattle.mig_model.specs.Ioctls.{is_feature}
-use Rattle.uffd_ioctl.proofs.RegisterLemmas.{is_unknown, is_known, not_set}
+use Rattle.uffd_ioctl.proofs.RegisterLemmas.{is_unknown, is_known}
 use Rattle.uffd_ioctl.proofs.arguments.has_unknown_feature.Goals as goal
 use Rattle.uffd_ioctl.proofs.arguments.has_unknown_feature.Goals.{else-has_bit-via-then-has_bit+else-not-is_feature, else-has_bit-via-else-has_bit}
 
@@ -16,7 +17,7 @@ loop-i-preserved c =
     below_more _ _ c.loop-i.invariant
     (elim c.else-has_bit.branch [
       | else-has_bit-via-then-has_bit+else-not-is_feature w ↦ is_known _ _ (sym w.is_feature.ensures ∙ w.if-not-is_feature.false)
-      | else-has_bit-via-else-has_bit w ↦ not_set _ _ (sym c.has_bit.ensures ∙ w.if-has_bit.false)
+      | else-has_bit-via-else-has_bit w ↦ and_left _ _ (sym c.has_bit.ensures ∙ w.if-has_bit.false)
     ])
 
 pub returns : goal.returns

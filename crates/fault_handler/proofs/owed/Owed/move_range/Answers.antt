@@ -1,10 +1,11 @@
 use Rattle.std.proofs.Common.{◌∙◌, ap, cond, None}
 use Rattle.mig_base.specs.Ranges.{in_range}
-use Rattle.fault_handler.proofs.OwedLemmas.{same_shown, moved_shown, on_err}
+use Rattle.mig_base.proofs.PageSetViews.{on_any_err}
+use Rattle.fault_handler.proofs.OwedLemmas.{same_shown, moved_shown}
 use Rattle.fault_handler.proofs.owed.Owed.move_range.Goals as goal
 
 pub returns-in_err-make_room-clause-err : goal.returns-in_err-make_room-clause-err
-returns-in_err-make_room-clause-err c = on_err c.from_residual.result _
+returns-in_err-make_room-clause-err c = on_any_err c.from_residual.result
     (same_shown c.self.inside.links.forth.items c.make_room.new.self.forth.items c.args.self.now c.self.inside.links.kept.few c.make_room.new.self.kept.few c.self.view_is c.make_room.ensures.same)
 
 pub returns-clause-ok : goal.returns-clause-ok

@@ -1,8 +1,9 @@
 use Rattle.std.proofs.Common.{◌∙◌, ap, arith, ◌/◌, length-append}
 use Rattle.std.proofs.lemmas.Result.{IfOk-weaker}
 use Rattle.fault_handler.specs.Tables.{number_in, number_at, has_place, is_place}
-use Rattle.fault_handler.proofs.TableLemmas.{number_at-push, has_place-push, numbers_stay, read_place, place_of_set, places_kept}
+use Rattle.fault_handler.proofs.TableLemmas.{number_at-push, numbers_stay}
 use Rattle.fault_handler.proofs.owed.table.make_leaf.Goals as goal
+use Rattle.mig_base.proofs.PlaceLemmas.{read_place, has_place-push, place_of_set, places_kept}
 
 pub loop-places-preserved : goal.loop-places-preserved
 loop-places-preserved c = record {

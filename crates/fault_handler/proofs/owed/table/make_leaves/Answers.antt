@@ -1,7 +1,7 @@
 use Rattle.std.proofs.Common.{◌∙◌, ◌<◌, ◌≤◌, ◌*◌, ⊎_elim, arith}
-use Rattle.mig_base.proofs.BitLemmas.{below_or_past}
-use Rattle.fault_handler.proofs.TableLemmas.{same_table}
+use Rattle.std.proofs.lemmas.Bool.{cases_lt}
 use Rattle.fault_handler.proofs.owed.table.make_leaves.Goals as goal
+use Rattle.mig_base.proofs.PlaceLemmas.{same_leaf}
 
 pub loop-at-preserved : goal.loop-at-preserved
 loop-at-preserved c = record {
@@ -10,6 +10,6 @@ loop-at-preserved c = record {
   stay = λ q h. c.make_leaf.ensures.stay q (c.loop-at.invariant.stay q h);
   there = λ q a b. ⊎_elim
       (λ (below : q < 1024 * c.loop-at.at). c.make_leaf.ensures.stay q (c.loop-at.invariant.there q a below))
-      (λ (past : 1024 * c.loop-at.at ≤ q). same_table c.make_leaf.new.places.items (c.loop-at.at * 1024) q (omega arith) c.in-Ok.ensures.there)
-      (below_or_past q (1024 * c.loop-at.at));
+      (λ (past : 1024 * c.loop-at.at ≤ q). same_leaf c.make_leaf.new.places.items (c.loop-at.at * 1024) q (omega arith) c.in-Ok.ensures.there)
+      (cases_lt q (1024 * c.loop-at.at));
 }

@@ -1,7 +1,8 @@
 use Rattle.std.proofs.Common.{◌∙◌, sym, ap, cond, eqb, ◌/◌, ◌%◌, arith}
 use Rattle.fault_handler.specs.Tables.{number_in, is_place}
-use Rattle.fault_handler.proofs.TableLemmas.{place_inside, own_place, read_place, one_number, places_stay}
+use Rattle.fault_handler.proofs.TableLemmas.{one_number}
 use Rattle.fault_handler.proofs.owed.table.put_number.Goals as goal
+use Rattle.mig_base.proofs.PlaceLemmas.{read_place, place_inside, own_place, places_stay}
 
 pub index_mut-requires : goal.index_mut-requires
 index_mut-requires c = let inside = place_inside c.args.places.now.items c.args.page c.requires in omega arith

@@ -4,8 +4,9 @@ use Rattle.mig_model.specs.Ioctls as table
 use Rattle.mig_model.proofs.IoctlLemmas.{IsSoundSpace-range_registered}
 use Rattle.userfault.specs.Modes as modes
 use Rattle.uffd_ioctl.specs.Spaces.{space_of}
-use Rattle.uffd_ioctl.proofs.RegisterLemmas.{none_by, made_by, sound_low, watched_in}
+use Rattle.uffd_ioctl.proofs.RegisterLemmas.{made_by, sound_low, watched_in}
 use Rattle.uffd_ioctl.proofs.space.Space.register.Goals as goal
+use Rattle.mig_base.proofs.TestLemmas.{never_some}
 
 pub registered-requires-clause-low : goal.registered-requires-clause-low
 registered-requires-clause-low c = sound_low (space_of c.self.inside.areas c.self.inside.pages c.self.inside.object) c.self.invariant
@@ -17,7 +18,7 @@ returns-clause-space c =
     let now = c.args.self.now in
     let range = c.whole_pages-range in
     made_by (table.register_error now start len c.args.mode) now (table.registered_in now (start / 4096) (len / 4096) (table.mode_of c.args.mode)) _
-    (sym c.register_error.ensures ∙ none_by c.register_error.result c.in_default.not-Some)
+    (sym c.register_error.ensures ∙ never_some c.register_error.result c.in_default.not-Some)
     (watched_in c.self.inside.areas c.self.inside.pages c.open_unwatched.new.pages c.self.inside.object c.in_ok-object.object range.result.first range.result.count (modes.mode_of c.mode_of-mode.result) c.self.invariant c.open_unwatched.ensures.bytes c.in_ok-object.ensures c.open_unwatched.ensures.protected
     ∙ (λ i. table.registered_in (c.self.view_is i) (range.ensures.first i) (range.ensures.count i) (c.mode_of-mode.ensures i)))
 

@@ -1,6 +1,6 @@
 use Rattle.std.proofs.Common.{◌∙◌, ◌+◌, ◌<◌, ◌≤◌, inl, inr, ap, ⊎_elim, arith}
 use Rattle.std.specs.FinSet.{contains}
-use Rattle.mig_base.proofs.BitLemmas.{below_or_past}
+use Rattle.std.proofs.lemmas.Bool.{cases_lt}
 use Rattle.mig_model.specs.Userfault.{is_watched}
 use Rattle.userfault.proofs.ModeLemmas.{is_below, is_past, found, not_found}
 use Rattle.userfault.proofs.object.Userfault.is_any_registered.Goals as goal
@@ -23,5 +23,5 @@ returns-else-next-end c =
     (λ (past : end ≤ protect.result).
     is_past protect.result end past
     ∙ not_found (contains c.self.inside.missing) (contains c.self.inside.protect) c.args.first c.args.count (λ q a b. c.next.ensures.before q a (omega arith)) (λ q a b. protect.ensures.before q a (omega arith)))
-    (below_or_past protect.result end)
+    (cases_lt protect.result end)
     ∙ ap (λ o. is_watched o c.args.first c.args.count) c.self.view_is

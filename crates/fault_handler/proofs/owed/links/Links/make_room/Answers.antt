@@ -1,8 +1,9 @@
 use Rattle.std.proofs.Common.{◌∙◌, ◌+◌, ◌-◌, ◌<◌, ◌≤◌, ⊎_elim, refl, sym, arith}
-use Rattle.mig_base.proofs.BitLemmas.{below_or_past}
-use Rattle.fault_handler.proofs.TableLemmas.{not_same_leaf, none_without_place}
+use Rattle.std.proofs.lemmas.Bool.{cases_lt}
+use Rattle.fault_handler.proofs.TableLemmas.{none_without_place}
 use Rattle.fault_handler.proofs.LinkLemmas.{same_links, none_some}
 use Rattle.fault_handler.proofs.owed.links.Links.make_room.Goals as goal
+use Rattle.mig_base.proofs.PlaceLemmas.{same_leaf}
 
 pub invariant_of-self : goal.invariant_of-self
 invariant_of-self c = record {
@@ -15,7 +16,7 @@ loop-made-preserved-in_ok-make_leaves c = record {
   room = λ q s a b h. ⊎_elim
       (λ (below : q < c.args.to + c.loop-made.made). c.make_leaves.ensures.stay q (c.loop-made.invariant.room q s a below (sym (c.make_leaves.ensures.same (c.args.from + (q - c.args.to))) ∙ h)))
       (λ (past : c.args.to + c.loop-made.made ≤ q). c.in_ok-make_leaves.ensures.there q past (omega arith))
-      (below_or_past q (c.args.to + c.loop-made.made));
+      (cases_lt q (c.args.to + c.loop-made.made));
   few = omega arith;
 }
 
@@ -26,7 +27,7 @@ loop-made-preserved c = record {
       (λ (below : q < c.args.to + c.loop-made.made). c.loop-made.invariant.room q s a below h)
       (λ (past : c.args.to + c.loop-made.made ≤ q).
       let page = c.args.from + (q - c.args.to) in
-      none_some s (sym (none_without_place c.loop-made.self.forth.items page (not_same_leaf c.loop-made.self.forth.items (c.args.from + c.loop-made.made) page (c.next_leaf.ensures.same page (omega arith) (omega arith)) (sym c.has_leaf.ensures ∙ c.if-has_leaf.false))) ∙ h))
-      (below_or_past q (c.args.to + c.loop-made.made));
+      none_some s (sym (none_without_place c.loop-made.self.forth.items page (same_leaf c.loop-made.self.forth.items (c.args.from + c.loop-made.made) page (c.next_leaf.ensures.same page (omega arith) (omega arith)) (sym c.has_leaf.ensures ∙ c.if-has_leaf.false))) ∙ h))
+      (cases_lt q (c.args.to + c.loop-made.made));
   few = omega arith;
 }

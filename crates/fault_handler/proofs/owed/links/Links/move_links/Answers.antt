@@ -1,8 +1,9 @@
 use Rattle.std.proofs.Common.{◌≡◌, ◌∙◌, ◌+◌, ◌-◌, sym, ap, arith}
 use Rattle.fault_handler.specs.Tables.{number_at, moved_number}
-use Rattle.fault_handler.proofs.TableLemmas.{not_same_leaf, none_without_place}
+use Rattle.fault_handler.proofs.TableLemmas.{none_without_place}
 use Rattle.fault_handler.proofs.LinkLemmas.{moved_on, moved_nothing, not_filled_yet, not_read_yet}
 use Rattle.fault_handler.proofs.owed.links.Links.move_links.Goals as goal
+use Rattle.mig_base.proofs.PlaceLemmas.{same_leaf}
 
 pub move_run-requires-clause-room : goal.move_run-requires-clause-room
 move_run-requires-clause-room c = λ q s a b h.
@@ -39,7 +40,7 @@ loop-moved-preserved c =
     record {
       moved = λ q.
           moved_nothing (number_at c.loop-moved.self.forth.items) (c.args.from + c.loop-moved.moved) (c.args.to + c.loop-moved.moved) (next - c.loop-moved.moved) q
-          (λ p a b. none_without_place c.loop-moved.self.forth.items p (not_same_leaf c.loop-moved.self.forth.items (c.args.from + c.loop-moved.moved) p (c.next_leaf.ensures.same p a (omega arith)) (sym c.has_leaf.ensures ∙ c.if-has_leaf.false)))
+          (λ p a b. none_without_place c.loop-moved.self.forth.items p (same_leaf c.loop-moved.self.forth.items (c.args.from + c.loop-moved.moved) p (c.next_leaf.ensures.same p a (omega arith)) (sym c.has_leaf.ensures ∙ c.if-has_leaf.false)))
           (λ p a b. c.loop-moved.invariant.moved p
           ∙ not_filled_yet (number_at c.args.self.now.forth.items) c.args.from c.args.to c.loop-moved.moved c.args.count p c.requires.apart (omega arith) (omega arith) (omega arith)
           ∙ c.requires.free p (omega arith) (omega arith))
