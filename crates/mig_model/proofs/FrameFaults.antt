@@ -6,7 +6,7 @@ use Rattle.std.specs.FinMap as finmap
 use Rattle.std.specs.FinMap.{FinMap, contains_key, retain_keys, get, get-empty, get-retain_keys}
 use Rattle.std.specs.FinSet as finset
 use Rattle.std.specs.FinSet.{FinSet, contains, contains-empty, contains-retain, len-empty, nat_cmp-IsAntisymmetric}
-use Rattle.std.proofs.lemmas.Bool.{false≢true}
+use Rattle.std.proofs.lemmas.Bool.{false≢true, and_from, eq-eqb, leb-true, lt-ltb, not_from_true, or_from}
 use Rattle.std.proofs.lemmas.Bool.Decides.{nat_tests}
 use Rattle.mig_base.specs.declared.Prot.{Prot}
 use Rattle.mig_base.specs.declared.fault.BackFault.{BackFault}
@@ -46,20 +46,6 @@ three_none a b c x y z h k l = none_first a x _ h (none_first b y _ k (none_firs
 two_none : {A : Type 0} (a b : Bool) (x y : A) → a ≡ false → b ≡ false → first_holding ((a, x) ∷ (b, y) ∷ []) ≡ None
 two_none a b x y h k = none_first a x _ h (none_first b y None k refl)
 
-not_true : (b : Bool) → b ≡ true → not b ≡ false
-not_true b h = ap not h
-
-neither : (a b : Bool) → a ≡ false → b ≡ false → (a || b) ≡ false
-neither true b h k = none_absurd (sym h)
-neither false b h k = k
-
-both_true : (a b : Bool) → a ≡ true → b ≡ true → (a && b) ≡ true
-both_true true b h k = k
-both_true false b h k = none_absurd h
-
-same_number : (a b : ℕ) → a ≡ b → eqb a b ≡ true
-same_number a b h = grind (arith, nat_tests)
-
 -- Sets and maps without members
 
 none_empty : (set : FinSet nat_cmp) → ((q : ℕ) → contains set q ≡ false) → not (eqb (finset.len set) 0) ≡ false
@@ -90,9 +76,6 @@ empty_is : (arrivals : List Copy) → is_empty arrivals ≡ true → arrivals �
 empty_is [] h = refl
 empty_is (copy ∷ rest) h = none_absurd h
 
-all_came : (a b : ℕ) → leb a b ≡ true → a ≤ b
-all_came a b h = grind (arith, nat_tests)
-
 soon_by : (none free all : Bool) → (free ≡ true → all ≡ true → none ≡ true) → (not none && free && all) ≡ false
 soon_by true free all h = refl
 soon_by false true true h = absurd (false≢true (h refl refl))
@@ -102,34 +85,31 @@ soon_by false false all h = refl
 not_too_soon : (node : Destination) (frame : Frame) → IsGood node frame → is_too_soon node frame ≡ false
 not_too_soon node (End urgent) good =
     soon_by (eqb (finmap.len node.owed) 0) (is_empty node.arrivals) (leb urgent node.urgent_taken) (λ free all.
-    ap (λ m. eqb (finmap.len m) 0) (good.1 (empty_is node.arrivals free) (all_came urgent node.urgent_taken all)) ∙ ap (λ n. eqb n 0) (finmap.len-empty nat_cmp ℕ))
+    ap (λ m. eqb (finmap.len m) 0) (good.1 (empty_is node.arrivals free) (leb-true urgent node.urgent_taken all)) ∙ ap (λ n. eqb n 0) (finmap.len-empty nat_cmp ℕ))
 not_too_soon node Advise good = refl
 not_too_soon node _ good = refl
 
-later_epoch : (a b : ℕ) → a < b → ltb a b ≡ true
-later_epoch a b h = grind (arith, nat_tests)
-
 of_epoch : (own epoch : ℕ) (node : Destination) (frame : Frame) → own ≡ node.epoch → IsOwnEpoch node epoch frame → is_of_epoch own epoch frame ≡ true
 of_epoch own epoch node Advise is h = refl
-of_epoch own epoch node Resume is h = later_epoch own epoch (subst (λ e. e < epoch) (sym is) h)
-of_epoch own epoch node _ is h = same_number epoch own (h ∙ sym is)
+of_epoch own epoch node Resume is h = lt-ltb own epoch (subst (λ e. e < epoch) (sym is) h)
+of_epoch own epoch node _ is h = eq-eqb epoch own (h ∙ sym is)
 
 torn_by : (kept mapped : Bool) → kept ≡ false → mapped ≡ true → (kept || not mapped) ≡ false
-torn_by kept mapped h k = neither kept (not mapped) h (not_true mapped k)
+torn_by kept mapped h k = or_from kept (not mapped) h (not_from_true mapped k)
 
 not_torn : (kept : FinMap nat_cmp (List ℕ)) (areas : FinMap nat_cmp Prot) (owed : FinSet nat_cmp) → ((page : ℕ) → contains owed page ≡ true → contains_key kept page ≡ false) →
     ((page : ℕ) → contains owed page ≡ true → contains_key areas page ≡ true) → ((page : ℕ) → contains_key kept page ≡ true → contains_key areas page ≡ true) → is_torn kept areas owed ≡ false
 not_torn kept areas owed apart mapped kept_mapped =
-    neither _ _
+    or_from _ _
     (none_empty _ (no_member owed (λ page. contains_key kept page || not (contains_key areas page)) (λ page h. torn_by (contains_key kept page) (contains_key areas page) (apart page h) (mapped page h))))
-    (none_kept kept (λ page. not (contains_key areas page)) (λ page h. not_true (contains_key areas page) (kept_mapped page h)))
+    (none_kept kept (λ page. not (contains_key areas page)) (λ page h. not_from_true (contains_key areas page) (kept_mapped page h)))
 
 no_fewer : (came told : ℕ) → came ≤ told → ltb told came ≡ false
 no_fewer came told h = grind (arith, nat_tests)
 
 not_bad : (node : Destination) (frame : Frame) → IsGood node frame → is_bad node frame ≡ false
 not_bad node (Package areas owed commands) good =
-    neither (is_torn node.kept areas owed) (not (eqb (length commands) (length node.guest.cpus))) (not_torn node.kept areas owed good.0 good.1 good.2) (not_true _ (same_number (length commands) (length node.guest.cpus) good.3))
+    or_from (is_torn node.kept areas owed) (not (eqb (length commands) (length node.guest.cpus))) (not_torn node.kept areas owed good.0 good.1 good.2) (not_from_true _ (eq-eqb (length commands) (length node.guest.cpus) good.3))
 not_bad node (End urgent) good = no_fewer node.urgent_taken urgent good.0
 not_bad node _ good = refl
 
@@ -137,25 +117,25 @@ not_bad node _ good = refl
 pub no_frame_fault : (node : Destination) (sent : Sent) → IsTaken node sent → frame_fault node sent.epoch sent.frame ≡ None
 no_frame_fault node sent taken =
     three_none (not (is_in_place node.phase sent.frame) || is_too_soon node sent.frame) (not (is_of_epoch node.epoch sent.epoch sent.frame)) (is_bad node sent.frame) TakeFault.OutOfPlace TakeFault.StaleEpoch TakeFault.BadFrame
-    (neither (not (is_in_place node.phase sent.frame)) (is_too_soon node sent.frame) (not_true (is_in_place node.phase sent.frame) taken.in_place) (not_too_soon node sent.frame taken.good))
-    (not_true (is_of_epoch node.epoch sent.epoch sent.frame) (of_epoch node.epoch sent.epoch node sent.frame refl taken.own_epoch)) (not_bad node sent.frame taken.good)
+    (or_from (not (is_in_place node.phase sent.frame)) (is_too_soon node sent.frame) (not_from_true (is_in_place node.phase sent.frame) taken.in_place) (not_too_soon node sent.frame taken.good))
+    (not_from_true (is_of_epoch node.epoch sent.epoch sent.frame) (of_epoch node.epoch sent.epoch node sent.frame refl taken.own_epoch)) (not_bad node sent.frame taken.good)
 
 pub no_urgent_fault : (node : Destination) (sent : Sent) → IsTakenUrgent node sent → urgent_fault node sent.epoch sent.frame ≡ None
 no_urgent_fault node sent taken =
     two_none (not (is_running node.phase && is_copy sent.frame)) (not (eqb sent.epoch node.epoch)) TakeFault.OutOfPlace TakeFault.StaleEpoch
-    (not_true (is_running node.phase && is_copy sent.frame) (both_true (is_running node.phase) (is_copy sent.frame) taken.runs taken.copy)) (not_true (eqb sent.epoch node.epoch) (same_number sent.epoch node.epoch taken.own_epoch))
+    (not_from_true (is_running node.phase && is_copy sent.frame) (and_from (is_running node.phase) (is_copy sent.frame) taken.runs taken.copy)) (not_from_true (eqb sent.epoch node.epoch) (eq-eqb sent.epoch node.epoch taken.own_epoch))
 
 -- The source
 
 in_place_back : (node : Source) (frame : Frame) → IsInPlaceBack node frame → is_in_place_back node frame ≡ true
 in_place_back node (Request page) place = place
-in_place_back node Done place = both_true (is_stopped node.phase) (eqb node.end_epoch node.epoch) place.0 (same_number node.end_epoch node.epoch place.1)
+in_place_back node Done place = and_from (is_stopped node.phase) (eqb node.end_epoch node.epoch) place.0 (eq-eqb node.end_epoch node.epoch place.1)
 in_place_back node (Recv state owed) place = place.0
 in_place_back node _ place = absurd place
 
 pub no_back_fault : (node : Source) (sent : Sent) → IsInPlaceBack node sent.frame → sent.epoch ≡ node.epoch → back_fault node sent.epoch sent.frame ≡ None
 no_back_fault node sent place own =
-    two_none (not (is_in_place_back node sent.frame)) (not (eqb sent.epoch node.epoch)) BackFault.OutOfPlace BackFault.StaleEpoch (not_true (is_in_place_back node sent.frame) (in_place_back node sent.frame place)) (not_true (eqb sent.epoch node.epoch) (same_number sent.epoch node.epoch own))
+    two_none (not (is_in_place_back node sent.frame)) (not (eqb sent.epoch node.epoch)) BackFault.OutOfPlace BackFault.StaleEpoch (not_from_true (is_in_place_back node sent.frame) (in_place_back node sent.frame place)) (not_from_true (eqb sent.epoch node.epoch) (eq-eqb sent.epoch node.epoch own))
 
 none_listed : (owed : FinSet nat_cmp) → owed ≡ no_pages → not (eqb (finset.len owed) 0) ≡ false
 none_listed owed none = ap (λ s. not (eqb (finset.len s) 0)) none ∙ ap (λ n. not (eqb n 0)) (len-empty nat_cmp)
@@ -178,11 +158,11 @@ pub no_rebuild_fault : (node : Source) (state : Received) (owed : FinSet nat_cmp
 no_rebuild_fault node Received.NotRun owed below place = none_first (is_bad_owed node Received.NotRun owed) RebuildFault.BadOwed None (none_listed owed (place.2 not_run_other)) refl
 no_rebuild_fault node Received.Running owed below place =
     none_first (is_bad_owed node Received.Running owed) RebuildFault.BadOwed None
-    (neither (not node.switched) (not (eqb (finset.len (less owed (present (space_of node)))) 0)) (not_true node.switched (place.3 running_run))
-    (none_empty (less owed (present (space_of node))) (no_member owed (λ page. not (contains (present (space_of node)) page)) (λ page h. not_true (contains (present (space_of node)) page) (below page (place.1 page h)))))) refl
+    (or_from (not node.switched) (not (eqb (finset.len (less owed (present (space_of node)))) 0)) (not_from_true node.switched (place.3 running_run))
+    (none_empty (less owed (present (space_of node))) (no_member owed (λ page. not (contains (present (space_of node)) page)) (λ page h. not_from_true (contains (present (space_of node)) page) (below page (place.1 page h)))))) refl
 no_rebuild_fault node Received.Ended owed below place =
     none_first (is_bad_owed node Received.Ended owed) RebuildFault.BadOwed None
-    (neither (not node.switched) (not (eqb (finset.len owed) 0)) (not_true node.switched (place.3 ended_run)) (none_listed owed (place.2 ended_other))) refl
+    (or_from (not node.switched) (not (eqb (finset.len owed) 0)) (not_from_true node.switched (place.3 ended_run)) (none_listed owed (place.2 ended_other))) refl
 
 -- A Deliver that completes a frame
 
@@ -277,4 +257,4 @@ below_high page h = grind (arith, nat_tests)
 
 -- the present pages of a source
 pub present_below : (space : Space) → IsSoundSpace space → (page : ℕ) → is_present space page ≡ true → contains (present space) page ≡ true
-present_below space sound page h = member_below _ HIGH_PAGE page ∙ both_true (ltb page HIGH_PAGE) (is_present space page) (below_high page (sound_below space sound page h)) h
+present_below space sound page h = member_below _ HIGH_PAGE page ∙ and_from (ltb page HIGH_PAGE) (is_present space page) (below_high page (sound_below space sound page h)) h
