@@ -185,37 +185,78 @@ fn present(host: &Host) -> Result<u32, NoMemory> {
 }
 
 /// The protections and the first bytes of the two pages, and how many are present.
-fn seen(host: &Host) -> Result<([Option<Prot>; 2], [Option<u8>; 2], u32), NoMemory> {
-    let bytes = [first_byte(host, 0x10), first_byte(host, 0x11)];
-    Ok((prots(host)?, bytes, present(host)?))
+#[derive(Clone, Copy, Debug, PartialEq, Eq)]
+struct Seen {
+    prots: [Option<Prot>; 2],
+    bytes: [Option<u8>; 2],
+    present: u32,
+}
+
+fn look(host: &Host) -> Result<Seen, NoMemory> {
+    Ok(Seen {
+        prots: prots(host)?,
+        bytes: [first_byte(host, 0x10), first_byte(host, 0x11)],
+        present: present(host)?,
+    })
 }
 
 /// The same, on the second try if the first is refused memory.
-fn looked(host: &Host) -> Result<([Option<Prot>; 2], [Option<u8>; 2], u32), NoMemory> {
-    match seen(host) {
+fn looked(host: &Host) -> Result<Seen, NoMemory> {
+    match look(host) {
         Ok(pages) => Ok(pages),
-        Err(NoMemory) => seen(host),
+        Err(NoMemory) => look(host),
     }
 }
 
 const WRITE: Option<Prot> = Some(Prot::ReadWrite);
 
-#[test]
-fn a_host_of_parts(rt: HostRuntime) -> Result<(), Fail> {
-    let (areas, pages) = parts(rt.alloc())?;
-    let mut host = Host::assemble(rt.alloc(), areas, pages);
-    assert_eq!(rt; looked(&host)?, ([WRITE, WRITE], [Some(7), None], 1));
+/// Two pages are mapped, and the first is present.
+const PARTS: Seen = Seen {
+    prots: [WRITE, WRITE],
+    bytes: [Some(7), None],
+    present: 1,
+};
+
+/// The commands leave the second page mapped.
+const SECOND: Seen = Seen {
+    prots: [None, WRITE],
+    bytes: [None, None],
+    present: 0,
+};
+
+const NOTHING: Seen = Seen {
+    prots: [None, None],
+    bytes: [None, None],
+    present: 0,
+};
+
+/// Looks at a host of the parts, makes the commands on it, and looks at it again.
+fn command_host(rt: &impl Abort, host: &mut Host) -> Result<(), Fail> {
+    assert_eq!(rt; looked(host)?, PARTS);
     for (i, (command, wanted)) in COMMANDS.iter().enumerate() {
-        let before = looked(&host)?;
+        let before = looked(host)?;
         let mut reply = host.perform(*command);
         if reply == Err(NoMemory) {
-            assert_eq!(rt; looked(&host)?, before, "command {i}");
+            assert_eq!(rt; looked(host)?, before, "command {i}");
             reply = host.perform(*command);
         }
         assert_eq!(rt; reply, Ok(*wanted), "command {i}");
     }
-    assert_eq!(rt; looked(&host)?, ([None, WRITE], [None, None], 0));
+    assert_eq!(rt; looked(host)?, SECOND);
+    Ok(())
+}
+
+#[test]
+fn a_host_of_parts(rt: HostRuntime) -> Result<(), Fail> {
+    let (areas, pages) = parts(rt.alloc())?;
+    let mut host = Host::assemble(rt.alloc(), areas, pages);
+    command_host(&rt, &mut host)
+}
+
+#[test]
+fn a_new_host(rt: HostRuntime) -> Result<(), Fail> {
     let bare = Host::new(rt.alloc());
-    assert_eq!(rt; looked(&bare)?, ([None, None], [None, None], 0));
+    let seen = looked(&bare)?;
+    assert_eq!(rt; seen, NOTHING);
     Ok(())
 }

@@ -8,6 +8,7 @@ use Call::{
     Zeropage,
 };
 use mig_base::{Errno, Message, NoMemory, Place, Prot, Reply, Wake};
+use std::process::Abort;
 use std::test::Fail;
 use uffd_ioctl::{Mode, Space};
 
@@ -255,11 +256,9 @@ const TWO_PRESENT: [(Call, Answer); 3] = [
     (Present(0x11), Answer::Among(true, 2)),
 ];
 
-/// A copy of two pages that may be refused memory at either: what was put stays, and the rest is put by the next call.
-#[test]
-fn a_copy_that_wants_memory(rt: HostRuntime) -> Result<(), Fail> {
-    let mut space = Space::new(rt.alloc());
-    play_on(&rt, &mut space, &TWO_WATCHED)?;
+/// Copies two pages to a space where they are watched. What was put before memory is refused stays, and the next call puts the
+/// rest.
+fn copy_two(rt: &impl Abort, space: &mut Space) {
     let ones = [1; 8192];
     let copied = match put(space.copy(0x10000, ones.as_slice(), 0)) {
         Err(NoMemory) => 0,
@@ -278,5 +277,13 @@ fn a_copy_that_wants_memory(rt: HostRuntime) -> Result<(), Fail> {
         let rest = put(space.copy(0x11000, &ones[..4096], 0));
         assert_eq!(rt; rest, Ok(Put(4096, SECOND)));
     }
+}
+
+/// A copy of two pages that may be refused memory at either.
+#[test]
+fn a_copy_that_wants_memory(rt: HostRuntime) -> Result<(), Fail> {
+    let mut space = Space::new(rt.alloc());
+    play_on(&rt, &mut space, &TWO_WATCHED)?;
+    copy_two(&rt, &mut space);
     play_on(&rt, &mut space, &TWO_PRESENT)
 }
