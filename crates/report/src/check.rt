@@ -1,7 +1,8 @@
 //! Whether entries are a run of one flat memory.
 
-ghost use Rattle.std.specs.Prelude.{OnOk, IfErr};
-ghost use Rattle.mig_base.specs.Flat.{IsFlatRun};
+ghost use Rattle.std.specs.Prelude.{◌≡◌, OnOk, IfErr};
+ghost use Rattle.mig_base.specs.Flat.{IsFlatRun, no_memory};
+ghost use Rattle.mig_model.specs.Host.{memory};
 ghost use Rattle.report.specs.Checks.{IsFaultOf};
 
 use hosts::Host;
@@ -28,6 +29,15 @@ pub fn check(alloc: Global, entries: &[Entry]) -> Result<(), CheckFault>
     ensures wrong { IfErr result (λ fault. IsFaultOf entries.now fault) }
 {
     let mut host = Host::new(alloc);
+    replay(&mut host, entries)
+}
+
+/// Replays entries on a host on which nothing is mapped.
+fn replay(host: &mut Host, entries: &[Entry]) -> Result<(), CheckFault>
+    requires { memory host.old ≡ no_memory }
+    ensures ok { OnOk result (IsFlatRun entries.now) }
+    ensures wrong { IfErr result (λ fault. IsFaultOf entries.now fault) }
+{
     for (index, entry) in entries.iter().enumerate() {
         let Ok(expected) = host.perform(entry.command) else {
             return Err(CheckFault::NoMemory);
