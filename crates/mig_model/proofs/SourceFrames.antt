@@ -4,9 +4,8 @@ use Rattle.std.specs.Option.{option_and_then}
 use Rattle.std.specs.List.{list_all}
 use Rattle.std.specs.Ordering.{nat_cmp}
 use Rattle.std.specs.FinMap.{FinMap, get, insert}
-use Rattle.std.proofs.lemmas.Bool.{false≢true}
 use Rattle.mig_model.specs.Wire.{Frame, Sent, Copy, page_frame, copy_in, kept_after}
-use Rattle.mig_model.specs.Wire.Frame.{Page, Zero, Package, End}
+use Rattle.mig_model.specs.Wire.Frame.{Page, Zero, Package}
 use Rattle.mig_model.specs.Invariant.{Flow, flow_next, flow_after, copies_of, AreWhole, is_package, kept_by}
 use Rattle.mig_model.specs.Invariant.Flow.{BeforeAdvise, Copies, BeforePackage, Pushed, AfterEnd}
 use Rattle.mig_model.proofs.HostLemmas.{get-put}
