@@ -7,13 +7,13 @@ use Rattle.std.specs.FinMap.{FinMap, get, empty, remove, get-empty, get-remove}
 use Rattle.std.specs.FinSet.{FinSet, contains}
 use Rattle.std.specs.Cmp.{nat_cmp_total, unsigned_tied}
 use Rattle.std.proofs.lemmas.Bool.Decides.{nat_tests}
-use Rattle.std.proofs.lemmas.Bool.{eq-eqb, ne_eqb}
+use Rattle.std.proofs.lemmas.Bool.{eq-eqb, ne_eqb, lt-ltb}
 use Rattle.std.proofs.lemmas.Option.{same_Some}
 use Rattle.mig_base.specs.declared.TheConstants.{HIGH_PAGE}
 use Rattle.mig_base.specs.Ranges.{in_range}
 use Rattle.mig_base.specs.Pages.{map_below, put, remove_range, moved_range}
 use Rattle.mig_base.proofs.PageLemmas.{get-map_below, get-remove_range, get-moved_range}
-use Rattle.mig_base.proofs.RangeLemmas.{least_below-is, least_below-none}
+use Rattle.mig_base.proofs.RangeLemmas.{least_below-is, least_below-none, in_range_bounds, in_range-out}
 use Rattle.mig_base.proofs.SetLemmas.{same_members, member_below}
 use Rattle.mig_base.proofs.TestLemmas.{all_below}
 use Rattle.fault_handler.specs.Tables.{Place, number_at, moved_number}
@@ -135,20 +135,11 @@ range_removed forth after owed first count few still view h =
 moved-by : (f g : ℕ → Option ℕ) (from to count q : ℕ) → (from + count ≤ to) ⊎ (to + count ≤ from) → ((p : ℕ) → f p ≡ cond (in_range to count p) None (g p)) → moved_number f from to count q ≡ cond (in_range to count q) (cond (ltb (q - to) count) (g (from + (q - to))) None) (cond (in_range from count q) None (g q))
 moved-by f g from to count q apart is = by_case (in_range to count q) refl
   where
-    in_range_bounds : in_range to count q ≡ true → (to ≤ q) × (q < to + count)
-    in_range_bounds h = grind (arith, nat_tests)
-
-    below : (a b : ℕ) → a < b → ltb a b ≡ true
-    below a b h = grind (arith, nat_tests)
-
-    out_of : (p : ℕ) → (p < to) ⊎ (to + count ≤ p) → in_range to count p ≡ false
-    out_of p h = grind (arith, nat_tests)
-
     by_case : (b : Bool) → in_range to count q ≡ b → cond b (f (from + (q - to))) (cond (in_range from count q) None (f q)) ≡ cond b (cond (ltb (q - to) count) (g (from + (q - to))) None) (cond (in_range from count q) None (g q))
     by_case true e =
-        let bounds = in_range_bounds e in
-        let away : in_range to count (from + (q - to)) ≡ false = out_of (from + (q - to)) (⊎_elim (λ (x : from + count ≤ to). inl (omega (arith, bounds))) (λ (x : to + count ≤ from). inr (omega (arith, bounds))) apart) in
-        is (from + (q - to)) ∙ ap (λ b. cond b None (g (from + (q - to)))) away ∙ sym (ap (λ b. cond b (g (from + (q - to))) None) (below (q - to) count (omega (arith, bounds))))
+        let bounds = in_range_bounds to count q e in
+        let away : in_range to count (from + (q - to)) ≡ false = in_range-out to count (from + (q - to)) (⊎_elim (λ (x : from + count ≤ to). inl (omega (arith, bounds))) (λ (x : to + count ≤ from). inr (omega (arith, bounds))) apart) in
+        is (from + (q - to)) ∙ ap (λ b. cond b None (g (from + (q - to)))) away ∙ sym (ap (λ b. cond b (g (from + (q - to))) None) (lt-ltb (q - to) count (omega (arith, bounds))))
     by_case false e = ap (λ o. cond (in_range from count q) None o) (is q ∙ ap (λ b. cond b None (g q)) e)
 
 pub moved_shown : (forth cleared after : List Place) (owed : FinMap nat_cmp ℕ) (from to count : ℕ) → length forth ≤ 1024 → length after ≤ 1024 → pairs_of forth ≡ owed → (from + count ≤ to) ⊎ (to + count ≤ from)

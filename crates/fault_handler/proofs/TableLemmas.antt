@@ -1,4 +1,4 @@
--- Tables of numbers: what an index reads, one number changed, leaves that are made.
+-- Tables of numbers: one number changed, and leaves that are made.
 use Rattle.std.proofs.Common.{◌≡◌, ℕ, zero, suc, ◌/◌, ◌%◌, ◌<◌, ◌≤◌, true, false, cond, eqb, refl, ap, ◌∙◌, List, ◌∷◌, [], ◌++◌, length, get_or, set, get_or-set_same, get_or-set_other, Option, Some, None, is_some, replicate}
 use mathlib.Core.Logic.{dite}
 use native.Mathlib.Decide.{ℕ_discrete}

@@ -15,6 +15,7 @@ use Rattle.mig_base.specs.declared.message.Message.{Message}
 use Rattle.mig_base.specs.Flat.{reply_of, after}
 use Rattle.mig_base.specs.Ranges.{in_range}
 use Rattle.mig_base.specs.Sets.{without, moved_set}
+use Rattle.mig_base.proofs.TestLemmas.{and_false}
 use Rattle.mig_base.proofs.RangeLemmas.{none_below-from}
 use Rattle.mig_base.proofs.SetLemmas.{same_members, member_without, member_removed, member_below}
 use Rattle.mig_model.specs.Host.{Host, memory, host_after, IsSound}
@@ -65,10 +66,6 @@ nothing_without first count =
 pub nothing_removed : (page : ℕ) → remove {R = nat_cmp} empty page ≡ empty
 nothing_removed page =
     same_members (remove empty page) empty (λ q. member_removed empty page q ∙ ap (λ b. not (eqb q page) && b) (no_member q) ∙ and_false (not (eqb q page)) ∙ sym (no_member q))
-  where
-    and_false : (b : Bool) → (b && false) ≡ false
-    and_false true = refl
-    and_false false = refl
 
 none_anywhere : (low here along a old b : Bool) → a ≡ false → b ≡ false → (low && cond here (cond along a false) (old && b)) ≡ false
 none_anywhere low here along a old b h k = rw (h, k) (in_or_not low here along old)
@@ -118,10 +115,6 @@ modes_fresh command reply = refl
 
 unheard : (due : Bool) (first count : ℕ) (message : Message) → told (due && is_watched fresh_object first count) message ≡ []
 unheard due first count message = untold _ message (ap (λ b. due && b) (no_watch first count) ∙ and_false due)
-  where
-    and_false : (b : Bool) → (b && false) ≡ false
-    and_false true = refl
-    and_false false = refl
 
 three_none : (a b c : List Message) → a ≡ [] → b ≡ [] → c ≡ [] → (a ++ b ++ c) ≡ []
 three_none a b c h k l = rw (h, k, l) refl

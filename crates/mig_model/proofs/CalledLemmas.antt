@@ -1,12 +1,12 @@
 -- What the events of a map call do to the owed relation, and that they are of whole pages: mremap among them, whose old and new
 -- range are one place or lie apart.
-use Rattle.std.proofs.Common.{◌≡◌, ℕ, ◌+◌, ◌-◌, ◌*◌, ◌/◌, ◌%◌, ◌<◌, ◌≤◌, ◌&&◌, Bool, true, false, cond, not, eqb, ltb, leb, Option, Some, None, ◌++◌, refl, sym, ap, ◌∙◌, subst, ◌⊎◌, ⊎_elim, inl, inr, arith, is_some, add-zero}
+use Rattle.std.proofs.Common.{◌≡◌, ℕ, ◌+◌, ◌-◌, ◌*◌, ◌/◌, ◌%◌, ◌<◌, ◌≤◌, ◌&&◌, Bool, true, false, cond, not, eqb, ltb, leb, Option, Some, None, ◌++◌, refl, sym, ap, ◌∙◌, subst, ◌⊎◌, ⊎_elim, inl, inr, arith, add-zero}
 use Rattle.std.specs.FinMap.{contains_key}
 use Rattle.std.proofs.lemmas.Bool.Decides.{nat_tests}
 use Rattle.mig_base.specs.declared.TheConstants.{LOW, HIGH}
 use Rattle.mig_base.specs.declared.message.Message.TheVariants.{Remap, Unmap}
 use Rattle.mig_base.specs.Ranges.{in_range, lesser, none_below, pages_of, rounded}
-use Rattle.mig_base.specs.Flat.{Memory, is_mapped, has_one_prot, overlaps}
+use Rattle.mig_base.specs.Flat.{Memory, is_mapped, has_one_prot}
 use Rattle.mig_base.proofs.RangeLemmas.{none_below_tells, place_found, four_hold, in_range-true}
 use Rattle.mig_base.proofs.ReplyLemmas.{IsRemapped}
 use Rattle.mig_base.proofs.ReplyLemmas.IsWhere.{Shrunk, Grew, Moved, Told}
@@ -18,7 +18,7 @@ use Rattle.mig_model.proofs.HostLemmas.{is_mapped-memory}
 use Rattle.mig_model.proofs.CommandLemmas.{remapped_place}
 use Rattle.mig_model.proofs.SeenLemmas.{AreMapped, owed_none}
 use Rattle.mig_model.proofs.SettledCalls.{AreInside, settled_messages, settled-append, gone_if, shifted_if, moved_owed, told_gone, told_shifted, unmap_right, cut_right, remap_right}
-use Rattle.mig_model.proofs.Facts.{none_absurd, and_left, eqb-self, lesser_right}
+use Rattle.mig_model.proofs.Facts.{missing_none, none_absurd, and_left, eqb-self, lesser_right}
 
 -- The two ranges of an mremap
 
@@ -28,11 +28,7 @@ pub data IsLaid (here : Host) (from count to new_count : ℕ) : Type 0 where
   Goes : eqb to from ≡ false → (from + count ≤ to) ⊎ (to + new_count ≤ from) → IsLaid here from count to new_count
 
 mapped_not : (m : Memory) (addr : ℕ) → is_mapped m addr ≡ false → m addr ≡ None
-mapped_not m addr h = none_of (m addr) h
-  where
-    none_of : {A : Type 0} (o : Option A) → is_some o ≡ false → o ≡ None
-    none_of None h = refl
-    none_of (Some x) h = none_absurd (sym h)
+mapped_not m addr h = missing_none (m addr) h
 
 four_places : (a s t n : ℕ) → (a + s ≤ t) ⊎ ((t + n ≤ a) ⊎ (((t ≤ a) × (a < t + n)) ⊎ ((a < t) × (t < a + s))))
 four_places a s t n = grind (arith, nat_tests)

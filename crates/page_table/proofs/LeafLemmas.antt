@@ -13,7 +13,7 @@ use Rattle.std.specs.Option.{option_map}
 use Rattle.std.proofs.lemmas.Option.{same_Some}
 use Rattle.std.proofs.lemmas.Bool.{eq-eqb, ne_eqb}
 use Rattle.mig_base.specs.Bytes.{overwrite}
-use Rattle.mig_base.proofs.TestLemmas.{cond_true, cond_false}
+use Rattle.mig_base.proofs.TestLemmas.{and_true, and_false, cond_true, cond_false}
 use Rattle.page_table.specs.Bytes.{Page, bytes_of, IsWhole, AreWhole}
 use Rattle.page_table.specs.Leaves.{Cell, no_cell}
 
@@ -38,16 +38,8 @@ protect_cell pages s t i j flag h =
     (λ n. rw (ne_eqb j i n) (λ k. (bytes_of (get_or pages j None), (h ∙ ap (λ b. cond b flag (s j)) (ne_eqb j i n)) k)))
 
 clear_pair : (r : Bool) (new old : Page) (after before : Bool) → new ≡ cond r None old → after ≡ (before && not r) → ◌≡◌ {A = Cell} (bytes_of new, after) (cond r no_cell (bytes_of old, before))
-clear_pair true new old after before e h = λ k. (bytes_of (e k), (h ∙ none before) k)
-  where
-    none : (b : Bool) → (b && false) ≡ false
-    none true = refl
-    none false = refl
-clear_pair false new old after before e h = λ k. (bytes_of (e k), (h ∙ all before) k)
-  where
-    all : (b : Bool) → (b && true) ≡ b
-    all true = refl
-    all false = refl
+clear_pair true new old after before e h = λ k. (bytes_of (e k), (h ∙ and_false before) k)
+clear_pair false new old after before e h = λ k. (bytes_of (e k), (h ∙ and_true before) k)
 
 pub clear_cell : (old new : List Page) (s t : FinSet nat_cmp) (first count j : ℕ) → get_or new j None ≡ cond (in_range first count j) None (get_or old j None) → t ≡ without s first count → ◌≡◌ {A = Cell} (bytes_of (get_or new j None), contains t j) (cond (in_range first count j) no_cell (bytes_of (get_or old j None), contains s j))
 clear_cell old new s t first count j e h = clear_pair (in_range first count j) (get_or new j None) (get_or old j None) (contains t j) (contains s j) e (ap (λ x. contains x j) h ∙ member_without s first count j)
@@ -55,12 +47,6 @@ clear_cell old new s t first count j e h = clear_pair (in_range first count j) (
 -- a range of a list made missing, page by page
 abbrev pub IsBare : List Page → List Page → ℕ → ℕ → Type 0
 IsBare old new first count = (i : ℕ) → get_or new i None ≡ cond (in_range first count i) None (get_or old i None)
-
-pub grows_here : (first count i : ℕ) → i ≡ first + count → in_range first (count + 1) i ≡ true
-grows_here first count i e = grind (arith, nat_tests)
-
-pub grows_not : (first count i : ℕ) → i ≢ first + count → in_range first (count + 1) i ≡ in_range first count i
-grows_not first count i n = grind (arith, nat_tests)
 
 -- the present pages of a leaf, gathered one by one
 

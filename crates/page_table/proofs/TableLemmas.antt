@@ -1,14 +1,14 @@
 -- Tables of 1024 pages as one: one table changed, one page changed, a range cleared, a range moved.
-use Rattle.std.proofs.Common.{◌≡◌, ℕ, ◌+◌, ◌-◌, ◌*◌, ◌/◌, ◌%◌, ◌<◌, ◌≤◌, ◌&&◌, Bool, true, false, cond, eqb, ltb, refl, sym, ap, ◌∙◌, ◌⊎◌, ⊎_elim, inl, inr, arith, List, ◌∷◌, [], ◌++◌, length, min, get_or, set, Some, None}
+use Rattle.std.proofs.Common.{◌≡◌, ◌≢◌, ℕ, ◌+◌, ◌-◌, ◌*◌, ◌/◌, ◌%◌, ◌<◌, ◌≤◌, ◌&&◌, Bool, true, false, cond, eqb, ltb, refl, sym, ap, ◌∙◌, ◌⊎◌, ⊎_elim, inl, inr, arith, List, ◌∷◌, [], ◌++◌, length, min, get_or, set, Some, None}
 use mathlib.Core.Logic.{dite}
 use native.Mathlib.Decide.{ℕ_discrete}
+use Rattle.std.proofs.lemmas.Bool.Decides.{nat_tests}
 use Rattle.std.proofs.lemmas.Bool.{eq-eqb, ne_eqb}
 use Rattle.mig_base.specs.declared.TheConstants.{PAGE_SIZE}
 use Rattle.mig_base.specs.Ranges.{in_range}
 use Rattle.mig_base.proofs.RangeLemmas.{in_range-none, in_range-out}
 use Rattle.mig_base.proofs.PlaceLemmas.{said_at, said_here, said_past, said-set, said_same, said-push, said-put, nothing_yet, all_now, in_this, before_this, not_this}
 use Rattle.page_table.specs.Leaves.{Cell, Place, cell_in, cell_at, no_cell, moved_cell}
-use Rattle.page_table.proofs.LeafLemmas.{grows_here, grows_not}
 
 abbrev pub Places : Type 0
 Places = List Place
@@ -91,6 +91,12 @@ cleared_past old places first count at same past is = λ q.
 
 pub moved_none : (cells : ℕ → Cell) (from to q : ℕ) → cells q ≡ moved_cell cells from to 0 q
 moved_none cells from to q = sym (rw (in_range-none to q, in_range-none from q) refl)
+
+grows_here : (first count i : ℕ) → i ≡ first + count → in_range first (count + 1) i ≡ true
+grows_here first count i e = grind (arith, nat_tests)
+
+grows_not : (first count i : ℕ) → i ≢ first + count → in_range first (count + 1) i ≡ in_range first count i
+grows_not first count i n = grind (arith, nat_tests)
 
 pub not_moved_yet : (cells : ℕ → Cell) (from to count i : ℕ) → (from + count ≤ to) ⊎ (to + count ≤ from) → i < count → moved_cell cells from to i (from + i) ≡ cells (from + i)
 not_moved_yet cells from to count i apart l =
