@@ -23,7 +23,7 @@ use Rattle.mig_model.specs.Host.{Host, IsSound}
 use Rattle.mig_model.specs.Userfault.{Object, enabled_with, fresh_object, has_modes, is_registered}
 use Rattle.mig_model.specs.Space.{Space, IsSoundSpace, fresh_space}
 use Rattle.mig_model.specs.Ioctls.{all_features, event_features, handshake_error, handshaken, has_unknown, installed, is_feature, mode_of, protected_in, registered_in}
-use Rattle.mig_model.specs.Guest.{Act, is_forgotten, is_present}
+use Rattle.mig_model.specs.Guest.{Act, is_forgotten, is_present, Guest, resolved}
 use Rattle.mig_model.specs.Guest.Act.{Unprotected, Zeroed, Woke, Forgot, Requested}
 use Rattle.mig_model.specs.Log.{least_of, no_pages}
 use Rattle.mig_model.specs.Owed.{home, settled_by}
@@ -38,7 +38,7 @@ use Rattle.mig_model.specs.Handlers.{AreRegistered, AreRunsOf, AreWatched, IsCop
 use Rattle.mig_model.proofs.Bounded.{IsBounded, bounded-next, has_memory}
 use Rattle.mig_model.proofs.Facts.{and_left, no_event, no_page}
 use Rattle.mig_model.proofs.OpenObjects.{IsOpen, idle_unreleased}
-use Rattle.mig_model.proofs.PageCalls.{IsCalled, copy_made, write_protect_made, zero_page_made}
+use Rattle.mig_model.proofs.PageCalls.{IsCalled, copy_made, page_woken, write_protect_made, zero_page_made}
 use Rattle.mig_model.proofs.PromiseLemmas.{destination_zero, source_zero}
 use Rattle.mig_model.proofs.Registering.{CanRegister, areas_registered, every_registered, left_new, registered_by}
 use Rattle.mig_model.proofs.ResumeTaken.{home_tells}
@@ -88,21 +88,21 @@ source_open cpus world all unswitched = all.opened.source (unswitched_unreleased
 
 -- The source's handler
 
-pub source_zeroes : (cpus : ℕ) (world : World) (addr : ℕ) → IsBounded cpus world → outcome world Step.SourceAct ≡ Ok (Effect.Zeroed addr) → IsZeroPage (space_of world.source) (space_of (next world Step.SourceAct).source) addr
+pub source_zeroes : (cpus : ℕ) (world : World) (addr : ℕ) → IsBounded cpus world → outcome world Step.SourceAct ≡ Ok (Effect.Zeroed addr) → IsZeroPage world.source.guest (next world Step.SourceAct).source.guest addr
 source_zeroes cpus world addr all answered =
-    holds-effect (λ effect new. effect ≡ Effect.Zeroed addr → IsZeroPage (space_of world.source) (space_of new.source) addr) world Step.SourceAct (Effect.Zeroed addr)
+    holds-effect (λ effect new. effect ≡ Effect.Zeroed addr → IsZeroPage world.source.guest new.source.guest addr) world Step.SourceAct (Effect.Zeroed addr)
     (made-source_act _ world (λ fault rest is started unswitched quiet h.
     let space = space_of world.source in
     let told = told_zeroed (source_act world.source fault) (4096 * fault.page) addr h in
     let there = not_forgotten space fault.page (source_served (is_forgotten space fault.page) (is_present space fault.page) _ told.0) in
-    let made = zero_page_made space fault.page (record { enabled = (source_open cpus world all unswitched).enabled; quiet = quiet; inside = all.limited.areas.pages fault.page there.0 }) there.0 there.1 (source_zero world fault told.0) in
-    subst (λ a. IsZeroPage space (space_of (after_source_act world fault).source) a) told.1
-    (subst (λ act. IsZeroPage space (space_of (source_acted_by act world.source fault.page)) (4096 * fault.page)) (sym told.0) made))) answered refl
+    let made = zero_page_made world.source.guest fault.page (record { enabled = (source_open cpus world all unswitched).enabled; quiet = quiet; inside = all.limited.areas.pages fault.page there.0 }) there.0 there.1 (source_zero world fault told.0) in
+    subst (λ a. IsZeroPage world.source.guest (after_source_act world fault).source.guest a) told.1
+    (subst (λ act. IsZeroPage world.source.guest (source_acted_by act world.source fault.page).guest (4096 * fault.page)) (sym told.0) made))) answered refl
 
 pub source_unprotects : (cpus : ℕ) (world : World) (addr : ℕ) → IsBounded cpus world → outcome world Step.SourceAct ≡ Ok (Effect.Unprotected addr) →
-    IsWriteProtect (space_of world.source) (space_of (next world Step.SourceAct).source) addr 0 (Range addr 4096)
+    IsWriteProtect world.source.guest (next world Step.SourceAct).source.guest addr 0 (Range addr 4096)
 source_unprotects cpus world addr all answered =
-    holds-effect (λ effect new. effect ≡ Effect.Unprotected addr → IsWriteProtect (space_of world.source) (space_of new.source) addr 0 (Range addr 4096)) world Step.SourceAct (Effect.Unprotected addr)
+    holds-effect (λ effect new. effect ≡ Effect.Unprotected addr → IsWriteProtect world.source.guest new.source.guest addr 0 (Range addr 4096)) world Step.SourceAct (Effect.Unprotected addr)
     (made-source_act _ world (λ fault rest is started unswitched quiet h.
     let space = space_of world.source in
     let sound = all.ready.kept.spaces.source_space in
@@ -110,9 +110,10 @@ source_unprotects cpus world addr all answered =
     let guarded = and_left (contains space.protected fault.page) fault.wp (source_cleared (is_forgotten space fault.page) (is_present space fault.page) _ told.0) in
     let watched = sound.watched fault.page guarded in
     let mapped = sound.mapped fault.page (or_right (contains space.object.missing fault.page) (contains space.object.protect fault.page) watched) in
-    let made = write_protect_made space fault.page 0 false (record { enabled = (source_open cpus world all unswitched).enabled; quiet = quiet; inside = all.limited.areas.pages fault.page mapped }) watched refl (zero_is_no_one 0) in
-    subst (λ a. IsWriteProtect space (space_of (after_source_act world fault).source) a 0 (Range a 4096)) told.1
-    (subst (λ act. IsWriteProtect space (space_of (source_acted_by act world.source fault.page)) (4096 * fault.page) 0 (Range (4096 * fault.page) 4096)) (sym told.0) made))) answered refl
+    let made = write_protect_made world.source.guest (resolved world.source.guest fault.page (protected_in space fault.page 1 false)) fault.page 0 false
+    (record { enabled = (source_open cpus world all unswitched).enabled; quiet = quiet; inside = all.limited.areas.pages fault.page mapped }) watched refl (zero_is_no_one 0) refl (page_woken world.source.guest fault.page (protected_in space fault.page 1 false)) in
+    subst (λ a. IsWriteProtect world.source.guest (after_source_act world fault).source.guest a 0 (Range a 4096)) told.1
+    (subst (λ act. IsWriteProtect world.source.guest (source_acted_by act world.source fault.page).guest (4096 * fault.page) 0 (Range (4096 * fault.page) 4096)) (sym told.0) made))) answered refl
 
 -- Send
 
@@ -130,7 +131,7 @@ told_zero false a b h = absurd (cc)
 
 -- the page that is sent is protected, as it is found
 sent_protected : (cpus : ℕ) (world : World) (page : ℕ) → IsBounded cpus world → least_of world.source.log.todo ≡ Some page → is_precopy world.source.phase ≡ true → ltb 0 (length (space_of world.source).object.events) ≡ false →
-    IsWriteProtect (space_of world.source) (protected_in (space_of world.source) page 1 true) (4096 * page) 1 Nobody
+    IsWriteProtect world.source.guest (record world.source.guest { space = protected_in (space_of world.source) page 1 true }) (4096 * page) 1 Nobody
 sent_protected cpus world page all found precopy quiet =
     let space = space_of world.source in
     let kept = all.ready.kept in
@@ -138,48 +139,48 @@ sent_protected cpus world page all found precopy quiet =
     let watched =
     (kept.precopy.todo_sendable unswitched page (least_below_tells (contains world.source.log.todo) HIGH_PAGE page found) (ap (λ events. is_unread events page) (no_event space.object.events quiet))).1 in
     let mapped = kept.spaces.source_space.mapped page (or_right (contains space.object.missing page) (contains space.object.protect page) watched) in
-    write_protect_made space page 1 true (record { enabled = (source_open cpus world all unswitched).enabled; quiet = quiet; inside = all.limited.areas.pages page mapped }) watched refl one_is_protect
+    write_protect_made world.source.guest (record world.source.guest { space = protected_in space page 1 true }) page 1 true (record { enabled = (source_open cpus world all unswitched).enabled; quiet = quiet; inside = all.limited.areas.pages page mapped }) watched refl one_is_protect refl refl
 
-pub page_protected : (cpus : ℕ) (world : World) (addr : ℕ) → IsBounded cpus world → outcome world Step.Send ≡ Ok (Effect.SentPage addr) → IsWriteProtect (space_of world.source) (space_of (next world Step.Send).source) addr 1 Nobody
+pub page_protected : (cpus : ℕ) (world : World) (addr : ℕ) → IsBounded cpus world → outcome world Step.Send ≡ Ok (Effect.SentPage addr) → IsWriteProtect world.source.guest (next world Step.Send).source.guest addr 1 Nobody
 page_protected cpus world addr all answered =
-    holds-effect (λ effect new. effect ≡ Effect.SentPage addr → IsWriteProtect (space_of world.source) (space_of new.source) addr 1 Nobody) world Step.Send (Effect.SentPage addr)
+    holds-effect (λ effect new. effect ≡ Effect.SentPage addr → IsWriteProtect world.source.guest new.source.guest addr 1 Nobody) world Step.Send (Effect.SentPage addr)
     (made-send _ world (λ page is precopy up quiet h.
-    subst (λ a. IsWriteProtect (space_of world.source) (protected_in (space_of world.source) page 1 true) a 1 Nobody) (told_page (is_zeros (bytes_of world.source page)) (4096 * page) addr h) (sent_protected cpus world page all is precopy quiet)))
+    subst (λ a. IsWriteProtect world.source.guest (record world.source.guest { space = protected_in (space_of world.source) page 1 true }) a 1 Nobody) (told_page (is_zeros (bytes_of world.source page)) (4096 * page) addr h) (sent_protected cpus world page all is precopy quiet)))
     answered refl
 
-pub zero_protected : (cpus : ℕ) (world : World) (addr : ℕ) → IsBounded cpus world → outcome world Step.Send ≡ Ok (Effect.SentZero addr) → IsWriteProtect (space_of world.source) (space_of (next world Step.Send).source) addr 1 Nobody
+pub zero_protected : (cpus : ℕ) (world : World) (addr : ℕ) → IsBounded cpus world → outcome world Step.Send ≡ Ok (Effect.SentZero addr) → IsWriteProtect world.source.guest (next world Step.Send).source.guest addr 1 Nobody
 zero_protected cpus world addr all answered =
-    holds-effect (λ effect new. effect ≡ Effect.SentZero addr → IsWriteProtect (space_of world.source) (space_of new.source) addr 1 Nobody) world Step.Send (Effect.SentZero addr)
+    holds-effect (λ effect new. effect ≡ Effect.SentZero addr → IsWriteProtect world.source.guest new.source.guest addr 1 Nobody) world Step.Send (Effect.SentZero addr)
     (made-send _ world (λ page is precopy up quiet h.
-    subst (λ a. IsWriteProtect (space_of world.source) (protected_in (space_of world.source) page 1 true) a 1 Nobody) (told_zero (is_zeros (bytes_of world.source page)) (4096 * page) addr h) (sent_protected cpus world page all is precopy quiet)))
+    subst (λ a. IsWriteProtect world.source.guest (record world.source.guest { space = protected_in (space_of world.source) page 1 true }) a 1 Nobody) (told_zero (is_zeros (bytes_of world.source page)) (4096 * page) addr h) (sent_protected cpus world page all is precopy quiet)))
     answered refl
 
 -- The destination's handler, and Install
 
-pub destination_zeroes : (cpus : ℕ) (world : World) (addr : ℕ) → IsBounded cpus world → outcome world Step.DestAct ≡ Ok (Effect.Zeroed addr) → IsZeroPage world.destination.guest.space (next world Step.DestAct).destination.guest.space addr
+pub destination_zeroes : (cpus : ℕ) (world : World) (addr : ℕ) → IsBounded cpus world → outcome world Step.DestAct ≡ Ok (Effect.Zeroed addr) → IsZeroPage world.destination.guest (next world Step.DestAct).destination.guest addr
 destination_zeroes cpus world addr all answered =
-    holds-effect (λ effect new. effect ≡ Effect.Zeroed addr → IsZeroPage world.destination.guest.space new.destination.guest.space addr) world Step.DestAct (Effect.Zeroed addr)
+    holds-effect (λ effect new. effect ≡ Effect.Zeroed addr → IsZeroPage world.destination.guest new.destination.guest addr) world Step.DestAct (Effect.Zeroed addr)
     (made-dest_act _ world (λ fault rest is ran quiet h.
     let space = world.destination.guest.space in
     let told = told_zeroed (destination_act world.destination fault) (4096 * fault.page) addr h in
     let there = not_forgotten space fault.page (destination_served (is_forgotten space fault.page) (is_present space fault.page) (get world.destination.owed fault.page) told.0) in
     let made =
-    zero_page_made space fault.page (record { enabled = (all.opened.destination ran).enabled; quiet = quiet; inside = (has_memory cpus world all).destination.pages fault.page there.0 }) there.0 there.1
+    zero_page_made world.destination.guest fault.page (record { enabled = (all.opened.destination ran).enabled; quiet = quiet; inside = (has_memory cpus world all).destination.pages fault.page there.0 }) there.0 there.1
     (destination_zero world fault told.0) in
-    subst (λ a. IsZeroPage space (destination_acted_by (destination_act world.destination fault) world.destination fault.page).guest.space a) told.1
-    (subst (λ act. IsZeroPage space (destination_acted_by act world.destination fault.page).guest.space (4096 * fault.page)) (sym told.0) made))) answered refl
+    subst (λ a. IsZeroPage world.destination.guest (destination_acted_by (destination_act world.destination fault) world.destination fault.page).guest a) told.1
+    (subst (λ act. IsZeroPage world.destination.guest (destination_acted_by act world.destination fault.page).guest (4096 * fault.page)) (sym told.0) made))) answered refl
 
 told_installed : (o : Option ℕ) (origin addr source : ℕ) → install_effect o origin ≡ Effect.Installed addr source → (page : ℕ) × (o ≡ Some page) × (4096 * page ≡ addr)
 told_installed None origin addr source h = absurd (cc)
 told_installed (Some page) origin addr source h = (page, refl, cc)
 
 -- a page was put by UFFDIO_COPY, or by UFFDIO_ZEROPAGE where it is a page of zeros
-abbrev pub IsPlaced : Space → Space → ℕ → List ℕ → Type 0
+abbrev pub IsPlaced : Guest → Guest → ℕ → List ℕ → Type 0
 IsPlaced old new addr bytes = IsCopy old new addr bytes × (bytes ≡ zero_page → IsZeroPage old new addr)
 
 -- the copy goes where its page is owed: that is registered and missing, and the copy is a whole page
 home_copied : (cpus : ℕ) (world : World) (copy : Copy) (rest : List Copy) (page : ℕ) → IsBounded cpus world → world.destination.has_run ≡ true → world.destination.arrivals ≡ copy ∷ rest → ltb 0 (length world.destination.guest.space.object.events) ≡ false →
-    home world.destination.owed copy.page ≡ Some page → IsPlaced world.destination.guest.space (install_by (Some page) world.destination copy rest).guest.space (4096 * page) copy.bytes
+    home world.destination.owed copy.page ≡ Some page → IsPlaced world.destination.guest (install_by (Some page) world.destination copy rest).guest (4096 * page) copy.bytes
 home_copied cpus world copy rest page all ran first quiet found =
     let space = world.destination.guest.space in
     let kept = all.ready.kept in
@@ -188,23 +189,23 @@ home_copied cpus world copy rest page all ran first quiet found =
     let registered : is_registered space.object page ≡ true = or_left (contains space.object.missing page) (contains space.object.protect page) alone.0 in
     let mapped = kept.spaces.destination_space.mapped page registered in
     let called : IsCalled space page = record { enabled = (all.opened.destination ran).enabled; quiet = quiet; inside = (has_memory cpus world all).destination.pages page mapped } in (
-      copy_made space page copy.bytes called mapped registered alone.1 (kept.spaces.source_space.host.whole copy.page copy.bytes faithful.0),
-      λ zeros. subst (λ bytes. IsZeroPage space (installed space page 1 (λ i. bytes) false) (4096 * page)) (sym zeros) (zero_page_made space page called mapped registered alone.1),
+      copy_made world.destination.guest page copy.bytes called mapped registered alone.1 (kept.spaces.source_space.host.whole copy.page copy.bytes faithful.0),
+      λ zeros. subst (λ bytes. IsZeroPage world.destination.guest (resolved world.destination.guest page (installed space page 1 (λ i. bytes) false)) (4096 * page)) (sym zeros) (zero_page_made world.destination.guest page called mapped registered alone.1),
     )
 
 same_first : (one other : Copy) (rest more : List Copy) → one ∷ rest ≡ other ∷ more → one ≡ other
 same_first one other rest more h = cc
 
 pub copy_installed : (cpus : ℕ) (world : World) (copy : Copy) (rest : List Copy) (addr source : ℕ) → IsBounded cpus world → world.destination.arrivals ≡ copy ∷ rest → outcome world Step.Install ≡ Ok (Effect.Installed addr source) →
-    IsPlaced world.destination.guest.space (next world Step.Install).destination.guest.space addr copy.bytes
+    IsPlaced world.destination.guest (next world Step.Install).destination.guest addr copy.bytes
 copy_installed cpus world copy rest addr source all first answered =
-    holds-effect (λ effect new. effect ≡ Effect.Installed addr source → IsPlaced world.destination.guest.space new.destination.guest.space addr copy.bytes) world Step.Install (Effect.Installed addr source)
+    holds-effect (λ effect new. effect ≡ Effect.Installed addr source → IsPlaced world.destination.guest new.destination.guest addr copy.bytes) world Step.Install (Effect.Installed addr source)
     (made-install _ world (λ one more is ran quiet h.
     let told = told_installed (home world.destination.owed one.page) one.page addr source h in
     let made = home_copied cpus world one more told.0 all ran is quiet told.1 in
-    subst (λ bytes. IsPlaced world.destination.guest.space (after_install world one more).destination.guest.space addr bytes) (ap (λ c. c.bytes) (same_first one copy more rest (sym is ∙ first)))
-    (subst (λ a. IsPlaced world.destination.guest.space (after_install world one more).destination.guest.space a one.bytes) told.2
-    (subst (λ o. IsPlaced world.destination.guest.space (install_by o world.destination one more).guest.space (4096 * told.0) one.bytes) (sym told.1) made)))) answered refl
+    subst (λ bytes. IsPlaced world.destination.guest (after_install world one more).destination.guest addr bytes) (ap (λ c. c.bytes) (same_first one copy more rest (sym is ∙ first)))
+    (subst (λ a. IsPlaced world.destination.guest (after_install world one more).destination.guest a one.bytes) told.2
+    (subst (λ o. IsPlaced world.destination.guest (install_by o world.destination one more).guest (4096 * told.0) one.bytes) (sym told.1) made)))) answered refl
 
 -- Registration
 
