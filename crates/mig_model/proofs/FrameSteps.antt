@@ -27,7 +27,7 @@ use Rattle.mig_model.specs.Userfault.{Noted}
 use Rattle.mig_model.specs.Log.{least_of, no_pages}
 use Rattle.mig_model.specs.Owed.{home}
 use Rattle.mig_model.specs.Wire.{Copy, Frame, Sent, page_frame, wire_behind}
-use Rattle.mig_model.specs.Wire.Frame.{Advise, Page, Zero, Discard, Package, End, Resume, Request, Recv, Done}
+use Rattle.mig_model.specs.Wire.Frame.{Advise, Page, Zero, End, Resume, Request, Recv, Done}
 use Rattle.mig_model.specs.Source.{Source, bytes_of, is_precopy, is_released, is_source_idle, is_source_paused, is_stopped, rebuild_frames, source_act, source_acted_by, source_rebuilt, space_of, switch_frames}
 use Rattle.mig_model.specs.Destination.{Destination, act_frames, copy_came, destination_act, destination_acted_by, destination_answers, destination_took, install_by, received_of, resumed_by, urgent_took}
 use Rattle.mig_model.specs.Migration.{World, after_break, after_command, after_deliver, after_deliver_back, after_deliver_urgent, after_dest_act, after_end, after_notice, after_push, after_push_urgent, after_resume, after_send, after_source_read, after_start, after_switch, answer, first_world_with, guest_by, guest_of, has_started, is_changing, is_used, next, source_sends, with_guest_by}
@@ -290,13 +290,7 @@ took_requests : (frame : Frame) (epoch : ℕ) (node : Destination) → (destinat
 took_requests (Page page bytes) epoch node = came_requests node.has_run node _
 took_requests (Zero page) epoch node = came_requests node.has_run node _
 took_requests Resume epoch node = resumed_requests (received_of node) _
-took_requests Advise epoch node = refl
-took_requests (Discard pages) epoch node = refl
-took_requests (Package areas owed commands) epoch node = refl
-took_requests (End urgent) epoch node = refl
-took_requests (Request page) epoch node = refl
-took_requests (Recv state owed) epoch node = refl
-took_requests Done epoch node = refl
+took_requests _ epoch node = refl
 
 deliver_limited : {cpus : ℕ} → (world : World) (sent : Sent) (rest : List Sent) → IsSoundWorld world → world.forward.frames ≡ sent ∷ rest → AreLimited cpus world → AreLimited cpus (after_deliver world sent rest)
 deliver_limited {cpus = cpus} world sent rest kept first h =
@@ -309,14 +303,7 @@ deliver_limited {cpus = cpus} world sent rest kept first h =
 urgent_requests : (frame : Frame) (node : Destination) → (urgent_took node frame).requests ≡ node.requests
 urgent_requests (Page page bytes) node = refl
 urgent_requests (Zero page) node = refl
-urgent_requests Advise node = refl
-urgent_requests (Discard pages) node = refl
-urgent_requests (Package areas owed commands) node = refl
-urgent_requests (End urgent) node = refl
-urgent_requests Resume node = refl
-urgent_requests (Request page) node = refl
-urgent_requests (Recv state owed) node = refl
-urgent_requests Done node = refl
+urgent_requests _ node = refl
 
 urgent_limited : {cpus : ℕ} → (world : World) (sent : Sent) (rest : List Sent) → world.urgent.frames ≡ sent ∷ rest → AreLimited cpus world → AreLimited cpus (after_deliver_urgent world sent rest)
 urgent_limited {cpus = cpus} world sent rest first h =

@@ -23,22 +23,23 @@ use Rattle.mig_model.specs.Host.{Host, IsSound}
 use Rattle.mig_model.specs.Userfault.{Object, enabled_with, fresh_object, has_modes, is_registered}
 use Rattle.mig_model.specs.Space.{Space, IsSoundSpace, fresh_space}
 use Rattle.mig_model.specs.Ioctls.{all_features, event_features, handshake_error, handshaken, has_unknown, installed, is_feature, mode_of, protected_in, registered_in}
-use Rattle.mig_model.specs.Guest.{Act, is_forgotten, is_present, Guest, resolved}
+use Rattle.mig_model.specs.Guest.{Act, is_forgotten, is_present, Guest, resolved, Fault}
 use Rattle.mig_model.specs.Guest.Act.{Unprotected, Zeroed, Woke, Forgot, Requested}
 use Rattle.mig_model.specs.Log.{least_of, no_pages}
 use Rattle.mig_model.specs.Owed.{home, settled_by}
 use Rattle.mig_model.specs.Wire.{Copy, Frame, Sent, is_zeros}
-use Rattle.mig_model.specs.Wire.Frame.{Advise, Page, Zero, Discard, Package, End, Resume, Request, Recv, Done}
+use Rattle.mig_model.specs.Wire.Frame.{Package}
 use Rattle.mig_model.specs.Source.{bytes_of, for_both, is_precopy, is_released, source_act, source_act_by, source_acted_by, space_of}
 use Rattle.mig_model.specs.Destination.{assembled, destination_act, destination_act_by, destination_acted_by, for_missing, install_by}
 use Rattle.mig_model.specs.Migration.{World, act_effect, after_deliver, after_install, after_source_act, frame_effect, install_effect, next, outcome}
 use Rattle.mig_model.specs.Invariant.{AreFaithful, SwitchedAt, is_unread}
-use Rattle.mig_model.specs.Bounds.{IsMapping}
-use Rattle.mig_model.specs.Handlers.{AreRegistered, AreRunsOf, AreWatched, IsCopy, IsWriteProtect, IsZeroPage}
+use Rattle.mig_model.specs.Bounds.{IsMapping, IsPage}
+use Rattle.mig_model.specs.Handlers.{AreRegistered, AreRunsOf, AreWatched, IsCopy, IsWake, IsWriteProtect, IsZeroPage}
 use Rattle.mig_model.proofs.Bounded.{IsBounded, bounded-next, has_memory}
 use Rattle.mig_model.proofs.Facts.{and_left, no_event, no_page}
+use Rattle.mig_model.proofs.FaultPages.{AreHeldPages, HasFaultsInside}
 use Rattle.mig_model.proofs.OpenObjects.{IsOpen, idle_unreleased}
-use Rattle.mig_model.proofs.PageCalls.{IsCalled, copy_made, page_woken, write_protect_made, zero_page_made}
+use Rattle.mig_model.proofs.PageCalls.{IsCalled, copy_made, page_woken, wake_made, write_protect_made, zero_page_made}
 use Rattle.mig_model.proofs.PromiseLemmas.{destination_zero, source_zero}
 use Rattle.mig_model.proofs.Registering.{CanRegister, areas_registered, every_registered, left_new, registered_by}
 use Rattle.mig_model.proofs.ResumeTaken.{home_tells}
@@ -114,6 +115,60 @@ source_unprotects cpus world addr all answered =
     (record { enabled = (source_open cpus world all unswitched).enabled; quiet = quiet; inside = all.limited.areas.pages fault.page mapped }) watched refl (zero_is_no_one 0) refl (page_woken world.source.guest fault.page (protected_in space fault.page 1 false)) in
     subst (λ a. IsWriteProtect world.source.guest (after_source_act world fault).source.guest a 0 (Range a 4096)) told.1
     (subst (λ act. IsWriteProtect world.source.guest (source_acted_by act world.source fault.page).guest (4096 * fault.page) 0 (Range (4096 * fault.page) 4096)) (sym told.0) made))) answered refl
+
+-- a fault for which nothing is to be done: the sleepers of its page are woken
+told_woke : (act : Act) (a b : ℕ) → act_effect act a ≡ Effect.Woke b → (act ≡ Woke) × (a ≡ b)
+told_woke Woke a b h = (refl, cc)
+told_woke Unprotected a b h = absurd (cc)
+told_woke Zeroed a b h = absurd (cc)
+told_woke Forgot a b h = absurd (cc)
+told_woke (Requested origin) a b h = absurd (cc)
+
+told_forgot : (act : Act) (a b : ℕ) → act_effect act a ≡ Effect.Forgot b → (act ≡ Forgot) × (a ≡ b)
+told_forgot Forgot a b h = (refl, cc)
+told_forgot Unprotected a b h = absurd (cc)
+told_forgot Zeroed a b h = absurd (cc)
+told_forgot Woke a b h = absurd (cc)
+told_forgot (Requested origin) a b h = absurd (cc)
+
+held_page : (held : List Fault) (fault : Fault) (rest : List Fault) → held ≡ fault ∷ rest → AreHeldPages held → IsPage fault.page
+held_page held fault rest is are = (subst AreHeldPages is are).0
+
+pub source_wakes : (cpus : ℕ) (world : World) (addr : ℕ) → IsBounded cpus world → HasFaultsInside world → outcome world Step.SourceAct ≡ Ok (Effect.Woke addr) → IsWake world.source.guest (next world Step.SourceAct).source.guest addr
+source_wakes cpus world addr all faults answered =
+    holds-effect (λ effect new. effect ≡ Effect.Woke addr → IsWake world.source.guest new.source.guest addr) world Step.SourceAct (Effect.Woke addr)
+    (made-source_act _ world (λ fault rest is started unswitched quiet h.
+    let told = told_woke (source_act world.source fault) (4096 * fault.page) addr h in
+    let made = wake_made world.source.guest fault.page (source_open cpus world all unswitched).enabled (held_page world.source.log.held fault rest is faults.source_held) in
+    subst (λ a. IsWake world.source.guest (after_source_act world fault).source.guest a) told.1
+    (subst (λ act. IsWake world.source.guest (source_acted_by act world.source fault.page).guest (4096 * fault.page)) (sym told.0) made))) answered refl
+
+pub source_forgets : (cpus : ℕ) (world : World) (addr : ℕ) → IsBounded cpus world → HasFaultsInside world → outcome world Step.SourceAct ≡ Ok (Effect.Forgot addr) → IsWake world.source.guest (next world Step.SourceAct).source.guest addr
+source_forgets cpus world addr all faults answered =
+    holds-effect (λ effect new. effect ≡ Effect.Forgot addr → IsWake world.source.guest new.source.guest addr) world Step.SourceAct (Effect.Forgot addr)
+    (made-source_act _ world (λ fault rest is started unswitched quiet h.
+    let told = told_forgot (source_act world.source fault) (4096 * fault.page) addr h in
+    let made = wake_made world.source.guest fault.page (source_open cpus world all unswitched).enabled (held_page world.source.log.held fault rest is faults.source_held) in
+    subst (λ a. IsWake world.source.guest (after_source_act world fault).source.guest a) told.1
+    (subst (λ act. IsWake world.source.guest (source_acted_by act world.source fault.page).guest (4096 * fault.page)) (sym told.0) made))) answered refl
+
+pub destination_wakes : (cpus : ℕ) (world : World) (addr : ℕ) → IsBounded cpus world → HasFaultsInside world → outcome world Step.DestAct ≡ Ok (Effect.Woke addr) → IsWake world.destination.guest (next world Step.DestAct).destination.guest addr
+destination_wakes cpus world addr all faults answered =
+    holds-effect (λ effect new. effect ≡ Effect.Woke addr → IsWake world.destination.guest new.destination.guest addr) world Step.DestAct (Effect.Woke addr)
+    (made-dest_act _ world (λ fault rest is ran quiet h.
+    let told = told_woke (destination_act world.destination fault) (4096 * fault.page) addr h in
+    let made = wake_made world.destination.guest fault.page (all.opened.destination ran).enabled (held_page world.destination.held fault rest is faults.destination_held) in
+    subst (λ a. IsWake world.destination.guest (destination_acted_by (destination_act world.destination fault) world.destination fault.page).guest a) told.1
+    (subst (λ act. IsWake world.destination.guest (destination_acted_by act world.destination fault.page).guest (4096 * fault.page)) (sym told.0) made))) answered refl
+
+pub destination_forgets : (cpus : ℕ) (world : World) (addr : ℕ) → IsBounded cpus world → HasFaultsInside world → outcome world Step.DestAct ≡ Ok (Effect.Forgot addr) → IsWake world.destination.guest (next world Step.DestAct).destination.guest addr
+destination_forgets cpus world addr all faults answered =
+    holds-effect (λ effect new. effect ≡ Effect.Forgot addr → IsWake world.destination.guest new.destination.guest addr) world Step.DestAct (Effect.Forgot addr)
+    (made-dest_act _ world (λ fault rest is ran quiet h.
+    let told = told_forgot (destination_act world.destination fault) (4096 * fault.page) addr h in
+    let made = wake_made world.destination.guest fault.page (all.opened.destination ran).enabled (held_page world.destination.held fault rest is faults.destination_held) in
+    subst (λ a. IsWake world.destination.guest (destination_acted_by (destination_act world.destination fault) world.destination fault.page).guest a) told.1
+    (subst (λ act. IsWake world.destination.guest (destination_acted_by act world.destination fault.page).guest (4096 * fault.page)) (sym told.0) made))) answered refl
 
 -- Send
 
@@ -296,15 +351,7 @@ IsAssembled new = new.destination.guest.space ≡ assembled new.destination.gues
 
 frame_assembles : (frame : Frame) (epoch : ℕ) (rest : List Sent) (world : World) (count : ℕ) → frame_effect frame ≡ Effect.TookPackage count → IsAssembled (after_deliver world (record { epoch = epoch; frame = frame }) rest)
 frame_assembles (Package areas owed commands) epoch rest world count h = refl
-frame_assembles Advise epoch rest world count h = absurd (cc)
-frame_assembles (Page page bytes) epoch rest world count h = absurd (cc)
-frame_assembles (Zero page) epoch rest world count h = absurd (cc)
-frame_assembles (Discard pages) epoch rest world count h = absurd (cc)
-frame_assembles (End urgent) epoch rest world count h = absurd (cc)
-frame_assembles Resume epoch rest world count h = absurd (cc)
-frame_assembles (Request page) epoch rest world count h = absurd (cc)
-frame_assembles (Recv state owed) epoch rest world count h = absurd (cc)
-frame_assembles Done epoch rest world count h = absurd (cc)
+frame_assembles _ epoch rest world count h = absurd (cc)
 
 no_package : (n count : ℕ) → Effect.Moved n ≡ Effect.TookPackage count → ⊥
 no_package n count h = cc

@@ -84,5 +84,6 @@ pub mod TextLengths
 pub mod OpenObjects
 pub mod Registering
 pub mod PageCalls
+pub mod FaultPages
 pub mod HandlerCalls
 pub mod ViewPromises

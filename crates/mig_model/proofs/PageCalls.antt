@@ -1,5 +1,5 @@
 -- The calls that a handler makes for one page: what each of them answers where it is accepted, and the space that it leaves.
-use Rattle.std.proofs.Common.{◌≡◌, ℕ, ◌+◌, ◌*◌, ◌/◌, ◌<◌, ◌&&◌, ◌||◌, Bool, true, false, not, eqb, ltb, Option, Some, None, is_some, unwrap_or, List, refl, sym, ap, ◌∙◌, arith, length, if◌then◌else◌, ◌-◌}
+use Rattle.std.proofs.Common.{◌≡◌, ℕ, ◌+◌, ◌*◌, ◌/◌, ◌<◌, ◌&&◌, ◌||◌, Bool, true, false, not, eqb, ltb, Option, Some, None, is_some, unwrap_or, List, refl, sym, ap, ◌∙◌, arith, length, if◌then◌else◌, ◌-◌, ◌∷◌, []}
 use Rattle.std.specs.Prelude.{Ok}
 use Rattle.std.specs.Ordering.{nat_cmp}
 use Rattle.std.specs.FinMap.{FinMap, contains_key, get, insert}
@@ -8,7 +8,7 @@ use Rattle.std.proofs.lemmas.Bool.{false≢true, and_from, not_from_true}
 use Rattle.std.proofs.lemmas.List.{take_all}
 use Rattle.mig_base.specs.declared.Prot.{Prot}
 use Rattle.mig_base.specs.declared.command.Errno.{Errno}
-use Rattle.mig_base.specs.declared.command.Errno.TheVariants.{Eexist}
+use Rattle.mig_base.specs.declared.command.Errno.TheVariants.{Eexist, Einval}
 use Rattle.mig_base.specs.declared.wake.Wake.TheVariants.{Nobody, Range}
 use Rattle.mig_base.specs.Bits.{is_one}
 use Rattle.mig_base.specs.Bytes.{zero_page}
@@ -23,7 +23,7 @@ use Rattle.mig_model.specs.Space.{Space}
 use Rattle.mig_model.specs.Guest.{Guest, in_bytes, resolved, is_present, zero_installed}
 use Rattle.mig_model.specs.Ioctls.{Put, answered_by, copy_error, copy_errors, handed, installed, is_bad_range, is_one_area, missing_run, protected_in, put_answer, put_by, put_pages, same_area, same_prot, writeprotect_error, writeprotect_errors, zeropage_error, zeropage_errors}
 use Rattle.mig_model.specs.Bounds.{IsPage}
-use Rattle.mig_model.specs.Handlers.{IsCopy, IsWriteProtect, IsZeroPage, page_put, woken_by}
+use Rattle.mig_model.specs.Handlers.{IsCopy, IsWake, IsWriteProtect, IsZeroPage, page_put, woken_by}
 use Rattle.mig_model.specs.Cpus.{all_woken}
 use Rattle.mig_model.proofs.Facts.{eqb-self, only_one}
 use Rattle.mig_model.proofs.Registering.{left_new, nothing_holds, pages_again, range_good}
@@ -188,4 +188,14 @@ write_protect_made guest new page bits protect is watched few mode leaves wakes 
           ∙ ap (λ q. protected_in space q 1 (is_one bits 0)) (pages_again page)
           ∙ ap (λ b. protected_in space page 1 b) mode);
       wakes = wakes;
+    }
+
+-- UFFDIO_WAKE
+
+pub wake_made : (guest : Guest) (page : ℕ) → guest.space.object.enabled ≡ true → IsPage page → IsWake guest (resolved guest page guest.space) (4096 * page)
+wake_made guest page enabled is =
+    record {
+      answer = answered_new _ (Range (4096 * page) 4096) (nothing_holds ((not guest.space.object.enabled, Einval) ∷ (is_bad_range (4096 * page) 4096, Einval) ∷ []) (not_from_true guest.space.object.enabled enabled, (page_range page is, tt)));
+      leaves = refl;
+      wakes = page_woken guest page guest.space;
     }

@@ -56,7 +56,7 @@ right_by space (Munmap addr len) mapping is h = absurd (false≢true is)
 right_by space (Mremap addr old_len new_len may_move fixed) mapping is h = absurd (false≢true is)
 right_by space (DontNeed addr len) mapping is h = absurd (false≢true is)
 
-right_slept : (access : Bool) (space : Space) (command : Command) → access ≡ is_access command → IsMapping space.host.areas → took_by access space command ≡ Sleep → IsRightAccess command
+pub right_slept : (access : Bool) (space : Space) (command : Command) → access ≡ is_access command → IsMapping space.host.areas → took_by access space command ≡ Sleep → IsRightAccess command
 right_slept true space command is mapping h = right_by space command mapping (sym is) (slept_made (is_made (reply_of (memory space.host) command)) _ _ h)
 right_slept false space command is mapping h = absurd (call_answered (reply_of (memory space.host) command) (queued_by space command) h)
 

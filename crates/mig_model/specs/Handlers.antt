@@ -14,7 +14,7 @@ use Rattle.mig_model.specs.Host.{Host}
 use Rattle.mig_model.specs.Space.{Space, fresh_space}
 use Rattle.mig_model.specs.Cpus.{all_woken}
 use Rattle.mig_model.specs.Guest.{Guest, in_bytes}
-use Rattle.mig_model.specs.Ioctls.{Put, copied, copy_answer, handshake_error, handshaken, register_error, registered, write_protected, writeprotect_answer, zeropage_answer, zeropaged}
+use Rattle.mig_model.specs.Ioctls.{Put, copied, copy_answer, handshake_error, handshaken, register_error, registered, wake_answer, write_protected, writeprotect_answer, zeropage_answer, zeropaged}
 
 -- One page
 
@@ -43,6 +43,12 @@ pub record IsZeroPage (old new : Guest) (addr : ℕ) : Type 0 where
 pub record IsCopy (old new : Guest) (addr : ℕ) (bytes : List ℕ) : Type 0 where
   pub answer : copy_answer old.space addr bytes 0 ≡ page_put addr
   pub leaves : new.space ≡ copied old.space addr bytes 0
+  pub wakes : new.cpus ≡ woken_by (Range addr PAGE_SIZE) old.cpus
+
+-- UFFDIO_WAKE of a page
+pub record IsWake (old new : Guest) (addr : ℕ) : Type 0 where
+  pub answer : wake_answer old.space addr PAGE_SIZE ≡ Ok (Range addr PAGE_SIZE)
+  pub leaves : new.space ≡ old.space
   pub wakes : new.cpus ≡ woken_by (Range addr PAGE_SIZE) old.cpus
 
 -- Every area

@@ -17,13 +17,22 @@ ghost use Rattle.mig_model.specs.Wire.{Copy};
 ghost use Rattle.mig_model.specs.Migration.{World, next, outcome};
 ghost use Rattle.mig_model.specs.Promises.{IsReached};
 ghost use Rattle.mig_model.specs.Bounds.{IsMapping};
-ghost use Rattle.mig_model.specs.Handlers.{AreRegistered, AreRunsOf, AreWatched, IsCopy, IsWriteProtect, IsZeroPage};
+ghost use Rattle.mig_model.specs.Handlers.{AreRegistered, AreRunsOf, AreWatched, IsCopy, IsWake, IsWriteProtect, IsZeroPage};
 
 /// What the source's handler resolves. A page of zeros is put by UFFDIO_ZEROPAGE, and a page is unprotected by UFFDIO_WRITEPROTECT; both
 /// wake those that sleep on the page.
 pub fn the_source_resolves_faults()
     ensures zeroed { (world : World) (addr : ℕ) → IsReached world → outcome world Step.SourceAct ≡ Ok (Effect.Zeroed addr) → IsZeroPage world.source.guest (next world Step.SourceAct).source.guest addr }
     ensures unprotected { (world : World) (addr : ℕ) → IsReached world → outcome world Step.SourceAct ≡ Ok (Effect.Unprotected addr) → IsWriteProtect world.source.guest (next world Step.SourceAct).source.guest addr 0 (Range addr 4096) }
+{}
+
+/// Whom the handlers wake where nothing is to be put or unprotected: UFFDIO_WAKE of the page of the fault, whether the page is there or is
+/// gone.
+pub fn the_handlers_wake()
+    ensures source { (world : World) (addr : ℕ) → IsReached world → outcome world Step.SourceAct ≡ Ok (Effect.Woke addr) → IsWake world.source.guest (next world Step.SourceAct).source.guest addr }
+    ensures source_forgot { (world : World) (addr : ℕ) → IsReached world → outcome world Step.SourceAct ≡ Ok (Effect.Forgot addr) → IsWake world.source.guest (next world Step.SourceAct).source.guest addr }
+    ensures destination { (world : World) (addr : ℕ) → IsReached world → outcome world Step.DestAct ≡ Ok (Effect.Woke addr) → IsWake world.destination.guest (next world Step.DestAct).destination.guest addr }
+    ensures destination_forgot { (world : World) (addr : ℕ) → IsReached world → outcome world Step.DestAct ≡ Ok (Effect.Forgot addr) → IsWake world.destination.guest (next world Step.DestAct).destination.guest addr }
 {}
 
 /// A page that is sent in a round is protected by UFFDIO_WRITEPROTECT, which wakes nobody.
