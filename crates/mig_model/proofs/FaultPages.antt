@@ -8,8 +8,6 @@ use Rattle.mig_base.specs.declared.command.Access.{Access}
 use Rattle.mig_base.specs.declared.command.Access.TheVariants.{Answered, Missing, Protected}
 use Rattle.mig_base.specs.declared.command.Command.{Command}
 use Rattle.mig_base.specs.declared.command.Command.TheVariants.{Load, Store, Mmap, Munmap, Mremap, DontNeed}
-use Rattle.mig_base.specs.declared.command.Reply.{Reply}
-use Rattle.mig_base.specs.declared.command.Reply.TheVariants.{Done, At}
 use Rattle.mig_base.specs.declared.message.Message.{Message}
 use Rattle.mig_base.specs.declared.message.Message.TheVariants.{PageFault, Remap, Remove, Unmap}
 use Rattle.mig_base.specs.declared.phase.Received.{Received}
@@ -18,8 +16,8 @@ use Rattle.mig_base.specs.declared.schedule.Step.{Step}
 use Rattle.mig_base.specs.Commands.{is_access, page_of}
 use Rattle.mig_base.specs.Flat.{reply_of}
 use Rattle.mig_model.specs.Host.{memory}
-use Rattle.mig_model.specs.Userfault.{Noted, Object, event_queued, fault_queued, next_message, next_of, read_by, waits_fault}
-use Rattle.mig_model.specs.Space.{Space, access_of, accessed_by, all_queued, call_messages, modes_after}
+use Rattle.mig_model.specs.Userfault.{Noted, Object, fault_queued, next_message, next_of, read_by, waits_fault}
+use Rattle.mig_model.specs.Space.{Space, access_of, accessed_by, call_messages, modes_after}
 use Rattle.mig_model.specs.Cpus.{access_took}
 use Rattle.mig_model.specs.Guest.{Act, Fault, Guest, held_after, read_guest, rest_held, space_by, tried}
 use Rattle.mig_model.specs.Guest.Act.{Unprotected, Zeroed, Woke, Forgot, Requested}
@@ -33,6 +31,7 @@ use Rattle.mig_model.specs.Invariant.{AreRight, IsRight, IsSoundWorld}
 use Rattle.mig_model.specs.Promises.{IsReached}
 use Rattle.mig_model.specs.Bounds.{IsMapping, IsPage, IsRightAccess}
 use Rattle.mig_model.proofs.Bounded.{IsBounded, bounded-first, bounded-next, has_memory}
+use Rattle.mig_model.proofs.FaultLemmas.{modes_faults, queued_faults}
 use Rattle.mig_model.proofs.Registering.{pages_again}
 use Rattle.mig_model.proofs.RightCommands.{right_slept}
 use Rattle.mig_model.proofs.StepCases.{made-break, made-deliver, made-deliver_back, made-deliver_urgent, made-dest_act, made-dest_read, made-end, made-install, made-issue, made-notice, made-push, made-push_urgent, made-resume, made-retry, made-round, made-send, made-serve, made-source_act, made-source_read, made-start, made-switch}
@@ -83,21 +82,11 @@ accessed_pages (Answered reply) space cpu command is accesses mapping are = are
 accessed_pages Missing space cpu command is accesses mapping are = fault_pages space.object (page_of command) _ _ cpu (slept_page space command Missing is refl accesses mapping) are
 accessed_pages Protected space cpu command is accesses mapping are = fault_pages space.object (page_of command) _ _ cpu (slept_page space command Protected is refl accesses mapping) are
 
-events_pages : (object : Object) (messages : List Message) (cpu : ℕ) → (all_queued object messages cpu).faults ≡ object.faults
-events_pages object [] cpu = refl
-events_pages object (message ∷ messages) cpu = events_pages (event_queued object message cpu) messages cpu
-
-modes_pages : (object : Object) (command : Command) (reply : Reply) → (modes_after object command reply).faults ≡ object.faults
-modes_pages object (Mmap len prot place) (At start) = refl
-modes_pages object (Munmap addr len) Done = refl
-modes_pages object (Mremap addr old_len new_len may_move fixed) (At target) = refl
-modes_pages object _ _ = refl
-
 tried_pages : (access : Bool) (space : Space) (cpu : ℕ) (command : Command) → is_access command ≡ access → IsMapping space.host.areas → AreFaultPages space.object.faults → AreFaultPages (space_by access space cpu command).object.faults
 tried_pages true space cpu command is mapping are = accessed_pages (access_of space command) space cpu command refl is mapping are
 tried_pages false space cpu command is mapping are =
     let reply = reply_of (memory space.host) command in
-    subst AreFaultPages (sym (events_pages (modes_after space.object command reply) (call_messages space.object command reply) cpu ∙ modes_pages space.object command reply)) are
+    subst AreFaultPages (sym (queued_faults (modes_after space.object command reply) (call_messages space.object command reply) cpu ∙ modes_faults space.object command reply)) are
 
 -- Messages that are read
 
