@@ -31,7 +31,7 @@ pub record IsBounded (cpus : ℕ) (world : World) : Type 0 where
   pub limited : AreLimited cpus world
   pub opened : HasOpenObjects world
 
-bounded-first : (cpus epoch rounds : ℕ) → IsBounded cpus (first_world_with cpus epoch rounds)
+pub bounded-first : (cpus epoch rounds : ℕ) → IsBounded cpus (first_world_with cpus epoch rounds)
 bounded-first cpus epoch rounds =
     record {
       ready = record {

@@ -40,11 +40,11 @@ accessed_faults Protected space cpu command are = AreFaults-queued space.object 
 pub AreFaults-accessed : (space : Space) (cpu : ℕ) (command : Command) → AreFaults space.object.faults → AreFaults (accessed space cpu command).object.faults
 AreFaults-accessed space cpu command are = accessed_faults (access_of space command) space cpu command are
 
-queued_faults : (object : Object) (messages : List Message) (cpu : ℕ) → (all_queued object messages cpu).faults ≡ object.faults
+pub queued_faults : (object : Object) (messages : List Message) (cpu : ℕ) → (all_queued object messages cpu).faults ≡ object.faults
 queued_faults object [] cpu = refl
 queued_faults object (message ∷ messages) cpu = queued_faults (event_queued object message cpu) messages cpu
 
-modes_faults : (object : Object) (command : Command) (reply : Reply) → (modes_after object command reply).faults ≡ object.faults
+pub modes_faults : (object : Object) (command : Command) (reply : Reply) → (modes_after object command reply).faults ≡ object.faults
 modes_faults object (Mmap len prot place) (At start) = refl
 modes_faults object (Munmap addr len) Done = refl
 modes_faults object (Mremap addr old_len new_len may_move fixed) (At target) = refl

@@ -1,4 +1,5 @@
 -- Where a step zeroes, unprotects, protects, installs or registers, the call of the userfault object is accepted and does just that.
+use Rattle.mig_model.proofs.FrameSteps.{end_below, first_in, last_in, some_bound}
 use Rattle.std.proofs.Common.{◌≡◌, ℕ, ◌*◌, ◌&&◌, ◌||◌, Bool, true, false, not, ltb, Option, Some, None, List, ◌∷◌, refl, sym, ap, ◌∙◌, subst, length, if◌then◌else◌, IsOk, ◌<◌, ◌-◌, ◌+◌}
 use Rattle.std.specs.Prelude.{Ok}
 use Rattle.std.specs.Ordering.{nat_cmp}
@@ -14,31 +15,32 @@ use Rattle.mig_base.specs.declared.command.Errno.TheVariants.{Einval}
 use Rattle.mig_base.specs.declared.wake.Wake.TheVariants.{Nobody, Range}
 use Rattle.mig_base.specs.Bits.{is_one}
 use Rattle.mig_base.specs.Bytes.{zero_page}
-use Rattle.mig_base.specs.Ranges.{none_below}
-use Rattle.mig_base.specs.Sets.{pages_where}
+use Rattle.mig_base.specs.Ranges.{none_below, in_range}
+use Rattle.mig_base.specs.Sets.{pages_where, run_length}
 use Rattle.mig_base.proofs.BitLemmas.{zero_is_no_one}
 use Rattle.mig_base.proofs.RangeLemmas.{least_below_tells}
-use Rattle.mig_base.proofs.SetLemmas.{nothing_below}
+use Rattle.mig_base.proofs.SetLemmas.{nothing_below, member_run, run_length-some}
 use Rattle.mig_model.specs.Host.{Host, IsSound}
 use Rattle.mig_model.specs.Userfault.{Object, enabled_with, fresh_object, has_modes, is_registered}
 use Rattle.mig_model.specs.Space.{Space, IsSoundSpace, fresh_space}
 use Rattle.mig_model.specs.Ioctls.{all_features, event_features, handshake_error, handshaken, has_unknown, installed, is_feature, mode_of, protected_in, registered_in}
-use Rattle.mig_model.specs.Guest.{Act, is_forgotten, is_present}
+use Rattle.mig_model.specs.Guest.{Act, is_forgotten, is_present, Guest, resolved, Fault}
 use Rattle.mig_model.specs.Guest.Act.{Unprotected, Zeroed, Woke, Forgot, Requested}
 use Rattle.mig_model.specs.Log.{least_of, no_pages}
 use Rattle.mig_model.specs.Owed.{home, settled_by}
 use Rattle.mig_model.specs.Wire.{Copy, Frame, Sent, is_zeros}
-use Rattle.mig_model.specs.Wire.Frame.{Advise, Page, Zero, Run as PageRun, Discard, Package, End, Resume, Request, Recv, Done}
-use Rattle.mig_model.specs.Source.{bytes_of, for_both, is_precopy, is_released, is_source_idle, source_act, source_act_by, source_acted_by, space_of}
+use Rattle.mig_model.specs.Wire.Frame.{Package}
+use Rattle.mig_model.specs.Source.{bytes_of, for_both, is_precopy, is_released, source_act, source_act_by, source_acted_by, space_of}
 use Rattle.mig_model.specs.Destination.{assembled, destination_act, destination_act_by, destination_acted_by, for_missing, install_by}
-use Rattle.mig_model.specs.Migration.{World, act_effect, after_deliver, after_install, after_source_act, frame_effect, install_effect, next, outcome, run_bound, after_run}
+use Rattle.mig_model.specs.Migration.{World, act_effect, after_deliver, after_install, after_source_act, frame_effect, install_effect, next, outcome, run_bound}
 use Rattle.mig_model.specs.Invariant.{AreFaithful, SwitchedAt, is_unread, IsSoundWorld}
 use Rattle.mig_model.specs.Bounds.{IsMapping, IsPage}
-use Rattle.mig_model.specs.Handlers.{AreRegistered, AreRunsOf, AreWatched, IsCopy, IsWriteProtect, IsZeroPage}
+use Rattle.mig_model.specs.Handlers.{AreRegistered, AreRunsOf, AreWatched, IsCopy, IsWake, IsWriteProtect, IsZeroPage}
 use Rattle.mig_model.proofs.Bounded.{IsBounded, bounded-next, has_memory}
 use Rattle.mig_model.proofs.Facts.{and_left, no_event, no_page}
+use Rattle.mig_model.proofs.FaultPages.{AreHeldPages, HasFaultsInside}
 use Rattle.mig_model.proofs.OpenObjects.{IsOpen, idle_unreleased}
-use Rattle.mig_model.proofs.PageCalls.{IsCalled, copy_made, range_protect_made, write_protect_made, zero_page_made}
+use Rattle.mig_model.proofs.PageCalls.{IsCalled, copy_made, page_woken, wake_made, range_protect_made, write_protect_made, zero_page_made}
 use Rattle.mig_model.proofs.PromiseLemmas.{destination_zero, source_zero}
 use Rattle.mig_model.proofs.Registering.{CanRegister, areas_registered, every_registered, left_new, registered_by}
 use Rattle.mig_model.proofs.SettledLemmas.{home_tells}
@@ -46,10 +48,6 @@ use Rattle.mig_model.proofs.SourceRounds.{precopy_unswitched}
 use Rattle.mig_model.proofs.StepCases.{made-deliver, made-dest_act, made-install, made-round, made-send, made-send_run, made-source_act, made-start}
 use Rattle.mig_model.proofs.StepLemmas.{holds-effect, leaves-ok}
 use Rattle.mig_model.proofs.StepPromises.{told_zeroed}
-use Rattle.mig_base.specs.Ranges.{in_range}
-use Rattle.mig_base.specs.Sets.{run_length}
-use Rattle.mig_base.proofs.SetLemmas.{member_run, run_length-some}
-use Rattle.mig_model.proofs.FrameSteps.{end_below, first_in, last_in, some_bound}
 
 -- Pages that a handler has not forgotten
 
@@ -92,21 +90,21 @@ source_open cpus world all unswitched = all.opened.source (unswitched_unreleased
 
 -- The source's handler
 
-pub source_zeroes : (cpus : ℕ) (world : World) (addr : ℕ) → IsBounded cpus world → outcome world Step.SourceAct ≡ Ok (Effect.Zeroed addr) → IsZeroPage (space_of world.source) (space_of (next world Step.SourceAct).source) addr
+pub source_zeroes : (cpus : ℕ) (world : World) (addr : ℕ) → IsBounded cpus world → outcome world Step.SourceAct ≡ Ok (Effect.Zeroed addr) → IsZeroPage world.source.guest (next world Step.SourceAct).source.guest addr
 source_zeroes cpus world addr all answered =
-    holds-effect (λ effect new. effect ≡ Effect.Zeroed addr → IsZeroPage (space_of world.source) (space_of new.source) addr) world Step.SourceAct (Effect.Zeroed addr)
+    holds-effect (λ effect new. effect ≡ Effect.Zeroed addr → IsZeroPage world.source.guest new.source.guest addr) world Step.SourceAct (Effect.Zeroed addr)
     (made-source_act _ world (λ fault rest is started unswitched quiet h.
     let space = space_of world.source in
     let told = told_zeroed (source_act world.source fault) (4096 * fault.page) addr h in
     let there = not_forgotten space fault.page (source_served (is_forgotten space fault.page) (is_present space fault.page) _ told.0) in
-    let made = zero_page_made space fault.page (record { enabled = (source_open cpus world all unswitched).enabled; quiet = quiet; inside = all.limited.areas.pages fault.page there.0 }) there.0 there.1 (source_zero world fault told.0) in
-    subst (λ a. IsZeroPage space (space_of (after_source_act world fault).source) a) told.1
-    (subst (λ act. IsZeroPage space (space_of (source_acted_by act world.source fault.page)) (4096 * fault.page)) (sym told.0) made))) answered refl
+    let made = zero_page_made world.source.guest fault.page (record { enabled = (source_open cpus world all unswitched).enabled; quiet = quiet; inside = all.limited.areas.pages fault.page there.0 }) there.0 there.1 (source_zero world fault told.0) in
+    subst (λ a. IsZeroPage world.source.guest (after_source_act world fault).source.guest a) told.1
+    (subst (λ act. IsZeroPage world.source.guest (source_acted_by act world.source fault.page).guest (4096 * fault.page)) (sym told.0) made))) answered refl
 
 pub source_unprotects : (cpus : ℕ) (world : World) (addr : ℕ) → IsBounded cpus world → outcome world Step.SourceAct ≡ Ok (Effect.Unprotected addr) →
-    IsWriteProtect (space_of world.source) (space_of (next world Step.SourceAct).source) addr 4096 0 (Range addr 4096)
+    IsWriteProtect world.source.guest (next world Step.SourceAct).source.guest addr 4096 0 (Range addr 4096)
 source_unprotects cpus world addr all answered =
-    holds-effect (λ effect new. effect ≡ Effect.Unprotected addr → IsWriteProtect (space_of world.source) (space_of new.source) addr 4096 0 (Range addr 4096)) world Step.SourceAct (Effect.Unprotected addr)
+    holds-effect (λ effect new. effect ≡ Effect.Unprotected addr → IsWriteProtect world.source.guest new.source.guest addr 4096 0 (Range addr 4096)) world Step.SourceAct (Effect.Unprotected addr)
     (made-source_act _ world (λ fault rest is started unswitched quiet h.
     let space = space_of world.source in
     let sound = all.ready.kept.spaces.source_space in
@@ -114,9 +112,64 @@ source_unprotects cpus world addr all answered =
     let guarded = and_left (contains space.protected fault.page) fault.wp (source_cleared (is_forgotten space fault.page) (is_present space fault.page) _ told.0) in
     let watched = sound.watched fault.page guarded in
     let mapped = sound.mapped fault.page (or_right (contains space.object.missing fault.page) (contains space.object.protect fault.page) watched) in
-    let made = write_protect_made space fault.page 0 false (record { enabled = (source_open cpus world all unswitched).enabled; quiet = quiet; inside = all.limited.areas.pages fault.page mapped }) watched refl (zero_is_no_one 0) in
-    subst (λ a. IsWriteProtect space (space_of (after_source_act world fault).source) a 4096 0 (Range a 4096)) told.1
-    (subst (λ act. IsWriteProtect space (space_of (source_acted_by act world.source fault.page)) (4096 * fault.page) 4096 0 (Range (4096 * fault.page) 4096)) (sym told.0) made))) answered refl
+    let made = write_protect_made world.source.guest (resolved world.source.guest fault.page (protected_in space fault.page 1 false)) fault.page 0 false
+    (record { enabled = (source_open cpus world all unswitched).enabled; quiet = quiet; inside = all.limited.areas.pages fault.page mapped }) watched refl (zero_is_no_one 0) refl (page_woken world.source.guest fault.page (protected_in space fault.page 1 false)) in
+    subst (λ a. IsWriteProtect world.source.guest (after_source_act world fault).source.guest a 4096 0 (Range a 4096)) told.1
+    (subst (λ act. IsWriteProtect world.source.guest (source_acted_by act world.source fault.page).guest (4096 * fault.page) 4096 0 (Range (4096 * fault.page) 4096)) (sym told.0) made))) answered refl
+
+-- a fault for which nothing is to be done: the sleepers of its page are woken
+told_woke : (act : Act) (a b : ℕ) → act_effect act a ≡ Effect.Woke b → (act ≡ Woke) × (a ≡ b)
+told_woke Woke a b h = (refl, cc)
+told_woke Unprotected a b h = absurd (cc)
+told_woke Zeroed a b h = absurd (cc)
+told_woke Forgot a b h = absurd (cc)
+told_woke (Requested origin) a b h = absurd (cc)
+
+told_forgot : (act : Act) (a b : ℕ) → act_effect act a ≡ Effect.Forgot b → (act ≡ Forgot) × (a ≡ b)
+told_forgot Forgot a b h = (refl, cc)
+told_forgot Unprotected a b h = absurd (cc)
+told_forgot Zeroed a b h = absurd (cc)
+told_forgot Woke a b h = absurd (cc)
+told_forgot (Requested origin) a b h = absurd (cc)
+
+held_page : (held : List Fault) (fault : Fault) (rest : List Fault) → held ≡ fault ∷ rest → AreHeldPages held → IsPage fault.page
+held_page held fault rest is are = (subst AreHeldPages is are).0
+
+pub source_wakes : (cpus : ℕ) (world : World) (addr : ℕ) → IsBounded cpus world → HasFaultsInside world → outcome world Step.SourceAct ≡ Ok (Effect.Woke addr) → IsWake world.source.guest (next world Step.SourceAct).source.guest addr
+source_wakes cpus world addr all faults answered =
+    holds-effect (λ effect new. effect ≡ Effect.Woke addr → IsWake world.source.guest new.source.guest addr) world Step.SourceAct (Effect.Woke addr)
+    (made-source_act _ world (λ fault rest is started unswitched quiet h.
+    let told = told_woke (source_act world.source fault) (4096 * fault.page) addr h in
+    let made = wake_made world.source.guest fault.page (source_open cpus world all unswitched).enabled (held_page world.source.log.held fault rest is faults.source_held) in
+    subst (λ a. IsWake world.source.guest (after_source_act world fault).source.guest a) told.1
+    (subst (λ act. IsWake world.source.guest (source_acted_by act world.source fault.page).guest (4096 * fault.page)) (sym told.0) made))) answered refl
+
+pub source_forgets : (cpus : ℕ) (world : World) (addr : ℕ) → IsBounded cpus world → HasFaultsInside world → outcome world Step.SourceAct ≡ Ok (Effect.Forgot addr) → IsWake world.source.guest (next world Step.SourceAct).source.guest addr
+source_forgets cpus world addr all faults answered =
+    holds-effect (λ effect new. effect ≡ Effect.Forgot addr → IsWake world.source.guest new.source.guest addr) world Step.SourceAct (Effect.Forgot addr)
+    (made-source_act _ world (λ fault rest is started unswitched quiet h.
+    let told = told_forgot (source_act world.source fault) (4096 * fault.page) addr h in
+    let made = wake_made world.source.guest fault.page (source_open cpus world all unswitched).enabled (held_page world.source.log.held fault rest is faults.source_held) in
+    subst (λ a. IsWake world.source.guest (after_source_act world fault).source.guest a) told.1
+    (subst (λ act. IsWake world.source.guest (source_acted_by act world.source fault.page).guest (4096 * fault.page)) (sym told.0) made))) answered refl
+
+pub destination_wakes : (cpus : ℕ) (world : World) (addr : ℕ) → IsBounded cpus world → HasFaultsInside world → outcome world Step.DestAct ≡ Ok (Effect.Woke addr) → IsWake world.destination.guest (next world Step.DestAct).destination.guest addr
+destination_wakes cpus world addr all faults answered =
+    holds-effect (λ effect new. effect ≡ Effect.Woke addr → IsWake world.destination.guest new.destination.guest addr) world Step.DestAct (Effect.Woke addr)
+    (made-dest_act _ world (λ fault rest is ran quiet h.
+    let told = told_woke (destination_act world.destination fault) (4096 * fault.page) addr h in
+    let made = wake_made world.destination.guest fault.page (all.opened.destination ran).enabled (held_page world.destination.held fault rest is faults.destination_held) in
+    subst (λ a. IsWake world.destination.guest (destination_acted_by (destination_act world.destination fault) world.destination fault.page).guest a) told.1
+    (subst (λ act. IsWake world.destination.guest (destination_acted_by act world.destination fault.page).guest (4096 * fault.page)) (sym told.0) made))) answered refl
+
+pub destination_forgets : (cpus : ℕ) (world : World) (addr : ℕ) → IsBounded cpus world → HasFaultsInside world → outcome world Step.DestAct ≡ Ok (Effect.Forgot addr) → IsWake world.destination.guest (next world Step.DestAct).destination.guest addr
+destination_forgets cpus world addr all faults answered =
+    holds-effect (λ effect new. effect ≡ Effect.Forgot addr → IsWake world.destination.guest new.destination.guest addr) world Step.DestAct (Effect.Forgot addr)
+    (made-dest_act _ world (λ fault rest is ran quiet h.
+    let told = told_forgot (destination_act world.destination fault) (4096 * fault.page) addr h in
+    let made = wake_made world.destination.guest fault.page (all.opened.destination ran).enabled (held_page world.destination.held fault rest is faults.destination_held) in
+    subst (λ a. IsWake world.destination.guest (destination_acted_by (destination_act world.destination fault) world.destination fault.page).guest a) told.1
+    (subst (λ act. IsWake world.destination.guest (destination_acted_by act world.destination fault.page).guest (4096 * fault.page)) (sym told.0) made))) answered refl
 
 -- Send
 
@@ -134,7 +187,7 @@ told_zero false a b h = absurd (cc)
 
 -- the page that is sent is protected, as it is found
 sent_protected : (cpus : ℕ) (world : World) (page : ℕ) → IsBounded cpus world → least_of world.source.log.todo ≡ Some page → is_precopy world.source.phase ≡ true → ltb 0 (length (space_of world.source).object.events) ≡ false →
-    IsWriteProtect (space_of world.source) (protected_in (space_of world.source) page 1 true) (4096 * page) 4096 1 Nobody
+    IsWriteProtect world.source.guest (record world.source.guest { space = protected_in (space_of world.source) page 1 true }) (4096 * page) 4096 1 Nobody
 sent_protected cpus world page all found precopy quiet =
     let space = space_of world.source in
     let kept = all.ready.kept in
@@ -142,20 +195,20 @@ sent_protected cpus world page all found precopy quiet =
     let watched =
     (kept.precopy.todo_sendable unswitched page (least_below_tells (contains world.source.log.todo) HIGH_PAGE page found) (ap (λ events. is_unread events page) (no_event space.object.events quiet))).1 in
     let mapped = kept.spaces.source_space.mapped page (or_right (contains space.object.missing page) (contains space.object.protect page) watched) in
-    write_protect_made space page 1 true (record { enabled = (source_open cpus world all unswitched).enabled; quiet = quiet; inside = all.limited.areas.pages page mapped }) watched refl one_is_protect
+    write_protect_made world.source.guest (record world.source.guest { space = protected_in space page 1 true }) page 1 true (record { enabled = (source_open cpus world all unswitched).enabled; quiet = quiet; inside = all.limited.areas.pages page mapped }) watched refl one_is_protect refl refl
 
-pub page_protected : (cpus : ℕ) (world : World) (addr : ℕ) → IsBounded cpus world → outcome world Step.Send ≡ Ok (Effect.SentPage addr) → IsWriteProtect (space_of world.source) (space_of (next world Step.Send).source) addr 4096 1 Nobody
+pub page_protected : (cpus : ℕ) (world : World) (addr : ℕ) → IsBounded cpus world → outcome world Step.Send ≡ Ok (Effect.SentPage addr) → IsWriteProtect world.source.guest (next world Step.Send).source.guest addr 4096 1 Nobody
 page_protected cpus world addr all answered =
-    holds-effect (λ effect new. effect ≡ Effect.SentPage addr → IsWriteProtect (space_of world.source) (space_of new.source) addr 4096 1 Nobody) world Step.Send (Effect.SentPage addr)
+    holds-effect (λ effect new. effect ≡ Effect.SentPage addr → IsWriteProtect world.source.guest new.source.guest addr 4096 1 Nobody) world Step.Send (Effect.SentPage addr)
     (made-send _ world (λ page is precopy up quiet h.
-    subst (λ a. IsWriteProtect (space_of world.source) (protected_in (space_of world.source) page 1 true) a 4096 1 Nobody) (told_page (is_zeros (bytes_of world.source page)) (4096 * page) addr h) (sent_protected cpus world page all is precopy quiet)))
+    subst (λ a. IsWriteProtect world.source.guest (record world.source.guest { space = protected_in (space_of world.source) page 1 true }) a 4096 1 Nobody) (told_page (is_zeros (bytes_of world.source page)) (4096 * page) addr h) (sent_protected cpus world page all is precopy quiet)))
     answered refl
 
-pub zero_protected : (cpus : ℕ) (world : World) (addr : ℕ) → IsBounded cpus world → outcome world Step.Send ≡ Ok (Effect.SentZero addr) → IsWriteProtect (space_of world.source) (space_of (next world Step.Send).source) addr 4096 1 Nobody
+pub zero_protected : (cpus : ℕ) (world : World) (addr : ℕ) → IsBounded cpus world → outcome world Step.Send ≡ Ok (Effect.SentZero addr) → IsWriteProtect world.source.guest (next world Step.Send).source.guest addr 4096 1 Nobody
 zero_protected cpus world addr all answered =
-    holds-effect (λ effect new. effect ≡ Effect.SentZero addr → IsWriteProtect (space_of world.source) (space_of new.source) addr 4096 1 Nobody) world Step.Send (Effect.SentZero addr)
+    holds-effect (λ effect new. effect ≡ Effect.SentZero addr → IsWriteProtect world.source.guest new.source.guest addr 4096 1 Nobody) world Step.Send (Effect.SentZero addr)
     (made-send _ world (λ page is precopy up quiet h.
-    subst (λ a. IsWriteProtect (space_of world.source) (protected_in (space_of world.source) page 1 true) a 4096 1 Nobody) (told_zero (is_zeros (bytes_of world.source page)) (4096 * page) addr h) (sent_protected cpus world page all is precopy quiet)))
+    subst (λ a. IsWriteProtect world.source.guest (record world.source.guest { space = protected_in (space_of world.source) page 1 true }) a 4096 1 Nobody) (told_zero (is_zeros (bytes_of world.source page)) (4096 * page) addr h) (sent_protected cpus world page all is precopy quiet)))
     answered refl
 
 -- the pages of a run are protected together, as they are found
@@ -165,9 +218,12 @@ run_watched world first bound kept precopy quiet q h =
     (kept.precopy.todo_sendable (precopy_unswitched world.source.phase world.source.switched precopy kept.phases.source_phase) q (member_run world.source.log.todo first bound q h)
     (ap (λ events. is_unread events q) (no_event (space_of world.source).object.events quiet))).1
 
+abbrev run_guest : World → ℕ → ℕ → Guest
+run_guest world first number = record world.source.guest { space = protected_in (space_of world.source) first number true }
+
 sent_run_protected : (cpus : ℕ) (world : World) (first bound : ℕ) → IsBounded cpus world → least_of world.source.log.todo ≡ Some first → 0 < bound → is_precopy world.source.phase ≡ true → ltb 0 (length (space_of world.source).object.events) ≡ false →
     let number = run_length world.source.log.todo first bound in
-    IsWriteProtect (space_of world.source) (protected_in (space_of world.source) first number true) (4096 * first) (4096 * number) 1 Nobody
+    IsWriteProtect world.source.guest (run_guest world first number) (4096 * first) (4096 * number) 1 Nobody
 sent_run_protected cpus world first bound all found some precopy quiet =
     let space = space_of world.source in
     let kept = all.ready.kept in
@@ -177,48 +233,49 @@ sent_run_protected cpus world first bound all found some precopy quiet =
     let watched = run_watched world first bound kept precopy quiet in
     let inside : (q : ℕ) → in_range first number q ≡ true → IsPage q = λ q h. all.limited.areas.pages q (kept.spaces.source_space.mapped q (or_right (contains space.object.missing q) (contains space.object.protect q) (watched q h))) in
     let unswitched = precopy_unswitched world.source.phase world.source.switched precopy kept.phases.source_phase in
-    range_protect_made space first number 1 true (source_open cpus world all unswitched).enabled quiet more (inside first (first_in first number more)).0 (end_below first number more (inside (first + (number - 1)) (last_in first number more)).1) watched refl one_is_protect
+    range_protect_made world.source.guest (run_guest world first number) first number 1 true (source_open cpus world all unswitched).enabled quiet more (inside first (first_in first number more)).0
+    (end_below first number more (inside (first + (number - 1)) (last_in first number more)).1) watched refl one_is_protect refl refl
 
 told_run : (a b m n : ℕ) → Effect.SentRun a m ≡ Effect.SentRun b n → (a ≡ b) × (m ≡ n)
 told_run a b m n h = (cc, cc)
 
 pub run_protected : (cpus : ℕ) (world : World) (count addr pages : ℕ) → IsBounded cpus world → outcome world (Step.SendRun count) ≡ Ok (Effect.SentRun addr pages) →
-    IsWriteProtect (space_of world.source) (space_of (next world (Step.SendRun count)).source) addr (4096 * pages) 1 Nobody
+    IsWriteProtect world.source.guest (next world (Step.SendRun count)).source.guest addr (4096 * pages) 1 Nobody
 run_protected cpus world count addr pages all answered =
-    holds-effect (λ effect new. effect ≡ Effect.SentRun addr pages → IsWriteProtect (space_of world.source) (space_of new.source) addr (4096 * pages) 1 Nobody) world (Step.SendRun count) (Effect.SentRun addr pages)
+    holds-effect (λ effect new. effect ≡ Effect.SentRun addr pages → IsWriteProtect world.source.guest new.source.guest addr (4096 * pages) 1 Nobody) world (Step.SendRun count) (Effect.SentRun addr pages)
     (made-send_run _ world count (λ first number is many precopy up quiet h.
     let told = told_run (4096 * first) addr number pages h in
-    let made = subst (λ n. IsWriteProtect (space_of world.source) (protected_in (space_of world.source) first n true) (4096 * first) (4096 * n) 1 Nobody) (sym many) (sent_run_protected cpus world first (run_bound count) all is (some_bound count) precopy quiet) in
-    subst (λ n. IsWriteProtect (space_of world.source) (protected_in (space_of world.source) first number true) addr (4096 * n) 1 Nobody) told.1
-    (subst (λ a. IsWriteProtect (space_of world.source) (protected_in (space_of world.source) first number true) a (4096 * number) 1 Nobody) told.0 made)))
+    let made = subst (λ n. IsWriteProtect world.source.guest (run_guest world first n) (4096 * first) (4096 * n) 1 Nobody) (sym many) (sent_run_protected cpus world first (run_bound count) all is (some_bound count) precopy quiet) in
+    subst (λ n. IsWriteProtect world.source.guest (run_guest world first number) addr (4096 * n) 1 Nobody) told.1
+    (subst (λ a. IsWriteProtect world.source.guest (run_guest world first number) a (4096 * number) 1 Nobody) told.0 made)))
     answered refl
 
 -- The destination's handler, and Install
 
-pub destination_zeroes : (cpus : ℕ) (world : World) (addr : ℕ) → IsBounded cpus world → outcome world Step.DestAct ≡ Ok (Effect.Zeroed addr) → IsZeroPage world.destination.guest.space (next world Step.DestAct).destination.guest.space addr
+pub destination_zeroes : (cpus : ℕ) (world : World) (addr : ℕ) → IsBounded cpus world → outcome world Step.DestAct ≡ Ok (Effect.Zeroed addr) → IsZeroPage world.destination.guest (next world Step.DestAct).destination.guest addr
 destination_zeroes cpus world addr all answered =
-    holds-effect (λ effect new. effect ≡ Effect.Zeroed addr → IsZeroPage world.destination.guest.space new.destination.guest.space addr) world Step.DestAct (Effect.Zeroed addr)
+    holds-effect (λ effect new. effect ≡ Effect.Zeroed addr → IsZeroPage world.destination.guest new.destination.guest addr) world Step.DestAct (Effect.Zeroed addr)
     (made-dest_act _ world (λ fault rest is ran quiet h.
     let space = world.destination.guest.space in
     let told = told_zeroed (destination_act world.destination fault) (4096 * fault.page) addr h in
     let there = not_forgotten space fault.page (destination_served (is_forgotten space fault.page) (is_present space fault.page) (get world.destination.owed fault.page) told.0) in
     let made =
-    zero_page_made space fault.page (record { enabled = (all.opened.destination ran).enabled; quiet = quiet; inside = (has_memory cpus world all).destination.pages fault.page there.0 }) there.0 there.1
+    zero_page_made world.destination.guest fault.page (record { enabled = (all.opened.destination ran).enabled; quiet = quiet; inside = (has_memory cpus world all).destination.pages fault.page there.0 }) there.0 there.1
     (destination_zero world fault told.0) in
-    subst (λ a. IsZeroPage space (destination_acted_by (destination_act world.destination fault) world.destination fault.page).guest.space a) told.1
-    (subst (λ act. IsZeroPage space (destination_acted_by act world.destination fault.page).guest.space (4096 * fault.page)) (sym told.0) made))) answered refl
+    subst (λ a. IsZeroPage world.destination.guest (destination_acted_by (destination_act world.destination fault) world.destination fault.page).guest a) told.1
+    (subst (λ act. IsZeroPage world.destination.guest (destination_acted_by act world.destination fault.page).guest (4096 * fault.page)) (sym told.0) made))) answered refl
 
 told_installed : (o : Option ℕ) (origin addr source : ℕ) → install_effect o origin ≡ Effect.Installed addr source → (page : ℕ) × (o ≡ Some page) × (4096 * page ≡ addr)
 told_installed None origin addr source h = absurd (cc)
 told_installed (Some page) origin addr source h = (page, refl, cc)
 
 -- a page was put by UFFDIO_COPY, or by UFFDIO_ZEROPAGE where it is a page of zeros
-abbrev pub IsPlaced : Space → Space → ℕ → List ℕ → Type 0
+abbrev pub IsPlaced : Guest → Guest → ℕ → List ℕ → Type 0
 IsPlaced old new addr bytes = IsCopy old new addr bytes × (bytes ≡ zero_page → IsZeroPage old new addr)
 
 -- the copy goes where its page is owed: that is registered and missing, and the copy is a whole page
 home_copied : (cpus : ℕ) (world : World) (copy : Copy) (rest : List Copy) (page : ℕ) → IsBounded cpus world → world.destination.has_run ≡ true → world.destination.arrivals ≡ copy ∷ rest → ltb 0 (length world.destination.guest.space.object.events) ≡ false →
-    home world.destination.owed copy.page ≡ Some page → IsPlaced world.destination.guest.space (install_by (Some page) world.destination copy rest).guest.space (4096 * page) copy.bytes
+    home world.destination.owed copy.page ≡ Some page → IsPlaced world.destination.guest (install_by (Some page) world.destination copy rest).guest (4096 * page) copy.bytes
 home_copied cpus world copy rest page all ran first quiet found =
     let space = world.destination.guest.space in
     let kept = all.ready.kept in
@@ -227,23 +284,23 @@ home_copied cpus world copy rest page all ran first quiet found =
     let registered : is_registered space.object page ≡ true = or_left (contains space.object.missing page) (contains space.object.protect page) alone.0 in
     let mapped = kept.spaces.destination_space.mapped page registered in
     let called : IsCalled space page = record { enabled = (all.opened.destination ran).enabled; quiet = quiet; inside = (has_memory cpus world all).destination.pages page mapped } in (
-      copy_made space page copy.bytes called mapped registered alone.1 (kept.spaces.source_space.host.whole copy.page copy.bytes faithful.0),
-      λ zeros. subst (λ bytes. IsZeroPage space (installed space page 1 (λ i. bytes) false) (4096 * page)) (sym zeros) (zero_page_made space page called mapped registered alone.1),
+      copy_made world.destination.guest page copy.bytes called mapped registered alone.1 (kept.spaces.source_space.host.whole copy.page copy.bytes faithful.0),
+      λ zeros. subst (λ bytes. IsZeroPage world.destination.guest (resolved world.destination.guest page (installed space page 1 (λ i. bytes) false)) (4096 * page)) (sym zeros) (zero_page_made world.destination.guest page called mapped registered alone.1),
     )
 
 same_first : (one other : Copy) (rest more : List Copy) → one ∷ rest ≡ other ∷ more → one ≡ other
 same_first one other rest more h = cc
 
 pub copy_installed : (cpus : ℕ) (world : World) (copy : Copy) (rest : List Copy) (addr source : ℕ) → IsBounded cpus world → world.destination.arrivals ≡ copy ∷ rest → outcome world Step.Install ≡ Ok (Effect.Installed addr source) →
-    IsPlaced world.destination.guest.space (next world Step.Install).destination.guest.space addr copy.bytes
+    IsPlaced world.destination.guest (next world Step.Install).destination.guest addr copy.bytes
 copy_installed cpus world copy rest addr source all first answered =
-    holds-effect (λ effect new. effect ≡ Effect.Installed addr source → IsPlaced world.destination.guest.space new.destination.guest.space addr copy.bytes) world Step.Install (Effect.Installed addr source)
+    holds-effect (λ effect new. effect ≡ Effect.Installed addr source → IsPlaced world.destination.guest new.destination.guest addr copy.bytes) world Step.Install (Effect.Installed addr source)
     (made-install _ world (λ one more is ran quiet h.
     let told = told_installed (home world.destination.owed one.page) one.page addr source h in
     let made = home_copied cpus world one more told.0 all ran is quiet told.1 in
-    subst (λ bytes. IsPlaced world.destination.guest.space (after_install world one more).destination.guest.space addr bytes) (ap (λ c. c.bytes) (same_first one copy more rest (sym is ∙ first)))
-    (subst (λ a. IsPlaced world.destination.guest.space (after_install world one more).destination.guest.space a one.bytes) told.2
-    (subst (λ o. IsPlaced world.destination.guest.space (install_by o world.destination one more).guest.space (4096 * told.0) one.bytes) (sym told.1) made)))) answered refl
+    subst (λ bytes. IsPlaced world.destination.guest (after_install world one more).destination.guest addr bytes) (ap (λ c. c.bytes) (same_first one copy more rest (sym is ∙ first)))
+    (subst (λ a. IsPlaced world.destination.guest (after_install world one more).destination.guest a one.bytes) told.2
+    (subst (λ o. IsPlaced world.destination.guest (install_by o world.destination one more).guest (4096 * told.0) one.bytes) (sym told.1) made)))) answered refl
 
 -- Registration
 
@@ -334,16 +391,7 @@ IsAssembled new = new.destination.guest.space ≡ assembled new.destination.gues
 
 frame_assembles : (frame : Frame) (epoch : ℕ) (rest : List Sent) (world : World) (count : ℕ) → frame_effect frame ≡ Effect.TookPackage count → IsAssembled (after_deliver world (record { epoch = epoch; frame = frame }) rest)
 frame_assembles (Package areas owed commands) epoch rest world count h = refl
-frame_assembles Advise epoch rest world count h = absurd (cc)
-frame_assembles (Page page bytes) epoch rest world count h = absurd (cc)
-frame_assembles (Zero page) epoch rest world count h = absurd (cc)
-frame_assembles (PageRun first pages) epoch rest world count h = absurd (cc)
-frame_assembles (Discard pages) epoch rest world count h = absurd (cc)
-frame_assembles (End urgent) epoch rest world count h = absurd (cc)
-frame_assembles Resume epoch rest world count h = absurd (cc)
-frame_assembles (Request page) epoch rest world count h = absurd (cc)
-frame_assembles (Recv state owed) epoch rest world count h = absurd (cc)
-frame_assembles Done epoch rest world count h = absurd (cc)
+frame_assembles _ epoch rest world count h = absurd (cc)
 
 no_package : (n count : ℕ) → Effect.Moved n ≡ Effect.TookPackage count → ⊥
 no_package n count h = cc

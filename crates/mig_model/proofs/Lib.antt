@@ -96,6 +96,7 @@ pub mod Encodable
 pub mod OpenObjects
 pub mod Registering
 pub mod PageCalls
+pub mod FaultPages
 pub mod HandlerCalls
 pub mod ViewPromises
 pub mod TextsInFlight

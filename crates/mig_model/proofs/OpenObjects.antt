@@ -25,7 +25,7 @@ use Rattle.mig_model.specs.Guest.{Act, Guest, read_guest, space_by, tried}
 use Rattle.mig_model.specs.Guest.Act.{Unprotected, Zeroed, Woke, Forgot, Requested}
 use Rattle.mig_model.specs.Owed.{home}
 use Rattle.mig_model.specs.Wire.{Copy, Frame}
-use Rattle.mig_model.specs.Wire.Frame.{Advise, Page, Zero, Run, Discard, Package, End, Resume, Request, Recv, Done as Finished}
+use Rattle.mig_model.specs.Wire.Frame.{Page, Zero, Package, Resume, Request, Recv, Done as Finished}
 use Rattle.mig_model.specs.Source.{is_precopy, is_released, is_source_idle, is_source_paused, source_act, source_acted_by, source_rebuilt, source_took, space_of}
 use Rattle.mig_model.specs.Destination.{copy_came, destination_act, destination_acted_by, destination_took, install_by, received_of, resumed_by, urgent_took}
 use Rattle.mig_model.specs.Migration.{World, answer, first_world_with, guest_by, next, with_guest_by}
@@ -139,26 +139,12 @@ took_open (Package areas owed commands) epoch world h = record { source = h.sour
 took_open (Page page bytes) epoch world h = came_open world.destination.has_run world _ h
 took_open (Zero page) epoch world h = came_open world.destination.has_run world _ h
 took_open Resume epoch world h = resumed_open (received_of world.destination) world epoch h
-took_open Advise epoch world h = h
-took_open (Run first pages) epoch world h = h
-took_open (Discard pages) epoch world h = h
-took_open (End urgent) epoch world h = h
-took_open (Request page) epoch world h = h
-took_open (Recv state owed) epoch world h = h
-took_open Finished epoch world h = h
+took_open _ epoch world h = h
 
 urgent_open : (frame : Frame) (world : World) → HasOpenObjects world → HasOpenObjects (record world { destination = urgent_took world.destination frame })
 urgent_open (Page page bytes) world h = h
 urgent_open (Zero page) world h = h
-urgent_open Advise world h = h
-urgent_open (Run first pages) world h = h
-urgent_open (Discard pages) world h = h
-urgent_open (Package areas owed commands) world h = h
-urgent_open (End urgent) world h = h
-urgent_open Resume world h = h
-urgent_open (Request page) world h = h
-urgent_open (Recv state owed) world h = h
-urgent_open Finished world h = h
+urgent_open _ world h = h
 
 -- Phases in which the source is not released
 

@@ -1,16 +1,16 @@
 -- The calls that a handler makes for one page: what each of them answers where it is accepted, and the space that it leaves.
-use Rattle.std.proofs.Common.{◌≡◌, ℕ, ◌+◌, ◌*◌, ◌/◌, ◌<◌, ◌≤◌, ◌&&◌, ◌||◌, Bool, true, false, not, eqb, ltb, Option, Some, None, is_some, unwrap_or, List, refl, sym, ap, ◌∙◌, arith, length, if◌then◌else◌}
+use Rattle.mig_base.specs.declared.TheConstants.{LOW_PAGE, HIGH_PAGE}
+use Rattle.std.proofs.lemmas.Bool.Decides.{nat_tests}
+use Rattle.std.proofs.Common.{◌≡◌, ℕ, ◌+◌, ◌*◌, ◌/◌, ◌<◌, ◌≤◌, ◌&&◌, ◌||◌, Bool, true, false, not, eqb, ltb, Option, Some, None, is_some, unwrap_or, List, refl, sym, ap, ◌∙◌, arith, length, if◌then◌else◌, ◌-◌, ◌∷◌, []}
 use Rattle.std.specs.Prelude.{Ok}
 use Rattle.std.specs.Ordering.{nat_cmp}
 use Rattle.std.specs.FinMap.{FinMap, contains_key, get, insert}
 use Rattle.std.specs.FinSet.{contains}
 use Rattle.std.proofs.lemmas.Bool.{false≢true, and_from, not_from_true}
-use Rattle.std.proofs.lemmas.Bool.Decides.{nat_tests}
-use Rattle.mig_base.specs.declared.TheConstants.{LOW_PAGE, HIGH_PAGE}
 use Rattle.std.proofs.lemmas.List.{take_all}
 use Rattle.mig_base.specs.declared.Prot.{Prot}
 use Rattle.mig_base.specs.declared.command.Errno.{Errno}
-use Rattle.mig_base.specs.declared.command.Errno.TheVariants.{Eexist}
+use Rattle.mig_base.specs.declared.command.Errno.TheVariants.{Eexist, Einval}
 use Rattle.mig_base.specs.declared.wake.Wake.TheVariants.{Nobody, Range}
 use Rattle.mig_base.specs.Bits.{is_one}
 use Rattle.mig_base.specs.Bytes.{zero_page}
@@ -22,11 +22,12 @@ use Rattle.mig_base.proofs.BitLemmas.{zero_is_no_one}
 use Rattle.mig_base.proofs.RangeLemmas.{least_below-none, none_below-from}
 use Rattle.mig_model.specs.Userfault.{changing, is_registered}
 use Rattle.mig_model.specs.Space.{Space}
-use Rattle.mig_model.specs.Guest.{is_present, zero_installed}
+use Rattle.mig_model.specs.Guest.{Guest, in_bytes, resolved, is_present, zero_installed}
 use Rattle.mig_model.specs.Ioctls.{Put, answered_by, copy_error, copy_errors, handed, installed, is_bad_range, is_one_area, missing_run, protected_in, put_answer, put_by, put_pages, same_area, same_prot, writeprotect_error, writeprotect_errors, zeropage_error, zeropage_errors}
 use Rattle.mig_model.specs.Bounds.{IsPage}
-use Rattle.mig_model.specs.Handlers.{IsCopy, IsWriteProtect, IsZeroPage, page_put}
-use Rattle.mig_model.proofs.Facts.{eqb-self}
+use Rattle.mig_model.specs.Handlers.{IsCopy, IsWake, IsWriteProtect, IsZeroPage, page_put, woken_by}
+use Rattle.mig_model.specs.Cpus.{all_woken}
+use Rattle.mig_model.proofs.Facts.{eqb-self, only_one}
 use Rattle.mig_model.proofs.Registering.{left_new, nothing_holds, pages_again, range_good}
 
 -- a page for which a call is made: the object is enabled, no event is unread, and the page may be mapped
@@ -76,6 +77,16 @@ put_new (Some errno) put h = absurd (cc)
 one_put : (addr : ℕ) → put_answer addr 1 1 0 Eexist ≡ page_put addr
 one_put addr = ap (λ b. record { bytes = 4096; fault = None; wake = if b then Nobody else Range addr 4096 }) (zero_is_no_one 0)
 
+-- the range of a page is that page
+page_bytes : (page q : ℕ) → eqb q page ≡ in_bytes (4096 * page) (4096 * page + 4096) q
+page_bytes page q =
+    sym (only_one page q)
+    ∙ ap (λ n. in_range page n q) (omega arith)
+    ∙ ap (λ p. in_range p ((4096 * page + 4096) / 4096 - 4096 * page / 4096) q) (sym (pages_again page))
+
+pub page_woken : (guest : Guest) (page : ℕ) (space : Space) → (resolved guest page space).cpus ≡ woken_by (Range (4096 * page) 4096) guest.cpus
+page_woken guest page space = let same : (λ q. eqb q page) ≡ in_bytes (4096 * page) (4096 * page + 4096) = λ i q. page_bytes page q i in ap (λ test. all_woken test guest.cpus) same
+
 -- UFFDIO_ZEROPAGE
 
 zeropage_accepted : (space : Space) (page : ℕ) → IsCalled space page → contains_key space.host.areas page ≡ true → is_registered space.object page ≡ true → zeropage_error space (4096 * page) 4096 0 ≡ None
@@ -85,8 +96,10 @@ zeropage_accepted space page is mapped registered =
       (refl, (page_range page is.inside, (is.quiet, (not_from_true (is_one_area space (4096 * page / 4096) 1) (ap (λ q. is_one_area space q 1) (pages_again page) ∙ one_area space page mapped registered), tt)))),
     )
 
-pub zero_page_made : (space : Space) (page : ℕ) → IsCalled space page → contains_key space.host.areas page ≡ true → is_registered space.object page ≡ true → is_present space page ≡ false → IsZeroPage space (zero_installed space page) (4096 * page)
-zero_page_made space page is mapped registered gone =
+pub zero_page_made : (guest : Guest) (page : ℕ) → IsCalled guest.space page → contains_key guest.space.host.areas page ≡ true → is_registered guest.space.object page ≡ true → is_present guest.space page ≡ false →
+    IsZeroPage guest (resolved guest page (zero_installed guest.space page)) (4096 * page)
+zero_page_made guest page is mapped registered gone =
+    let space = guest.space in
     let accepted = zeropage_accepted space page is mapped registered in
     let run : missing_run space (4096 * page / 4096) 1 ≡ 1 = ap (λ q. missing_run space q 1) (pages_again page) ∙ missing_one space page gone in
     record {
@@ -95,6 +108,7 @@ zero_page_made space page is mapped registered gone =
           (left_new (zeropage_error space (4096 * page) 4096 0) space _ accepted
           ∙ ap (λ n. installed space (4096 * page / 4096) n (λ i. zero_page) false) run
           ∙ ap (λ q. installed space q 1 (λ i. zero_page) false) (pages_again page));
+      wakes = page_woken guest page (zero_installed space page);
     }
 
 -- UFFDIO_COPY
@@ -131,9 +145,10 @@ installed_one space page bytes whole =
     ∙ ap (λ pages. record space { host = record space.host { bytes = pages }; protected = pages_where (λ q. contains space.protected q || (false && in_range page 1 q)) })
     (put_one space.host.bytes page (handed bytes) (λ i. bytes) (take_all 4096 bytes (omega (arith, whole))))
 
-pub copy_made : (space : Space) (page : ℕ) (bytes : List ℕ) → IsCalled space page → contains_key space.host.areas page ≡ true → is_registered space.object page ≡ true → is_present space page ≡ false → length bytes ≡ 4096 →
-    IsCopy space (installed space page 1 (λ i. bytes) false) (4096 * page) bytes
-copy_made space page bytes is mapped registered gone whole =
+pub copy_made : (guest : Guest) (page : ℕ) (bytes : List ℕ) → IsCalled guest.space page → contains_key guest.space.host.areas page ≡ true → is_registered guest.space.object page ≡ true → is_present guest.space page ≡ false → length bytes ≡ 4096 →
+    IsCopy guest (resolved guest page (installed guest.space page 1 (λ i. bytes) false)) (4096 * page) bytes
+copy_made guest page bytes is mapped registered gone whole =
+    let space = guest.space in
     let accepted : copy_error space (4096 * page) (length bytes) 0 ≡ None = ap (λ n. copy_error space (4096 * page) n 0) whole ∙ copy_accepted space page is mapped registered in
     let count : length bytes / 4096 ≡ 1 = ap (λ n. n / 4096) whole in
     let run : missing_run space (4096 * page / 4096) (length bytes / 4096) ≡ 1 =
@@ -148,6 +163,7 @@ copy_made space page bytes is mapped registered gone whole =
           ∙ ap (λ n. installed space (4096 * page / 4096) n (handed bytes) (is_one 0 1)) run
           ∙ ap (λ q. installed space q 1 (handed bytes) (is_one 0 1)) (pages_again page)
           ∙ installed_one space page bytes whole);
+      wakes = page_woken guest page (installed space page 1 (λ i. bytes) false);
     }
 
 -- UFFDIO_WRITEPROTECT
@@ -159,10 +175,12 @@ answered_new (Some errno) answer h = absurd (cc)
 in_run : (first count i : ℕ) → i < count → in_range first count (first + i) ≡ true
 in_run first count i l = grind (arith, nat_tests, l)
 
-pub range_protect_made : (space : Space) (first count bits : ℕ) (protect : Bool) → space.object.enabled ≡ true → ltb 0 (changing space.object) ≡ false → 0 < count → LOW_PAGE ≤ first → first + count ≤ HIGH_PAGE →
-    ((q : ℕ) → in_range first count q ≡ true → contains space.object.protect q ≡ true) → ltb 2 bits ≡ false → is_one bits 0 ≡ protect →
-    IsWriteProtect space (protected_in space first count protect) (4096 * first) (4096 * count) bits (if eqb bits 0 then Range (4096 * first) (4096 * count) else Nobody)
-range_protect_made space first count bits protect enabled quiet some low high watched few mode =
+pub range_protect_made : (guest new : Guest) (first count bits : ℕ) (protect : Bool) → guest.space.object.enabled ≡ true → ltb 0 (changing guest.space.object) ≡ false → 0 < count → LOW_PAGE ≤ first → first + count ≤ HIGH_PAGE →
+    ((q : ℕ) → in_range first count q ≡ true → contains guest.space.object.protect q ≡ true) → ltb 2 bits ≡ false → is_one bits 0 ≡ protect → new.space ≡ protected_in guest.space first count protect →
+    new.cpus ≡ woken_by (if eqb bits 0 then Range (4096 * first) (4096 * count) else Nobody) guest.cpus →
+    IsWriteProtect guest new (4096 * first) (4096 * count) bits (if eqb bits 0 then Range (4096 * first) (4096 * count) else Nobody)
+range_protect_made guest new first count bits protect enabled quiet some low high watched few mode leaves wakes =
+    let space = guest.space in
     let test = λ (q : ℕ). contains space.object.protect q in
     let every : is_every test (4096 * first / 4096) (4096 * count / 4096) ≡ true =
     ap (λ q. is_every test q (4096 * count / 4096)) (pages_again first) ∙ ap (λ n. is_every test first n) (pages_again count)
@@ -174,17 +192,29 @@ range_protect_made space first count bits protect enabled quiet some low high wa
     ) in
     record {
       answer = answered_new (writeprotect_error space (4096 * first) (4096 * count) bits) _ accepted;
-      leaves = sym
+      leaves = leaves
+          ∙ sym
           (left_new (writeprotect_error space (4096 * first) (4096 * count) bits) space _ accepted
           ∙ ap (λ q. protected_in space q (4096 * count / 4096) (is_one bits 0)) (pages_again first)
           ∙ ap (λ n. protected_in space first n (is_one bits 0)) (pages_again count)
           ∙ ap (λ b. protected_in space first count b) mode);
+      wakes = wakes;
     }
 
 only_itself : (page q : ℕ) → in_range page 1 q ≡ true → page ≡ q
 only_itself page q h = grind (arith, nat_tests, h)
 
-pub write_protect_made : (space : Space) (page bits : ℕ) (protect : Bool) → IsCalled space page → contains space.object.protect page ≡ true → ltb 2 bits ≡ false → is_one bits 0 ≡ protect →
-    IsWriteProtect space (protected_in space page 1 protect) (4096 * page) 4096 bits (if eqb bits 0 then Range (4096 * page) 4096 else Nobody)
-write_protect_made space page bits protect is watched few mode =
-    range_protect_made space page 1 bits protect is.enabled is.quiet (omega arith) is.inside.0 (let high = is.inside.1 in omega (arith, high)) (λ q h. ap (contains space.object.protect) (sym (only_itself page q h)) ∙ watched) few mode
+pub write_protect_made : (guest new : Guest) (page bits : ℕ) (protect : Bool) → IsCalled guest.space page → contains guest.space.object.protect page ≡ true → ltb 2 bits ≡ false → is_one bits 0 ≡ protect → new.space ≡ protected_in guest.space page 1 protect →
+    new.cpus ≡ woken_by (if eqb bits 0 then Range (4096 * page) 4096 else Nobody) guest.cpus → IsWriteProtect guest new (4096 * page) 4096 bits (if eqb bits 0 then Range (4096 * page) 4096 else Nobody)
+write_protect_made guest new page bits protect is watched few mode leaves wakes =
+    range_protect_made guest new page 1 bits protect is.enabled is.quiet (omega arith) is.inside.0 (let high = is.inside.1 in omega (arith, high)) (λ q h. ap (contains guest.space.object.protect) (sym (only_itself page q h)) ∙ watched) few mode leaves wakes
+
+-- UFFDIO_WAKE
+
+pub wake_made : (guest : Guest) (page : ℕ) → guest.space.object.enabled ≡ true → IsPage page → IsWake guest (resolved guest page guest.space) (4096 * page)
+wake_made guest page enabled is =
+    record {
+      answer = answered_new _ (Range (4096 * page) 4096) (nothing_holds ((not guest.space.object.enabled, Einval) ∷ (is_bad_range (4096 * page) 4096, Einval) ∷ []) (not_from_true guest.space.object.enabled enabled, (page_range page is, tt)));
+      leaves = refl;
+      wakes = page_woken guest page guest.space;
+    }

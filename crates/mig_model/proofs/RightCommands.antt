@@ -54,7 +54,7 @@ right_by space (Store addr width value) mapping is h =
 right_by space (Mmap len prot place) mapping is h = absurd (false≢true is)
 right_by space _ mapping is h = absurd (false≢true is)
 
-right_slept : (access : Bool) (space : Space) (command : Command) → access ≡ is_access command → IsMapping space.host.areas → took_by access space command ≡ Sleep → IsRightAccess command
+pub right_slept : (access : Bool) (space : Space) (command : Command) → access ≡ is_access command → IsMapping space.host.areas → took_by access space command ≡ Sleep → IsRightAccess command
 right_slept true space command is mapping h = right_by space command mapping (sym is) (slept_made (is_made (reply_of (memory space.host) command)) _ _ h)
 right_slept false space command is mapping h = absurd (call_answered (reply_of (memory space.host) command) (queued_by space command) h)
 

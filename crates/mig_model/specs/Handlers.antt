@@ -1,38 +1,55 @@
--- The calls of the userfault objects that the steps of the nodes stand for: the row of each call, from `Ioctls`, answers no error, and
--- leaves the space that the machine has.
-use Rattle.std.specs.Prelude.{◌≡◌, ℕ, ◌*◌, ◌<◌, None, Ok, List, [], ◌∷◌}
+-- The calls of the userfault objects that the steps of the nodes stand for: the row of each call, from `Ioctls`, answers no error,
+-- leaves the space that the machine has, and wakes the processors that the machine wakes.
+use Rattle.std.specs.Prelude.{◌≡◌, ℕ, ◌+◌, ◌*◌, ◌<◌, None, Ok, List, [], ◌∷◌}
 use Rattle.std.specs.Ordering.{nat_cmp}
 use Rattle.std.specs.FinMap.{FinMap, contains_key}
 use Rattle.mig_base.specs.declared.TheConstants.{PAGE_SIZE}
 use Rattle.mig_base.specs.declared.Prot.{Prot}
 use Rattle.mig_base.specs.declared.Run.{Run}
+use Rattle.mig_base.specs.declared.cpu_state.CpuState.{CpuState}
 use Rattle.mig_base.specs.declared.wake.Wake.{Wake}
-use Rattle.mig_base.specs.declared.wake.Wake.TheVariants.{Range}
+use Rattle.mig_base.specs.declared.wake.Wake.TheVariants.{Nobody, Range}
 use Rattle.mig_base.specs.PageSets.{in_runs}
 use Rattle.mig_model.specs.Host.{Host}
 use Rattle.mig_model.specs.Space.{Space, fresh_space}
-use Rattle.mig_model.specs.Ioctls.{Put, copied, copy_answer, handshake_error, handshaken, register_error, registered, write_protected, writeprotect_answer, zeropage_answer, zeropaged}
+use Rattle.mig_model.specs.Cpus.{all_woken}
+use Rattle.mig_model.specs.Guest.{Guest, in_bytes}
+use Rattle.mig_model.specs.Ioctls.{Put, copied, copy_answer, handshake_error, handshaken, register_error, registered, wake_answer, write_protected, writeprotect_answer, zeropage_answer, zeropaged}
 
 -- One page, or a run of them
 
+-- the processors once those that sleep on a range are woken, or nobody is
+abbrev pub woken_by : Wake → List CpuState → List CpuState
+woken_by Nobody processors = processors
+woken_by (Range start len) processors = all_woken (in_bytes start (start + len)) processors
+
 -- UFFDIO_WRITEPROTECT of a range, which wakes so
-pub record IsWriteProtect (old new : Space) (addr len bits : ℕ) (wake : Wake) : Type 0 where
-  pub answer : writeprotect_answer old addr len bits ≡ Ok wake
-  pub leaves : new ≡ write_protected old addr len bits
+pub record IsWriteProtect (old new : Guest) (addr len bits : ℕ) (wake : Wake) : Type 0 where
+  pub answer : writeprotect_answer old.space addr len bits ≡ Ok wake
+  pub leaves : new.space ≡ write_protected old.space addr len bits
+  pub wakes : new.cpus ≡ woken_by wake old.cpus
 
 -- one page was put, and those that sleep on it are woken
 abbrev pub page_put : ℕ → Put
 page_put addr = record { bytes = PAGE_SIZE; fault = None; wake = Range addr PAGE_SIZE }
 
 -- UFFDIO_ZEROPAGE of a page
-pub record IsZeroPage (old new : Space) (addr : ℕ) : Type 0 where
-  pub answer : zeropage_answer old addr PAGE_SIZE 0 ≡ page_put addr
-  pub leaves : new ≡ zeropaged old addr PAGE_SIZE 0
+pub record IsZeroPage (old new : Guest) (addr : ℕ) : Type 0 where
+  pub answer : zeropage_answer old.space addr PAGE_SIZE 0 ≡ page_put addr
+  pub leaves : new.space ≡ zeropaged old.space addr PAGE_SIZE 0
+  pub wakes : new.cpus ≡ woken_by (Range addr PAGE_SIZE) old.cpus
 
 -- UFFDIO_COPY of a page
-pub record IsCopy (old new : Space) (addr : ℕ) (bytes : List ℕ) : Type 0 where
-  pub answer : copy_answer old addr bytes 0 ≡ page_put addr
-  pub leaves : new ≡ copied old addr bytes 0
+pub record IsCopy (old new : Guest) (addr : ℕ) (bytes : List ℕ) : Type 0 where
+  pub answer : copy_answer old.space addr bytes 0 ≡ page_put addr
+  pub leaves : new.space ≡ copied old.space addr bytes 0
+  pub wakes : new.cpus ≡ woken_by (Range addr PAGE_SIZE) old.cpus
+
+-- UFFDIO_WAKE of a page
+pub record IsWake (old new : Guest) (addr : ℕ) : Type 0 where
+  pub answer : wake_answer old.space addr PAGE_SIZE ≡ Ok (Range addr PAGE_SIZE)
+  pub leaves : new.space ≡ old.space
+  pub wakes : new.cpus ≡ woken_by (Range addr PAGE_SIZE) old.cpus
 
 -- Every area
 
