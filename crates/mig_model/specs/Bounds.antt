@@ -27,6 +27,7 @@ pub record IsUrgentFew (from : SourcePhase) (switched : Bool) (count : ℕ) (spa
   pub before_switch : switched ≡ false → count ≡ 0
   pub few : switched ≡ true → is_released from ≡ false → count + len remaining ≤ len (present space)
 
+-- the same of a world
 abbrev pub AreUrgentFew : World → Type 0
 AreUrgentFew world = IsUrgentFew world.source.phase world.source.switched world.source.urgent_sent (space_of world.source) world.source.remaining
 
@@ -76,6 +77,7 @@ IsRightAccess (Load addr width) = (is_aligned addr width ≡ true) × IsPage (ad
 IsRightAccess (Store addr width value) = (is_aligned addr width ≡ true) × (value < 256 ^ width) × IsPage (addr / PAGE_SIZE)
 IsRightAccess command = ⊥
 
+-- so is each command that a processor still has to make
 abbrev pub AreRightAccesses : List (Option Command) → Type 0
 AreRightAccesses [] = Unit {0}
 AreRightAccesses (None ∷ commands) = AreRightAccesses commands

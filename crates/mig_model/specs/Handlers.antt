@@ -53,6 +53,7 @@ pub record IsWake (old new : Guest) (addr : ℕ) : Type 0 where
 
 -- Every area
 
+-- none of the runs is empty
 abbrev pub AreSome : List Run → Type 0
 AreSome [] = Unit {0}
 AreSome (run ∷ runs) = (0 < run.count) × AreSome runs
@@ -73,6 +74,7 @@ abbrev pub registered_in_turn : Space → List Run → ℕ → Space
 registered_in_turn space [] bits = space
 registered_in_turn space (run ∷ runs) bits = registered_in_turn (registered space (PAGE_SIZE * run.first) (PAGE_SIZE * run.count) bits) runs bits
 
+-- UFFDIO_REGISTER of the runs leads from one space to the other
 pub record AreRegistered (old new : Space) (runs : List Run) (bits : ℕ) : Type 0 where
   pub accepted : AreAccepted old runs bits
   pub leaves : new ≡ registered_in_turn old runs bits
