@@ -135,7 +135,7 @@ pub enum Effect {
     Dropped {
         origin: Addr,
     },
-    /// A request was taken.
+    /// The source has taken a request for the page at the address.
     Asked {
         addr: Addr,
     },

@@ -31,7 +31,7 @@ pub enum BackFault {
 /// Why a source does not go on from what a destination says that it has received. Nothing is changed.
 #[derive(Clone, Copy, Debug, PartialEq, Eq)]
 pub enum RebuildFault {
-    /// It is said to need pages that the source does not have, or pages where it does not run, or it is said to run or to have ended
+    /// The destination is said to need pages that the source does not have, or pages where it does not run, or it is said to run or to have ended
     /// before the source has switched.
     BadOwed,
     /// Out of memory.

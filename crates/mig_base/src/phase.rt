@@ -10,7 +10,7 @@ pub enum SourcePhase {
     Precopy,
     /// The source has stopped its processors for good, and sends what is owed.
     Stopped,
-    /// The source has noticed that the channel is broken.
+    /// The source has noticed that the channel is broken, and has not taken a Recv since.
     Paused,
     /// The migration is complete, and the source has given up its memory.
     Released,
@@ -27,7 +27,7 @@ pub enum DestPhase {
     Discarding,
     /// It runs the processors.
     Running,
-    /// It has noticed that the channel is broken. Where it has run the processors they go on.
+    /// It has noticed that the channel is broken, and has not taken a Resume since. Where it has run the processors they go on.
     Paused,
     /// It runs the processors, and nothing more comes.
     Ended,

@@ -1,6 +1,8 @@
 //! Why a step of a whole migration is refused.
 
-/// Why a step is refused. Where several reasons apply the first of this list is given. A refused step changes nothing.
+/// Why a step is refused. Where several reasons apply the first of this list is given, with `UrgentFirst` behind `InstallFirst`. A
+/// refused step changes nothing. Only want of memory comes before these two, where a Deliver reads the frame that it completes, and
+/// behind all others.
 #[derive(Clone, Copy, Debug, PartialEq, Eq)]
 pub enum Refusal {
     /// The guest has no such processor.

@@ -10,7 +10,7 @@ use Rattle.mig_base.specs.declared.refusal.Refusal.{Refusal}
 use Rattle.mig_base.specs.declared.step.WorldPhase.{WorldPhase}
 use Rattle.mig_model.specs.Migration.{World, first_world_with}
 use Rattle.mig_model.specs.Source.{is_released}
-use Rattle.mig_model.specs.Views.{counts_of, new_world_with, phase_by, phase_of}
+use Rattle.mig_model.specs.Views.{new_world_with, owed_left, phase_by, phase_of}
 use Rattle.mig_model.specs.Promises.{IsReached, IsComplete}
 use Rattle.mig_model.proofs.EveryStep.{kept-reached}
 use Rattle.mig_model.proofs.PromiseLemmas.{complete_ran, is_alone}
@@ -51,7 +51,7 @@ pub new_reached : (cpus epoch rounds : ℕ) (world : World) → new_world_with c
 new_reached cpus epoch rounds world h = record { cpus = cpus; epoch = epoch; rounds = rounds; steps = []; is = made_new (eqb cpus 0 || ltb MAX_CPUS cpus) cpus epoch rounds world h }
 
 -- a migration that is complete has nothing left
-pub complete_left : (world : World) → IsReached world → IsComplete world → (counts_of world).left ≡ 0
+pub complete_left : (world : World) → IsReached world → IsComplete world → owed_left world ≡ 0
 complete_left world reached done =
     let kept = kept-reached world reached in
     ap (λ b. if b then len world.destination.owed else world.source.packaged) (complete_ran world kept done) ∙ ap len (is_alone world kept done).none_owed ∙ len-empty nat_cmp ℕ

@@ -87,7 +87,7 @@ AreRightAccesses (Some command ∷ commands) = IsRightAccess command × AreRight
 abbrev pub IsCpuCount : ℕ → Type 0
 IsCpuCount count = (0 < count) × (count ≤ MAX_CPUS)
 
--- a frame that has a text: each number in it is of its kind, and nothing is too long
+-- a frame that can be sent: each number in it is of its kind, and nothing is too long
 abbrev pub IsFrame : Frame → Type 0
 IsFrame Advise = Unit {0}
 IsFrame (Page page bytes) = IsPage page × IsPageBytes bytes

@@ -24,10 +24,6 @@ abbrev pub is_idle : CpuState → Bool
 is_idle CpuState.Idle = true
 is_idle _ = false
 
-abbrev pub is_asleep : CpuState → Bool
-is_asleep (CpuState.Asleep command) = true
-is_asleep _ = false
-
 abbrev pub is_woken : CpuState → Bool
 is_woken (CpuState.Woken command) = true
 is_woken _ = false
@@ -39,7 +35,7 @@ outstanding (CpuState.Asleep command) = Some command
 outstanding (CpuState.Woken command) = Some command
 outstanding (CpuState.InCall reply left) = None
 
--- the processor of the other node that takes it over
+-- the processor of the destination that takes such a command over
 abbrev pub taken_over : Option Command → CpuState
 taken_over None = CpuState.Idle
 taken_over (Some command) = CpuState.Woken command

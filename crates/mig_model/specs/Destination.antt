@@ -27,13 +27,16 @@ abbrev pub for_missing : Mode
 for_missing = record { missing = true; protect = false }
 
 pub record Destination : Type 0 where
+  -- how far it is
   pub phase : DestPhase
   -- whether it has run processors, and whether it has been told that nothing more is sent
   pub has_run : Bool
   pub ended : Bool
+  -- the epoch of the last Advise or Resume that it took
   pub epoch : ℕ
   -- the newest copies of pages, until it runs
   pub kept : FinMap nat_cmp (List ℕ)
+  -- its address space and the processors, once it has run
   pub guest : Guest
   -- faults that were read and not resolved yet, in the order in which they were read
   pub held : List Fault
@@ -113,6 +116,7 @@ received_by true true = Received.Ended
 abbrev pub received_of : Destination → Received
 received_of node = received_by node.has_run node.ended
 
+-- it goes on from there; one that has not run gives up what it has kept
 abbrev pub resumed_by : Received → Destination → Destination
 resumed_by Received.NotRun node = record node { phase = DestPhase.Advised; kept = finmap.empty }
 resumed_by Received.Running node = record node { phase = DestPhase.Running }

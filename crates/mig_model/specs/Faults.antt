@@ -95,7 +95,8 @@ abbrev pub back_fault : Source → ℕ → Frame → Option BackFault
 back_fault node epoch frame =
     first_holding ((not (is_in_place_back node frame), BackFault.OutOfPlace) ∷ (not (epoch == node.epoch), BackFault.StaleEpoch) ∷ [])
 
--- what a destination may need: pages that the source has, and none unless it runs. It runs or has ended only after the switch
+-- whether what a destination is said to need is wrong: a page that the source does not have, any page unless it runs, or that it runs or
+-- has ended before the switch
 abbrev pub is_bad_owed : Source → Received → FinSet nat_cmp → Bool
 is_bad_owed node Received.NotRun owed = not (finset.len owed == 0)
 is_bad_owed node Received.Running owed = not node.switched || not (finset.len (less owed (present (space_of node))) == 0)

@@ -108,15 +108,6 @@ abbrev pub flow_after : Flow → List Sent → Option Flow
 flow_after flow [] = Some flow
 flow_after flow (sent ∷ rest) = option_and_then (λ next. flow_after next rest) (flow_next flow sent.frame)
 
--- where the destination is in it, if it is
-abbrev pub flow_at : DestPhase → Option Flow
-flow_at DestPhase.Idle = Some BeforeAdvise
-flow_at DestPhase.Advised = Some Copies
-flow_at DestPhase.Discarding = Some BeforePackage
-flow_at DestPhase.Running = Some Pushed
-flow_at DestPhase.Paused = None
-flow_at DestPhase.Ended = Some AfterEnd
-
 -- the copies that frames carry
 abbrev pub copies_of : List Sent → List Copy
 copies_of [] = []

@@ -35,15 +35,17 @@ use Rattle.mig_model.specs.Destination.{Destination, act_frames, destination_act
 
 -- A world
 
--- the two nodes, the wire to the destination, the wire back, the urgent wire to the destination, whether the link is up, and the commands that took effect, in that
--- order, with their replies
 pub record World : Type 0 where
+  -- the two nodes
   pub source : Source
   pub destination : Destination
+  -- the wire to the destination, the wire back, and the urgent wire to the destination
   pub forward : Wire
   pub back : Wire
   pub urgent : Wire
+  -- whether the link is up
   pub up : Bool
+  -- the commands that took effect, in that order, with their replies
   pub transcript : List Entry
 
 -- a world in which nothing has happened, whose counts stand at the numbers given
@@ -141,6 +143,7 @@ destination_sends world node frames = record world { destination = node; back = 
 
 -- Issue and Retry: a command is tried where the guest runs, and what took effect is entered
 
+-- the world once a processor has tried a command
 abbrev pub after_command : World → ℕ → Command → World
 after_command world cpu command =
     record (with_guest world (tried (is_access command) (guest_of world) cpu command)) {
@@ -278,6 +281,7 @@ switch world =
 
 -- Deliver and DeliverBack: bytes reach a node, which takes the frame that they complete, and answers
 
+-- what taking a frame is called
 abbrev pub frame_effect : Frame → Effect
 frame_effect Advise = Effect.TookAdvise
 frame_effect (Page page bytes) = Effect.TookPage (PAGE_SIZE * page)

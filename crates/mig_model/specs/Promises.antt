@@ -184,11 +184,12 @@ abbrev pub is_recv : Frame → Bool
 is_recv (Recv state owed) = true
 is_recv frame = false
 
--- whether a wire back has a Recv of a destination that runs
+-- whether a frame is the Recv of a destination that runs
 abbrev pub is_running_recv : Frame → Bool
 is_running_recv (Recv Received.Running owed) = true
 is_running_recv frame = false
 
+-- whether one is in flight
 abbrev pub has_recv : List Sent → Bool
 has_recv [] = false
 has_recv (sent ∷ rest) = is_running_recv sent.frame || has_recv rest

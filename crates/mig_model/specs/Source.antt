@@ -24,12 +24,15 @@ abbrev pub for_both : Mode
 for_both = record { missing = true; protect = true }
 
 pub record Source : Type 0 where
+  -- how far it is
   pub phase : SourcePhase
   -- whether it has stopped its processors for good
   pub switched : Bool
+  -- the epoch of the migration: each resumption begins a new one
   pub epoch : ℕ
-  -- the epoch in which End was sent last: no migration has epoch 0
+  -- the epoch in which End was sent last, 0 where it was not: no migration has epoch 0
   pub end_epoch : ℕ
+  -- its address space and the processors, and what it knows of its pages
   pub guest : Guest
   pub log : Log
   -- owed pages that were not sent yet in this epoch, and pages that the destination has asked for, in that order
@@ -86,10 +89,11 @@ abbrev pub is_released : SourcePhase → Bool
 is_released SourcePhase.Released = true
 is_released _ = false
 
+-- the node with another space of its guest
 abbrev pub in_space : Source → Space → Source
 in_space node space = record node { guest = record node.guest { space = space } }
 
--- a node with its guest's space
+-- the space of its guest
 abbrev pub space_of : Source → Space
 space_of node = node.guest.space
 
@@ -97,6 +101,7 @@ space_of node = node.guest.space
 abbrev pub all_registered : Space → Space
 all_registered space = registered_in space 0 HIGH_PAGE for_both
 
+-- a migration begins, in the next epoch
 abbrev pub source_started : Source → Source
 source_started node = record (in_space node (all_registered (space_of node))) { phase = SourcePhase.Precopy; epoch = node.epoch + 1 }
 
@@ -104,6 +109,7 @@ source_started node = record (in_space node (all_registered (space_of node))) { 
 abbrev pub not_clean : Source → FinSet nat_cmp
 not_clean node = dirty (space_of node) node.log
 
+-- a round begins: new pages are registered, and what is not clean is to be sent
 abbrev pub round_made : Source → Source
 round_made node = record (in_space node (all_registered (space_of node))) { log = record node.log { todo = not_clean node }; rounds = node.rounds + 1 }
 
@@ -214,12 +220,14 @@ rebuild_frames Received.NotRun node = if node.switched then package_frames node 
 rebuild_frames Received.Running node = []
 rebuild_frames Received.Ended node = []
 
+-- the source after a frame that is in place
 abbrev pub source_took : Source → Frame → Source
 source_took node (Request page) = record node { asked = node.asked ++ page ∷ [] }
 source_took node (Recv state owed) = source_rebuilt state owed node
 source_took node Done = released node
 source_took node _ = node
 
+-- what it answers
 abbrev pub source_answers : Source → Frame → List Frame
 source_answers node (Recv state owed) = rebuild_frames state node
 source_answers node _ = []

@@ -196,7 +196,7 @@ AreCounted frames = AllByRecursion (λ sent. length (text Two sent.epoch sent.fr
 
 -- Which frames can be read back from their texts
 
--- each page of a set is one of the address space
+-- each page of a set lies below the end of the address space
 abbrev pub AreBelow : FinSet nat_cmp → Type 0
 AreBelow pages = (page : ℕ) → contains pages page ≡ true → page < HIGH_PAGE
 

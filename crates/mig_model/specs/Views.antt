@@ -36,13 +36,12 @@ owed_left world = if world.destination.has_run then len world.destination.owed e
 abbrev pub counted : ℕ → ℕ
 counted count = lesser count (2 ^ 64 - 1)
 
--- what a progress report prints
+-- what has been counted
 abbrev pub counts_of : World → Counts
 counts_of world =
     record {
       rounds = world.source.rounds;
       sent = counted world.source.pages_sent;
-      left = owed_left world;
       installed = counted world.destination.installed;
       dropped = counted world.destination.dropped;
       faults = counted (world.source.faults + world.destination.faults);

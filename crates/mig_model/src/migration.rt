@@ -28,7 +28,7 @@ ghost use Rattle.mig_model.specs.Wire.Frame.{Recv};
 ghost use Rattle.mig_model.specs.Migration.{World, guest_of, is_short, after_move, after_move_back, after_move_urgent, frame_effect, outcome, next, first_world, after_steps, has_started, is_used};
 ghost use Rattle.mig_model.specs.Invariant.{IsSoundWorld, AreSoundUrgent, AreSoundCalls, IsPrecopying, IsSwitching, IsReceiving, current_host, package_in};
 ghost use Rattle.mig_base.specs.declared.step.WorldPhase.{WorldPhase};
-ghost use Rattle.mig_model.specs.Views.{phase_of, new_world_with, counts_of};
+ghost use Rattle.mig_model.specs.Views.{phase_of, new_world_with, owed_left};
 ghost use Rattle.mig_model.specs.Faults.{back_fault, frame_fault, rebuild_fault, take_fault, urgent_fault};
 ghost use Rattle.mig_model.specs.Replies.{HandsOver, call_reply, last_reply};
 ghost use Rattle.mig_model.specs.Unbroken.{StaysUp, KeepsClean};
@@ -53,17 +53,18 @@ pub fn completion()
     ensures only { (world : World) (step : Step) → is_released world.source.phase ≡ false → IsComplete (next world step) → Completes world step }
 {}
 
-/// What a world tells: its phase is Complete exactly where the migration is complete, and its counts have nothing left then. A new world is one to which no step has led yet.
+/// What a world tells: its phase is Complete exactly where the migration is complete, and no page is left then. A new world is reached,
+/// by no step.
 pub fn what_a_world_tells()
     ensures complete { (world : World) → (phase_of world ≡ WorldPhase.Complete → IsComplete world) × (IsComplete world → phase_of world ≡ WorldPhase.Complete) }
-    ensures left { (world : World) → IsReached world → IsComplete world → (counts_of world).left ≡ 0 }
+    ensures left { (world : World) → IsReached world → IsComplete world → owed_left world ≡ 0 }
     ensures new { (cpus epoch rounds : ℕ) (world : World) → new_world_with cpus epoch rounds ≡ Ok world → IsReached world }
 {}
 
-/// A run that may be short of memory: in place of an answer by which the world changes a step may answer NoMemory and change nothing, as
-/// may a Deliver whose frame would have to wait. Such a run is, in what it answers else and in its world at the end, the run of its
+/// A run that may be short of memory: in place of an effect a step may answer NoMemory and change nothing, as may a Deliver whose frame
+/// would have to wait. Such a run is, in what it answers else and in its world at the end, the run of its
 /// other steps with memory enough, so every law about a reached world speaks of it. With memory enough each step does what the machine
-/// does, which never answers NoMemory; so do Break, Notice and Serve always.
+/// does, which never answers NoMemory. Break, Notice and Serve do so whether memory is short or not.
 pub fn a_run_short_of_memory()
     ensures world { (world new : World) (steps : List Step) (results : List Outcome) → IsRun world steps results new → new ≡ after_steps world (steps_made steps results) }
     ensures results { (world new : World) (steps : List Step) (results : List Outcome) → IsRun world steps results new → results_of results ≡ outcomes world (steps_made steps results) }
@@ -123,8 +124,8 @@ pub fn what_a_switch_keeps()
         outcome (after_steps (next world Step.Switch) steps) (Step.Deliver n) ≡ Ok (Effect.TookPackage owed) → KeepsClean world (after_steps (next world Step.Switch) steps) }
 {}
 
-/// Once the destination has run, each owed page is to be pushed, in flight on either wire, or arrived, and each copy of it has the bytes that the
-/// source holds.
+/// Once the destination has run, each owed page is to be pushed, in flight on either wire, or arrived, and each copy in flight or arrived
+/// has the bytes that the source holds.
 pub fn owed_pages_are_under_way()
     ensures { (world : World) → IsReached world → world.destination.has_run ≡ true → AreUnderWay world }
 {}
@@ -215,8 +216,9 @@ pub fn what_is_entered()
         (next world (Step.Retry cpu)).transcript ≡ world.transcript ++ entries_of cpu command (took_by (is_access command) (guest_of world).space command) }
 {}
 
-/// A page that is pushed, on either wire, remains no longer, and no page comes to remain but by Switch and by the taking of a Recv. Neither comes behind
-/// a Push or PushUrgent in its epoch: as long as the epoch is that of the push no Switch is accepted, and no Recv is the next frame of the wire back.
+/// A page that is pushed, on either wire, remains no longer, and no page comes to remain but by Switch and by the taking of a Recv. Neither
+/// comes behind a Push or PushUrgent in its epoch: as long as the epoch is that of the push no Switch is accepted, and no Recv is the next
+/// frame of the wire back.
 /// An End that nothing else refuses is accepted exactly where no page remains.
 pub fn pages_that_remain()
     ensures push { (world : World) (ticket : Ticket) (q : ℕ) → IsOk (outcome world (Step.Push ticket)) →
