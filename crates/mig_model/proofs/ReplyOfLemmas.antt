@@ -1,7 +1,8 @@
 -- What a reply depends on: that of a map call on which addresses are mapped with which protection, and that of an access on the cells
 -- that it reads.
-use Rattle.std.proofs.Common.{◌≡◌, ℕ, zero, suc, ◌+◌, ◌-◌, ◌*◌, ◌/◌, ◌^◌, ◌<◌, ◌&&◌, ◌||◌, Bool, true, false, cond, not, eqb, ltb, leb, Option, Some, None, [], ◌∷◌, ◌++◌, refl, sym, ap, ◌∙◌, arith, is_some, add-zero}
+use Rattle.std.proofs.Common.{◌≡◌, ◌≢◌, ℕ, zero, suc, ◌+◌, ◌-◌, ◌*◌, ◌/◌, ◌^◌, ◌<◌, ◌&&◌, ◌||◌, Bool, true, false, cond, not, eqb, ltb, leb, Option, Some, None, [], ◌∷◌, ◌++◌, refl, sym, ap, ◌∙◌, arith, is_some, add-zero}
 use Rattle.std.specs.Option.{option_map}
+use Rattle.std.proofs.lemmas.Bool.{and_from, cond_both, lt-ltb}
 use Rattle.mig_base.specs.declared.TheConstants.{LOW, HIGH, MAX_PAGES}
 use Rattle.mig_base.specs.declared.Prot.{Prot}
 use Rattle.mig_base.specs.declared.command.Errno.TheVariants.{Enomem, Efault, Eexist, Einval}
@@ -16,6 +17,7 @@ use Rattle.mig_base.specs.Ranges.{in_range, count_below, none_below, rounded, fr
 use Rattle.mig_base.specs.Flat.{Cell, Memory, is_mapped, fill, zeros_with, moved, grown, written, same_prot, has_one_prot, is_unmapped, exceeds_limit, mremap_target, mremap_reply, mmap_reply, dontneed_reply, place_refusals, at_place, first_refusal, is_bad_target, is_page_start, is_aligned, access_reply, allows_load, allows_store, number_at, byte_of, reply_of}
 use Rattle.mig_base.specs.Commands.{is_access, page_of}
 use Rattle.mig_model.specs.Space.{is_made}
+use Rattle.mig_model.specs.Bounds.{IsRightAccess}
 use Rattle.mig_model.proofs.NumberLemmas.{aligned_inside}
 use Rattle.mig_model.proofs.Facts.{none_absurd}
 
@@ -111,12 +113,11 @@ same_mremap m n addr old_len new_len may_move fixed h =
 
 -- the reply of a map call
 pub reply_of-prots : (m n : Memory) (command : Command) → prots m ≡ prots n → is_access command ≡ false → reply_of m command ≡ reply_of n command
-reply_of-prots m n (Load addr width) h call = none_absurd (sym call)
-reply_of-prots m n (Store addr width value) h call = none_absurd (sym call)
 reply_of-prots m n (Mmap len prot place) h call = same_mmap m n len prot place (same_mapped m n h)
 reply_of-prots m n (Munmap addr len) h call = refl
 reply_of-prots m n (Mremap addr old_len new_len may_move fixed) h call = same_mremap m n addr old_len new_len may_move fixed h
 reply_of-prots m n (DontNeed addr len) h call = same_dontneed m n addr len (same_mapped m n h)
+reply_of-prots m n _ h call = none_absurd (sym call)
 
 -- Replies of accesses
 
@@ -142,7 +143,6 @@ reply_of-unmade m n (Load addr width) h access un =
     unmade (is_aligned addr width) (m addr) (n addr) allows_load (Value (number_at m addr width)) (Value (number_at n addr width)) (ap (λ f. f addr) h) refl un
 reply_of-unmade m n (Store addr width value) h access un =
     unmade (is_aligned addr width && ltb value (256 ^ width)) (m addr) (n addr) allows_store Done Done (ap (λ f. f addr) h) refl un
-reply_of-unmade m n (Mmap len prot place) h access un = none_absurd access
 reply_of-unmade m n _ h access un = none_absurd access
 
 same_number : (m n : Memory) (addr width : ℕ) → ((i : ℕ) → i < width → m (addr + i) ≡ n (addr + i)) → number_at m addr width ≡ number_at n addr width
@@ -167,5 +167,16 @@ pub reply_of-page : (m n : Memory) (command : Command) → is_access command ≡
 reply_of-page m n (Load addr width) access h = loaded (is_aligned addr width) m n addr width refl h
 reply_of-page m n (Store addr width value) access h =
     ap (λ o. cond (is_aligned addr width && ltb value (256 ^ width)) (access_reply o allows_store Done) BadAccess) (h addr refl)
-reply_of-page m n (Mmap len prot place) access h = none_absurd access
 reply_of-page m n _ access h = none_absurd access
+
+access_answers : (right : Bool) (o : Option Cell) (allows : Prot → Bool) (answer : Reply) → right ≡ true → answer ≢ BadAccess → cond right (access_reply o allows answer) BadAccess ≢ BadAccess
+access_answers false o allows answer is other = none_absurd is
+access_answers true None allows answer is other = λ e. cc
+access_answers true (Some cell) allows answer is other = cond_both (allows cell.prot) answer (Segv true) (λ reply. reply ≢ BadAccess) (λ e. other) (λ e f. cc)
+
+-- a load or store of the right form is answered so on no memory
+pub right_answered : (memory : Memory) (command : Command) → IsRightAccess command → reply_of memory command ≢ BadAccess
+right_answered memory (Load addr width) is = access_answers (is_aligned addr width) (memory addr) allows_load _ is.0 (λ e. cc)
+right_answered memory (Store addr width value) is =
+    access_answers (is_aligned addr width && ltb value (256 ^ width)) (memory addr) allows_store Done (and_from (is_aligned addr width) (ltb value (256 ^ width)) is.0 (lt-ltb value (256 ^ width) is.1)) (λ e. cc)
+right_answered memory _ is = absurd is
