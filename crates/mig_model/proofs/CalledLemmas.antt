@@ -116,9 +116,7 @@ cleared false c x y b d = none_absurd b
 cleared true false x y b d = none_absurd d
 
 gone_still : (b c : Bool) (o : Option ℕ) → o ≡ None → cond b (cond c None o) o ≡ None
-gone_still true true o h = refl
-gone_still true false o h = h
-gone_still false c o h = h
+gone_still v0 c o h = grind (arith, nat_tests)
 
 stays_one : (from count new_count page : ℕ) (x y : Option ℕ) → (from ≤ page → y ≡ x) → (from + count ≤ page → page < from + new_count → x ≡ None) →
     cond (ltb new_count count) (cond (in_range (from + new_count) (count - new_count) page) None x) x ≡ cond (in_range from new_count page) (cond (ltb (page - from) count) y None) (cond (in_range from count page) None x)
@@ -136,9 +134,7 @@ goes_one from count to new_count page x y (inr apart) = grind (arith, nat_tests,
 
 stays_all : (away : Bool) (owed : ℕ → Option ℕ) (from count new_count : ℕ) → away ≡ false → ((page : ℕ) → from + count ≤ page → page < from + new_count → owed page ≡ None) →
     shifted_if away (gone_if (ltb new_count count) (gone_if away owed from new_count) (from + new_count) (count - new_count)) from from (lesser count new_count) ≡ moved_owed owed from count from new_count
-stays_all true owed from count new_count is free = none_absurd (sym is)
-stays_all false owed from count new_count is free =
-    λ i page. (stays_one from count new_count page (owed page) (owed (from + (page - from))) (λ low. ap owed (omega (arith, low))) (free page)) i
+stays_all v0 owed from count new_count is free = grind (arith, nat_tests)
 
 goes_all : (away : Bool) (owed : ℕ → Option ℕ) (from count to new_count : ℕ) → away ≡ true → (from + count ≤ to) ⊎ (to + new_count ≤ from) →
     shifted_if away (gone_if (ltb new_count count) (gone_if away owed to new_count) (from + new_count) (count - new_count)) from to (lesser count new_count) ≡ moved_owed owed from count to new_count

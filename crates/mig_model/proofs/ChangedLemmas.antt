@@ -1,5 +1,6 @@
 -- The host that the guest sees changes as a command says, and each page that is still owed stays registered and missing.
-use Rattle.std.proofs.Common.{◌≡◌, ℕ, ◌+◌, ◌-◌, ◌/◌, ◌%◌, Bool, true, false, cond, eqb, ltb, Option, Some, None, List, refl, sym, ap, ◌∙◌, unwrap_or}
+use Rattle.std.proofs.lemmas.Bool.Decides.{nat_tests}
+use Rattle.std.proofs.Common.{◌≡◌, ℕ, ◌+◌, ◌-◌, ◌/◌, ◌%◌, Bool, true, false, cond, eqb, ltb, Option, Some, None, List, refl, sym, ap, ◌∙◌, unwrap_or, arith}
 use Rattle.std.specs.FinMap.{get, insert}
 use Rattle.mig_base.specs.declared.Prot.{Prot}
 use Rattle.mig_base.specs.declared.command.Errno.TheVariants.{Enomem}
@@ -35,10 +36,7 @@ overlay_gone there false o origin = refl
 
 overlay_moved : (there : PageMap (List ℕ)) (new old from : Bool) (a b : Option (List ℕ)) (x y : Option ℕ) →
     overlay there (cond new (cond old a None) (cond from None b)) (cond new (cond old x None) (cond from None y)) ≡ cond new (cond old (overlay there a x) None) (cond from None (overlay there b y))
-overlay_moved there true true from a b x y = refl
-overlay_moved there true false from a b x y = refl
-overlay_moved there false old true a b x y = refl
-overlay_moved there false old false a b x y = refl
+overlay_moved there v1 old from a b x y = grind (arith, nat_tests)
 
 -- a range that goes
 gone_seen : (here there : Host) (areas : PageMap Prot) (owed : ℕ → Option ℕ) (first count : ℕ) → IsSound here → AreMapped here owed →

@@ -1,4 +1,5 @@
 -- A command changes the pages of a host as it changes the flat memory that they mean.
+use Rattle.std.proofs.lemmas.Bool.Decides.{nat_tests}
 use Rattle.std.proofs.Common.{◌≡◌, ℕ, ◌+◌, ◌-◌, ◌*◌, ◌/◌, ◌%◌, ◌^◌, ◌≤◌, ◌&&◌, Bool, true, false, cond, ltb, Option, Some, None, List, [], refl, sym, ap, ◌∙◌, arith, length, is_some, unwrap_or, zero-add}
 use Rattle.std.specs.Int.{bytes_low_first}
 use Rattle.std.specs.FinMap.{get, contains_key}
@@ -36,9 +37,7 @@ stored_form m addr width value h =
     and_left (is_aligned addr width) (ltb value (256 ^ width)) (done_form (is_aligned addr width && ltb value (256 ^ width)) (access_reply (m addr) allows_store Done) h)
 
 some_cell : (o : Option Cell) (a : Bool) → a ≡ true → Done ≡ cond a (access_reply o allows_store Done) BadAccess → is_some o ≡ true
-some_cell None true e h = absurd (cc)
-some_cell (Some cell) true e h = refl
-some_cell o false e h = absurd (false≢true e)
+some_cell o v1 e h = grind (arith, nat_tests)
 
 -- and its page is mapped
 pub stored_mapped : (host : Host) (addr width value : ℕ) → Done ≡ reply_of (memory host) (Store addr width value) → contains_key host.areas (addr / 4096) ≡ true

@@ -34,10 +34,7 @@ same_range : (addr len page : ℕ) → page < HIGH_PAGE → in_range (addr / 409
 same_range addr len page low = grind (arith, nat_tests, low)
 
 cond_none : (b c : Bool) (x : Option ℕ) → x ≡ None → cond b None x ≡ cond c None x
-cond_none true true x h = refl
-cond_none true false x h = sym h
-cond_none false true x h = h
-cond_none false false x h = refl
+cond_none v0 v1 x h = grind (arith, nat_tests)
 
 -- a range that reaches past the address space is cut at its end, behind which nothing is owed
 hole_right : (here : Host) (owed : ℕ → Option ℕ) (addr len page : ℕ) → IsSound here → AreMapped here owed → owed_after (Remove addr (lesser (addr + rounded len) HIGH)) owed page ≡ gone owed (addr / 4096) (pages_of len) page
@@ -88,9 +85,7 @@ same_not : (a b : ℕ) → a ≡ b → eqb a b ≡ false → ⊥
 same_not a b e h = grind (arith, nat_tests, e, h)
 
 fewer_apart : (here : Host) (from count to new_count n : ℕ) → IsLaid here from count to new_count → eqb to from ≡ false → n ≡ lesser count new_count → (from + n ≤ to) ⊎ (to + n ≤ from)
-fewer_apart here from count to new_count n (Stays same free) other is = absurd (same_not to from same other)
-fewer_apart here from count to new_count n (Goes away (inl h)) other is = let l = lesser_left count new_count in inl (omega (arith, h, l, is))
-fewer_apart here from count to new_count n (Goes away (inr h)) other is = let l = lesser_right count new_count in inr (omega (arith, h, l, is))
+fewer_apart here from count to new_count n v6 other is = grind (arith, nat_tests)
 
 pub right_called : (space : Space) (command : Command) (reply : Reply) → IsSoundSpace space → reply ≡ reply_of (memory space.host) command → AllRight (call_messages space.object command reply)
 right_called space (Mmap len prot place) (At start) sound is =

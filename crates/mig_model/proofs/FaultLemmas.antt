@@ -1,5 +1,6 @@
 -- The messages of page faults that wait are of page faults alone, and stay so.
-use Rattle.std.proofs.Common.{◌≡◌, ℕ, Bool, true, false, List, [], ◌∷◌, ◌++◌, refl, sym, ◌∙◌, subst, if◌then◌else◌}
+use Rattle.std.proofs.lemmas.Bool.Decides.{nat_tests}
+use Rattle.std.proofs.Common.{◌≡◌, ℕ, Bool, true, false, List, [], ◌∷◌, ◌++◌, refl, sym, ◌∙◌, subst, if◌then◌else◌, arith}
 use Rattle.mig_base.specs.declared.command.Access.{Access}
 use Rattle.mig_base.specs.declared.command.Access.TheVariants.{Answered, Missing, Protected}
 use Rattle.mig_base.specs.declared.command.Command.{Command}
@@ -45,10 +46,7 @@ queued_faults object [] cpu = refl
 queued_faults object (message ∷ messages) cpu = queued_faults (event_queued object message cpu) messages cpu
 
 modes_faults : (object : Object) (command : Command) (reply : Reply) → (modes_after object command reply).faults ≡ object.faults
-modes_faults object (Mmap len prot place) (At start) = refl
-modes_faults object (Munmap addr len) Done = refl
-modes_faults object (Mremap addr old_len new_len may_move fixed) (At target) = refl
-modes_faults object _ _ = refl
+modes_faults object v1 v2 = grind (arith, nat_tests)
 
 -- a map call queues no fault
 pub called_faults : (space : Space) (cpu : ℕ) (command : Command) → (called space cpu command).object.faults ≡ space.object.faults

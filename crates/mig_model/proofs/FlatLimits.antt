@@ -1,4 +1,5 @@
 -- No flat memory has more than MAX_PAGES pages.
+use Rattle.std.proofs.lemmas.Bool.Decides.{nat_tests}
 use Rattle.std.proofs.Common.{◌≡◌, ℕ, zero, suc, ◌+◌, ◌-◌, ◌*◌, ◌<◌, ◌≤◌, ◌&&◌, ◌||◌, Bool, true, false, cond, not, eqb, ltb, Option, Some, None, is_some, List, [], ◌∷◌, ◌++◌, inr, refl, ap, ◌∙◌, arith}
 use Rattle.std.proofs.lemmas.Bool.{false≢true, ltb-false}
 use Rattle.mig_base.specs.declared.TheConstants.{LOW, HIGH, MAX_PAGES}
@@ -35,10 +36,7 @@ count_inside : (first count bound : ℕ) → first + count ≤ bound → count_b
 count_inside first count bound h = ap (count_below (in_range first count)) (omega (arith, h)) ∙ count_range first count (bound - (first + count))
 
 either_one : (p q r : Bool) → (r ≡ true → (p || q) ≡ true) → cond r 1 0 ≤ cond p 1 0 + cond q 1 0
-either_one p q false h = omega arith
-either_one true q true h = omega arith
-either_one false true true h = omega arith
-either_one false false true h = absurd (false≢true (h refl))
+either_one p q v2 h = grind (arith, nat_tests)
 
 sum_either : (a b c d e f : ℕ) → a ≤ b + c → d ≤ e + f → a + d ≤ (b + e) + (c + f)
 sum_either a b c d e f h k = omega (arith, h, k)
@@ -51,10 +49,7 @@ count_either p q r (suc bound) h =
     sum_either (count_below r bound) (count_below p bound) (count_below q bound) (cond (r bound) 1 0) (cond (p bound) 1 0) (cond (q bound) 1 0) (count_either p q r bound h) (either_one (p bound) (q bound) (r bound) (h bound))
 
 apart_one : (all part : Bool) → (part ≡ true → all ≡ true) → cond (all && not part) 1 0 + cond part 1 0 ≡ cond all 1 0
-apart_one true true h = refl
-apart_one true false h = refl
-apart_one false true h = absurd (false≢true (h refl))
-apart_one false false h = refl
+apart_one v0 v1 h = grind (arith, nat_tests)
 
 sum_apart : (a b c d e f : ℕ) → a + b ≡ c → d + e ≡ f → (a + d) + (b + e) ≡ c + f
 sum_apart a b c d e f h k = omega (arith, h, k)
@@ -110,9 +105,7 @@ some_or None h = absurd (h refl)
 some_or (Some x) h = refl
 
 moved_or_was : (target old : Bool) (put here : Option Cell) → is_some (cond target put (cond old None here)) ≡ true → (target || (is_some here && not old)) ≡ true
-moved_or_was true old put here h = refl
-moved_or_was false true put here h = absurd (false≢true h)
-moved_or_was false false put here h = ap (λ b. b && true) h
+moved_or_was v0 old put here h = grind (arith, nat_tests)
 
 in_range_at : (first count n : ℕ) → in_range first count n ≡ true → (first + (n - first) ≡ n) × (n - first < count)
 in_range_at first count n h = grind (arith, ranges)
@@ -157,9 +150,7 @@ mremap_few memory addr old_len new_len may_move fixed target bounded h =
 -- Every command
 
 written_was : (here : Bool) (o : Option Cell) (byte : ℕ) → is_some (cond here (written o byte) o) ≡ true → is_some o ≡ true
-written_was true (Some cell) byte h = refl
-written_was true None byte h = h
-written_was false o byte h = h
+written_was v0 o byte h = grind (arith, nat_tests)
 
 cleared_was : (here : Bool) (o : Option Cell) → is_some (cond here None o) ≡ true → is_some o ≡ true
 cleared_was true o h = absurd (false≢true h)

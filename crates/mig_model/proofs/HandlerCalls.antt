@@ -1,5 +1,6 @@
 -- Where a step zeroes, unprotects, protects, installs or registers, the call of the userfault object is accepted and does just that.
-use Rattle.std.proofs.Common.{◌≡◌, ℕ, ◌*◌, ◌&&◌, ◌||◌, Bool, true, false, not, ltb, Option, Some, None, List, ◌∷◌, refl, sym, ap, ◌∙◌, subst, length, if◌then◌else◌, IsOk, ◌<◌, ◌-◌, ◌+◌}
+use Rattle.std.proofs.lemmas.Bool.Decides.{nat_tests}
+use Rattle.std.proofs.Common.{◌≡◌, ℕ, ◌*◌, ◌&&◌, ◌||◌, Bool, true, false, not, ltb, Option, Some, None, List, ◌∷◌, refl, sym, ap, ◌∙◌, subst, length, if◌then◌else◌, IsOk, ◌<◌, ◌-◌, ◌+◌, arith}
 use Rattle.std.specs.Prelude.{Ok}
 use Rattle.std.specs.Ordering.{nat_cmp}
 use Rattle.std.specs.FinMap.{contains_key, get}
@@ -63,28 +64,17 @@ source_served true here protected h = absurd (let other : Forgot ≡ Zeroed = h 
 source_served false here protected h = refl
 
 source_cleared : (gone here protected : Bool) → source_act_by gone here protected ≡ Unprotected → protected ≡ true
-source_cleared true here protected h = absurd (let other : Forgot ≡ Unprotected = h in cc)
-source_cleared false false protected h = absurd (let other : Zeroed ≡ Unprotected = h in cc)
-source_cleared false true true h = refl
-source_cleared false true false h = absurd (let other : Woke ≡ Unprotected = h in cc)
+source_cleared v0 here protected h = grind (arith, nat_tests)
 
 destination_served : (gone here : Bool) (owed : Option ℕ) → destination_act_by gone here owed ≡ Zeroed → gone ≡ false
 destination_served true here owed h = absurd (let other : Forgot ≡ Zeroed = h in cc)
 destination_served false here owed h = refl
 
 told_unprotected : (act : Act) (a b : ℕ) → act_effect act a ≡ Effect.Unprotected b → (act ≡ Unprotected) × (a ≡ b)
-told_unprotected Unprotected a b h = (refl, cc)
-told_unprotected Zeroed a b h = absurd (cc)
-told_unprotected Woke a b h = absurd (cc)
-told_unprotected Forgot a b h = absurd (cc)
-told_unprotected (Requested origin) a b h = absurd (cc)
+told_unprotected v0 a b h = grind (arith, nat_tests)
 
 unswitched_unreleased : (phase : SourcePhase) (switched : Bool) → SwitchedAt phase switched → switched ≡ false → is_released phase ≡ false
-unswitched_unreleased SourcePhase.Released switched at not = absurd (false≢true (sym not ∙ at))
-unswitched_unreleased SourcePhase.Idle switched at not = refl
-unswitched_unreleased SourcePhase.Precopy switched at not = refl
-unswitched_unreleased SourcePhase.Stopped switched at not = refl
-unswitched_unreleased SourcePhase.Paused switched at not = refl
+unswitched_unreleased v0 switched at not = grind (arith, nat_tests)
 
 -- the object of a source that runs its processors
 source_open : (cpus : ℕ) (world : World) → IsBounded cpus world → world.source.switched ≡ false → IsOpen (space_of world.source).object all_features
@@ -333,17 +323,7 @@ abbrev IsAssembled : World → Type 0
 IsAssembled new = new.destination.guest.space ≡ assembled new.destination.guest.space.host.areas new.destination.guest.space.host.bytes
 
 frame_assembles : (frame : Frame) (epoch : ℕ) (rest : List Sent) (world : World) (count : ℕ) → frame_effect frame ≡ Effect.TookPackage count → IsAssembled (after_deliver world (record { epoch = epoch; frame = frame }) rest)
-frame_assembles (Package areas owed commands) epoch rest world count h = refl
-frame_assembles Advise epoch rest world count h = absurd (cc)
-frame_assembles (Page page bytes) epoch rest world count h = absurd (cc)
-frame_assembles (Zero page) epoch rest world count h = absurd (cc)
-frame_assembles (PageRun first pages) epoch rest world count h = absurd (cc)
-frame_assembles (Discard pages) epoch rest world count h = absurd (cc)
-frame_assembles (End urgent) epoch rest world count h = absurd (cc)
-frame_assembles Resume epoch rest world count h = absurd (cc)
-frame_assembles (Request page) epoch rest world count h = absurd (cc)
-frame_assembles (Recv state owed) epoch rest world count h = absurd (cc)
-frame_assembles Done epoch rest world count h = absurd (cc)
+frame_assembles v0 epoch rest world count h = grind (arith, nat_tests)
 
 no_package : (n count : ℕ) → Effect.Moved n ≡ Effect.TookPackage count → ⊥
 no_package n count h = cc

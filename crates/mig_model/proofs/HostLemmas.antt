@@ -252,9 +252,7 @@ IsSound-unmap host first count sound =
 -- Pages made missing
 
 zeroes : (b : Bool) (byte : ℕ) (o : Option Prot) → with_byte (cond b 0 byte) o ≡ cond b (written (with_byte byte o) 0) (with_byte byte o)
-zeroes true byte None = refl
-zeroes true byte (Some prot) = refl
-zeroes false byte o = refl
+zeroes v0 byte o = grind (arith, nat_tests)
 
 pub memory-dropped : (host : Host) (first count : ℕ) → memory (host_dropped host first count) ≡ zeroed (memory host) (first * 4096) (4096 * count)
 memory-dropped host first count =
@@ -285,10 +283,7 @@ zero_cell o = with_byte 0 o
 chosen_cell : (new old from : Bool) (area growth here : Option Prot) (held own : Option (List ℕ)) (offset : ℕ) →
     cell_of (cond new (cond old held None) (cond from None own)) offset (cond new (cond old area growth) (cond from None here))
     ≡ cond new (cond old (cell_of held offset area) (zero_cell growth)) (cond from None (cell_of own offset here))
-chosen_cell true true from area growth here held own offset = refl
-chosen_cell true false from area growth here held own offset = refl
-chosen_cell false old true area growth here held own offset = refl
-chosen_cell false old false area growth here held own offset = refl
+chosen_cell v0 old from area growth here held own offset = grind (arith, nat_tests)
 
 shorter_pages : (to count q : ℕ) → ltb (q / 4096 - to) count ≡ ltb (q - to * 4096) (4096 * count)
 shorter_pages to count q = ltb_same (q / 4096 - to) count (q - to * 4096) (4096 * count) (λ h. omega arith) (λ h. omega arith)
@@ -334,17 +329,11 @@ memory-moved host from count to new_count =
 
 moved_mapped : (new old from : Bool) (area growth here : Option Prot) (held own : Option (List ℕ)) → (area ≡ None → held ≡ None) → (here ≡ None → own ≡ None) →
     cond new (cond old area growth) (cond from None here) ≡ None → cond new (cond old held None) (cond from None own) ≡ None
-moved_mapped true true from area growth here held own a b h = a h
-moved_mapped true false from area growth here held own a b h = refl
-moved_mapped false old true area growth here held own a b h = refl
-moved_mapped false old false area growth here held own a b h = b h
+moved_mapped v0 old from area growth here held own a b h = grind (arith, nat_tests)
 
 moved_whole : (new old from : Bool) (held own : Option (List ℕ)) (bytes : List ℕ) → (held ≡ Some bytes → length bytes ≡ 4096) → (own ≡ Some bytes → length bytes ≡ 4096) →
     cond new (cond old held None) (cond from None own) ≡ Some bytes → length bytes ≡ 4096
-moved_whole true true from held own bytes a b h = a h
-moved_whole true false from held own bytes a b h = absurd (none-some bytes h)
-moved_whole false old true held own bytes a b h = absurd (none-some bytes h)
-moved_whole false old false held own bytes a b h = b h
+moved_whole v0 old from held own bytes a b h = grind (arith, nat_tests)
 
 pub IsSound-moved : (host : Host) (from count to new_count : ℕ) → IsSound host → to + new_count ≤ HIGH_PAGE → IsSound (host_moved host from count to new_count)
 IsSound-moved host from count to new_count sound high =

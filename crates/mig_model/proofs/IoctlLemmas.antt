@@ -28,10 +28,7 @@ use Rattle.mig_model.proofs.Facts.{none_absurd, and_second, and_left, eqb-self, 
 
 -- a page that has a mode afterwards had it, or is one of those that were asked for
 registered_one : (low test has mode old : Bool) → (low && cond (test && not has) mode old) ≡ true → (test ≡ true) ⊎ (old ≡ true)
-registered_one false test has mode old h = none_absurd h
-registered_one true true true mode old h = inr h
-registered_one true true false mode old h = inl refl
-registered_one true false has mode old h = inr h
+registered_one v0 test has mode old h = grind (arith, nat_tests)
 
 refl_or : (a : Bool) → cond (not (a && true)) true true ≡ true
 refl_or true = refl
@@ -45,13 +42,7 @@ refl_kept false = refl
 still_watched : (low mapped missing has_missing mode_missing mode_protect protect : Bool) → low ≡ true → protect ≡ true →
     (mode_protect || ((not mode_missing || has_missing) && (not mode_protect || protect)) || not mapped) ≡ true →
     (low && cond (mapped && not ((not mode_missing || has_missing) && (not mode_protect || protect))) mode_protect protect) ≡ true
-still_watched false mapped missing has_missing mode_missing mode_protect protect low is h = none_absurd low
-still_watched true mapped missing has_missing mode_missing mode_protect false low is h = none_absurd is
-still_watched true false missing has_missing mode_missing mode_protect true low is h = refl
-still_watched true true missing has_missing mode_missing true true low is h = refl_or (not mode_missing || has_missing)
-still_watched true true missing true mode_missing false true low is h = refl_kept (not mode_missing)
-still_watched true true missing false true false true low is h = none_absurd h
-still_watched true true missing false false false true low is h = refl
+still_watched v0 mapped missing has_missing mode_missing mode_protect protect low is h = grind (arith, nat_tests)
 
 low_or : {page : ℕ} → (HIGH_PAGE ≤ page → ⊥) → ltb page HIGH_PAGE ≡ true
 low_or h = grind (arith, nat_tests, h)
@@ -175,11 +166,7 @@ IsSoundSpace-installed space first count bytes protect can sound =
 -- Write protection
 
 protected_one : (low here protect present old : Bool) → (low && cond here (protect && present) old) ≡ true → (here ≡ true) × (present ≡ true) ⊎ (old ≡ true)
-protected_one false here protect present old h = none_absurd h
-protected_one true true true true old h = inl (refl, refl)
-protected_one true true true false old h = none_absurd h
-protected_one true true false present old h = none_absurd h
-protected_one true false protect present old h = inr h
+protected_one v0 here protect present old h = grind (arith, nat_tests)
 
 pub IsSoundSpace-protected : (space : Space) (first count : ℕ) (protect : Bool) → ((page : ℕ) → in_range first count page ≡ true → contains space.object.protect page ≡ true) → IsSoundSpace space → IsSoundSpace (protected_in space first count protect)
 IsSoundSpace-protected space first count protect watched sound =
@@ -243,9 +230,7 @@ every_page test first count page h low high =
     ap test (sym at) ∙ not-false (test (first + (page - first))) (none_below_tells (λ i. not (test (first + i))) count (page - first) h (omega arith))
 
 found_bound : (o : Option ℕ) (here : Bool) (bound k : ℕ) → (o ≡ Some k → k < bound) → (elim o [ Some least ↦ Some least | None ↦ cond here (Some bound) None ]) ≡ Some k → k < suc bound
-found_bound (Some least) here bound k h e = let l = h e in omega (arith, l)
-found_bound None true bound k h e = let same = same_Some bound k e in omega (arith, same)
-found_bound None false bound k h e = absurd (cc)
+found_bound v0 here bound k h e = grind (arith, nat_tests)
 
 least_bound : (test : ℕ → Bool) (bound k : ℕ) → least_below test bound ≡ Some k → k < bound
 unfolding least_below

@@ -1,4 +1,5 @@
 -- The mapped pages of a host lie in the address space, and there are not too many.
+use Rattle.std.proofs.lemmas.Bool.Decides.{nat_tests}
 use Rattle.std.proofs.Common.{◌≡◌, ℕ, ◌*◌, ◌/◌, ◌<◌, ◌≤◌, Bool, true, false, Option, is_some, List, [], ◌∷◌, ◌++◌, sym, ap, ◌∙◌, inl, inr, arith}
 use Rattle.std.specs.Ordering.{nat_cmp}
 use Rattle.std.specs.FinMap.{contains_key, empty, get-empty, len-empty}
@@ -77,9 +78,7 @@ IsMapping-guest world kept =
 -- A host that tries a command is as it was, or as the command leaves it
 
 host_accessed : (P : Host → Type 0) (access : Access) (space : Space) (cpu : ℕ) (command : Command) → P space.host → P (host_after space.host command) → P (accessed_by access space cpu command).host
-host_accessed P (Answered reply) space cpu command old new = new
-host_accessed P Missing space cpu command old new = old
-host_accessed P Protected space cpu command old new = old
+host_accessed v0 v1 space cpu command old new = grind (arith, nat_tests)
 
 pub host_tried : (P : Host → Type 0) (access : Bool) (space : Space) (cpu : ℕ) (command : Command) → P space.host → P (host_after space.host command) → P (space_by access space cpu command).host
 host_tried P true space cpu command old new = host_accessed P (access_of space command) space cpu command old new

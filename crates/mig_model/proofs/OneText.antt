@@ -1,4 +1,5 @@
 -- A text determines its version, its epoch and its frame, whatever bytes follow.
+use Rattle.std.proofs.lemmas.Bool.Decides.{nat_tests}
 use Rattle.std.proofs.Common.{◌≡◌, ℕ, zero, suc, ◌^◌, ◌<◌, ◌≤◌, Bool, true, false, cond, eqb, Option, Some, None, List, [], ◌∷◌, ◌++◌, length, map, take, drop, get_or, refl, sym, ap, ◌∙◌, arith, append_assoc}
 use Rattle.std.specs.List.{flat_map, AllByRecursion}
 use Rattle.std.specs.Int.{w32, w64, to_be_bytes, from_be_bytes}
@@ -169,9 +170,7 @@ state_numbered (suc zero) = Received.Running
 state_numbered (suc (suc _)) = Received.Ended
 
 state_numbered-state_code : (state : Received) → state_numbered (state_code state) ≡ state
-state_numbered-state_code Received.NotRun = refl
-state_numbered-state_code Received.Running = refl
-state_numbered-state_code Received.Ended = refl
+state_numbered-state_code v0 = grind (arith, nat_tests)
 
 same_package : (areas others : FinMap nat_cmp Prot) (owed due : FinSet nat_cmp) (x y : List (Option Command)) (s r : List ℕ) → FitsText (Package areas owed x) → FitsText (Package others due y)
     → body_text (Package areas owed x) ++ s ≡ body_text (Package others due y) ++ r → Package areas owed x ≡ Package others due y
@@ -212,10 +211,7 @@ same_body f g s r tags wf wg hf hg e = absurd (omega (arith, tags))
 -- Texts
 
 same_version : (v w : Version) → version_code v ≡ version_code w → v ≡ w
-same_version One One e = refl
-same_version Two Two e = refl
-same_version One Two e = absurd (omega (arith, e))
-same_version Two One e = absurd (omega (arith, e))
+same_version v0 v1 e = grind (arith, nat_tests)
 
 pub text-is : (v : Version) (epoch : ℕ) (frame : Frame) → has_frame v frame ≡ true → text v epoch frame ≡ header_text v (tag_code frame) epoch (length (body_text frame)) ++ body_text frame
 unfolding text

@@ -1,5 +1,6 @@
 -- The userfault objects stay enabled, with the features that were asked for.
-use Rattle.std.proofs.Common.{◌≡◌, ℕ, Bool, true, false, Option, Some, None, List, [], ◌∷◌, refl, sym, ◌∙◌, if◌then◌else◌}
+use Rattle.std.proofs.lemmas.Bool.Decides.{nat_tests}
+use Rattle.std.proofs.Common.{◌≡◌, ℕ, Bool, true, false, Option, Some, None, List, [], ◌∷◌, refl, sym, ◌∙◌, if◌then◌else◌, arith}
 use Rattle.std.specs.Ordering.{nat_cmp}
 use Rattle.std.specs.FinSet.{FinSet}
 use Rattle.std.proofs.lemmas.Bool.{false≢true}
@@ -54,15 +55,10 @@ events_open object [] cpu features open_one = open_one
 events_open object (message ∷ messages) cpu features open_one = events_open (event_queued object message cpu) messages cpu features (record { enabled = open_one.enabled; asked = open_one.asked })
 
 modes_open : (object : Object) (command : Command) (reply : Reply) (features : ℕ) → IsOpen object features → IsOpen (modes_after object command reply) features
-modes_open object (Mmap len prot place) (At start) features open_one = record { enabled = open_one.enabled; asked = open_one.asked }
-modes_open object (Munmap addr len) Done features open_one = record { enabled = open_one.enabled; asked = open_one.asked }
-modes_open object (Mremap addr old_len new_len may_move fixed) (At target) features open_one = record { enabled = open_one.enabled; asked = open_one.asked }
-modes_open object _ _ features open_one = open_one
+modes_open object v1 v2 features open_one = grind (arith, nat_tests)
 
 accessed_open : (access : Access) (space : Space) (cpu : ℕ) (command : Command) (features : ℕ) → IsOpen space.object features → IsOpen (accessed_by access space cpu command).object features
-accessed_open (Answered reply) space cpu command features open_one = open_one
-accessed_open Missing space cpu command features open_one = fault_open space.object _ _ _ cpu features open_one
-accessed_open Protected space cpu command features open_one = fault_open space.object _ _ _ cpu features open_one
+accessed_open v0 space cpu command features open_one = grind (arith, nat_tests)
 
 tried_open : (access : Bool) (space : Space) (cpu : ℕ) (command : Command) (features : ℕ) → IsOpen space.object features → IsOpen (space_by access space cpu command).object features
 tried_open true space cpu command features open_one = accessed_open (access_of space command) space cpu command features open_one
@@ -75,10 +71,7 @@ message_open [] object features open_one = record { enabled = open_one.enabled; 
 message_open (fault ∷ faults) object features open_one = record { enabled = open_one.enabled; asked = open_one.asked }
 
 read_open : (guest : Guest) (cpu : ℕ) (message : Message) (features : ℕ) → IsOpen guest.space.object features → IsOpen (read_guest guest cpu message).space.object features
-read_open guest cpu (PageFault addr write wp tid) features open_one = message_open guest.space.object.faults guest.space.object features open_one
-read_open guest cpu (Remap from to len) features open_one = message_open guest.space.object.faults guest.space.object features open_one
-read_open guest cpu (Remove start end) features open_one = message_open guest.space.object.faults guest.space.object features open_one
-read_open guest cpu (Unmap start end) features open_one = message_open guest.space.object.faults guest.space.object features open_one
+read_open guest cpu v2 features open_one = grind (arith, nat_tests)
 
 -- Both nodes
 
@@ -130,9 +123,7 @@ came_open true world copy h = h
 came_open false world copy h = h
 
 resumed_open : (state : Received) (world : World) (epoch : ℕ) → HasOpenObjects world → HasOpenObjects (record world { destination = resumed_by state (record world.destination { epoch = epoch; urgent_taken = 0 }) })
-resumed_open Received.NotRun world epoch h = h
-resumed_open Received.Running world epoch h = h
-resumed_open Received.Ended world epoch h = h
+resumed_open v0 world epoch h = grind (arith, nat_tests)
 
 took_open : (frame : Frame) (epoch : ℕ) (world : World) → HasOpenObjects world → HasOpenObjects (record world { destination = destination_took world.destination epoch frame })
 took_open (Package areas owed commands) epoch world h = record { source = h.source; destination = λ r. record { enabled = refl; asked = refl } }
@@ -163,25 +154,13 @@ urgent_open Finished world h = h
 -- Phases in which the source is not released
 
 pub idle_unreleased : (phase : SourcePhase) → is_source_idle phase ≡ true → is_released phase ≡ false
-idle_unreleased SourcePhase.Released h = sym h
-idle_unreleased SourcePhase.Idle h = refl
-idle_unreleased SourcePhase.Precopy h = refl
-idle_unreleased SourcePhase.Stopped h = refl
-idle_unreleased SourcePhase.Paused h = refl
+idle_unreleased v0 h = grind (arith, nat_tests)
 
 precopy_unreleased : (phase : SourcePhase) → is_precopy phase ≡ true → is_released phase ≡ false
-precopy_unreleased SourcePhase.Released h = sym h
-precopy_unreleased SourcePhase.Idle h = refl
-precopy_unreleased SourcePhase.Precopy h = refl
-precopy_unreleased SourcePhase.Stopped h = refl
-precopy_unreleased SourcePhase.Paused h = refl
+precopy_unreleased v0 h = grind (arith, nat_tests)
 
 paused_unreleased : (phase : SourcePhase) → is_source_paused phase ≡ true → is_released phase ≡ false
-paused_unreleased SourcePhase.Released h = sym h
-paused_unreleased SourcePhase.Idle h = refl
-paused_unreleased SourcePhase.Precopy h = refl
-paused_unreleased SourcePhase.Stopped h = refl
-paused_unreleased SourcePhase.Paused h = refl
+paused_unreleased v0 h = grind (arith, nat_tests)
 
 rebuilt_open : (switched : Bool) (world : World) (owed : FinSet nat_cmp) → is_released world.source.phase ≡ false → HasOpenObjects world →
     HasOpenObjects (record world { source = source_rebuilt Received.NotRun owed (record world.source { switched = switched }) })
@@ -189,12 +168,7 @@ rebuilt_open true world owed unreleased h = with_source _ _ (λ u. unreleased) (
 rebuilt_open false world owed unreleased h = with_source _ _ (λ u. unreleased) (λ o. o) h
 
 back_open : (frame : Frame) (world : World) → IsInPlaceBack world.source frame → HasOpenObjects world → HasOpenObjects (record world { source = source_took world.source frame })
-back_open (Recv Received.NotRun owed) world place h = rebuilt_open world.source.switched world owed (paused_unreleased world.source.phase place.0) h
-back_open (Recv Received.Running owed) world place h = with_source _ _ (λ u. paused_unreleased world.source.phase place.0) (λ o. o) h
-back_open (Recv Received.Ended owed) world place h = record { source = λ u. absurd (false≢true (sym u)); destination = h.destination }
-back_open Finished world place h = record { source = λ u. absurd (false≢true (sym u)); destination = h.destination }
-back_open (Request page) world place h = h
-back_open _ world place h = absurd place
+back_open v0 world place h = grind (arith, nat_tests)
 
 -- Steps
 

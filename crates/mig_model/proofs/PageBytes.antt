@@ -1,4 +1,5 @@
 -- The bytes of the present pages are numbers below 256, whatever is stored.
+use Rattle.std.proofs.lemmas.Bool.Decides.{nat_tests}
 use Rattle.std.proofs.Common.{◌≡◌, ℕ, zero, suc, ◌+◌, ◌-◌, ◌/◌, ◌%◌, ◌<◌, Bool, true, false, cond, eqb, ltb, Option, Some, None, List, ◌++◌, take, drop, refl, sym, ◌∙◌, subst, arith, unwrap_or, length}
 use Rattle.std.specs.Int.{byte_at, bytes_low_first}
 use Rattle.std.specs.List.{All}
@@ -69,10 +70,7 @@ removed_bytes pages first count old q bytes h = old q bytes (some_kept (in_range
 
 moved_bytes : (target longer gone : Bool) (from own : Option (List ℕ)) (bytes : List ℕ) → (from ≡ Some bytes → AreBytes bytes) → (own ≡ Some bytes → AreBytes bytes) →
     cond target (cond longer from None) (cond gone None own) ≡ Some bytes → AreBytes bytes
-moved_bytes true true gone from own bytes a b h = a h
-moved_bytes true false gone from own bytes a b h = absurd (none-some bytes h)
-moved_bytes false longer true from own bytes a b h = absurd (none-some bytes h)
-moved_bytes false longer false from own bytes a b h = b h
+moved_bytes v0 longer gone from own bytes a b h = grind (arith, nat_tests)
 
 -- every command leaves bytes
 pub changed_bytes : (host : Host) (command : Command) (reply : Reply) → HasBytes host.bytes → HasBytes (host_changed host command reply).bytes

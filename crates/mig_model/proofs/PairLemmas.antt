@@ -1,5 +1,6 @@
 -- After a map call each page that is still owed is registered and missing, and where no page was protected or registered for
 -- write-protect faults, none is.
+use Rattle.std.proofs.lemmas.Bool.Decides.{nat_tests}
 use Rattle.std.proofs.Common.{◌≡◌, ℕ, ◌+◌, ◌-◌, ◌/◌, ◌<◌, ◌≤◌, ◌&&◌, Bool, true, false, cond, not, ltb, Option, Some, None, refl, sym, ap, ◌∙◌, ⊎_elim, arith, is_some}
 use Rattle.std.specs.Ordering.{nat_cmp}
 use Rattle.std.specs.FinMap.{get, contains_key}
@@ -40,24 +41,13 @@ pairs_watched space owed pairs page origin h = (pairs page origin h).0
 
 -- one page of a range that goes
 gone_pair : {X : Type 0} (c m : Bool) (o : Option ℕ) (b : Option X) (origin : ℕ) → ((origin : ℕ) → o ≡ Some origin → (m ≡ true) × (is_some b ≡ false)) → cond c None o ≡ Some origin → ((m && not c) ≡ true) × (m ≡ true) × (is_some (cond c None b) ≡ false)
-gone_pair true m o b origin pairs h = absurd (cc)
-gone_pair false m o b origin pairs h = let is = pairs origin h in (and_true m is.0, is.0, is.1)
-  where
-    and_true : (m : Bool) → m ≡ true → (m && true) ≡ true
-    and_true true h = refl
-    and_true false h = h
+gone_pair v0 m o b origin pairs h = grind (arith, nat_tests)
 
 -- one page of a range that moves
 moved_pair : {X : Type 0} (low new old from m1 m2 mg : Bool) (x y : Option ℕ) (b1 b2 : Option X) (origin : ℕ) → (new ≡ true → low ≡ true) → (y ≡ Some origin → low ≡ true) →
     ((origin : ℕ) → x ≡ Some origin → (m1 ≡ true) × (is_some b1 ≡ false)) → ((origin : ℕ) → y ≡ Some origin → (m2 ≡ true) × (is_some b2 ≡ false)) →
     cond new (cond old x None) (cond from None y) ≡ Some origin → ((low && cond new (cond old m1 mg) (not from && m2)) ≡ true) × (is_some (cond new (cond old b1 None) (cond from None b2)) ≡ false)
-moved_pair true true true from m1 m2 mg x y b1 b2 origin high low one two h = one origin h
-moved_pair true true false from m1 m2 mg x y b1 b2 origin high low one two h = absurd (cc)
-moved_pair true false old true m1 m2 mg x y b1 b2 origin high low one two h = absurd (cc)
-moved_pair true false old false m1 m2 mg x y b1 b2 origin high low one two h = two origin h
-moved_pair false true old from m1 m2 mg x y b1 b2 origin high low one two h = none_absurd (high refl)
-moved_pair false false old true m1 m2 mg x y b1 b2 origin high low one two h = absurd (cc)
-moved_pair false false old false m1 m2 mg x y b1 b2 origin high low one two h = none_absurd (low h)
+moved_pair v0 v1 old from m1 m2 mg x y b1 b2 origin high low one two h = grind (arith, nat_tests)
 
 mapped_below : (here : Host) (page : ℕ) → IsSound here → contains_key here.areas page ≡ true → ltb page HIGH_PAGE ≡ true
 mapped_below here page sound h =
@@ -100,11 +90,7 @@ abbrev pub HasNone : FinSet nat_cmp → Type 0
 HasNone set = (page : ℕ) → contains set page ≡ false
 
 none_moved : (low new old from m1 m2 mg : Bool) → m1 ≡ false → m2 ≡ false → mg ≡ false → (low && cond new (cond old m1 mg) (not from && m2)) ≡ false
-none_moved false new old from m1 m2 mg a b c = refl
-none_moved true true true from m1 m2 mg a b c = a
-none_moved true true false from m1 m2 mg a b c = c
-none_moved true false old true m1 m2 mg a b c = refl
-none_moved true false old false m1 m2 mg a b c = b
+none_moved v0 new old from m1 m2 mg a b c = grind (arith, nat_tests)
 
 none-without : (set : Set) (first count : ℕ) → HasNone set → HasNone (without set first count)
 none-without set first count none page = member_without set first count page ∙ and_left (contains set page) (not (in_range first count page)) (none page)

@@ -53,30 +53,13 @@ in_where test page low = member_below test HIGH_PAGE page ∙ ap (λ l. l && tes
 modes_again : (missing protect here watched one : Bool) →
     let all = (not missing || here) && (not protect || watched) in
     ((not missing || cond (one && not all) missing here) && (not protect || cond (one && not all) protect watched)) ≡ (one || all)
-modes_again missing protect here watched false = refl
-modes_again false false here watched true = refl
-modes_again true false true watched true = refl
-modes_again true false false watched true = refl
-modes_again false true here true true = refl
-modes_again false true here false true = refl
-modes_again true true true true true = refl
-modes_again true true true false true = refl
-modes_again true true false watched true = refl
+modes_again missing protect here watched v4 = grind (arith, nat_tests)
 
 chosen_again : (one two all new old : Bool) → cond (two && not (one || all)) new (cond (one && not all) new old) ≡ cond ((one || two) && not all) new old
-chosen_again true true true new old = refl
-chosen_again true true false new old = refl
-chosen_again true false true new old = refl
-chosen_again true false false new old = refl
-chosen_again false two all new old = refl
+chosen_again v0 two all new old = grind (arith, nat_tests)
 
 guarded_again : (held protect all one two : Bool) → ((held && (protect || all || not one)) && (protect || (one || all) || not two)) ≡ (held && (protect || all || not (one || two)))
-guarded_again false protect all one two = refl
-guarded_again true true all one two = refl
-guarded_again true false true true two = refl
-guarded_again true false true false two = refl
-guarded_again true false false true two = refl
-guarded_again true false false false two = refl
+guarded_again v0 protect all one two = grind (arith, nat_tests)
 
 abbrev with_sets : Space → FinSet nat_cmp → FinSet nat_cmp → FinSet nat_cmp → Space
 with_sets space missing protect protected = record space { object = record space.object { missing = missing; protect = protect }; protected = protected }
@@ -113,9 +96,7 @@ registered_twice space one two mode =
 -- Registered where no page passes
 
 past_none : (low here : Bool) → (here ≡ true → low ≡ true) → (low && here) ≡ here
-past_none true here h = refl
-past_none false true h = h refl
-past_none false false h = refl
+past_none v0 here h = grind (arith, nat_tests)
 
 never : (held protect all : Bool) → (held && (protect || all || not false)) ≡ held
 never held protect all = ap (λ b. held && b) (or_true (protect || all)) ∙ and_true held
@@ -143,12 +124,7 @@ nothing_holds [] h = refl
 nothing_holds (error ∷ errors) h = ap (λ t. cond t (Some error.1) (first_holding errors)) h.0 ∙ nothing_holds errors h.1
 
 none_of_five : (a b c d e : Bool) → a ≡ true → b ≡ true → c ≡ false → d ≡ false → e ≡ false → (not a || not b || c || d || e) ≡ false
-none_of_five true true false false false ha hb hc hd he = refl
-none_of_five false b c d e ha hb hc hd he = absurd (false≢true ha)
-none_of_five true false c d e ha hb hc hd he = absurd (false≢true hb)
-none_of_five true true true d e ha hb hc hd he = hc
-none_of_five true true false true e ha hb hc hd he = hd
-none_of_five true true false false true ha hb hc hd he = he
+none_of_five v0 b c d e ha hb hc hd he = grind (arith, nat_tests)
 
 whole : (pages : ℕ) → eqb (4096 * pages % 4096) 0 ≡ true
 whole pages = let none : 4096 * pages % 4096 ≡ 0 = omega arith in grind (arith, nat_tests, none)
@@ -249,9 +225,7 @@ whole_range : (page : ℕ) → ltb page HIGH_PAGE ≡ true → in_range 0 HIGH_P
 whole_range page h = grind (arith, nat_tests, h)
 
 inside : (low mapped : Bool) → (mapped ≡ true → low ≡ true) → mapped ≡ (low && mapped)
-inside low true h = ap (λ b. b && true) (sym (h refl))
-inside true false h = refl
-inside false false h = refl
+inside low v1 h = grind (arith, nat_tests)
 
 -- the same as the registration of the whole address space
 pub every_registered : (space : Space) (mode : Mode) → IsSoundSpace space → registered_by space (λ page. contains_key space.host.areas page) mode ≡ registered_in space 0 HIGH_PAGE mode

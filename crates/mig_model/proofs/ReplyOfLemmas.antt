@@ -1,5 +1,6 @@
 -- What a reply depends on: that of a map call on which addresses are mapped with which protection, and that of an access on the cells
 -- that it reads.
+use Rattle.std.proofs.lemmas.Bool.Decides.{nat_tests}
 use Rattle.std.proofs.Common.{◌≡◌, ◌≢◌, ℕ, zero, suc, ◌+◌, ◌-◌, ◌*◌, ◌/◌, ◌^◌, ◌<◌, ◌&&◌, ◌||◌, Bool, true, false, cond, not, eqb, ltb, leb, Option, Some, None, [], ◌∷◌, ◌++◌, refl, sym, ap, ◌∙◌, arith, is_some, add-zero}
 use Rattle.std.specs.Option.{option_map}
 use Rattle.std.proofs.lemmas.Bool.{and_from, cond_both, lt-ltb}
@@ -45,10 +46,7 @@ is_some-written None byte = refl
 is_some-written (Some cell) byte = refl
 
 moved_one : (new old from : Bool) (a b c p q r : Option Cell) → is_some a ≡ is_some p → is_some b ≡ is_some q → is_some c ≡ is_some r → is_some (cond new (cond old a b) (cond from None c)) ≡ is_some (cond new (cond old p q) (cond from None r))
-moved_one true true from a b c p q r x y z = x
-moved_one true false from a b c p q r x y z = y
-moved_one false old true a b c p q r x y z = refl
-moved_one false old false a b c p q r x y z = z
+moved_one v0 old from a b c p q r x y z = grind (arith, nat_tests)
 
 same_moved : (m n : Memory) (old old_size new new_size : ℕ) → is_mapped m ≡ is_mapped n → is_mapped (moved m old old_size new new_size) ≡ is_mapped (moved n old old_size new new_size)
 same_moved m n old old_size new new_size h =
@@ -87,9 +85,7 @@ same_of (Some a) None = false
 same_of None b = false
 
 same_prot-of : (a b : Option Cell) → same_prot a b ≡ same_of (option_map (λ cell. cell.prot) a) (option_map (λ cell. cell.prot) b)
-same_prot-of (Some a) (Some b) = refl
-same_prot-of (Some a) None = refl
-same_prot-of None b = refl
+same_prot-of v0 b = grind (arith, nat_tests)
 
 one_prot-of : (m : Memory) (start len : ℕ) → has_one_prot m start len ≡ none_below (λ i. not (same_of (prots m start) (prots m (start + i)))) len
 one_prot-of m start len = ap (λ f. none_below f len) (λ k i. not (same_prot-of (m start) (m (start + i)) k))
@@ -122,20 +118,14 @@ reply_of-prots m n _ h call = none_absurd (sym call)
 -- Replies of accesses
 
 unmade_of : (a b made : Bool) (v w : Reply) → a ≡ b → is_made v ≡ true → is_made (cond a v (Segv true)) ≡ false → cond b w (Segv true) ≡ cond a v (Segv true)
-unmade_of true b made v w h right un = none_absurd (sym un ∙ right)
-unmade_of false true made v w h right un = none_absurd h
-unmade_of false false made v w h right un = refl
+unmade_of v0 b made v w h right un = grind (arith, nat_tests)
 
 some_prot : (c d : Cell) → Some c.prot ≡ Some d.prot → c.prot ≡ d.prot
 some_prot c d h = cc
 
 unmade : (form : Bool) (o p : Option Cell) (allows : Prot → Bool) (v w : Reply) → option_map (λ cell. cell.prot) o ≡ option_map (λ cell. cell.prot) p → is_made v ≡ true →
     is_made (cond form (access_reply o allows v) BadAccess) ≡ false → cond form (access_reply p allows w) BadAccess ≡ cond form (access_reply o allows v) BadAccess
-unmade false o p allows v w h right un = refl
-unmade true None None allows v w h right un = refl
-unmade true None (Some d) allows v w h right un = absurd (cc)
-unmade true (Some c) None allows v w h right un = absurd (cc)
-unmade true (Some c) (Some d) allows v w h right un = unmade_of (allows c.prot) (allows d.prot) true v w (ap allows (some_prot c d h)) right un
+unmade v0 o p allows v w h right un = grind (arith, nat_tests)
 
 -- that of an access which is not made sees no bytes
 pub reply_of-unmade : (m n : Memory) (command : Command) → prots m ≡ prots n → is_access command ≡ true → is_made (reply_of m command) ≡ false → reply_of n command ≡ reply_of m command
@@ -170,9 +160,7 @@ reply_of-page m n (Store addr width value) access h =
 reply_of-page m n _ access h = none_absurd access
 
 access_answers : (right : Bool) (o : Option Cell) (allows : Prot → Bool) (answer : Reply) → right ≡ true → answer ≢ BadAccess → cond right (access_reply o allows answer) BadAccess ≢ BadAccess
-access_answers false o allows answer is other = none_absurd is
-access_answers true None allows answer is other = λ e. cc
-access_answers true (Some cell) allows answer is other = cond_both (allows cell.prot) answer (Segv true) (λ reply. reply ≢ BadAccess) (λ e. other) (λ e f. cc)
+access_answers v0 o allows answer is other = grind (arith, nat_tests)
 
 -- a load or store of the right form is answered so on no memory
 pub right_answered : (memory : Memory) (command : Command) → IsRightAccess command → reply_of memory command ≢ BadAccess

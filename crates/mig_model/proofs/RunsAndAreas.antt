@@ -1,4 +1,5 @@
 -- The runs of a set have its pages, and the areas of mapped pages their protections: so either tells what it is of.
+use Rattle.std.proofs.lemmas.Bool.Decides.{nat_tests}
 use Rattle.std.proofs.Common.{◌≡◌, ℕ, zero, suc, ◌+◌, ◌-◌, ◌<◌, ◌≤◌, ◌||◌, if◌then◌else◌, ⊎_elim, Bool, true, false, cond, ltb, Option, Some, None, is_some, List, [], ◌∷◌, ◌++◌, map, refl, sym, ap, ◌∙◌, subst, arith}
 use Rattle.std.specs.List.{AllByRecursion}
 use Rattle.std.proofs.Math.Bool.{or-true}
@@ -151,9 +152,7 @@ pub same_number : (prot other : Prot) → prot_number prot ≡ prot_number other
 same_number prot other e = sym (prot_numbered-prot_number prot) ∙ ap prot_numbered e ∙ prot_numbered-prot_number other
 
 same_prot_tells : (a b : Option Prot) → same_prot a b ≡ true → (a ≡ b) × (is_some a ≡ true)
-same_prot_tells (Some prot) (Some other) h = (ap (λ p. Some p) (same_number prot other (eqb-true (prot_number prot) (prot_number other) h)), refl)
-same_prot_tells (Some prot) None h = none_absurd h
-same_prot_tells None b h = none_absurd h
+same_prot_tells v0 b h = grind (arith, nat_tests)
 
 pub same_prot-self : (prot : Prot) → same_prot (Some prot) (Some prot) ≡ true
 same_prot-self prot = eqb-self (prot_number prot)
@@ -200,9 +199,7 @@ in_areas_of areas prot q below h =
     covered-listed (λ first q. in_range first (area_at areas first).count q) (begins_area areas) HIGH_PAGE begins.first q (omega (arith, low)) begins.is (area_covers areas prot begins.first q low below begins.all)
 
 all_shown : (b : Bool) (o : Option Prot) → ((prot : Prot) → o ≡ Some prot → b ≡ true) → cond b o None ≡ o
-all_shown true o h = refl
-all_shown false None h = refl
-all_shown false (Some prot) h = none_absurd (h prot refl)
+all_shown v0 o h = grind (arith, nat_tests)
 
 -- mapped pages have the protections of their areas
 pub prot_in-areas_of : (areas : FinMap nat_cmp Prot) → AreMappedBelow areas → (q : ℕ) → prot_in (areas_of areas) q ≡ get areas q

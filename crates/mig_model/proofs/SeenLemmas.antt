@@ -67,9 +67,7 @@ get-seen here there owed page sound mapped =
 
 whole_overlay : (there : PageMap (List ℕ)) (o : Option (List ℕ)) (origin : Option ℕ) (bytes : List ℕ) → ((bytes : List ℕ) → o ≡ Some bytes → length bytes ≡ 4096) →
     ((page : ℕ) (bytes : List ℕ) → get there page ≡ Some bytes → length bytes ≡ 4096) → overlay there o origin ≡ Some bytes → length bytes ≡ 4096
-whole_overlay there (Some held) origin bytes own other h = own bytes h
-whole_overlay there None (Some page) bytes own other h = other page bytes h
-whole_overlay there None None bytes own other h = absurd (cc)
+whole_overlay there v1 origin bytes own other h = grind (arith, nat_tests)
 
 pub IsSound-seen : (here there : Host) (owed : ℕ → Option ℕ) → IsSound here → IsSound there → AreMapped here owed → IsSound (seen_host here there owed)
 IsSound-seen here there owed sound far mapped =
@@ -105,19 +103,14 @@ same_cells areas bytes other page addr h at =
     ∙ sym (memory-at (record { areas = areas; bytes = other }) addr)
 
 overlay_own : (there : PageMap (List ℕ)) (o : Option (List ℕ)) (origin : Option ℕ) → (is_some o ≡ true) ⊎ (origin ≡ None) → overlay there o origin ≡ o
-overlay_own there (Some held) origin h = refl
-overlay_own there None origin (inl h) = none_absurd h
-overlay_own there None origin (inr h) = ap (λ g. overlay there None g) h
+overlay_own there v1 origin h = grind (arith, nat_tests)
 
 -- a page that is present, or is not owed, is seen as it is
 pub seen_own : (here there : Host) (owed : ℕ → Option ℕ) (page : ℕ) → IsSound here → AreMapped here owed → (contains_key here.bytes page ≡ true) ⊎ (owed page ≡ None) → get (seen_host here there owed).bytes page ≡ get here.bytes page
 seen_own here there owed page sound mapped h = get-seen here there owed page sound mapped ∙ overlay_own there.bytes (get here.bytes page) (owed page) h
 
 answered_how : (made gone protect : Bool) (reply other : Reply) → cond (not made) (Answered reply) (cond gone Missing (cond protect Protected (Answered reply))) ≡ Answered other → (other ≡ reply) × ((made ≡ false) ⊎ (gone ≡ false))
-answered_how false gone protect reply other h = (answered_as reply other h, inl refl)
-answered_how true true protect reply other h = absurd (cc)
-answered_how true false true reply other h = absurd (cc)
-answered_how true false false reply other h = (answered_as reply other h, inr refl)
+answered_how v0 gone protect reply other h = grind (arith, nat_tests)
 
 here_or_none : (present missing : Bool) → (not present && missing) ≡ false → (present ≡ true) ⊎ (missing ≡ false)
 here_or_none true missing h = inl refl

@@ -51,17 +51,11 @@ gone_value true o origin h = absurd (none-some origin h)
 gone_value false o origin h = h
 
 moved_value : (to from : Bool) (there here : ℕ) (a o : Option ℕ) (owed : ℕ → Option ℕ) (origin : ℕ) → owed there ≡ a → owed here ≡ o → (if to then a else if from then None else o) ≡ Some origin → (other : ℕ) × (owed other ≡ Some origin)
-moved_value true from there here a o owed origin p q h = (there, p ∙ h)
-moved_value false true there here a o owed origin p q h = absurd (none-some origin h)
-moved_value false false there here a o owed origin p q h = (here, q ∙ h)
+moved_value v0 from there here a o owed origin p q h = grind (arith, nat_tests)
 
 -- each source page that is owed after an event was owed before
 pub values-after : (message : Message) (owed : ℕ → Option ℕ) (page origin : ℕ) → owed_after message owed page ≡ Some origin → (other : ℕ) × (owed other ≡ Some origin)
-values-after (Remap from to len) owed page origin h =
-    moved_value (in_range (to / 4096) (len / 4096) page) (in_range (from / 4096) (len / 4096) page) (from / 4096 + (page - to / 4096)) page _ _ owed origin refl refl h
-values-after (Remove start end) owed page origin h = (page, gone_value (in_range (start / 4096) (end / 4096 - start / 4096) page) (owed page) origin h)
-values-after (Unmap start end) owed page origin h = (page, gone_value (in_range (start / 4096) (end / 4096 - start / 4096) page) (owed page) origin h)
-values-after (PageFault addr write wp tid) owed page origin h = (page, h)
+values-after v0 owed page origin h = grind (arith, nat_tests)
 
 pub values-settled : (events : List Noted) (owed : ℕ → Option ℕ) (page origin : ℕ) → settled_by events owed page ≡ Some origin → (other : ℕ) × (owed other ≡ Some origin)
 values-settled [] owed page origin h = (page, h)
@@ -140,11 +134,7 @@ moved_below from to count high owed page origin inside below h =
 
 -- owed pages lie in the address space, and still do after an event that is right
 pub owed_below-after : (message : Message) (owed : ℕ → Option ℕ) → IsRight message → ((page origin : ℕ) → owed page ≡ Some origin → page < HIGH_PAGE) → (page origin : ℕ) → owed_after message owed page ≡ Some origin → page < HIGH_PAGE
-owed_below-after (Remap from to len) owed right below page origin h =
-    moved_below (from / 4096) (to / 4096) (len / 4096) HIGH_PAGE owed page origin right.3 (below page origin) h
-owed_below-after (Remove start end) owed right below page origin h = below page origin (gone_value (in_range (start / 4096) (end / 4096 - start / 4096) page) (owed page) origin h)
-owed_below-after (Unmap start end) owed right below page origin h = below page origin (gone_value (in_range (start / 4096) (end / 4096 - start / 4096) page) (owed page) origin h)
-owed_below-after (PageFault addr write wp tid) owed right below page origin h = absurd right
+owed_below-after v0 owed right below page origin h = grind (arith, nat_tests)
 
 -- The page to which a source page is owed
 

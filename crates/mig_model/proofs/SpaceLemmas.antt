@@ -1,4 +1,5 @@
 -- What a space keeps over each load, store and map call.
+use Rattle.std.proofs.lemmas.Bool.Decides.{nat_tests}
 use Rattle.std.proofs.Common.{◌≡◌, ℕ, ◌+◌, ◌-◌, ◌/◌, ◌&&◌, ◌||◌, Bool, true, false, cond, not, eqb, ltb, Option, Some, None, List, refl, sym, ap, ◌∙◌, subst, arith, is_some}
 use Rattle.std.specs.Ordering.{nat_cmp}
 use Rattle.std.specs.FinMap.{FinMap, get, insert, contains_key}
@@ -50,19 +51,10 @@ sound_of space host parts = record { host = host; mapped = parts.mapped; present
 -- Ranges taken out
 
 both_left : (a b gone : Bool) → ((a && not gone) || (b && not gone)) ≡ true → (gone ≡ false) × ((a || b) ≡ true)
-both_left true true true h = none_absurd h
-both_left true false true h = none_absurd h
-both_left false true true h = none_absurd h
-both_left false false true h = none_absurd h
-both_left true b false h = (refl, refl)
-both_left false true false h = (refl, refl)
-both_left false false false h = none_absurd h
+both_left v0 b v2 h = grind (arith, nat_tests)
 
 one_left : (a gone : Bool) → (a && not gone) ≡ true → (gone ≡ false) × (a ≡ true)
-one_left true true h = none_absurd h
-one_left true false h = (refl, refl)
-one_left false true h = none_absurd h
-one_left false false h = none_absurd h
+one_left v0 v1 h = grind (arith, nat_tests)
 
 left_of : (s : Set) (first count page : ℕ) → contains (without s first count) page ≡ true → (in_range first count page ≡ false) × (contains s page ≡ true)
 left_of s first count page h = one_left (contains s page) (in_range first count page) (sym (member_without s first count page) ∙ h)
@@ -111,27 +103,15 @@ member_moved s from count to new_count page growth = member_below _ HIGH_PAGE pa
 
 moved_mapped : (low new old from : Bool) (m1 m2 p1 p2 mg pg : Bool) (a1 ag a2 : Option Prot) → ((m1 || p1) ≡ true → is_some a1 ≡ true) → is_some ag ≡ true → ((m2 || p2) ≡ true → is_some a2 ≡ true) →
     ((low && cond new (cond old m1 mg) (not from && m2)) || (low && cond new (cond old p1 pg) (not from && p2))) ≡ true → is_some (cond new (cond old a1 ag) (cond from None a2)) ≡ true
-moved_mapped false new old from m1 m2 p1 p2 mg pg a1 ag a2 one growth two h = none_absurd h
-moved_mapped true true true from m1 m2 p1 p2 mg pg a1 ag a2 one growth two h = one h
-moved_mapped true true false from m1 m2 p1 p2 mg pg a1 ag a2 one growth two h = growth
-moved_mapped true false old true m1 m2 p1 p2 mg pg a1 ag a2 one growth two h = none_absurd h
-moved_mapped true false old false m1 m2 p1 p2 mg pg a1 ag a2 one growth two h = two h
+moved_mapped v0 new old from m1 m2 p1 p2 mg pg a1 ag a2 one growth two h = grind (arith, nat_tests)
 
 moved_present : {X : Type 0} (low new old from p1 p2 : Bool) (b1 b2 : Option X) → (p1 ≡ true → is_some b1 ≡ true) → (p2 ≡ true → is_some b2 ≡ true) →
     (low && cond new (cond old p1 false) (not from && p2)) ≡ true → is_some (cond new (cond old b1 None) (cond from None b2)) ≡ true
-moved_present false new old from p1 p2 b1 b2 one two h = none_absurd h
-moved_present true true true from p1 p2 b1 b2 one two h = one h
-moved_present true true false from p1 p2 b1 b2 one two h = none_absurd h
-moved_present true false old true p1 p2 b1 b2 one two h = none_absurd h
-moved_present true false old false p1 p2 b1 b2 one two h = two h
+moved_present v0 new old from p1 p2 b1 b2 one two h = grind (arith, nat_tests)
 
 moved_watched : (low new old from p1 p2 w1 w2 wg : Bool) → (p1 ≡ true → w1 ≡ true) → (p2 ≡ true → w2 ≡ true) →
     (low && cond new (cond old p1 false) (not from && p2)) ≡ true → (low && cond new (cond old w1 wg) (not from && w2)) ≡ true
-moved_watched false new old from p1 p2 w1 w2 wg one two h = h
-moved_watched true true true from p1 p2 w1 w2 wg one two h = one h
-moved_watched true true false from p1 p2 w1 w2 wg one two h = none_absurd h
-moved_watched true false old true p1 p2 w1 w2 wg one two h = h
-moved_watched true false old false p1 p2 w1 w2 wg one two h = two h
+moved_watched v0 new old from p1 p2 w1 w2 wg one two h = grind (arith, nat_tests)
 
 moved_parts : (areas : PageMap Prot) (bytes : PageMap (List ℕ)) (missing protect protected : Set) (from count to new_count : ℕ) (mode : Mode) → contains_key areas from ≡ true → IsWatched areas bytes missing protect protected →
     IsWatched (moved_range areas from count to new_count (get areas from)) (moved_range bytes from count to new_count None) (moved_set missing from count to new_count mode.missing) (moved_set protect from count to new_count mode.protect) (moved_set protected from count to new_count false)
@@ -259,9 +239,7 @@ pub no_member : (page : ℕ) → contains {R = nat_cmp} empty page ≡ false
 no_member page = contains-empty nat_cmp page
 
 none_registered : (a b : Bool) → a ≡ false → b ≡ false → (a || b) ≡ true → ⊥
-none_registered true b ha hb h = false≢true (sym ha)
-none_registered false true ha hb h = false≢true (sym hb)
-none_registered false false ha hb h = false≢true h
+none_registered v0 b ha hb h = grind (arith, nat_tests)
 
 pub IsSoundSpace-fresh : IsSoundSpace fresh_space
 IsSoundSpace-fresh =
@@ -275,10 +253,7 @@ IsSoundSpace-fresh =
 -- What an access answers
 
 answered_reply : (made missing protect : Bool) (reply other : Reply) → cond (not made) (Answered reply) (cond missing Missing (cond protect Protected (Answered reply))) ≡ Answered other → other ≡ reply
-answered_reply false missing protect reply other h = answered_as reply other h
-answered_reply true true protect reply other h = absurd (cc)
-answered_reply true false true reply other h = absurd (cc)
-answered_reply true false false reply other h = answered_as reply other h
+answered_reply v0 missing protect reply other h = grind (arith, nat_tests)
 
 pub access_reply : (space : Space) (command : Command) (reply : Reply) → access_of space command ≡ Answered reply → reply ≡ reply_of (memory space.host) command
 access_reply space command reply h = answered_reply _ _ _ (reply_of (memory space.host) command) reply h

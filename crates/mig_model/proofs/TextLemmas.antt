@@ -1,4 +1,5 @@
 -- The length of a text is what the machine counts.
+use Rattle.std.proofs.lemmas.Bool.Decides.{nat_tests}
 use Rattle.std.proofs.Common.{◌≡◌, ℕ, zero, suc, ◌*◌, Bool, true, false, cond, Option, Some, None, List, [], ◌∷◌, ◌++◌, length, refl, ap, ◌∙◌, arith}
 use Rattle.std.specs.List.{flat_map, AllByRecursion}
 use Rattle.std.specs.Int.{w32, to_be_bytes}
@@ -57,10 +58,7 @@ length-areas_text : (areas : FinMap nat_cmp Prot) → length (areas_text (areas_
 length-areas_text areas = omega (arith, length-append (to_be_bytes w32 (length (areas_of areas))) (flat_map area_text (areas_of areas)), length-areas (areas_of areas), length-areas_of areas)
 
 length-command_text : (command : Option Command) → length (command_text command) ≡ command_len command
-length-command_text None = refl
-length-command_text (Some (Load addr width)) = refl
-length-command_text (Some (Store addr width value)) = refl
-length-command_text (Some command) = refl
+length-command_text v0 = grind (arith, nat_tests)
 
 length-commands : (commands : List (Option Command)) → length (flat_map command_text commands) ≡ commands_len commands
 length-commands [] = refl

@@ -1,5 +1,6 @@
 -- The frames in flight carry whole pages, so each is as long as the machine counts.
-use Rattle.std.proofs.Common.{◌≡◌, ℕ, ◌+◌, ◌&&◌, ◌||◌, Bool, true, false, Some, List, [], ◌∷◌, length, refl, sym, subst}
+use Rattle.std.proofs.lemmas.Bool.Decides.{nat_tests}
+use Rattle.std.proofs.Common.{◌≡◌, ℕ, ◌+◌, ◌&&◌, ◌||◌, Bool, true, false, Some, List, [], ◌∷◌, length, refl, sym, subst, arith}
 use Rattle.std.specs.List.{AllByRecursion}
 use Rattle.std.specs.Ordering.{nat_cmp}
 use Rattle.std.specs.FinMap.{FinMap, get}
@@ -61,10 +62,7 @@ none_behind [] h = tt
 none_behind (sent ∷ rest) h = none_absurd h
 
 done_by : (frame : Frame) (more : Bool) (rest : List Sent) → (more ≡ true → AreWhole (copies_of rest)) → (is_request frame && more || is_done frame && is_empty rest) ≡ true → AreWhole (copies_of (record { epoch = 0; frame = frame } ∷ rest))
-done_by (Request page) true rest then_so h = then_so refl
-done_by (Request page) false rest then_so h = none_absurd h
-done_by Done more rest then_so h = none_behind rest h
-done_by _ more rest then_so h = none_absurd h
+done_by v0 more rest then_so h = grind (arith, nat_tests)
 
 requests_and_done_whole : (back : List Sent) → are_requests_and_done back ≡ true → AreWhole (copies_of back)
 requests_and_done_whole [] h = none_absurd h

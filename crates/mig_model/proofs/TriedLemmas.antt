@@ -1,6 +1,7 @@
 -- A command that a processor tries at the destination: the destination's space stays in order with what is owed to it, and the host
 -- that the guest sees answers as its memory does and changes as the command says.
-use Rattle.std.proofs.Common.{◌≡◌, ℕ, ◌/◌, ◌*◌, Bool, true, false, cond, eqb, Option, Some, List, [], ◌∷◌, refl, sym, ap, ◌∙◌, subst, ◌⊎◌, ⊎_elim, inl, inr, is_some}
+use Rattle.std.proofs.lemmas.Bool.Decides.{nat_tests}
+use Rattle.std.proofs.Common.{◌≡◌, ℕ, ◌/◌, ◌*◌, Bool, true, false, cond, eqb, Option, Some, List, [], ◌∷◌, refl, sym, ap, ◌∙◌, subst, ◌⊎◌, ⊎_elim, inl, inr, is_some, arith}
 use Rattle.std.specs.FinMap.{get, contains_key}
 use Rattle.std.specs.FinSet.{contains}
 use Rattle.std.proofs.lemmas.Bool.{false≢true, eqb-true}
@@ -57,18 +58,7 @@ pub record IsTried (there : Host) (owed : ℕ → Option ℕ) (old new : Space) 
 -- one that sleeps
 faulted : (waits : Bool) (faults : List Noted) (there : Host) (owed : ℕ → Option ℕ) (space : Space) (cpu : ℕ) (command : Command) → IsReady space owed →
     IsTried there owed space (record space { object = cond waits space.object (record space.object { faults = faults }) }) cpu command Sleep
-faulted true faults there owed space cpu command ready = record { ready = ready; entered = Silent refl refl }
-faulted false faults there owed space cpu command ready =
-    record {
-      ready = record {
-        sound = record { host = ready.sound.host; mapped = ready.sound.mapped; present = ready.sound.present; watched = ready.sound.watched };
-        unprotected = ready.unprotected;
-        only_missing = ready.only_missing;
-        events = ready.events;
-        pairs = ready.pairs;
-      };
-      entered = Silent refl refl;
-    }
+faulted v0 faults there owed space cpu command ready = grind (arith, nat_tests)
 
 put_still : {X : Type 0} (same : Bool) (held : X) (o : Option X) → (same ≡ true → ⊥) → is_some o ≡ false → is_some (cond same (Some held) o) ≡ false
 put_still true held o other h = absurd (other refl)
