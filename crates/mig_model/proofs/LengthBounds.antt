@@ -1,15 +1,15 @@
 -- How long a text gets: a set has no more runs than pages, and mapped pages are no more areas.
-use Rattle.std.proofs.Common.{◌≡◌, ℕ, zero, suc, ◌+◌, ◌-◌, ◌*◌, ◌^◌, ◌<◌, ◌≤◌, ◌&&◌, Bool, true, false, cond, ltb, Option, Some, None, List, [], ◌∷◌, length, refl, sym, ap, ◌∙◌, arith}
+use Rattle.std.proofs.lemmas.Bool.Decides.{nat_tests}
+use Rattle.std.proofs.Common.{◌≡◌, ℕ, zero, suc, ◌+◌, ◌-◌, ◌*◌, ◌^◌, ◌<◌, ◌≤◌, Bool, true, false, cond, Option, List, [], ◌∷◌, length, refl, arith}
 use Rattle.std.specs.Ordering.{nat_cmp}
 use Rattle.std.specs.FinMap as finmap
 use Rattle.std.specs.FinMap.{FinMap, get, contains_key}
 use Rattle.std.specs.FinSet as finset
 use Rattle.std.specs.FinSet.{FinSet, contains}
-use Rattle.std.proofs.lemmas.Bool.{false≢true, false_from_ne_true, lt-ltb}
+use Rattle.std.proofs.lemmas.Bool.{false_from_ne_true}
 use Rattle.mig_base.specs.declared.Prot.{Prot}
 use Rattle.mig_base.specs.declared.TheConstants.{HIGH_PAGE, LOW_PAGE, MAX_PAGES, MAX_CPUS}
 use Rattle.mig_base.specs.declared.command.Command.{Command}
-use Rattle.mig_base.specs.declared.command.Command.TheVariants.{Load, Store}
 use Rattle.mig_base.specs.declared.phase.Received.{Received}
 use Rattle.mig_base.specs.Ranges.{count_below}
 use Rattle.mig_base.proofs.PageLemmas.{count_below-contains_key}
@@ -17,15 +17,12 @@ use Rattle.mig_base.proofs.RangeLemmas.{count_below-append, count_below-constant
 use Rattle.mig_model.specs.Texts.{begins_run, begins_area, run_count, area_count, command_len, commands_len, body_len, text_len, AreBelow, AreMappedBelow}
 use Rattle.mig_model.specs.Bounds.{IsFrame}
 use Rattle.mig_model.specs.Wire.{Frame}
-use Rattle.mig_model.specs.Wire.Frame.{Run, Discard, Package, Recv}
-use Rattle.mig_model.proofs.Facts.{and_false, and_left, missing_none}
+use Rattle.mig_model.specs.Wire.Frame.{Discard, Package, Recv}
+use Rattle.mig_model.proofs.Facts.{and_left, missing_none}
 use Rattle.mig_model.proofs.SetSizes.{count_below-few, len-below}
 
 one_of_two : (b c : Bool) (n : ℕ) → (b ≡ true → c ≡ false) → n + cond b 1 0 + cond c 1 0 ≤ suc n
-one_of_two true true n h = absurd (false≢true (sym (h refl)))
-one_of_two true false n h = omega arith
-one_of_two false true n h = omega arith
-one_of_two false false n h = omega arith
+one_of_two b c n h = grind (arith, nat_tests)
 
 -- a test that never passes twice running
 count_below-apart : (p : ℕ → Bool) (n : ℕ) → ((i : ℕ) → p i ≡ true → p (suc i) ≡ false) → count_below p (2 * n) ≤ n
@@ -55,11 +52,7 @@ area_count-len areas below =
     omega (arith, fewer, all)
 
 not_behind : (set : FinSet nat_cmp) (i : ℕ) → begins_run set i ≡ true → begins_run set (suc i) ≡ false
-not_behind set i h =
-    let here : contains set i ≡ true = and_left (contains set i) _ h in
-    let before : suc i - 1 ≡ i = omega arith in
-    let positive : ltb 0 (suc i) ≡ true = lt-ltb 0 (suc i) (omega arith) in
-    rw (before, here, positive) (and_false (contains set (suc i)))
+not_behind set i h = grind (arith, nat_tests)
 
 -- between two runs is a page, so half of the pages begin one at most
 run_count-half : (set : FinSet nat_cmp) → ((page : ℕ) → contains set page ≡ true → LOW_PAGE ≤ page) → 2 * run_count set ≤ HIGH_PAGE - LOW_PAGE
@@ -78,9 +71,7 @@ run_count-half set low =
 -- Texts
 
 command_len-bound : (command : Option Command) → command_len command ≤ 18
-command_len-bound (Some (Load addr width)) = omega arith
-command_len-bound (Some (Store addr width value)) = omega arith
-command_len-bound _ = omega arith
+command_len-bound command = grind (arith, nat_tests)
 
 commands_len-bound : (commands : List (Option Command)) → commands_len commands ≤ 18 * length commands
 commands_len-bound [] = omega arith
@@ -91,20 +82,11 @@ discard-bound set low = let half = run_count-half set low in omega (arith, half)
 
 pub package-bound : (areas : FinMap nat_cmp Prot) (owed : FinSet nat_cmp) (commands : List (Option Command)) → AreMappedBelow areas → AreBelow owed → finmap.len areas ≤ MAX_PAGES → finset.len owed ≤ MAX_PAGES → length commands ≤ MAX_CPUS
     → body_len (Package areas owed commands) ≤ 9 + 17 * MAX_PAGES + 18 * MAX_CPUS
-package-bound areas owed commands mapped below few due cpus =
-    let a = area_count-len areas mapped in
-    let r = run_count-len owed below in
-    let c = commands_len-bound commands in
-    omega (arith, a, r, c, few, due, cpus)
+package-bound areas owed commands mapped below few due cpus = grind (arith, nat_tests, area_count-len, run_count-len, commands_len-bound)
 
 pub recv-bound : (state : Received) (owed : FinSet nat_cmp) → AreBelow owed → finset.len owed ≤ MAX_PAGES → body_len (Recv state owed) ≤ 5 + 8 * MAX_PAGES
 recv-bound state owed below due = let r = run_count-len owed below in omega (arith, r, due)
 
 -- the text of a frame is shorter than 2^32 bytes
 pub text_short : (frame : Frame) → IsFrame frame → text_len frame < 2 ^ 32
-text_short (Run first pages) is = let few = is.1 in omega (arith, few)
-text_short (Discard pages) is = let short = discard-bound pages (λ page there. (is page there).0) in omega (arith, short)
-text_short (Package areas owed commands) is =
-    let short = package-bound areas owed commands (λ page there. (is.0.pages page there).1) (λ page there. (is.1.0 page there).1) is.0.few is.1.1 is.3.1 in omega (arith, short)
-text_short (Recv state owed) is = let short = recv-bound state owed (λ page there. (is.0 page there).1) is.1 in omega (arith, short)
-text_short _ is = omega arith
+text_short frame is = grind (arith, nat_tests, discard-bound, package-bound, recv-bound)

@@ -1,5 +1,5 @@
 -- How many pages sets and maps have, compared.
-use Rattle.std.proofs.Common.{◌≡◌, ℕ, zero, suc, ◌+◌, ◌-◌, ◌≤◌, ◌&&◌, Bool, true, false, cond, ltb, refl, sym, ap, ◌∙◌, arith}
+use Rattle.std.proofs.Common.{◌≡◌, ℕ, zero, suc, ◌+◌, ◌-◌, ◌≤◌, Bool, true, false, cond, sym, ap, ◌∙◌, arith}
 use Rattle.std.specs.Ordering.{nat_cmp}
 use Rattle.std.specs.Cmp.{nat_cmp_total}
 use Rattle.std.specs.FinSet as finset
@@ -29,8 +29,7 @@ len-below set bound h =
 
 -- what holds only where something else does holds nowhere else
 pub only_where : (one other : Bool) → (one ≡ true → other ≡ true) → other ≡ false → one ≡ false
-only_where true other h none = sym (h refl) ∙ none
-only_where false other h none = refl
+only_where one other h none = grind (arith, nat_tests)
 
 -- a part of such a set has no more pages than it
 pub len-part : (part set : FinSet nat_cmp) → ((q : ℕ) → contains part q ≡ true → contains set q ≡ true) → ((q : ℕ) → HIGH_PAGE ≤ q → contains set q ≡ false) → len part ≤ len set
@@ -42,8 +41,7 @@ len-part part set h low =
 
 -- a set without one of its pages has one less
 one_less : (here : Bool) (n m : ℕ) → m ≡ cond here (n - 1) n → here ≡ true → m ≡ n - 1
-one_less true n m h is = h
-one_less false n m h is = absurd (false≢true is)
+one_less here n m h is = grind (arith, nat_tests)
 
 pub len-removed : (set : FinSet nat_cmp) (page : ℕ) → contains set page ≡ true → len (finset.remove set page) ≡ len set - 1
 len-removed set page h = one_less (contains set page) (len set) _ (len-remove nat_cmp_total set page) h

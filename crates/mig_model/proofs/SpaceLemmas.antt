@@ -4,7 +4,6 @@ use Rattle.std.proofs.Common.{◌≡◌, ℕ, ◌+◌, ◌-◌, ◌/◌, ◌&&�
 use Rattle.std.specs.Ordering.{nat_cmp}
 use Rattle.std.specs.FinMap.{FinMap, get, insert, contains_key}
 use Rattle.std.specs.FinSet.{FinSet, empty, contains, contains-empty}
-use Rattle.std.proofs.lemmas.Bool.{false≢true}
 use Rattle.mig_base.specs.declared.TheConstants.{HIGH_PAGE}
 use Rattle.mig_base.specs.declared.Prot.{Prot}
 use Rattle.mig_base.specs.declared.command.Errno.TheVariants.{Enomem}
@@ -24,11 +23,11 @@ use Rattle.mig_base.proofs.ReplyLemmas.{IsRemapped, mremap_told}
 use Rattle.mig_model.specs.Host.{Host, memory, host_changed, host_after, IsSound}
 use Rattle.mig_base.specs.Commands.{is_access}
 use Rattle.mig_base.proofs.BoundLemmas.{one_prot_some}
-use Rattle.mig_model.specs.Userfault.{Object, Mode, mode_at, fault_queued, waits_fault}
+use Rattle.mig_model.specs.Userfault.{Mode, mode_at, fault_queued}
 use Rattle.mig_model.specs.Space.{Space, fresh_space, IsSoundSpace, access_of, accessed_by, accessed, called, modes_after, protected_after, call_messages}
 use Rattle.mig_model.proofs.HostLemmas.{IsSound-empty, memory-none, get-put}
 use Rattle.mig_model.proofs.CommandLemmas.{IsSound-changed}
-use Rattle.mig_model.proofs.Facts.{none_absurd, queued_missing, queued_protect, answered_as, some_either}
+use Rattle.mig_model.proofs.Facts.{none_absurd, queued_missing, queued_protect, some_either}
 
 abbrev PageMap : Type 0 → Type 0
 PageMap X = FinMap nat_cmp X
@@ -51,10 +50,10 @@ sound_of space host parts = record { host = host; mapped = parts.mapped; present
 -- Ranges taken out
 
 both_left : (a b gone : Bool) → ((a && not gone) || (b && not gone)) ≡ true → (gone ≡ false) × ((a || b) ≡ true)
-both_left v0 b v2 h = grind (arith, nat_tests)
+both_left a b gone h = grind (arith, nat_tests)
 
 one_left : (a gone : Bool) → (a && not gone) ≡ true → (gone ≡ false) × (a ≡ true)
-one_left v0 v1 h = grind (arith, nat_tests)
+one_left a gone h = grind (arith, nat_tests)
 
 left_of : (s : Set) (first count page : ℕ) → contains (without s first count) page ≡ true → (in_range first count page ≡ false) × (contains s page ≡ true)
 left_of s first count page h = one_left (contains s page) (in_range first count page) (sym (member_without s first count page) ∙ h)
@@ -103,15 +102,15 @@ member_moved s from count to new_count page growth = member_below _ HIGH_PAGE pa
 
 moved_mapped : (low new old from : Bool) (m1 m2 p1 p2 mg pg : Bool) (a1 ag a2 : Option Prot) → ((m1 || p1) ≡ true → is_some a1 ≡ true) → is_some ag ≡ true → ((m2 || p2) ≡ true → is_some a2 ≡ true) →
     ((low && cond new (cond old m1 mg) (not from && m2)) || (low && cond new (cond old p1 pg) (not from && p2))) ≡ true → is_some (cond new (cond old a1 ag) (cond from None a2)) ≡ true
-moved_mapped v0 new old from m1 m2 p1 p2 mg pg a1 ag a2 one growth two h = grind (arith, nat_tests)
+moved_mapped low new old from m1 m2 p1 p2 mg pg a1 ag a2 one growth two h = grind (arith, nat_tests)
 
 moved_present : {X : Type 0} (low new old from p1 p2 : Bool) (b1 b2 : Option X) → (p1 ≡ true → is_some b1 ≡ true) → (p2 ≡ true → is_some b2 ≡ true) →
     (low && cond new (cond old p1 false) (not from && p2)) ≡ true → is_some (cond new (cond old b1 None) (cond from None b2)) ≡ true
-moved_present v0 new old from p1 p2 b1 b2 one two h = grind (arith, nat_tests)
+moved_present low new old from p1 p2 b1 b2 one two h = grind (arith, nat_tests)
 
 moved_watched : (low new old from p1 p2 w1 w2 wg : Bool) → (p1 ≡ true → w1 ≡ true) → (p2 ≡ true → w2 ≡ true) →
     (low && cond new (cond old p1 false) (not from && p2)) ≡ true → (low && cond new (cond old w1 wg) (not from && w2)) ≡ true
-moved_watched v0 new old from p1 p2 w1 w2 wg one two h = grind (arith, nat_tests)
+moved_watched low new old from p1 p2 w1 w2 wg one two h = grind (arith, nat_tests)
 
 moved_parts : (areas : PageMap Prot) (bytes : PageMap (List ℕ)) (missing protect protected : Set) (from count to new_count : ℕ) (mode : Mode) → contains_key areas from ≡ true → IsWatched areas bytes missing protect protected →
     IsWatched (moved_range areas from count to new_count (get areas from)) (moved_range bytes from count to new_count None) (moved_set missing from count to new_count mode.missing) (moved_set protect from count to new_count mode.protect) (moved_set protected from count to new_count false)
@@ -137,14 +136,6 @@ moved_parts areas bytes missing protect protected from count to new_count mode s
     }
 
 -- Messages leave the modes
-
-fault_missing : (waits : Bool) (object other : Object) → other.missing ≡ object.missing → (cond waits object other).missing ≡ object.missing
-fault_missing true object other h = refl
-fault_missing false object other h = h
-
-fault_protect : (waits : Bool) (object other : Object) → other.protect ≡ object.protect → (cond waits object other).protect ≡ object.protect
-fault_protect true object other h = refl
-fault_protect false object other h = h
 
 -- Map calls
 
@@ -216,16 +207,7 @@ answered_sound space command access sound =
     }
 
 faulted_sound : (space : Space) (addr : ℕ) (write wp : Bool) (cpu : ℕ) → IsSoundSpace space → IsSoundSpace (record space { object = fault_queued space.object addr write wp cpu })
-faulted_sound space addr write wp cpu sound =
-    let new = fault_queued space.object addr write wp cpu in
-    let missing : new.missing ≡ space.object.missing = fault_missing (waits_fault space.object.faults addr wp) space.object _ refl in
-    let protect : new.protect ≡ space.object.protect = fault_protect (waits_fault space.object.faults addr wp) space.object _ refl in
-    record {
-      host = sound.host;
-      mapped = λ page h. sound.mapped page (ap (λ s. contains s page || contains space.object.protect page) (sym missing) ∙ ap (λ s. contains new.missing page || contains s page) (sym protect) ∙ h);
-      present = sound.present;
-      watched = λ page h. ap (λ s. contains s page) protect ∙ sound.watched page h;
-    }
+faulted_sound space addr write wp cpu sound = grind (arith, nat_tests)
 
 accessed_sound : (access : Access) (space : Space) (cpu : ℕ) (command : Command) → is_access command ≡ true → IsSoundSpace space → IsSoundSpace (accessed_by access space cpu command)
 accessed_sound (Answered reply) space cpu command is sound = answered_sound space command is sound
@@ -239,7 +221,7 @@ pub no_member : (page : ℕ) → contains {R = nat_cmp} empty page ≡ false
 no_member page = contains-empty nat_cmp page
 
 none_registered : (a b : Bool) → a ≡ false → b ≡ false → (a || b) ≡ true → ⊥
-none_registered v0 b ha hb h = grind (arith, nat_tests)
+none_registered a b ha hb h = grind (arith, nat_tests)
 
 pub IsSoundSpace-fresh : IsSoundSpace fresh_space
 IsSoundSpace-fresh =
@@ -253,7 +235,7 @@ IsSoundSpace-fresh =
 -- What an access answers
 
 answered_reply : (made missing protect : Bool) (reply other : Reply) → cond (not made) (Answered reply) (cond missing Missing (cond protect Protected (Answered reply))) ≡ Answered other → other ≡ reply
-answered_reply v0 missing protect reply other h = grind (arith, nat_tests)
+answered_reply made missing protect reply other h = grind (arith, nat_tests)
 
 pub access_reply : (space : Space) (command : Command) (reply : Reply) → access_of space command ≡ Answered reply → reply ≡ reply_of (memory space.host) command
 access_reply space command reply h = answered_reply _ _ _ (reply_of (memory space.host) command) reply h
