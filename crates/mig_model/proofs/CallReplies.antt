@@ -1,5 +1,5 @@
 -- A processor in a call has the reply of its last entry, until its last message is read.
-use Rattle.std.proofs.Common.{◌≡◌, ℕ, zero, suc, Bool, true, false, eqb, Option, Some, None, List, [], ◌∷◌, ◌++◌, refl, sym, ap, ◌∙◌, subst, ◌⊎◌, inl, inr, ⊎_elim, arith, if◌then◌else◌, not}
+use Rattle.std.proofs.Common.{◌≡◌, ℕ, zero, suc, ◌<◌, Bool, true, false, eqb, Option, Some, None, List, [], ◌∷◌, ◌++◌, refl, sym, ap, ◌∙◌, subst, ◌⊎◌, inl, inr, ⊎_elim, arith, if◌then◌else◌, not}
 use Rattle.std.specs.Prelude.{set, map, Ok, Err}
 use Rattle.std.specs.Ordering.{nat_cmp}
 use Rattle.std.specs.FinMap.{FinMap}
@@ -7,6 +7,8 @@ use Rattle.std.specs.FinSet.{FinSet}
 use Rattle.std.proofs.lemmas.Bool.{false≢true, cases_eq, ne_eqb}
 use Rattle.std.proofs.lemmas.Option.{none-some}
 use Rattle.mig_base.specs.declared.Prot.{Prot}
+use Rattle.mig_base.specs.declared.command.Access.{Access}
+use Rattle.mig_base.specs.declared.command.Access.TheVariants.{Answered, Missing, Protected}
 use Rattle.mig_base.specs.declared.command.Command.{Command}
 use Rattle.mig_base.specs.declared.command.Entry.{Entry}
 use Rattle.mig_base.specs.declared.command.Reply.{Reply}
@@ -20,16 +22,16 @@ use Rattle.mig_base.specs.declared.phase.SourcePhase.{SourcePhase}
 use Rattle.mig_base.specs.declared.schedule.Side.{Side}
 use Rattle.mig_base.specs.declared.schedule.Step.{Step}
 use Rattle.mig_base.specs.Commands.{is_access, page_of}
-use Rattle.mig_model.specs.Cpus.{Took, all_woken, entries_of, handed_over, idle_processors, is_idle, is_woken, message_less, processor_after, processor_at, taken_over, woken_if}
+use Rattle.mig_model.specs.Cpus.{Took, all_woken, entries_of, handed_over, idle_processors, is_idle, is_woken, message_less, outstanding, processor_after, processor_at, taken_over, woken_if}
 use Rattle.mig_model.specs.Cpus.Took.{Sleep, Call}
 use Rattle.mig_model.specs.Guest.{Act, Guest, Fault, is_left_by, read_guest, took_by}
-use Rattle.mig_model.specs.Guest.Act.{Unprotected, Requested}
+use Rattle.mig_model.specs.Guest.Act.{Unprotected, Zeroed, Woke, Forgot, Requested}
 use Rattle.mig_model.specs.Wire.{Copy, Frame, Sent, is_zeros}
 use Rattle.mig_model.specs.Wire.Frame.{Advise, Page, Zero, Run, Discard, Package, End, Resume, Request, Recv, Done}
 use Rattle.mig_model.specs.Owed.{home}
 use Rattle.mig_model.specs.Source.{Source, bytes_of, is_stopped, source_act, source_acted_by, source_took}
-use Rattle.mig_model.specs.Destination.{Destination, destination_act, destination_acted, destination_acted_by, install_by}
-use Rattle.mig_model.specs.Migration.{Answer, Made, World, act_effect, after_command, after_dest_act, after_install, after_steps, answer, event_effect, first_world_with, frame_effect, guest_by, guest_of, install_effect, next, next_by, outcome, outcome_by, read_effect, try_effect}
+use Rattle.mig_model.specs.Destination.{Destination, destination_act, destination_acted, destination_acted_by, destination_took, install_by, urgent_took}
+use Rattle.mig_model.specs.Migration.{Answer, Made, World, act_effect, after_command, after_dest_act, after_install, after_steps, answer, event_effect, first_world_with, frame_effect, guest_by, guest_of, install_effect, next, next_by, outcome, outcome_by, page_effect, read_effect, try_effect}
 use Rattle.mig_model.specs.Invariant.{CallFits, AreSoundCalls, IsSoundWorld, unread_of}
 use Rattle.mig_model.specs.Promises.{IsReached}
 use Rattle.mig_model.specs.Replies.{HandsOver, call_reply, last_reply}
@@ -43,7 +45,7 @@ use Rattle.mig_model.proofs.SourceHandler.{has_not_run}
 use Rattle.mig_model.proofs.StepCases.{made-break, made-deliver, made-deliver_back, made-dest_act, made-dest_read, made-end, made-install, made-issue, made-notice, made-push, made-resume, made-retry, made-round, made-send, made-send_run, made-serve, made-source_act, made-source_read, made-start, made-switch, made-deliver_urgent, made-push_urgent}
 use Rattle.mig_model.proofs.StepLemmas.{Holds, Leaves, holds-effect, leaves-next}
 use Rattle.mig_model.proofs.Stopping.{append-nil}
-use Rattle.mig_model.proofs.WaitingCommands.{IsSame, acted_ran, installed_ran, is_try, map_at, package_told, same_took, same_urgent, set_other, tried_guest}
+use Rattle.mig_model.proofs.WaitingCommands.{IsSame, acted_ran, installed_ran, is_try, map_at, package_told, same_took, same_urgent, set_other, set_there, tried_guest}
 
 -- The last entry of a processor
 

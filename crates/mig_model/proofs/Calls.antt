@@ -4,7 +4,7 @@ use Rattle.std.specs.Prelude.{set, map}
 use Rattle.std.proofs.lemmas.Bool.Decides.{nat_tests}
 use Rattle.std.proofs.lemmas.Bool.{false≢true, cases_eq, ne_eqb}
 use Rattle.mig_base.specs.declared.command.Access.{Access}
-use Rattle.mig_base.specs.declared.command.Access.TheVariants.{Answered}
+use Rattle.mig_base.specs.declared.command.Access.TheVariants.{Answered, Missing, Protected}
 use Rattle.mig_base.specs.declared.command.Command.{Command}
 use Rattle.mig_base.specs.declared.command.Reply.{Reply}
 use Rattle.mig_base.specs.declared.cpu_state.CpuState.{CpuState}
@@ -19,9 +19,9 @@ use Rattle.mig_base.specs.Flat.{reply_of}
 use Rattle.mig_model.specs.Host.{memory}
 use Rattle.mig_model.specs.Userfault.{Noted, next_of, next_message}
 use Rattle.mig_model.specs.Space.{Space, access_of, call_messages, modes_after}
-use Rattle.mig_model.specs.Guest.Act.{Unprotected, Requested}
+use Rattle.mig_model.specs.Guest.Act.{Unprotected, Zeroed, Woke, Forgot, Requested}
 use Rattle.mig_model.specs.Wire.{Frame, Copy}
-use Rattle.mig_model.specs.Wire.Frame.{Page, Zero, Package, Resume, Recv, Done}
+use Rattle.mig_model.specs.Wire.Frame.{Advise, Page, Zero, Run, Discard, Package, End, Resume, Request, Recv, Done}
 use Rattle.mig_model.specs.Invariant.{IsSoundWorld, AreRight, AreFaults, unread_of, CallFits, HasSoundCalls, AreSoundCalls, SwitchedAt, AreSoundUrgent}
 use Rattle.mig_model.proofs.SourceMessages.{noted_all, events_queued}
 use Rattle.mig_model.proofs.SettledPromises.{accessed_events}

@@ -7,12 +7,13 @@ use Rattle.std.specs.FinSet.{FinSet, contains, contains-retain, len, len-empty, 
 use Rattle.std.proofs.lemmas.Bool.{and_parts}
 use lib.ListN.{length-map}
 use Rattle.mig_base.specs.declared.TheConstants.{LOW_PAGE, HIGH_PAGE, MAX_PAGES}
+use Rattle.mig_base.specs.declared.Prot.{Prot}
 use Rattle.mig_base.specs.declared.phase.Received.{Received}
 use Rattle.mig_base.proofs.PageLemmas.{count_below-contains_key}
 use Rattle.mig_base.proofs.SetLemmas.{member_below}
 use Rattle.mig_model.specs.Host.{Host, IsSound}
 use Rattle.mig_model.specs.Guest.{Act, is_present}
-use Rattle.mig_model.specs.Guest.Act.{Zeroed, Woke, Forgot, Requested}
+use Rattle.mig_model.specs.Guest.Act.{Unprotected, Zeroed, Woke, Forgot, Requested}
 use Rattle.mig_model.specs.Log.{less, no_pages, present}
 use Rattle.mig_model.specs.Owed.{origins, is_requested, requesting, without_request}
 use Rattle.mig_model.specs.Space.{Space}

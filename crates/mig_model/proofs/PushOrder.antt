@@ -7,9 +7,9 @@ use Rattle.mig_base.specs.declared.schedule.Side.{Side}
 use Rattle.mig_base.specs.declared.schedule.Step.{Step}
 use Rattle.mig_base.specs.declared.schedule.Ticket.{Ticket}
 use Rattle.mig_model.specs.Wire.{Frame, Sent}
-use Rattle.mig_model.specs.Wire.Frame.{Request, Recv, Done}
+use Rattle.mig_model.specs.Wire.Frame.{Advise, Page, Zero, Run, Discard, Package, End, Resume, Request, Recv, Done}
 use Rattle.mig_model.specs.Guest.{Act, Guest}
-use Rattle.mig_model.specs.Guest.Act.{Unprotected}
+use Rattle.mig_model.specs.Guest.Act.{Unprotected, Zeroed, Woke, Forgot, Requested}
 use Rattle.mig_model.specs.Invariant.{IsSoundWorld, SwitchedAt, AreSoundUrgent}
 use Rattle.mig_model.proofs.EveryStep.{kept-next}
 use Rattle.mig_model.proofs.FramesTaken.{is_taken_back}

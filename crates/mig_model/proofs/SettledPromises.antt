@@ -24,7 +24,7 @@ use Rattle.mig_model.specs.Space.{Space, access_of, accessed_by}
 use Rattle.mig_model.specs.Guest.{tried, Act}
 use Rattle.mig_model.specs.Wire.{Frame, Sent, Copy}
 use Rattle.mig_model.specs.Wire.Frame.{Advise, Page, Zero, Run, Discard, Package, End, Resume, Request, Recv, Done}
-use Rattle.mig_model.specs.Guest.Act.{Unprotected}
+use Rattle.mig_model.specs.Guest.Act.{Unprotected, Zeroed, Woke, Forgot, Requested}
 use Rattle.mig_model.specs.Migration.{World, with_guest_by, guest_by, next, outcome, install_effect, after_command, after_dest_read, answer, guest_of, runs, start}
 use Rattle.mig_model.specs.Invariant.{IsSoundWorld, AreFaults, AreRight, is_package}
 use Rattle.mig_model.specs.Promises.{owed_changed, leaves_settled, AreAccesses}

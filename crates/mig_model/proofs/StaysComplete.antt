@@ -9,7 +9,7 @@ use Rattle.mig_base.specs.Tests.{is_empty}
 use Rattle.mig_base.specs.Commands.{is_access}
 use Rattle.mig_model.specs.Guest.{Guest, tried, Act}
 use Rattle.mig_model.specs.Wire.{Sent}
-use Rattle.mig_model.specs.Guest.Act.{Unprotected}
+use Rattle.mig_model.specs.Guest.Act.{Unprotected, Zeroed, Woke, Forgot, Requested}
 use Rattle.mig_model.specs.Migration.{World, next, guest_of, with_guest_by, after_command, answer}
 use Rattle.mig_model.specs.Invariant.{IsSoundWorld}
 use Rattle.mig_model.specs.Promises.{IsComplete}

@@ -1,8 +1,8 @@
 -- Without a break the Package that is taken is that of the Switch, and what is kept then is what was clean at the source.
-use Rattle.std.proofs.Common.{◌≡◌, ◌&&◌, Bool, true, false, cond, not, ℕ, Option, Some, None, is_some, List, [], ◌∷◌, ◌++◌, refl, sym, ap, ◌∙◌, subst, IsOk, if◌then◌else◌}
+use Rattle.std.proofs.Common.{◌≡◌, ◌&&◌, Bool, true, false, cond, not, ltb, ℕ, Option, Some, None, is_some, List, [], ◌∷◌, ◌++◌, refl, sym, ap, ◌∙◌, subst, IsOk, if◌then◌else◌}
 use Rattle.std.specs.Prelude.{Ok}
 use Rattle.std.specs.Ordering.{nat_cmp}
-use Rattle.std.specs.FinMap.{FinMap, get}
+use Rattle.std.specs.FinMap.{FinMap, get, contains_key}
 use Rattle.std.specs.FinSet.{FinSet, contains}
 use Rattle.std.proofs.lemmas.Bool.{false≢true}
 use Rattle.mig_base.specs.declared.Prot.{Prot}
@@ -21,7 +21,7 @@ use Rattle.mig_model.specs.Source.{Source, commands_of, is_precopy, is_stopped, 
 use Rattle.mig_model.specs.Destination.{Destination, destination_act, destination_took}
 use Rattle.mig_model.specs.Owed.{home}
 use Rattle.mig_model.specs.Migration.{World, after_command, after_deliver, after_steps, answer, frame_effect, guest_of, is_changing, next, outcome, runs}
-use Rattle.mig_model.specs.Invariant.{IsSoundWorld, is_package, is_unread, kept_by, package_in}
+use Rattle.mig_model.specs.Invariant.{IsSoundWorld, IsSwitching, Flow, flow_after, is_package, is_unread, kept_by, package_in}
 use Rattle.mig_model.specs.Invariant.Flow.{BeforeAdvise, Copies}
 use Rattle.mig_model.specs.Promises.{IsReached}
 use Rattle.mig_model.specs.Unbroken.{StaysUp, KeepsClean}

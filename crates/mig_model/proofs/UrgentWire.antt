@@ -1,12 +1,12 @@
 -- The urgent wire: what each step keeps of it.
-use Rattle.std.proofs.Common.{◌≡◌, ◌≢◌, ℕ, ◌+◌, ◌≤◌, ◌&&◌, Bool, true, false, not, List, [], ◌∷◌, ◌++◌, refl, sym, ap, ◌∙◌, subst, arith, length, if◌then◌else◌}
+use Rattle.std.proofs.Common.{◌≡◌, ◌≢◌, ℕ, ◌+◌, ◌≤◌, ◌&&◌, Bool, true, false, not, ltb, List, [], ◌∷◌, ◌++◌, refl, sym, ap, ◌∙◌, subst, arith, length, if◌then◌else◌, is_some}
 use Rattle.std.specs.Ordering.{nat_cmp}
 use Rattle.std.specs.FinMap.{FinMap}
 use Rattle.std.proofs.lemmas.Bool.{false≢true, ltb-false}
 use Rattle.mig_base.specs.declared.phase.DestPhase.{DestPhase}
 use Rattle.mig_base.specs.declared.phase.SourcePhase.{SourcePhase}
 use Rattle.mig_model.specs.Wire.{Frame, Sent, Wire, is_copy, is_zeros, page_frame, sending}
-use Rattle.mig_model.specs.Wire.Frame.{Advise, Page, Zero, End, Resume}
+use Rattle.mig_model.specs.Wire.Frame.{Advise, Page, Zero, Run, Discard, Package, End, Resume, Request, Recv, Done}
 use Rattle.mig_model.specs.Migration.{World, is_early}
 use Rattle.mig_model.specs.Source.{is_stopped, is_precopy, is_source_idle, is_source_paused}
 use Rattle.mig_model.specs.Invariant.{AreFaithful, AreOf, AreTold, IsSoundUrgent, IsSoundWorld, IsTold, SwitchedAt, Wires, are_copies, copies_of, AreSoundUrgent}

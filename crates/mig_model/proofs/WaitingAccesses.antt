@@ -19,8 +19,8 @@ use Rattle.mig_model.specs.Host.{memory}
 use Rattle.mig_model.specs.Space.{Space, access_of, queued_by}
 use Rattle.mig_model.specs.Guest.{Guest, is_left_by, read_guest, took_by, tried, Act}
 use Rattle.mig_model.specs.Wire.{Frame, Sent, Copy}
-use Rattle.mig_model.specs.Wire.Frame.{Page, Zero, Package, Resume, Recv}
-use Rattle.mig_model.specs.Guest.Act.{Unprotected, Requested}
+use Rattle.mig_model.specs.Wire.Frame.{Advise, Page, Zero, Run, Discard, Package, End, Resume, Request, Recv, Done}
+use Rattle.mig_model.specs.Guest.Act.{Unprotected, Zeroed, Woke, Forgot, Requested}
 use Rattle.mig_model.specs.Migration.{World, first_world_with, next, after_steps, guest_by, with_guest_by, after_command, answer, start}
 use Rattle.mig_model.specs.Invariant.{IsSoundWorld, AreSoundUrgent}
 use Rattle.mig_model.specs.Promises.{IsReached, AllAccess, AreAccesses}

@@ -22,7 +22,7 @@ use Rattle.mig_model.specs.Guest.{Guest, Fault, is_left_by, read_guest, took_by,
 use Rattle.mig_model.specs.Cpus.Took.{Sleep, Call}
 use Rattle.mig_model.specs.Wire.{Frame, Sent, Copy}
 use Rattle.mig_model.specs.Wire.Frame.{Advise, Page, Zero, Run, Discard, Package, End, Resume, Request, Recv, Done}
-use Rattle.mig_model.specs.Guest.Act.{Unprotected, Requested}
+use Rattle.mig_model.specs.Guest.Act.{Unprotected, Zeroed, Woke, Forgot, Requested}
 use Rattle.mig_model.specs.Migration.{World, next, guest_by, guest_of, with_guest_by, after_command, after_dest_act, after_install, answer, outcome, start}
 use Rattle.mig_model.specs.Invariant.{IsSoundWorld, is_package}
 use Rattle.mig_model.specs.Promises.{is_retry_of, Slept}

@@ -10,7 +10,7 @@ use Rattle.mig_base.specs.declared.phase.SourcePhase.{SourcePhase}
 use Rattle.mig_base.specs.declared.schedule.Side.{Side}
 use Rattle.mig_base.specs.declared.schedule.Step.{Step}
 use Rattle.mig_model.specs.Wire.{Frame, Sent, Copy, Wire, empty_wire, wire_if}
-use Rattle.mig_model.specs.Wire.Frame.{Recv, Done}
+use Rattle.mig_model.specs.Wire.Frame.{Advise, Page, Zero, Run, Discard, Package, End, Resume, Request, Recv, Done}
 use Rattle.mig_model.specs.Owed.{home, Owed}
 use Rattle.mig_model.specs.Source.{Source, is_released, source_act, source_took}
 use Rattle.mig_model.specs.Destination.{Destination, destination_took, destination_answers, install_by}
