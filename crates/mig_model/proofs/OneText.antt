@@ -17,12 +17,14 @@ use Rattle.mig_base.specs.declared.command.Command.{Command}
 use Rattle.mig_base.specs.declared.phase.Received.{Received}
 use Rattle.mig_base.specs.Ranges.{count_below}
 use Rattle.mig_base.specs.Sets.{pages_where}
+use Rattle.mig_base.proofs.RangeLemmas.{count_below-few}
+use Rattle.mig_base.proofs.SetLemmas.{run_length-most}
 use Rattle.mig_model.specs.Texts.{list_below, begins_run, run_at, runs_of, begins_area, area_at, areas_of, Version, version_code, has_frame, tag_code, run_text, runs_text, area_text, areas_text, command_text, commands_text, state_code, body_text, header_text, text, HasWholePages, AreBelow, AreMappedBelow, FitsCommand, FitsText, IsEncodable}
 use Rattle.mig_model.specs.Ioctls.{same_prot}
 use Rattle.std.specs.FinMap.{get}
 use Rattle.mig_model.specs.Wire.{Frame}
 use Rattle.mig_model.specs.Wire.Frame.{Advise, Page, Zero, Run, Discard, Package, End, Resume, Request, Recv, Done}
-use Rattle.mig_model.proofs.RunsAndAreas.{run_length-bound, all_listed, runs_of-same, areas_of-same}
+use Rattle.mig_model.proofs.RunsAndAreas.{all_listed, runs_of-same, areas_of-same}
 use Rattle.mig_model.proofs.TextLemmas.{length-list_below}
 
 -- Numbers
@@ -67,16 +69,8 @@ all-map : {A : Type 0} {B : Type 0} (P : B → Type 0) (f : A → B) (xs : List 
 all-map P f [] h = tt
 all-map P f (x ∷ xs) h = (h.0, all-map P f xs h.1)
 
-one_at_most : (b : Bool) → cond b 1 0 ≤ 1
-one_at_most b = grind (arith, nat_tests)
-
-count_below-bound : (test : ℕ → Bool) (bound : ℕ) → count_below test bound ≤ bound
-unfolding count_below
-count_below-bound test zero = omega arith
-count_below-bound test (suc bound) = omega (arith, count_below-bound test bound, one_at_most (test bound))
-
 few_listed : {A : Type 0} (f : ℕ → A) (test : ℕ → Bool) → length (map f (list_below test HIGH_PAGE)) < 2 ^ 32
-few_listed f test = omega (arith, length-map (list_below test HIGH_PAGE) f, length-list_below test HIGH_PAGE, count_below-bound test HIGH_PAGE)
+few_listed f test = omega (arith, length-map (list_below test HIGH_PAGE) f, length-list_below test HIGH_PAGE, count_below-few test HIGH_PAGE)
 
 -- Sets of pages, and mapped pages
 
@@ -89,7 +83,7 @@ same_run x y s r hx hy e = grind (arith, nat_tests)
 runs_fit : (set : FinSet nat_cmp) → AllByRecursion FitsRun (runs_of set)
 runs_fit set =
     all-map FitsRun (run_at set) (list_below (begins_run set) HIGH_PAGE)
-    (all_listed (λ k. FitsRun (run_at set k)) (begins_run set) HIGH_PAGE (λ k l. (omega arith, omega (arith, run_length-bound set k HIGH_PAGE))))
+    (all_listed (λ k. FitsRun (run_at set k)) (begins_run set) HIGH_PAGE (λ k l. (omega arith, omega (arith, run_length-most set k HIGH_PAGE))))
 
 same_set : (a b : FinSet nat_cmp) (s r : List ℕ) → AreBelow a → AreBelow b → runs_text (runs_of a) ++ s ≡ runs_text (runs_of b) ++ r → a ≡ b
 same_set a b s r ha hb e = grind (arith, nat_tests, runs_of-same, same_counted, same_run, runs_fit, few_listed)
@@ -103,7 +97,7 @@ same_area x y s r hx hy e = grind (arith, nat_tests)
 areas_fit : (areas : FinMap nat_cmp Prot) → AllByRecursion FitsArea (areas_of areas)
 areas_fit areas =
     all-map FitsArea (area_at areas) (list_below (begins_area areas) HIGH_PAGE)
-    (all_listed (λ k. FitsArea (area_at areas k)) (begins_area areas) HIGH_PAGE (λ k l. (omega arith, omega (arith, run_length-bound (pages_where (λ page. same_prot (get areas k) (get areas page))) k HIGH_PAGE))))
+    (all_listed (λ k. FitsArea (area_at areas k)) (begins_area areas) HIGH_PAGE (λ k l. (omega arith, omega (arith, run_length-most (pages_where (λ page. same_prot (get areas k) (get areas page))) k HIGH_PAGE))))
 
 same_map : (a b : FinMap nat_cmp Prot) (s r : List ℕ) → AreMappedBelow a → AreMappedBelow b → areas_text (areas_of a) ++ s ≡ areas_text (areas_of b) ++ r → a ≡ b
 same_map a b s r ha hb e = grind (arith, nat_tests, areas_of-same, same_counted, same_area, areas_fit, few_listed)

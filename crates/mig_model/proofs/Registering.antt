@@ -15,6 +15,7 @@ use Rattle.mig_base.specs.Ranges.{in_range}
 use Rattle.mig_base.specs.Sets.{pages_where}
 use Rattle.mig_base.specs.Tests.{first_holding}
 use Rattle.mig_base.proofs.RangeLemmas.{in_range-true, none_below-not}
+use Rattle.mig_base.proofs.TestLemmas.{none_below_zero}
 use Rattle.mig_base.proofs.SetLemmas.{member_below, same_members}
 use Rattle.mig_model.specs.Userfault.{Mode, Object, has_modes, registered_where}
 use Rattle.mig_model.specs.Space.{Space, IsSoundSpace}
@@ -123,9 +124,6 @@ nothing_holds (error ∷ errors) h = ap (λ t. cond t (Some error.1) (first_hold
 pub range_good : (first count : ℕ) → 0 < count → LOW_PAGE ≤ first → first + count ≤ HIGH_PAGE → is_bad_range (4096 * first) (4096 * count) ≡ false
 range_good first count some low high = grind (arith, nat_tests)
 
-last_page : (first count : ℕ) → 0 < count → first + (count - 1) < HIGH_PAGE → first + count ≤ HIGH_PAGE
-last_page first count some last = omega (arith, some, last)
-
 pub pages_again : (pages : ℕ) → 4096 * pages / 4096 ≡ pages
 pages_again pages = omega arith
 
@@ -153,7 +151,7 @@ run_accepted space first count bits can mode mapping some mapped =
       not_from_true space.object.enabled can.enabled,
       (
         not_from_true (has_events space.object) can.events,
-        (mode, (range_good first count some lowest.0 (last_page first count some highest.1), (none_below-not (λ i. contains_key space.host.areas (4096 * first / 4096 + i)) (4096 * count / 4096) 0 (omega (arith, some)) found, tt))),
+        (mode, (range_good first count some lowest.0 (let last = highest.1 in omega (arith, some, last)), (none_below-not (λ i. contains_key space.host.areas (4096 * first / 4096 + i)) (4096 * count / 4096) 0 (omega (arith, some)) found, tt))),
       ),
     )
 
@@ -211,9 +209,6 @@ abbrev pages_below : (ℕ → Bool) → ℕ → List Run
 pages_below test zero = []
 pages_below test (suc bound) = if test bound then one_page bound ∷ pages_below test bound else pages_below test bound
 
-below_zero : (page : ℕ) (here : Bool) → false ≡ (ltb page 0 && here)
-below_zero page here = grind (arith, nat_tests)
-
 below_next : (page bound : ℕ) (here there : Bool) → (page ≡ bound → here ≡ there) → cond there (in_range bound 1 page || (ltb page bound && here)) (ltb page bound && here) ≡ (ltb page (suc bound) && here)
 below_next page bound here there h = grind (arith, nat_tests)
 
@@ -221,7 +216,7 @@ runs_or : (there : Bool) (run : Run) (runs : List Run) (page : ℕ) → in_runs 
 runs_or there run runs page = grind (arith, nat_tests)
 
 in_pages_below : (test : ℕ → Bool) (bound page : ℕ) → in_runs (pages_below test bound) page ≡ (ltb page bound && test page)
-in_pages_below test zero page = below_zero page (test page)
+in_pages_below test zero page = none_below_zero page (test page)
 in_pages_below test (suc bound) page =
     runs_or (test bound) (one_page bound) (pages_below test bound) page
     ∙ ap (λ b. cond (test bound) (in_range bound 1 page || b) b) (in_pages_below test bound page)

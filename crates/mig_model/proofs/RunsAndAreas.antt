@@ -37,16 +37,6 @@ run_length-covers set first (suc bound) (suc n) below all =
     let more = run_length-covers set (1 + first) bound n (omega arith) (λ j l. let e : 1 + first + j ≡ first + suc j = omega arith in rw e (all (suc j) (omega arith))) in
     rw here (omega (arith, more))
 
--- and no longer than the bound
-pub run_length-bound : (set : FinSet nat_cmp) (first bound : ℕ) → run_length set first bound ≤ bound
-unfolding run_length
-run_length-bound set first zero = omega arith
-run_length-bound set first (suc bound) =
-    elim (contains set first) as (λ b. cond b (1 + run_length set (1 + first) bound) 0 ≤ suc bound) [
-      | true ↦ let more = run_length-bound set (1 + first) bound in omega (arith, more)
-      | false ↦ omega arith
-    ]
-
 -- Numbers that pass a test
 
 -- whether one of the numbers covers another
