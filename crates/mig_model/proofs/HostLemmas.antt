@@ -67,23 +67,10 @@ mapped_count-memory host sound =
 pub get-put : (bytes : FinMap nat_cmp (List ℕ)) (page q : ℕ) (held : List ℕ) → get (insert bytes page held) q ≡ cond (eqb q page) (Some held) (get bytes q)
 get-put bytes page q held = get-insert nat_cmp_total bytes page held q ∙ ap (λ b. cond b (Some held) (get bytes q)) (unsigned_tied q page)
 
--- a mapped page is put or written
-mapped_put : (b : Bool) (q page : ℕ) (held : List ℕ) (areas : Option Prot) (o : Option (List ℕ)) → b ≡ eqb q page → (b ≡ true → areas ≡ None → ⊥) → (areas ≡ None → o ≡ None) → areas ≡ None → cond b (Some held) o ≡ None
-mapped_put b q page held areas o e some rest none = grind (arith, nat_tests)
-
-has_not_none : (areas : FinMap nat_cmp Prot) (page : ℕ) → contains_key areas page ≡ true → get areas page ≡ None → ⊥
-has_not_none areas page has none = false≢true (sym (ap is_some none) ∙ has)
-
 pub IsSound-put : (host : Host) (page : ℕ) (held : List ℕ) → IsSound host → contains_key host.areas page ≡ true → length held ≡ 4096 → IsSound (record host { bytes = insert host.bytes page held })
-IsSound-put host page held sound has n = grind (arith, nat_tests, get-put, mapped_put, has_not_none, eqb-true, put_whole)
+IsSound-put host page held sound has n = grind (arith, nat_tests, get-put, eqb-true, put_whole)
 
 -- A write
-
-outside_page : (bytes : FinMap nat_cmp (List ℕ)) (page addr : ℕ) (held : List ℕ) → addr / 4096 ≢ page → byte_in (insert bytes page held) addr ≡ byte_in bytes addr
-outside_page bytes page addr held other = grind (arith, nat_tests, get-put, eqb_other)
-
-inside_page : (bytes : FinMap nat_cmp (List ℕ)) (page addr : ℕ) (held : List ℕ) → addr / 4096 ≡ page → byte_in (insert bytes page held) addr ≡ get_or held (addr % 4096) 0
-inside_page bytes page addr held here = grind (arith, nat_tests, get-put, eq-eqb)
 
 -- the digits of a number
 pub record AreDigits (digits : List ℕ) (width value : ℕ) : Type 0 where
@@ -95,10 +82,7 @@ abbrev pub ReadsAs : List ℕ → List ℕ → Type 0
 ReadsAs held other = (i : ℕ) → get_or held i 0 ≡ get_or other i 0
 
 byte_in-write : (bytes : FinMap nat_cmp (List ℕ)) (addr width value : ℕ) (held digits : List ℕ) → ReadsAs held (page_at bytes (addr / 4096)) → length held ≡ 4096 → AreDigits digits width value → addr % 4096 + width ≤ 4096 → (q : ℕ) → byte_in (insert bytes (addr / 4096) (overwrite held (addr % 4096) digits)) q ≡ cond (in_range addr width q) (value / 256 ^ (q - addr) % 256) (byte_in bytes q)
-byte_in-write bytes addr width value held digits same n are inside q = grind (arith, nat_tests, inside_page, get_or-overwrite_in, get_or-overwrite_below, get_or-overwrite_above, outside_page, cases_eq, in_range_tells)
-
-written-cell : (bytes : FinMap nat_cmp (List ℕ)) (addr byte : ℕ) (o : Option Prot) → written (cell_at bytes addr o) byte ≡ option_map (λ prot. record { byte = byte; prot = prot }) o
-written-cell bytes addr byte o = grind (arith, nat_tests)
+byte_in-write bytes addr width value held digits same n are inside q = grind (arith, nat_tests, get_or-overwrite_in, get_or-overwrite_below, get_or-overwrite_above, cases_eq, in_range_tells, get-put, eq-eqb, eqb_other)
 
 chosen : (b : Bool) (bytes : FinMap nat_cmp (List ℕ)) (addr byte : ℕ) (o : Option Prot) → option_map (λ prot. record { byte = cond b byte (byte_in bytes addr); prot = prot }) o ≡ cond b (written (cell_at bytes addr o) byte) (cell_at bytes addr o)
 chosen b bytes addr byte o = grind (arith, nat_tests)
@@ -120,49 +104,31 @@ ltb_same a b c d f g = grind (arith, nat_tests, f, g)
 in_range-pages : (first count q : ℕ) → in_range first count (q / 4096) ≡ in_range (first * 4096) (4096 * count) q
 in_range-pages first count q = grind (arith, nat_tests)
 
-no_byte : (b : Bool) (o : Option (List ℕ)) (i : ℕ) → get_or (unwrap_or (cond b None o) []) i 0 ≡ cond b 0 (get_or (unwrap_or o []) i 0)
-no_byte b o i = grind (arith, nat_tests)
-
 byte_in-remove : (bytes : FinMap nat_cmp (List ℕ)) (first count addr : ℕ) → byte_in (remove_range bytes first count) addr ≡ cond (in_range first count (addr / 4096)) 0 (byte_in bytes addr)
-byte_in-remove bytes first count addr = grind (arith, nat_tests, get-remove_range, no_byte)
+byte_in-remove bytes first count addr = grind (arith, nat_tests, get-remove_range)
 
 abbrev with_byte : ℕ → Option Prot → Option Cell
 with_byte byte o = option_map (λ prot. record { byte = byte; prot = prot }) o
 
-filled : (b : Bool) (byte : ℕ) (prot : Prot) (o : Option Prot) → with_byte (cond b 0 byte) (cond b (Some prot) o) ≡ cond b (Some (record { byte = 0; prot = prot })) (with_byte byte o)
-filled b byte prot o = grind (arith, nat_tests)
-
 pub memory-map : (host : Host) (first count : ℕ) (prot : Prot) → memory (record { areas = set_range host.areas first count prot; bytes = remove_range host.bytes first count }) ≡ fill (memory host) (first * 4096) (4096 * count) (record { byte = 0; prot = prot })
-memory-map host first count prot = grind (arith, nat_tests, same_memory, memory-at, cell_at, get-set_range, with_byte, byte_in-remove, filled, in_range-pages)
-
-some_or_none : (b : Bool) (prot : Prot) (o : Option Prot) (p : Option (List ℕ)) → cond b (Some prot) o ≡ None → (o ≡ None → p ≡ None) → cond b None p ≡ None
-some_or_none b prot o p h rest = grind (arith, nat_tests)
+memory-map host first count prot = grind (arith, nat_tests, same_memory, memory-at, cell_at, get-set_range, with_byte, byte_in-remove, in_range-pages)
 
 pub some_kept : (b : Bool) (bytes : List ℕ) (p : Option (List ℕ)) → cond b None p ≡ Some bytes → p ≡ Some bytes
 some_kept b bytes p h = grind (arith, nat_tests)
 
 pub IsSound-map : (host : Host) (first count : ℕ) (prot : Prot) → IsSound host → first + count ≤ HIGH_PAGE → IsSound (record { areas = set_range host.areas first count prot; bytes = remove_range host.bytes first count })
-IsSound-map host first count prot sound high = grind (arith, nat_tests, get-set_range, in_range-false_above, get-remove_range, some_or_none, some_kept)
-
-cleared : (b : Bool) (old new : FinMap nat_cmp (List ℕ)) (addr : ℕ) (o : Option Prot) → (b ≡ false → byte_in new addr ≡ byte_in old addr) → cell_at new addr (cond b None o) ≡ cond b None (cell_at old addr o)
-cleared b old new addr o h = grind (arith, nat_tests)
+IsSound-map host first count prot sound high = grind (arith, nat_tests, get-set_range, in_range-false_above, get-remove_range, some_kept)
 
 pub memory-unmap : (host : Host) (first count : ℕ) → memory (record { areas = remove_range host.areas first count; bytes = remove_range host.bytes first count }) ≡ clear (memory host) (first * 4096) (4096 * count)
-memory-unmap host first count = grind (arith, nat_tests, same_memory, memory-at, cell_at, get-remove_range, cleared, in_range-pages)
-
-none_kept : (b : Bool) (a o : Option Prot) (p : Option (List ℕ)) → cond b None o ≡ None → (o ≡ None → p ≡ None) → cond b None p ≡ None
-none_kept b a o p h rest = grind (arith, nat_tests)
+memory-unmap host first count = grind (arith, nat_tests, same_memory, memory-at, cell_at, get-remove_range, in_range-pages)
 
 pub IsSound-unmap : (host : Host) (first count : ℕ) → IsSound host → IsSound (record { areas = remove_range host.areas first count; bytes = remove_range host.bytes first count })
-IsSound-unmap host first count sound = grind (arith, nat_tests, get-remove_range, cond_none, none_kept, some_kept)
+IsSound-unmap host first count sound = grind (arith, nat_tests, get-remove_range, cond_none, some_kept)
 
 -- Pages made missing
 
-zeroes : (b : Bool) (byte : ℕ) (o : Option Prot) → with_byte (cond b 0 byte) o ≡ cond b (written (with_byte byte o) 0) (with_byte byte o)
-zeroes b byte o = grind (arith, nat_tests)
-
 pub memory-dropped : (host : Host) (first count : ℕ) → memory (host_dropped host first count) ≡ zeroed (memory host) (first * 4096) (4096 * count)
-memory-dropped host first count = grind (arith, nat_tests, same_memory, memory-at, with_byte, byte_in-remove, zeroes, cell_at, in_range-pages)
+memory-dropped host first count = grind (arith, nat_tests, same_memory, memory-at, with_byte, byte_in-remove, cell_at, in_range-pages)
 
 pub IsSound-dropped : (host : Host) (first count : ℕ) → IsSound host → IsSound (host_dropped host first count)
 IsSound-dropped host first count sound = grind (arith, nat_tests, get-remove_range, none_or, some_kept)
@@ -185,7 +151,7 @@ shorter_pages : (to count q : ℕ) → ltb (q / 4096 - to) count ≡ ltb (q - to
 shorter_pages to count q = ltb_same (q / 4096 - to) count (q - to * 4096) (4096 * count) (λ h. omega arith) (λ h. omega arith)
 
 grown_cell : (host : Host) (from : ℕ) → zero_cell (get host.areas from) ≡ grown (memory host (from * 4096))
-grown_cell host from = grind (arith, nat_tests, written-cell, memory-at)
+grown_cell host from = grind (arith, nat_tests, memory-at)
 
 carried_cell : (host : Host) (from to q : ℕ) → to ≤ q / 4096 → cell_of (get host.bytes (from + (q / 4096 - to))) (q % 4096) (get host.areas (from + (q / 4096 - to))) ≡ memory host (from * 4096 + (q - to * 4096))
 carried_cell host from to q l = grind (arith, nat_tests, memory-at)
@@ -213,13 +179,5 @@ memory-moved host from count to new_count =
     ∙ ap (λ b. cond (in_range (to * 4096) (4096 * new_count) q) (cond b (memory host (from * 4096 + (q - to * 4096))) (grown (memory host (from * 4096)))) (cond gone None (memory host q))) (shorter_pages to count q)
     ∙ ap (λ b. cond (in_range (to * 4096) (4096 * new_count) q) (cond (ltb (q - to * 4096) (4096 * count)) (memory host (from * 4096 + (q - to * 4096))) (grown (memory host (from * 4096)))) (cond b None (memory host q))) (in_range-pages from count q))
 
-moved_mapped : (new old from : Bool) (area growth here : Option Prot) (held own : Option (List ℕ)) → (area ≡ None → held ≡ None) → (here ≡ None → own ≡ None) →
-    cond new (cond old area growth) (cond from None here) ≡ None → cond new (cond old held None) (cond from None own) ≡ None
-moved_mapped new old from area growth here held own a b h = grind (arith, nat_tests)
-
-moved_whole : (new old from : Bool) (held own : Option (List ℕ)) (bytes : List ℕ) → (held ≡ Some bytes → length bytes ≡ 4096) → (own ≡ Some bytes → length bytes ≡ 4096) →
-    cond new (cond old held None) (cond from None own) ≡ Some bytes → length bytes ≡ 4096
-moved_whole new old from held own bytes a b h = grind (arith, nat_tests)
-
 pub IsSound-moved : (host : Host) (from count to new_count : ℕ) → IsSound host → to + new_count ≤ HIGH_PAGE → IsSound (host_moved host from count to new_count)
-IsSound-moved host from count to new_count sound high = grind (arith, nat_tests, get-moved_range, in_range-false_above, cond_none, moved_mapped, moved_whole)
+IsSound-moved host from count to new_count sound high = grind (arith, nat_tests, get-moved_range, in_range-false_above, cond_none)

@@ -24,16 +24,6 @@ use Rattle.mig_model.proofs.Facts.{none_absurd, and_second, and_left, in_range_f
 
 -- Registered pages
 
--- a page that has a mode afterwards had it, or is one of those that were asked for
-registered_one : (low test has mode old : Bool) → (low && cond (test && not has) mode old) ≡ true → (test ≡ true) ⊎ (old ≡ true)
-registered_one low test has mode old h = grind (arith, nat_tests)
-
--- the page keeps its write-protect mode where it stays protected
-still_watched : (low mapped missing has_missing mode_missing mode_protect protect : Bool) → low ≡ true → protect ≡ true →
-    (mode_protect || ((not mode_missing || has_missing) && (not mode_protect || protect)) || not mapped) ≡ true →
-    (low && cond (mapped && not ((not mode_missing || has_missing) && (not mode_protect || protect))) mode_protect protect) ≡ true
-still_watched low mapped missing has_missing mode_missing mode_protect protect below is h = grind (arith, nat_tests)
-
 low_or : {page : ℕ} → (HIGH_PAGE ≤ page → ⊥) → ltb page HIGH_PAGE ≡ true
 low_or h = grind (arith, nat_tests, h)
 
@@ -41,7 +31,7 @@ pub below_high : (space : Space) (page : ℕ) → IsSoundSpace space → contain
 below_high space page sound mapped = low_or (λ h. false≢true (sym (ap is_some (sound.host.bound page h)) ∙ mapped))
 
 pub IsSoundSpace-registered : (space : Space) (first count : ℕ) (mode : Mode) → IsSoundSpace space → IsSoundSpace (registered_in space first count mode)
-IsSoundSpace-registered space first count mode sound = grind (arith, nat_tests, and_second, or_left, registered_one, member_below, or_right, or_cases, and_left, still_watched, below_high)
+IsSoundSpace-registered space first count mode sound = grind (arith, nat_tests, and_second, or_left, member_below, or_right, or_cases, and_left, below_high)
 
 -- A range that is registered no longer
 
@@ -61,15 +51,6 @@ get-put_pages pages first (suc count) q bytes =
     ∙ ap (λ o. cond (eqb q (first + count)) (Some (bytes count)) o) (get-put_pages pages first count q bytes)
     ∙ one_more first count q (λ i. Some (bytes i)) (get pages q)
 
-put_here : (here : Bool) (bytes : List ℕ) (o : Option (List ℕ)) → here ≡ true → is_some (cond here (Some bytes) o) ≡ true
-put_here here bytes o h = grind (arith, nat_tests)
-
-put_whole : (here : Bool) (put held : List ℕ) (o : Option (List ℕ)) → (here ≡ true → length put ≡ 4096) → (o ≡ Some held → length held ≡ 4096) → cond here (Some put) o ≡ Some held → length held ≡ 4096
-put_whole here put held o n rest h = grind (arith, nat_tests)
-
-put_mapped : (here : Bool) (put : List ℕ) (o : Option (List ℕ)) → (here ≡ true → ⊥) → o ≡ None → cond here (Some put) o ≡ None
-put_mapped here put o away h = grind (arith, nat_tests)
-
 -- pages are put where each is mapped, and registered for write-protect faults if they are to be protected
 pub record CanPut (space : Space) (first count : ℕ) (bytes : ℕ → List ℕ) (protect : Bool) : Type 0 where
   pub mapped : (page : ℕ) → in_range first count page ≡ true → contains_key space.host.areas page ≡ true
@@ -77,15 +58,12 @@ pub record CanPut (space : Space) (first count : ℕ) (bytes : ℕ → List ℕ)
   pub watched : protect ≡ true → (page : ℕ) → in_range first count page ≡ true → contains space.object.protect page ≡ true
 
 pub IsSoundSpace-installed : (space : Space) (first count : ℕ) (bytes : ℕ → List ℕ) (protect : Bool) → CanPut space first count bytes protect → IsSoundSpace space → IsSoundSpace (installed space first count bytes protect)
-IsSoundSpace-installed space first count bytes protect can sound = grind (arith, nat_tests, or_cases, and_second, member_below, get-put_pages, put_mapped, false≢true, put_whole, in_range_first, some_either, put_here, and_left)
+IsSoundSpace-installed space first count bytes protect can sound = grind (arith, nat_tests, or_cases, and_second, member_below, get-put_pages, false≢true, in_range_first, some_either, and_left)
 
 -- Write protection
 
-protected_one : (low here protect present old : Bool) → (low && cond here (protect && present) old) ≡ true → (here ≡ true) × (present ≡ true) ⊎ (old ≡ true)
-protected_one low here protect present old h = grind (arith, nat_tests)
-
 pub IsSoundSpace-protected : (space : Space) (first count : ℕ) (protect : Bool) → ((page : ℕ) → in_range first count page ≡ true → contains space.object.protect page ≡ true) → IsSoundSpace space → IsSoundSpace (protected_in space first count protect)
-IsSoundSpace-protected space first count protect watched sound = grind (arith, nat_tests, protected_one, member_below)
+IsSoundSpace-protected space first count protect watched sound = grind (arith, nat_tests, member_below)
 
 -- Reading a message, and the handshake
 

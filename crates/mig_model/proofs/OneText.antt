@@ -104,12 +104,9 @@ same_map a b s r ha hb e = grind (arith, nat_tests, areas_of-same, same_counted,
 
 -- Commands
 
-same_command : (x y : Option Command) (s r : List ℕ) → FitsCommand x → FitsCommand y → command_text x ++ s ≡ command_text y ++ r → x ≡ y
-same_command x y s r hx hy e = grind (arith, nat_tests)
-
 -- with a count of one byte
 same_commands : (x y : List (Option Command)) (s r : List ℕ) → AllByRecursion FitsCommand x → AllByRecursion FitsCommand y → commands_text x ++ s ≡ commands_text y ++ r → x ≡ y
-same_commands x y s r hx hy e = grind (arith, nat_tests, same_list, same_command, same_first)
+same_commands x y s r hx hy e = grind (arith, nat_tests, same_list, same_first)
 
 -- Bodies
 

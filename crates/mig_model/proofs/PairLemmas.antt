@@ -39,10 +39,6 @@ ArePairs space owed = (page origin : ℕ) → owed page ≡ Some origin → (con
 pub pairs_watched : (space : Space) (owed : ℕ → Option ℕ) → ArePairs space owed → AreWatched space owed
 pairs_watched space owed pairs page origin h = (pairs page origin h).0
 
--- one page of a range that goes
-gone_pair : {X : Type 0} (c m : Bool) (o : Option ℕ) (b : Option X) (origin : ℕ) → ((origin : ℕ) → o ≡ Some origin → (m ≡ true) × (is_some b ≡ false)) → cond c None o ≡ Some origin → ((m && not c) ≡ true) × (m ≡ true) × (is_some (cond c None b) ≡ false)
-gone_pair c m o b origin pairs h = grind (arith, nat_tests)
-
 -- one page of a range that moves
 moved_pair : {X : Type 0} (low new old from m1 m2 mg : Bool) (x y : Option ℕ) (b1 b2 : Option X) (origin : ℕ) → (new ≡ true → low ≡ true) → (y ≡ Some origin → low ≡ true) →
     ((origin : ℕ) → x ≡ Some origin → (m1 ≡ true) × (is_some b1 ≡ false)) → ((origin : ℕ) → y ≡ Some origin → (m2 ≡ true) × (is_some b2 ≡ false)) →
@@ -57,7 +53,7 @@ in_new to target new_len page is high h = let r = in_range_first to (pages_of ne
 
 gone_pairs : (space : Space) (owed : ℕ → Option ℕ) (first count page origin : ℕ) → ArePairs space owed → cond (in_range first count page) None (owed page) ≡ Some origin →
     (contains (without space.object.missing first count) page ≡ true) × (contains space.object.missing page ≡ true) × (contains_key (remove_range space.host.bytes first count) page ≡ false)
-gone_pairs space owed first count page origin pairs h = grind (arith, nat_tests, gone_pair, member_without, get-remove_range)
+gone_pairs space owed first count page origin pairs h = grind (arith, nat_tests, member_without, get-remove_range)
 
 pub pairs_called : (space : Space) (owed : ℕ → Option ℕ) (command : Command) (reply : Reply) → is_access command ≡ false → IsSoundSpace space → reply ≡ reply_of (memory space.host) command → ArePairs space owed →
     (page origin : ℕ) → owed_changed owed command reply page ≡ Some origin → (contains (modes_after space.object command reply).missing page ≡ true) × (contains_key (host_changed space.host command reply).bytes page ≡ false)
@@ -86,14 +82,11 @@ pairs_called space owed _ _ call sound is pairs page origin h = pairs page origi
 abbrev pub HasNone : FinSet nat_cmp → Type 0
 HasNone set = (page : ℕ) → contains set page ≡ false
 
-none_moved : (low new old from m1 m2 mg : Bool) → m1 ≡ false → m2 ≡ false → mg ≡ false → (low && cond new (cond old m1 mg) (not from && m2)) ≡ false
-none_moved low new old from m1 m2 mg a b c = grind (arith, nat_tests)
-
 none-without : (set : Set) (first count : ℕ) → HasNone set → HasNone (without set first count)
 none-without set first count none page = member_without set first count page ∙ and_left (contains set page) (not (in_range first count page)) (none page)
 
 none-moved : (set : Set) (from count to new_count : ℕ) (growth : Bool) → growth ≡ false → HasNone set → HasNone (moved_set set from count to new_count growth)
-none-moved set from count to new_count growth never none page = grind (arith, nat_tests, member_below, none_moved)
+none-moved set from count to new_count growth never none page = grind (arith, nat_tests, member_below)
 
 pub none_protected : (set : FinSet nat_cmp) (command : Command) (reply : Reply) → HasNone set → HasNone (protected_after set command reply)
 none_protected set command reply none = grind (arith, nat_tests, none-without, none-moved)

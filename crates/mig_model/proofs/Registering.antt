@@ -36,11 +36,8 @@ registered_by space test mode =
 
 -- Sets by tests
 
-where_low : (low one other : Bool) → (low ≡ true → one ≡ other) → (low && one) ≡ (low && other)
-where_low low one other h = grind (arith, nat_tests)
-
 same_where : (one other : ℕ → Bool) → ((page : ℕ) → ltb page HIGH_PAGE ≡ true → one page ≡ other page) → pages_where one ≡ pages_where other
-same_where one other h = grind (arith, nat_tests, same_members, member_below, where_low)
+same_where one other h = grind (arith, nat_tests, same_members, member_below)
 
 -- whether a page below the bound is in
 in_where : (test : ℕ → Bool) (page : ℕ) → ltb page HIGH_PAGE ≡ true → contains (pages_where test) page ≡ test page

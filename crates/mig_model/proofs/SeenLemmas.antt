@@ -50,12 +50,8 @@ unmapped_none here there owed page sound mapped h = grind (arith, nat_tests)
 pub get-seen : (here there : Host) (owed : ℕ → Option ℕ) (page : ℕ) → IsSound here → AreMapped here owed → get (seen_host here there owed).bytes page ≡ seen_bytes here there owed page
 get-seen here there owed page sound mapped = grind (arith, nat_tests, get-map_below, le-ltb, unmapped_none, below_or_not)
 
-whole_overlay : (there : PageMap (List ℕ)) (o : Option (List ℕ)) (origin : Option ℕ) (bytes : List ℕ) → ((bytes : List ℕ) → o ≡ Some bytes → length bytes ≡ 4096) →
-    ((page : ℕ) (bytes : List ℕ) → get there page ≡ Some bytes → length bytes ≡ 4096) → overlay there o origin ≡ Some bytes → length bytes ≡ 4096
-whole_overlay there o origin bytes own other h = grind (arith, nat_tests)
-
 pub IsSound-seen : (here there : Host) (owed : ℕ → Option ℕ) → IsSound here → IsSound there → AreMapped here owed → IsSound (seen_host here there owed)
-IsSound-seen here there owed sound far mapped = grind (arith, nat_tests, get-seen, unmapped_none, whole_overlay)
+IsSound-seen here there owed sound far mapped = grind (arith, nat_tests, get-seen, unmapped_none)
 
 -- Replies
 

@@ -19,12 +19,8 @@ IsOneToOne owed = (page other origin : ℕ) → owed page ≡ Some origin → ow
 
 -- The table and its look-up
 
--- a page of a range of equal length has its page in the other range
-all_carried : {A : Type 0} (to count q : ℕ) (a b rest : A) → (if in_range to count q then (if ltb (q - to) count then a else b) else rest) ≡ (if in_range to count q then a else rest)
-all_carried to count q a b rest = grind (arith, nat_tests)
-
 pub get-owed_table_after : (message : Message) (owed : FinMap nat_cmp ℕ) (page : ℕ) → get (owed_table_after message owed) page ≡ owed_after message (get owed) page
-get-owed_table_after message owed page = grind (arith, nat_tests, get-moved_range, all_carried, get-remove_range)
+get-owed_table_after message owed page = grind (arith, nat_tests, get-moved_range, get-remove_range)
 
 -- the same as functions
 pub owed_table_after-applied : (message : Message) (owed : FinMap nat_cmp ℕ) → get (owed_table_after message owed) ≡ owed_after message (get owed)

@@ -60,15 +60,12 @@ requests_and_done_whole : (back : List Sent) → are_requests_and_done back ≡ 
 requests_and_done_whole [] h = none_absurd h
 requests_and_done_whole (sent ∷ rest) h = done_by sent.frame (are_requests_and_done rest) rest (requests_and_done_whole rest) h
 
-receiving_whole : (source : Source) (destination : Destination) (state : Received) (back : List Sent) → IsReceiving source destination state back → AreWhole (copies_of back)
-receiving_whole source destination state back told = subst (λ frames. AreWhole (copies_of frames)) (sym told.first) (requests_whole told.rest told.requests)
-
 -- the world with its nodes in these phases
 abbrev in_phases : SourcePhase → DestPhase → World → World
 in_phases from to world = record world { source = record world.source { phase = from }; destination = record world.destination { phase = to } }
 
 back_whole_in : (from : SourcePhase) (to : DestPhase) (world : World) → world.up ≡ true → IsSoundWorld (in_phases from to world) → AreWhole (copies_of world.back.frames)
-back_whole_in from to world up kept = grind (arith, nat_tests, requests_whole, requests_and_done_whole, none_back, receiving_whole)
+back_whole_in from to world up kept = grind (arith, nat_tests, requests_whole, requests_and_done_whole, none_back)
 
 back_whole : (up : Bool) (world : World) → world.up ≡ up → IsSoundWorld world → AreWhole (copies_of world.back.frames)
 back_whole true world up kept = back_whole_in world.source.phase world.destination.phase world up kept

@@ -57,18 +57,10 @@ faulted : (waits : Bool) (faults : List Noted) (there : Host) (owed : ℕ → Op
     IsTried there owed space (record space { object = cond waits space.object (record space.object { faults = faults }) }) cpu command Sleep
 faulted waits faults there owed space cpu command ready = grind (arith, nat_tests)
 
-put_still : {X : Type 0} (same : Bool) (held : X) (o : Option X) → (same ≡ true → ⊥) → is_some o ≡ false → is_some (cond same (Some held) o) ≡ false
-put_still same held o other h = grind (arith, nat_tests)
-
--- an owed page is not the one that is written
-not_written : (space : Space) (owed : ℕ → Option ℕ) (written page origin : ℕ) → ArePairs space owed → owed page ≡ Some origin →
-    (contains_key space.host.bytes written ≡ true) ⊎ (contains space.object.missing written ≡ false) → eqb page written ≡ true → ⊥
-not_written space owed written page origin pairs h own same = grind (arith, nat_tests)
-
 pairs_accessed : (space : Space) (owed : ℕ → Option ℕ) (command : Command) (reply : Reply) → is_access command ≡ true → ArePairs space owed →
     (is_made reply ≡ true → (contains_key space.host.bytes (page_of command) ≡ true) ⊎ (contains space.object.missing (page_of command) ≡ false)) →
     ArePairs (record space { host = host_changed space.host command reply }) owed
-pairs_accessed space owed command reply access pairs own page origin h = grind (arith, nat_tests, get-put, put_still, not_written, none_absurd)
+pairs_accessed space owed command reply access pairs own page origin h = grind (arith, nat_tests, get-put, none_absurd)
 
 -- one that is answered
 answered : (there : Host) (owed : ℕ → Option ℕ) (space : Space) (cpu : ℕ) (command : Command) (reply : Reply) → IsSound there → is_access command ≡ true → IsReady space owed → access_of space command ≡ Answered reply →
