@@ -1,5 +1,5 @@
 -- The calls of a userfault object leave a space in order.
-use Rattle.std.proofs.Common.{◌≡◌, ℕ, zero, suc, ◌+◌, ◌-◌, ◌/◌, ◌<◌, ◌≤◌, ◌&&◌, ◌||◌, Bool, true, false, cond, not, eqb, ltb, Option, Some, None, List, [], ◌∷◌, sym, ap, ◌∙◌, ◌⊎◌, arith, is_some, unwrap_or, length}
+use Rattle.std.proofs.Common.{◌≡◌, ℕ, zero, suc, ◌+◌, ◌-◌, ◌/◌, ◌<◌, ◌≤◌, ◌&&◌, Bool, true, false, cond, not, eqb, ltb, Option, Some, None, List, [], ◌∷◌, sym, ap, ◌∙◌, arith, is_some, unwrap_or, length}
 use Rattle.std.specs.Ordering.{nat_cmp}
 use Rattle.std.specs.FinMap.{FinMap, get, contains_key}
 use Rattle.std.specs.FinSet.{contains}
@@ -19,7 +19,6 @@ use Rattle.mig_model.specs.Space.{Space, IsSoundSpace}
 use Rattle.mig_model.specs.Ioctls.{left_by, mode_of, registered_in, registered, register_error, unregistered_in, range_unregistered, unregister_error, handshaken, put_pages, handed, missing_run, installed, same_area, is_one_area, copy_errors, copy_error, copied, zeropage_errors, zeropage_error, zeropaged, protected_in, writeprotect_errors, writeprotect_error, write_protected, read_error, read_space}
 use Rattle.mig_base.specs.Tests.{first_holding, same_bool, is_every}
 use Rattle.mig_model.proofs.HostLemmas.{get-put}
-use Rattle.mig_model.specs.Log.{present}
 use Rattle.mig_model.proofs.Facts.{none_absurd, and_second, and_left, in_range_first, some_either}
 
 -- Registered pages

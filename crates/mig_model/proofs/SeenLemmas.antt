@@ -1,5 +1,5 @@
 -- The host that the guest sees at the destination: what it has, and what it answers.
-use Rattle.std.proofs.Common.{◌≡◌, ℕ, ◌/◌, ◌≤◌, ◌&&◌, Bool, true, false, cond, not, ltb, Option, Some, None, List, refl, sym, ap, ◌∙◌, ◌⊎◌, ⊎_elim, inl, inr, arith, is_some, length}
+use Rattle.std.proofs.Common.{◌≡◌, ℕ, ◌/◌, ◌≤◌, ◌&&◌, Bool, true, false, cond, not, ltb, Option, Some, None, List, refl, sym, ap, ◌∙◌, ◌⊎◌, ⊎_elim, inl, inr, arith, is_some}
 use Rattle.std.specs.Option.{option_map, option_and_then}
 use Rattle.std.specs.Ordering.{nat_cmp}
 use Rattle.std.specs.FinMap.{FinMap, get, contains_key}

@@ -5,17 +5,14 @@ use Rattle.std.specs.List.{AllByRecursion}
 use Rattle.std.specs.Ordering.{nat_cmp}
 use Rattle.std.specs.FinMap.{FinMap, get}
 use Rattle.mig_base.specs.declared.phase.DestPhase.{DestPhase}
-use Rattle.mig_base.specs.declared.phase.Received.{Received}
 use Rattle.mig_base.specs.declared.phase.SourcePhase.{SourcePhase}
 use Rattle.mig_base.specs.Tests.{is_empty}
 use Rattle.mig_model.specs.Texts.{HasWholePages, AreCounted}
 use Rattle.mig_model.specs.Texts.Version.{Two}
 use Rattle.mig_model.specs.Wire.{Frame, Sent, Copy, copies_in, run_copies}
 use Rattle.mig_model.specs.Migration.{World}
-use Rattle.mig_model.specs.Invariant.{AreWhole, AreFaithful, IsSoundWorld, IsReceiving, copies_of, is_request, is_done, are_requests, are_requests_and_done}
+use Rattle.mig_model.specs.Invariant.{AreWhole, AreFaithful, IsSoundWorld, copies_of, is_request, is_done, are_requests, are_requests_and_done}
 use Rattle.mig_model.specs.Promises.{IsReached}
-use Rattle.mig_model.specs.Source.{Source}
-use Rattle.mig_model.specs.Destination.{Destination}
 use Rattle.mig_model.proofs.Delivery.{whole_parts}
 use Rattle.mig_model.proofs.EveryStep.{kept-reached, urgent-reached}
 use Rattle.mig_model.proofs.Facts.{none_absurd}
