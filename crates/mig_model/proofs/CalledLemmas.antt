@@ -121,8 +121,7 @@ stays_all away owed from count new_count is free = grind (arith, nat_tests)
 goes_all : (away : Bool) (owed : ℕ → Option ℕ) (from count to new_count : ℕ) → away ≡ true → (from + count ≤ to) ⊎ (to + new_count ≤ from) →
     shifted_if away (gone_if (ltb new_count count) (gone_if away owed to new_count) (from + new_count) (count - new_count)) from to (lesser count new_count) ≡ moved_owed owed from count to new_count
 goes_all false owed from count to new_count is apart = none_absurd is
-goes_all true owed from count to new_count is apart =
-    λ i page. (goes_one from count to new_count page (owed page) (owed (from + (page - to))) apart) i
+goes_all true owed from count to new_count is apart = grind (arith, nat_tests, goes_one)
 
 all_three : (owed : ℕ → Option ℕ) (here : Host) (from count to new_count : ℕ) → AreMapped here owed → IsLaid here from count to new_count →
     shifted_if (not (eqb to from)) (gone_if (ltb new_count count) (gone_if (not (eqb to from)) owed to new_count) (from + new_count) (count - new_count)) from to (lesser count new_count) ≡ moved_owed owed from count to new_count

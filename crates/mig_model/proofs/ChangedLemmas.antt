@@ -75,8 +75,7 @@ called_seen here there owed (Load addr width) reply call sound mapped new_sound 
 called_seen here there owed (Store addr width value) reply call sound mapped new_sound new_mapped = none_absurd (sym call)
 called_seen here there owed (Mmap len prot place) (At start) call sound mapped new_sound new_mapped = gone_seen here there _ owed (start / 4096) (pages_of len) sound mapped new_sound new_mapped
 called_seen here there owed (Munmap addr len) Done call sound mapped new_sound new_mapped = gone_seen here there _ owed (addr / 4096) (pages_of len) sound mapped new_sound new_mapped
-called_seen here there owed (Mremap addr old_len new_len may_move fixed) (At target) call sound mapped new_sound new_mapped =
-    moved_seen here there _ owed (addr / 4096) (pages_of old_len) (target / 4096) (pages_of new_len) sound mapped new_sound new_mapped
+called_seen here there owed (Mremap addr old_len new_len may_move fixed) (At target) call sound mapped new_sound new_mapped = grind (arith, nat_tests, moved_seen)
 called_seen here there owed (DontNeed addr len) Done call sound mapped new_sound new_mapped = gone_seen here there _ owed (addr / 4096) (pages_of len) sound mapped new_sound new_mapped
 called_seen here there owed (DontNeed addr len) (Refused Enomem) call sound mapped new_sound new_mapped = gone_seen here there _ owed (addr / 4096) (pages_of len) sound mapped new_sound new_mapped
 called_seen here there owed _ _ call sound mapped new_sound new_mapped = refl

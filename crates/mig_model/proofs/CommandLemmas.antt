@@ -122,9 +122,7 @@ pub memory-changed : (host : Host) (command : Command) (reply : Reply) → IsSou
 memory-changed host (Store addr width value) Done sound h = memory-stored host addr width value sound (stored_form (memory host) addr width value h)
 memory-changed host (Mmap len prot place) (At start) sound h = memory-mapped host len start prot place (mmap_inside (memory host) len prot place start h).whole
 memory-changed host (Munmap addr len) Done sound h = memory-unmapped host addr len (munmap_whole addr len h)
-memory-changed host (Mremap addr old_len new_len may_move fixed) (At target) sound h =
-    let told = mremap_told (memory host) addr old_len new_len may_move fixed target h in
-    memory-remapped host addr old_len new_len target told.whole (remapped_place host addr old_len new_len target sound told).whole
+memory-changed host (Mremap addr old_len new_len may_move fixed) (At target) sound h = grind (arith, nat_tests, mremap_told, memory-remapped, remapped_place)
 memory-changed host (DontNeed addr len) Done sound h = memory-zeroed host addr len (dontneed_done (memory host) addr len h)
 memory-changed host (DontNeed addr len) (Refused Enomem) sound h = memory-zeroed host addr len (dontneed_hole (memory host) addr len h)
 memory-changed host _ _ sound h = refl

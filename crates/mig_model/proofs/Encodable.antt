@@ -18,8 +18,7 @@ fits_commands : (commands : List (Option Command)) → AreRightAccesses commands
 fits_commands [] h = tt
 fits_commands (None ∷ commands) h = (tt, fits_commands commands h)
 fits_commands (Some (Load addr width) ∷ commands) h = (let page = h.0.1.1 in omega (arith, page), fits_commands commands h.1)
-fits_commands (Some (Store addr width value) ∷ commands) h =
-    ((let page = h.0.2.1 in omega (arith, page), fits_value width value (and_left (is_width width) _ h.0.0) h.0.1), fits_commands commands h.1)
+fits_commands (Some (Store addr width value) ∷ commands) h = grind (arith, nat_tests, fits_value, and_left, fits_commands commands h.1)
 fits_commands (Some command ∷ commands) h = absurd h.0
 
 whole_run : (pages : List (List ℕ)) → ArePageBytes pages → AllByRecursion (λ bytes. length bytes ≡ 4096) pages

@@ -66,18 +66,10 @@ fewer_apart : (here : Host) (from count to new_count n : ℕ) → IsLaid here fr
 fewer_apart here from count to new_count n h other is = grind (arith, nat_tests)
 
 pub right_called : (space : Space) (command : Command) (reply : Reply) → IsSoundSpace space → reply ≡ reply_of (memory space.host) command → AllRight (call_messages space.object command reply)
-right_called space (Mmap len prot place) (At start) sound is =
-    let whole = (mmap_inside (memory space.host) len prot place start is).whole in
-    right-told (is_watched space.object (start / 4096) (pages_of len)) (Unmap start (start + rounded len)) (λ b. (whole, whole_end start len whole))
-right_called space (Munmap addr len) Done sound is =
-    let whole = munmap_whole addr len is in
-    right-told (is_watched space.object (addr / 4096) (pages_of len)) (Unmap addr (addr + rounded len)) (λ b. (whole, whole_end addr len whole))
-right_called space (DontNeed addr len) Done sound is =
-    let whole = dontneed_done (memory space.host) addr len is in
-    right-told (is_watched space.object (addr / 4096) (pages_of len)) (Remove addr (addr + rounded len)) (λ b. (whole, whole_end addr len whole))
-right_called space (DontNeed addr len) (Refused Enomem) sound is =
-    let whole = dontneed_hole (memory space.host) addr len is in
-    right-told (is_watched space.object (addr / 4096) (pages_of len)) (Remove addr (lesser (addr + rounded len) HIGH)) (λ b. (whole, whole_lesser (addr + rounded len) HIGH (whole_end addr len whole) refl))
+right_called space (Mmap len prot place) (At start) sound is = grind (arith, nat_tests, mmap_inside, right-told, whole_end)
+right_called space (Munmap addr len) Done sound is = grind (arith, nat_tests, munmap_whole, right-told, whole_end)
+right_called space (DontNeed addr len) Done sound is = grind (arith, nat_tests, dontneed_done, right-told, whole_end)
+right_called space (DontNeed addr len) (Refused Enomem) sound is = grind (arith, nat_tests, dontneed_hole, right-told, whole_lesser, whole_end)
 right_called space (Mremap addr old_len new_len may_move fixed) (At target) sound is =
     let here = mremap_told (memory space.host) addr old_len new_len may_move fixed target is in
     let placed = remapped_place space.host addr old_len new_len target sound.host here in

@@ -1,10 +1,10 @@
 -- No flat memory has more than MAX_PAGES pages.
 use Rattle.std.proofs.lemmas.Bool.Decides.{nat_tests}
-use Rattle.std.proofs.Common.{◌≡◌, ℕ, zero, suc, ◌+◌, ◌-◌, ◌*◌, ◌<◌, ◌≤◌, ◌&&◌, ◌||◌, Bool, true, false, cond, not, eqb, ltb, Option, Some, None, is_some, List, [], ◌∷◌, ◌++◌, inr, refl, ap, ◌∙◌, arith}
+use Rattle.std.proofs.Common.{◌≡◌, ℕ, zero, suc, ◌+◌, ◌-◌, ◌*◌, ◌<◌, ◌≤◌, ◌&&◌, ◌||◌, Bool, true, false, cond, not, eqb, ltb, Option, Some, None, is_some, List, [], ◌∷◌, inr, refl, ap, ◌∙◌, arith}
 use Rattle.std.proofs.lemmas.Bool.{ltb-false}
 use Rattle.mig_base.specs.declared.TheConstants.{LOW, HIGH, MAX_PAGES}
 use Rattle.mig_base.specs.declared.Prot.{Prot}
-use Rattle.mig_base.specs.declared.command.Errno.TheVariants.{Eexist, Einval, Enomem, Efault}
+use Rattle.mig_base.specs.declared.command.Errno.TheVariants.{Einval, Enomem, Efault}
 use Rattle.mig_base.specs.declared.command.Place.{Place}
 use Rattle.mig_base.specs.declared.command.Place.TheVariants.{Anywhere, Fixed, NoReplace}
 use Rattle.mig_base.specs.declared.command.Command.{Command}
@@ -12,7 +12,7 @@ use Rattle.mig_base.specs.declared.command.Reply.{Reply}
 use Rattle.mig_base.specs.declared.command.Reply.TheVariants.{At}
 use Rattle.mig_base.specs.declared.command.Entry.{Entry}
 use Rattle.mig_base.specs.Ranges.{count_below, in_range, rounded, free_place}
-use Rattle.mig_base.specs.Flat.{Cell, Memory, no_memory, is_mapped, mapped_count, exceeds_limit, fill, moved, zeros_with, place_refusals, is_unmapped, is_page_start, is_bad_target, has_one_prot, at_place, mmap_reply, mremap_reply, mremap_target, written, reply_of, changed, after, memory_from, memory_of}
+use Rattle.mig_base.specs.Flat.{Cell, Memory, no_memory, is_mapped, mapped_count, fill, moved, zeros_with, is_page_start, is_bad_target, has_one_prot, at_place, mmap_reply, mremap_reply, mremap_target, written, reply_of, changed, after, memory_from, memory_of}
 use Rattle.mig_base.proofs.RangeLemmas.{count_below-append, count_below-constant, ranges, in_range-true, in_range-false_above, in_range-false_below}
 use Rattle.mig_base.proofs.ReplyLemmas.{at_passed, mmap_inside, mremap_told, same_at}
 use Rattle.mig_base.proofs.BoundLemmas.{IsBounded, changed_bounded, remapped_inside, high_or}
@@ -44,8 +44,7 @@ sum_either a b c d e f h k = omega (arith, h, k)
 count_either : (p q r : ℕ → Bool) (bound : ℕ) → ((i : ℕ) → r i ≡ true → (p i || q i) ≡ true) → count_below r bound ≤ count_below p bound + count_below q bound
 unfolding count_below
 count_either p q r zero h = omega arith
-count_either p q r (suc bound) h =
-    sum_either (count_below r bound) (count_below p bound) (count_below q bound) (cond (r bound) 1 0) (cond (p bound) 1 0) (cond (q bound) 1 0) (count_either p q r bound h) (either_one (p bound) (q bound) (r bound) (h bound))
+count_either p q r (suc bound) h = grind (arith, nat_tests, sum_either, either_one, count_either p q r bound h)
 
 apart_one : (all part : Bool) → (part ≡ true → all ≡ true) → cond (all && not part) 1 0 + cond part 1 0 ≡ cond all 1 0
 apart_one all part h = grind (arith, nat_tests)
@@ -57,9 +56,7 @@ sum_apart a b c d e f h k = omega (arith, h, k)
 count_apart : (all part : ℕ → Bool) (bound : ℕ) → ((i : ℕ) → part i ≡ true → all i ≡ true) → count_below (λ i. all i && not (part i)) bound + count_below part bound ≡ count_below all bound
 unfolding count_below
 count_apart all part zero h = refl
-count_apart all part (suc bound) h =
-    sum_apart (count_below (λ i. all i && not (part i)) bound) (count_below part bound) (count_below all bound) (cond (all bound && not (part bound)) 1 0) (cond (part bound) 1 0) (cond (all bound) 1 0)
-    (count_apart all part bound h) (apart_one (all bound) (part bound) (h bound))
+count_apart all part (suc bound) h = grind (arith, nat_tests, sum_apart, apart_one, count_apart all part bound h)
 
 -- Memories
 
@@ -88,13 +85,8 @@ mapped_few memory len prot Anywhere start h few =
     let told =
     at_passed ((eqb len 0, Einval) ∷ (ltb (HIGH - LOW) (rounded len), Enomem) ∷ (ltb (4096 * MAX_PAGES) (mapped_count memory + rounded len), Enomem) ∷ []) (at_place (free_place (is_mapped memory) (rounded len))) start h in
     filled_few memory start (rounded len) (zeros_with prot) (mmap_inside memory len prot Anywhere start h).high (ltb-false (4096 * MAX_PAGES) (mapped_count memory + rounded len) told.0.1.1.0)
-mapped_few memory len prot (Fixed addr) start h few =
-    let told = at_passed ((eqb len 0, Einval) ∷ (place_refusals addr (rounded len) ++ (exceeds_limit (fill memory addr (rounded len) (zeros_with prot)), Enomem) ∷ [])) (At addr) start h in
-    rw (same_at start addr told.1) (ltb-false (4096 * MAX_PAGES) _ told.0.1.1.1.1.1.0)
-mapped_few memory len prot (NoReplace addr) start h few =
-    let told =
-    at_passed ((eqb len 0, Einval) ∷ (place_refusals addr (rounded len) ++ (not (is_unmapped memory addr (rounded len)), Eexist) ∷ (exceeds_limit (fill memory addr (rounded len) (zeros_with prot)), Enomem) ∷ [])) (At addr) start h in
-    rw (same_at start addr told.1) (ltb-false (4096 * MAX_PAGES) _ told.0.1.1.1.1.1.1.0)
+mapped_few memory len prot (Fixed addr) start h few = grind (arith, nat_tests, at_passed, same_at, ltb-false)
+mapped_few memory len prot (NoReplace addr) start h few = grind (arith, nat_tests, at_passed, same_at, ltb-false)
 
 -- mremap
 
@@ -152,8 +144,7 @@ few_changed memory command reply bounded h few = grind (arith, nat_tests, less_f
 
 few_from : (memory : Memory) (entries : List Entry) → IsBounded memory → IsFew memory → IsFew (memory_from memory entries)
 few_from memory [] bounded few = few
-few_from memory (entry ∷ entries) bounded few =
-    few_from (after memory entry.command) entries (changed_bounded memory entry.command (reply_of memory entry.command) bounded refl) (few_changed memory entry.command (reply_of memory entry.command) bounded refl few)
+few_from memory (entry ∷ entries) bounded few = grind (arith, nat_tests, changed_bounded, few_changed, few_from (after memory entry.command) entries (changed_bounded memory entry.command (reply_of memory entry.command) bounded refl) (few_changed memory entry.command (reply_of memory entry.command) bounded refl few))
 
 none_mapped : IsFew no_memory
 none_mapped = let none = count_below-constant (is_mapped no_memory) false HIGH (λ i l. refl) in omega (arith, none)

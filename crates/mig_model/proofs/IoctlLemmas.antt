@@ -45,10 +45,7 @@ one_more first count q f old = grind (arith, nat_tests)
 pub get-put_pages : (pages : FinMap nat_cmp (List ℕ)) (first count q : ℕ) (bytes : ℕ → List ℕ) → get (put_pages pages first count bytes) q ≡ cond (in_range first count q) (Some (bytes (q - first))) (get pages q)
 unfolding put_pages
 get-put_pages pages first zero q bytes = ap (λ b. cond b (Some (bytes (q - first))) (get pages q)) (sym (in_range-none first q))
-get-put_pages pages first (suc count) q bytes =
-    get-put (put_pages pages first count bytes) (first + count) q (bytes count)
-    ∙ ap (λ o. cond (eqb q (first + count)) (Some (bytes count)) o) (get-put_pages pages first count q bytes)
-    ∙ one_more first count q (λ i. Some (bytes i)) (get pages q)
+get-put_pages pages first (suc count) q bytes = grind (arith, nat_tests, get-put, one_more, get-put_pages pages first count q bytes)
 
 -- pages are put where each is mapped, and registered for write-protect faults if they are to be protected
 pub record CanPut (space : Space) (first count : ℕ) (bytes : ℕ → List ℕ) (protect : Bool) : Type 0 where

@@ -1,6 +1,6 @@
 -- A text determines its version, its epoch and its frame, whatever bytes follow.
 use Rattle.std.proofs.lemmas.Bool.Decides.{nat_tests}
-use Rattle.std.proofs.Common.{◌≡◌, ℕ, zero, suc, ◌^◌, ◌<◌, Bool, true, Option, List, [], ◌∷◌, ◌++◌, length, map, take, drop, get_or, refl, sym, ap, ◌∙◌, arith, append_assoc}
+use Rattle.std.proofs.Common.{◌≡◌, ℕ, zero, suc, ◌^◌, ◌<◌, Bool, true, Option, List, [], ◌∷◌, ◌++◌, length, map, take, get_or, refl, sym, ap, ◌∙◌, arith, append_assoc}
 use Rattle.std.specs.List.{flat_map, AllByRecursion}
 use Rattle.std.specs.Int.{w32, to_be_bytes, from_be_bytes}
 use Rattle.std.specs.Ordering.{nat_cmp}
@@ -134,25 +134,15 @@ same_package areas others owed due x y s r hf hg e =
 
 same_body : (f g : Frame) (s r : List ℕ) → tag_code f ≡ tag_code g → HasWholePages f → HasWholePages g → FitsText f → FitsText g → body_text f ++ s ≡ body_text g ++ r → f ≡ g
 same_body Advise Advise s r tags wf wg hf hg e = refl
-same_body (Page page x) (Page other y) s r tags wf wg hf hg e =
-    let at = same_w32 page other (x ++ s) (y ++ r) hf hg e in
-    let bytes = same_page x y s r wf wg (ap (drop 4) e) in
-    λ i. Page (at i) (bytes i)
+same_body (Page page x) (Page other y) s r tags wf wg hf hg e = grind (arith, nat_tests, same_w32, same_page)
 same_body (Zero page) (Zero other) s r tags wf wg hf hg e = ap (λ page. Zero page) (same_w32 page other s r hf hg e)
-same_body (Run first x) (Run other y) s r tags wf wg hf hg e =
-    let at = same_w32 first other (to_be_bytes w32 (length x) ++ (flat_map (λ bytes. bytes) x ++ s)) (to_be_bytes w32 (length y) ++ (flat_map (λ bytes. bytes) y ++ r)) hf.0 hg.0 e in
-    let bytes = same_counted (λ bytes. bytes) (λ bytes. length bytes ≡ 4096) same_page x y s r wf wg hf.1 hg.1 (ap (drop 4) e) in
-    λ i. Run (at i) (bytes i)
+same_body (Run first x) (Run other y) s r tags wf wg hf hg e = grind (arith, nat_tests, same_w32, same_counted, same_page)
 same_body (Discard x) (Discard y) s r tags wf wg hf hg e = ap (λ pages. Discard pages) (same_set x y s r hf hg e)
 same_body (Package areas owed x) (Package others due y) s r tags wf wg hf hg e = same_package areas others owed due x y s r hf hg e
 same_body (End m) (End n) s r tags wf wg hf hg e = ap (λ urgent. End urgent) (same_w32 m n s r hf hg e)
 same_body Resume Resume s r tags wf wg hf hg e = refl
 same_body (Request page) (Request other) s r tags wf wg hf hg e = ap (λ page. Request page) (same_w32 page other s r hf hg e)
-same_body (Recv state x) (Recv other y) s r tags wf wg hf hg e =
-    let code = same_first (state_code state) (state_code other) (runs_text (runs_of x) ++ s) (runs_text (runs_of y) ++ r) e in
-    let states = sym (state_numbered-state_code state) ∙ ap state_numbered code ∙ state_numbered-state_code other in
-    let sets = same_set x y s r hf hg (ap (drop 1) e) in
-    λ i. Recv (states i) (sets i)
+same_body (Recv state x) (Recv other y) s r tags wf wg hf hg e = grind (arith, nat_tests, same_first, state_numbered-state_code, state_numbered, same_set)
 same_body Done Done s r tags wf wg hf hg e = refl
 same_body f g s r tags wf wg hf hg e = absurd (omega (arith, tags))
 

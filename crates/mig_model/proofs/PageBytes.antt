@@ -1,6 +1,6 @@
 -- The bytes of the present pages are numbers below 256, whatever is stored.
 use Rattle.std.proofs.lemmas.Bool.Decides.{nat_tests}
-use Rattle.std.proofs.Common.{◌≡◌, ℕ, zero, suc, ◌+◌, ◌-◌, ◌/◌, ◌%◌, ◌<◌, Bool, cond, eqb, ltb, Option, Some, None, List, ◌++◌, take, drop, sym, ◌∙◌, arith, unwrap_or, length}
+use Rattle.std.proofs.Common.{◌≡◌, ℕ, zero, suc, ◌+◌, ◌/◌, ◌%◌, ◌<◌, Bool, cond, eqb, Option, Some, None, List, ◌++◌, take, drop, sym, ◌∙◌, arith, unwrap_or, length}
 use Rattle.std.specs.Int.{byte_at, bytes_low_first}
 use Rattle.std.specs.List.{All}
 use Rattle.std.specs.Ordering.{nat_cmp}
@@ -75,11 +75,7 @@ changed_bytes host (Store addr width value) Done old =
     (written_bytes (contents host.bytes (addr / 4096)) (low_bytes value width) (addr % 4096) (contents_bytes host.bytes (addr / 4096) old) (All-take (λ byte. byte < 256) width (bytes_low_first 0 8 value) (low_first_bytes 8 0 value)))
 changed_bytes host (Mmap len prot place) (At start) old = removed_bytes host.bytes (start / 4096) (pages_of len) old
 changed_bytes host (Munmap addr len) Done old = removed_bytes host.bytes (addr / 4096) (pages_of len) old
-changed_bytes host (Mremap addr old_len new_len may_move fixed) (At target) old = λ page bytes h.
-    let from = addr / 4096 in
-    let to = target / 4096 in
-    moved_bytes (in_range to (pages_of new_len) page) (ltb (page - to) (pages_of old_len)) (in_range from (pages_of old_len) page) (get host.bytes (from + (page - to))) (get host.bytes page) bytes
-    (old (from + (page - to)) bytes) (old page bytes) (sym (get-moved_range host.bytes from (pages_of old_len) to (pages_of new_len) page None) ∙ h)
+changed_bytes host (Mremap addr old_len new_len may_move fixed) (At target) old = grind (arith, nat_tests, moved_bytes, get-moved_range)
 changed_bytes host (DontNeed addr len) Done old = removed_bytes host.bytes (addr / 4096) (pages_of len) old
 changed_bytes host (DontNeed addr len) (Refused Enomem) old = removed_bytes host.bytes (addr / 4096) (pages_of len) old
 changed_bytes host _ _ old = old

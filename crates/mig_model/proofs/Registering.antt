@@ -214,10 +214,7 @@ runs_or there run runs page = grind (arith, nat_tests)
 
 in_pages_below : (test : ℕ → Bool) (bound page : ℕ) → in_runs (pages_below test bound) page ≡ (ltb page bound && test page)
 in_pages_below test zero page = none_below_zero page (test page)
-in_pages_below test (suc bound) page =
-    runs_or (test bound) (one_page bound) (pages_below test bound) page
-    ∙ ap (λ b. cond (test bound) (in_range bound 1 page || b) b) (in_pages_below test bound page)
-    ∙ below_next page bound (test page) (test bound) (λ same. ap test same)
+in_pages_below test (suc bound) page = grind (arith, nat_tests, runs_or, one_page, pages_below, below_next, in_pages_below test bound page)
 
 some_or : (there : Bool) (page : ℕ) (runs : List Run) → AreSome runs → AreSome (if there then one_page page ∷ runs else runs)
 some_or there page runs some = grind (arith, nat_tests)

@@ -3,7 +3,7 @@
 use Rattle.std.proofs.lemmas.Bool.Decides.{nat_tests}
 use Rattle.std.proofs.Common.{◌≡◌, ◌≢◌, ℕ, ◌+◌, ◌-◌, ◌*◌, ◌/◌, ◌^◌, ◌&&◌, ◌||◌, Bool, true, false, cond, not, eqb, ltb, leb, Option, Some, None, [], ◌∷◌, ◌++◌, refl, sym, ap, ◌∙◌, arith, is_some}
 use Rattle.std.specs.Option.{option_map}
-use Rattle.mig_base.specs.declared.TheConstants.{LOW, HIGH, MAX_PAGES}
+use Rattle.mig_base.specs.declared.TheConstants.{HIGH, MAX_PAGES}
 use Rattle.mig_base.specs.declared.Prot.{Prot}
 use Rattle.mig_base.specs.declared.command.Errno.TheVariants.{Enomem, Efault, Eexist, Einval}
 use Rattle.mig_base.specs.declared.command.Place.{Place}
@@ -57,8 +57,7 @@ same_exceeds m n h = ap (λ f. ltb (4096 * MAX_PAGES) (count_below f HIGH)) h
 -- Replies of map calls
 
 same_mmap : (m n : Memory) (len : ℕ) (prot : Prot) (place : Place) → is_mapped m ≡ is_mapped n → mmap_reply m len prot place ≡ mmap_reply n len prot place
-same_mmap m n len prot Anywhere h =
-    ap (λ f. first_refusal ((eqb len 0, Einval) ∷ (ltb (HIGH - LOW) (rounded len), Enomem) ∷ (ltb (4096 * MAX_PAGES) (count_below f HIGH + rounded len), Enomem) ∷ []) (at_place (free_place f (rounded len)))) h
+same_mmap m n len prot Anywhere h = grind (arith, nat_tests)
 same_mmap m n len prot (Fixed addr) h =
     ap (λ b. first_refusal ((eqb len 0, Einval) ∷ (place_refusals addr (rounded len) ++ (b, Enomem) ∷ [])) (At addr))
     (same_exceeds (fill m addr (rounded len) (zeros_with prot)) (fill n addr (rounded len) (zeros_with prot)) (same_fill m n addr (rounded len) (zeros_with prot) h))

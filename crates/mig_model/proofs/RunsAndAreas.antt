@@ -70,9 +70,7 @@ all-append P (n ∷ a) b x y = (x.0, all-append P a b x.1 y)
 pub all_listed : (P : ℕ → Type 0) (test : ℕ → Bool) (bound : ℕ) → ((k : ℕ) → k < bound → P k) → AllByRecursion P (list_below test bound)
 unfolding list_below
 all_listed P test zero are = tt
-all_listed P test (suc bound) are =
-    all-append P (list_below test bound) (cond (test bound) (bound ∷ []) []) (all_listed P test bound (λ k l. are k (omega arith)))
-    (elim (test bound) as (λ b. AllByRecursion P (cond b (bound ∷ []) [])) [ true ↦ (are bound (omega arith), tt) | false ↦ tt ])
+all_listed P test (suc bound) are = grind (arith, nat_tests, all-append, all_listed P test bound (λ k l. are k (omega arith)))
 
 -- where the run of a number begins, and what holds of each number from there on
 record BeginsAt (begins : ℕ → Bool) (Passes : ℕ → Type 0) (q : ℕ) : Type 0 where
@@ -154,12 +152,7 @@ area_tells areas first q h = grind (arith, nat_tests, member_run, same_prot_tell
 
 prots_covered : (areas : FinMap nat_cmp Prot) (firsts : List ℕ) (q : ℕ) → prot_in (map (area_at areas) firsts) q ≡ cond (covered (λ first q. in_range first (area_at areas first).count q) firsts q) (get areas q) None
 prots_covered areas [] q = refl
-prots_covered areas (first ∷ firsts) q =
-    elim (in_range first (area_at areas first).count q) as
-    (λ b. in_range first (area_at areas first).count q ≡ b → cond b (Some (area_at areas first).prot) (prot_in (map (area_at areas) firsts) q) ≡ cond (b || covered (λ first q. in_range first (area_at areas first).count q) firsts q) (get areas q) None) [
-      | true ↦ λ e. sym (area_tells areas first q e)
-      | false ↦ λ e. prots_covered areas firsts q
-    ] refl
+prots_covered areas (first ∷ firsts) q = grind (arith, nat_tests, prot_in, covered, area_tells, prots_covered areas firsts q)
 
 area_covers : (areas : FinMap nat_cmp Prot) (prot : Prot) (first q : ℕ) → first ≤ q → q < HIGH_PAGE → ((j : ℕ) → first ≤ j → j ≤ q → get areas j ≡ Some prot) → in_range first (area_at areas first).count q ≡ true
 area_covers areas prot first q low below all = grind (arith, nat_tests, run_covers, member_below, lt-ltb, same_prot-self)

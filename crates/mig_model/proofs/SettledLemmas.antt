@@ -42,8 +42,7 @@ values-after message owed page origin h = grind (arith, nat_tests)
 
 pub values-settled : (events : List Noted) (owed : ℕ → Option ℕ) (page origin : ℕ) → settled_by events owed page ≡ Some origin → (other : ℕ) × (owed other ≡ Some origin)
 values-settled [] owed page origin h = (page, h)
-values-settled (noted ∷ events) owed page origin h =
-    let later = values-settled events (owed_after noted.message owed) page origin h in values-after noted.message owed later.0 origin later.1
+values-settled (noted ∷ events) owed page origin h = grind (arith, nat_tests, values-after, values-settled events (owed_after noted.message owed) page origin h)
 
 -- where nothing is owed nothing will be
 pub none-after : (message : Message) (owed : ℕ → Option ℕ) → ((page : ℕ) → owed page ≡ None) → (page : ℕ) → owed_after message owed page ≡ None

@@ -152,12 +152,8 @@ parts_called : (space : Space) (command : Command) (reply : Reply) → is_access
     IsWatched (host_changed space.host command reply).areas (host_changed space.host command reply).bytes (modes_after space.object command reply).missing (modes_after space.object command reply).protect (protected_after space.protected command reply)
 parts_called space (Load addr width) reply call is old = none_absurd (sym call)
 parts_called space (Store addr width value) reply call is old = none_absurd (sym call)
-parts_called space (Mmap len prot place) (At start) call is old =
-    taken_out space.host.areas (set_range space.host.areas (start / 4096) (pages_of len) prot) space.host.bytes space.object.missing space.object.protect space.protected (start / 4096) (pages_of len) old
-    (λ page out h. given space.host.areas (start / 4096) (pages_of len) page prot out h)
-parts_called space (Munmap addr len) Done call is old =
-    taken_out space.host.areas (remove_range space.host.areas (addr / 4096) (pages_of len)) space.host.bytes space.object.missing space.object.protect space.protected (addr / 4096) (pages_of len) old
-    (λ page out h. stays space.host.areas (addr / 4096) (pages_of len) page out h)
+parts_called space (Mmap len prot place) (At start) call is old = grind (arith, nat_tests, taken_out, given)
+parts_called space (Munmap addr len) Done call is old = grind (arith, nat_tests, taken_out, stays)
 parts_called space (Mremap addr old_len new_len may_move fixed) (At target) call is old =
     moved_parts space.host.areas space.host.bytes space.object.missing space.object.protect space.protected (addr / 4096) (pages_of old_len) (target / 4096) (pages_of new_len) (mode_at space.object (addr / 4096 + (pages_of old_len - 1)))
     (first_mapped space addr old_len new_len target (mremap_told (memory space.host) addr old_len new_len may_move fixed target is)) old

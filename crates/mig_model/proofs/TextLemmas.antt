@@ -23,8 +23,7 @@ one_if b n = grind (arith, nat_tests)
 pub length-list_below : (test : ℕ → Bool) (bound : ℕ) → length (list_below test bound) ≡ count_below test bound
 unfolding list_below count_below
 length-list_below test zero = refl
-length-list_below test (suc bound) =
-    omega (arith, length-append (list_below test bound) (cond (test bound) (bound ∷ []) []), length-list_below test bound, one_if (test bound) bound)
+length-list_below test (suc bound) = grind (arith, nat_tests, length-append, one_if, length-list_below test bound)
 
 length-runs_of : (pages : FinSet nat_cmp) → length (runs_of pages) ≡ run_count pages
 unfolding run_count
@@ -37,8 +36,7 @@ length-areas_of areas = length-map (list_below (begins_area areas) HIGH_PAGE) (a
 -- texts of one length, one behind the other
 length-flat_map_same : {A : Type 0} (text : A → List ℕ) (size : ℕ) (xs : List A) → AllByRecursion (λ x. length (text x) ≡ size) xs → length (flat_map text xs) ≡ size * length xs
 length-flat_map_same text size [] h = omega arith
-length-flat_map_same text size (x ∷ xs) h =
-    omega (arith, ap length (flat_map-cons text x xs), length-append (text x) (flat_map text xs), h.0, length-flat_map_same text size xs h.1)
+length-flat_map_same text size (x ∷ xs) h = grind (arith, nat_tests, flat_map-cons, length-append, length-flat_map_same text size xs h.1)
 
 length-runs : (runs : List PageRun) → length (flat_map run_text runs) ≡ 8 * length runs
 length-runs [] = refl
@@ -59,8 +57,7 @@ length-command_text command = grind (arith, nat_tests)
 
 length-commands : (commands : List (Option Command)) → length (flat_map command_text commands) ≡ commands_len commands
 length-commands [] = refl
-length-commands (command ∷ commands) =
-    omega (arith, ap length (flat_map-cons command_text command commands), length-append (command_text command) (flat_map command_text commands), length-command_text command, length-commands commands)
+length-commands (command ∷ commands) = grind (arith, nat_tests, flat_map-cons, length-append, length-command_text, length-commands commands)
 
 length-body_text : (frame : Frame) → HasWholePages frame → length (body_text frame) ≡ body_len frame
 length-body_text frame whole = grind (arith, nat_tests, length-append, length-flat_map_same, length-runs_text, length-areas_text, length-commands)
