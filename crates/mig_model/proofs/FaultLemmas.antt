@@ -42,5 +42,3 @@ AreFaults-called space cpu command are = subst AreFaults (sym (called_faults spa
 pub AreFaults-tried : (access : Bool) (space : Space) (cpu : ℕ) (command : Command) → AreFaults space.object.faults → AreFaults (space_by access space cpu command).object.faults
 AreFaults-tried true space cpu command are = AreFaults-accessed space cpu command are
 AreFaults-tried false space cpu command are = AreFaults-called space cpu command are
-
--- The handler of the destination

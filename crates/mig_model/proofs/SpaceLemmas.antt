@@ -135,8 +135,6 @@ moved_parts areas bytes missing protect protected from count to new_count mode s
           (sym (member_moved protected from count to new_count page false) ∙ h);
     }
 
--- Messages leave the modes
-
 -- Map calls
 
 first_mapped : (space : Space) (addr old_len new_len target : ℕ) → IsRemapped (memory space.host) addr old_len new_len target → contains_key space.host.areas (addr / 4096) ≡ true
