@@ -12,7 +12,7 @@ use Rattle.mig_base.proofs.ReplyLemmas.{IsRemapped}
 use Rattle.mig_base.proofs.ReplyLemmas.IsWhere.{Shrunk, Grew, Moved, Told}
 use Rattle.mig_base.proofs.BoundLemmas.{apart_of, one_prot_some}
 use Rattle.mig_model.specs.Host.{Host, memory, IsSound}
-use Rattle.mig_model.specs.Userfault.{Object, is_registered, is_watched}
+use Rattle.mig_model.specs.Userfault.{Object, is_watched}
 use Rattle.mig_model.specs.Space.{told, remap_messages}
 use Rattle.mig_model.proofs.HostLemmas.{is_mapped-memory}
 use Rattle.mig_model.proofs.CommandLemmas.{remapped_place}
@@ -58,12 +58,10 @@ free_apart m addr size target new_size some new_some one free =
 
 pages_apart : (addr old_len target new_len : ℕ) → addr % 4096 ≡ 0 → target % 4096 ≡ 0 → (addr + rounded old_len ≤ target) ⊎ (target + rounded new_len ≤ addr) →
     (addr / 4096 + pages_of old_len ≤ target / 4096) ⊎ (target / 4096 + pages_of new_len ≤ addr / 4096)
-pages_apart addr old_len target new_len a b (inl h) = inl (omega arith)
-pages_apart addr old_len target new_len a b (inr h) = inr (omega arith)
+pages_apart addr old_len target new_len a b h = grind (arith, nat_tests)
 
 not_same : (from count to new_count : ℕ) → 0 < count → 0 < new_count → (from + count ≤ to) ⊎ (to + new_count ≤ from) → eqb to from ≡ false
-not_same from count to new_count a b (inl h) = grind (arith, nat_tests, a, b, h)
-not_same from count to new_count a b (inr h) = grind (arith, nat_tests, a, b, h)
+not_same from count to new_count a b h = grind (arith, nat_tests)
 
 goes : (here : Host) (from count to new_count : ℕ) → 0 < count → 0 < new_count → (from + count ≤ to) ⊎ (to + new_count ≤ from) → IsLaid here from count to new_count
 goes here from count to new_count a b apart = Goes (not_same from count to new_count a b apart) apart
@@ -98,27 +96,14 @@ remapped_laid here addr old_len new_len target sound is =
 -- The events of an mremap
 
 inside_gone : (object : Object) (owed : ℕ → Option ℕ) (b : Bool) (first count : ℕ) → AreInside object owed → AreInside object (gone_if b owed first count)
-inside_gone object owed b first count inside page origin h = kept_one b (in_range first count page) (owed page) (is_registered object page) (inside page) origin h
-  where
-    kept_one : (b c : Bool) (o : Option ℕ) (r : Bool) → ((origin : ℕ) → o ≡ Some origin → r ≡ true) → (origin : ℕ) → cond b (cond c None o) o ≡ Some origin → r ≡ true
-    kept_one true true o r inside origin h = absurd (cc)
-    kept_one true false o r inside origin h = inside origin h
-    kept_one false c o r inside origin h = inside origin h
+inside_gone object owed b first count inside page origin h = grind (arith, nat_tests)
 
 -- the pages of a target that was cleared first
 cleared : (b c : Bool) (x y : Option ℕ) → b ≡ true → c ≡ true → cond b (cond c None x) y ≡ None
-cleared true true x y b c = refl
-cleared false c x y b d = none_absurd b
-cleared true false x y b d = none_absurd d
+cleared b c x y one other = grind (arith, nat_tests)
 
 gone_still : (b c : Bool) (o : Option ℕ) → o ≡ None → cond b (cond c None o) o ≡ None
-gone_still true true o h = refl
-gone_still true false o h = h
-gone_still false c o h = h
-
-stays_one : (from count new_count page : ℕ) (x y : Option ℕ) → (from ≤ page → y ≡ x) → (from + count ≤ page → page < from + new_count → x ≡ None) →
-    cond (ltb new_count count) (cond (in_range (from + new_count) (count - new_count) page) None x) x ≡ cond (in_range from new_count page) (cond (ltb (page - from) count) y None) (cond (in_range from count page) None x)
-stays_one from count new_count page x y same free = grind (arith, nat_tests, same, free)
+gone_still b c o h = grind (arith, nat_tests)
 
 abbrev tail_cut : ℕ → ℕ → ℕ → ℕ → Option ℕ → Option ℕ
 tail_cut from count new_count page o = cond (ltb new_count count) (cond (in_range (from + new_count) (count - new_count) page) None o) o
@@ -127,20 +112,16 @@ goes_one : (from count to new_count page : ℕ) (x y : Option ℕ) → (from + c
     cond (in_range to (lesser count new_count) page) (tail_cut from count new_count (from + (page - to)) (cond (in_range to new_count (from + (page - to))) None y))
     (cond (in_range from (lesser count new_count) page) None (tail_cut from count new_count page (cond (in_range to new_count page) None x)))
     ≡ cond (in_range to new_count page) (cond (ltb (page - to) count) y None) (cond (in_range from count page) None x)
-goes_one from count to new_count page x y (inl apart) = grind (arith, nat_tests, apart)
-goes_one from count to new_count page x y (inr apart) = grind (arith, nat_tests, apart)
+goes_one from count to new_count page x y h = grind (arith, nat_tests)
 
 stays_all : (away : Bool) (owed : ℕ → Option ℕ) (from count new_count : ℕ) → away ≡ false → ((page : ℕ) → from + count ≤ page → page < from + new_count → owed page ≡ None) →
     shifted_if away (gone_if (ltb new_count count) (gone_if away owed from new_count) (from + new_count) (count - new_count)) from from (lesser count new_count) ≡ moved_owed owed from count from new_count
-stays_all true owed from count new_count is free = none_absurd (sym is)
-stays_all false owed from count new_count is free =
-    λ i page. (stays_one from count new_count page (owed page) (owed (from + (page - from))) (λ low. ap owed (omega (arith, low))) (free page)) i
+stays_all away owed from count new_count is free = grind (arith, nat_tests)
 
 goes_all : (away : Bool) (owed : ℕ → Option ℕ) (from count to new_count : ℕ) → away ≡ true → (from + count ≤ to) ⊎ (to + new_count ≤ from) →
     shifted_if away (gone_if (ltb new_count count) (gone_if away owed to new_count) (from + new_count) (count - new_count)) from to (lesser count new_count) ≡ moved_owed owed from count to new_count
 goes_all false owed from count to new_count is apart = none_absurd is
-goes_all true owed from count to new_count is apart =
-    λ i page. (goes_one from count to new_count page (owed page) (owed (from + (page - to))) apart) i
+goes_all true owed from count to new_count is apart = grind (arith, nat_tests, goes_one)
 
 all_three : (owed : ℕ → Option ℕ) (here : Host) (from count to new_count : ℕ) → AreMapped here owed → IsLaid here from count to new_count →
     shifted_if (not (eqb to from)) (gone_if (ltb new_count count) (gone_if (not (eqb to from)) owed to new_count) (from + new_count) (count - new_count)) from to (lesser count new_count) ≡ moved_owed owed from count to new_count

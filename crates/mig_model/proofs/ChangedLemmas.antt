@@ -1,5 +1,6 @@
 -- The host that the guest sees changes as a command says, and each page that is still owed stays registered and missing.
-use Rattle.std.proofs.Common.{◌≡◌, ℕ, ◌+◌, ◌-◌, ◌/◌, ◌%◌, Bool, true, false, cond, eqb, ltb, Option, Some, None, List, refl, sym, ap, ◌∙◌, unwrap_or}
+use Rattle.std.proofs.lemmas.Bool.Decides.{nat_tests}
+use Rattle.std.proofs.Common.{◌≡◌, ℕ, ◌+◌, ◌-◌, ◌/◌, Bool, true, false, cond, eqb, ltb, Option, Some, None, List, refl, sym, ap, ◌∙◌, arith}
 use Rattle.std.specs.FinMap.{get, insert}
 use Rattle.mig_base.specs.declared.Prot.{Prot}
 use Rattle.mig_base.specs.declared.command.Errno.TheVariants.{Enomem}
@@ -7,7 +8,6 @@ use Rattle.mig_base.specs.declared.command.Command.{Command}
 use Rattle.mig_base.specs.declared.command.Command.TheVariants.{Load, Store, Mmap, Munmap, Mremap, DontNeed}
 use Rattle.mig_base.specs.declared.command.Reply.{Reply}
 use Rattle.mig_base.specs.declared.command.Reply.TheVariants.{Done, At, Refused}
-use Rattle.mig_base.specs.Bytes.{zero_page, contents, overwrite, low_bytes}
 use Rattle.mig_base.specs.Ranges.{in_range, pages_of}
 use Rattle.mig_base.specs.Pages.{remove_range, moved_range}
 use Rattle.mig_base.proofs.PageLemmas.{same_pages, get-remove_range, get-moved_range}
@@ -30,15 +30,11 @@ same_host : (areas : PageMap Prot) (a b : PageMap (List ℕ)) → ((page : ℕ) 
 same_host areas a b h = ap (host_of areas) (same_pages a b h)
 
 overlay_gone : (there : PageMap (List ℕ)) (c : Bool) (o : Option (List ℕ)) (origin : Option ℕ) → overlay there (cond c None o) (cond c None origin) ≡ cond c None (overlay there o origin)
-overlay_gone there true o origin = refl
-overlay_gone there false o origin = refl
+overlay_gone there c o origin = grind (arith, nat_tests)
 
 overlay_moved : (there : PageMap (List ℕ)) (new old from : Bool) (a b : Option (List ℕ)) (x y : Option ℕ) →
     overlay there (cond new (cond old a None) (cond from None b)) (cond new (cond old x None) (cond from None y)) ≡ cond new (cond old (overlay there a x) None) (cond from None (overlay there b y))
-overlay_moved there true true from a b x y = refl
-overlay_moved there true false from a b x y = refl
-overlay_moved there false old true a b x y = refl
-overlay_moved there false old false a b x y = refl
+overlay_moved there new old from a b x y = grind (arith, nat_tests)
 
 -- a range that goes
 gone_seen : (here there : Host) (areas : PageMap Prot) (owed : ℕ → Option ℕ) (first count : ℕ) → IsSound here → AreMapped here owed →
@@ -79,8 +75,7 @@ called_seen here there owed (Load addr width) reply call sound mapped new_sound 
 called_seen here there owed (Store addr width value) reply call sound mapped new_sound new_mapped = none_absurd (sym call)
 called_seen here there owed (Mmap len prot place) (At start) call sound mapped new_sound new_mapped = gone_seen here there _ owed (start / 4096) (pages_of len) sound mapped new_sound new_mapped
 called_seen here there owed (Munmap addr len) Done call sound mapped new_sound new_mapped = gone_seen here there _ owed (addr / 4096) (pages_of len) sound mapped new_sound new_mapped
-called_seen here there owed (Mremap addr old_len new_len may_move fixed) (At target) call sound mapped new_sound new_mapped =
-    moved_seen here there _ owed (addr / 4096) (pages_of old_len) (target / 4096) (pages_of new_len) sound mapped new_sound new_mapped
+called_seen here there owed (Mremap addr old_len new_len may_move fixed) (At target) call sound mapped new_sound new_mapped = grind (arith, nat_tests, moved_seen)
 called_seen here there owed (DontNeed addr len) Done call sound mapped new_sound new_mapped = gone_seen here there _ owed (addr / 4096) (pages_of len) sound mapped new_sound new_mapped
 called_seen here there owed (DontNeed addr len) (Refused Enomem) call sound mapped new_sound new_mapped = gone_seen here there _ owed (addr / 4096) (pages_of len) sound mapped new_sound new_mapped
 called_seen here there owed _ _ call sound mapped new_sound new_mapped = refl
@@ -88,8 +83,7 @@ called_seen here there owed _ _ call sound mapped new_sound new_mapped = refl
 -- a page that is written
 
 overlay_put : (there : PageMap (List ℕ)) (c : Bool) (held : List ℕ) (o : Option (List ℕ)) (origin : Option ℕ) → overlay there (cond c (Some held) o) origin ≡ cond c (Some held) (overlay there o origin)
-overlay_put there true held o origin = refl
-overlay_put there false held o origin = refl
+overlay_put there c held o origin = grind (arith, nat_tests)
 
 put_seen : (here there : Host) (owed : ℕ → Option ℕ) (page : ℕ) (held : List ℕ) → IsSound here → AreMapped here owed → IsSound (record here { bytes = insert here.bytes page held }) →
     seen_host (record here { bytes = insert here.bytes page held }) there owed ≡ record (seen_host here there owed) { bytes = insert (seen_host here there owed).bytes page held }
@@ -108,9 +102,4 @@ put_seen here there owed page held sound mapped new_sound =
 pub accessed_seen : (here there : Host) (owed : ℕ → Option ℕ) (command : Command) (reply : Reply) → is_access command ≡ true → IsSound here → AreMapped here owed → IsSound (host_changed here command reply) →
     (is_made reply ≡ true → get (seen_host here there owed).bytes (page_of command) ≡ get here.bytes (page_of command)) →
     seen_host (host_changed here command reply) there owed ≡ host_changed (seen_host here there owed) command reply
-accessed_seen here there owed (Load addr width) reply access sound mapped new_sound own = refl
-accessed_seen here there owed (Store addr width value) Done access sound mapped new_sound own =
-    put_seen here there owed (addr / 4096) (overwrite (contents here.bytes (addr / 4096)) (addr % 4096) (low_bytes value width)) sound mapped new_sound
-    ∙ ap {B = Host} (λ o. record (seen_host here there owed) { bytes = insert (seen_host here there owed).bytes (addr / 4096) (overwrite (unwrap_or o zero_page) (addr % 4096) (low_bytes value width)) }) (sym (own refl))
-accessed_seen here there owed (Store addr width value) _ access sound mapped new_sound own = refl
-accessed_seen here there owed _ reply access sound mapped new_sound own = none_absurd access
+accessed_seen here there owed command reply access sound mapped new_sound own = grind (arith, nat_tests, put_seen, none_absurd)

@@ -1,8 +1,8 @@
 -- A command changes the pages of a host as it changes the flat memory that they mean.
-use Rattle.std.proofs.Common.{◌≡◌, ℕ, ◌+◌, ◌-◌, ◌*◌, ◌/◌, ◌%◌, ◌^◌, ◌≤◌, ◌&&◌, Bool, true, false, cond, ltb, Option, Some, None, List, [], refl, sym, ap, ◌∙◌, arith, length, is_some, unwrap_or, zero-add}
-use Rattle.std.specs.Int.{bytes_low_first}
+use Rattle.std.proofs.lemmas.Bool.Decides.{nat_tests}
+use Rattle.std.proofs.Common.{◌≡◌, ℕ, ◌+◌, ◌-◌, ◌*◌, ◌/◌, ◌%◌, ◌^◌, ◌≤◌, ◌&&◌, Bool, true, cond, ltb, Option, Some, None, List, [], refl, sym, ap, ◌∙◌, arith, length, is_some, unwrap_or}
 use Rattle.std.specs.FinMap.{get, contains_key}
-use Rattle.std.proofs.lemmas.Bool.{false≢true, leb-true}
+use Rattle.std.proofs.lemmas.Bool.{leb-true}
 use Rattle.std.proofs.lemmas.List.{get_or-take, length-take}
 use Rattle.mig_base.specs.declared.TheConstants.{HIGH, HIGH_PAGE}
 use Rattle.mig_base.specs.declared.Prot.{Prot}
@@ -22,23 +22,19 @@ use Rattle.mig_base.proofs.BoundLemmas.{one_prot_some, high_or}
 use Rattle.mig_model.specs.Host.{Host, memory, host_changed, host_moved, host_dropped, IsSound}
 use Rattle.mig_model.proofs.NumberLemmas.{aligned_inside, get_or-bytes_low_first}
 use Rattle.mig_model.proofs.HostLemmas.{AreDigits, ReadsAs, is_mapped-memory, memory-none, memory-write, memory-map, memory-unmap, memory-dropped, memory-moved, IsSound-put, IsSound-map, IsSound-unmap, IsSound-dropped, IsSound-moved}
-use Rattle.mig_model.proofs.Facts.{and_second, and_left}
+use Rattle.mig_model.proofs.Facts.{and_second}
 
 -- A store
 
 done_form : (a : Bool) (reply : Reply) → Done ≡ cond a reply BadAccess → a ≡ true
-done_form true reply h = refl
-done_form false reply h = absurd (cc)
+done_form a reply h = grind (arith, nat_tests)
 
 -- a store that is done has the right form
 pub stored_form : (m : Memory) (addr width value : ℕ) → Done ≡ reply_of m (Store addr width value) → is_aligned addr width ≡ true
-stored_form m addr width value h =
-    and_left (is_aligned addr width) (ltb value (256 ^ width)) (done_form (is_aligned addr width && ltb value (256 ^ width)) (access_reply (m addr) allows_store Done) h)
+stored_form m addr width value h = grind (arith, nat_tests)
 
 some_cell : (o : Option Cell) (a : Bool) → a ≡ true → Done ≡ cond a (access_reply o allows_store Done) BadAccess → is_some o ≡ true
-some_cell None true e h = absurd (cc)
-some_cell (Some cell) true e h = refl
-some_cell o false e h = absurd (false≢true e)
+some_cell o a e h = grind (arith, nat_tests)
 
 -- and its page is mapped
 pub stored_mapped : (host : Host) (addr width value : ℕ) → Done ≡ reply_of (memory host) (Store addr width value) → contains_key host.areas (addr / 4096) ≡ true
@@ -49,22 +45,13 @@ stored_mapped host addr width value h =
     sym (ap (λ f. f addr) (is_mapped-memory host)) ∙ here
 
 pub digits_low_bytes : (value width : ℕ) → width ≤ 8 → AreDigits (low_bytes value width) width value
-digits_low_bytes value width few =
-    record {
-      count = simp length-take (omega arith);
-      each = λ i l.
-          get_or-take width (bytes_low_first 0 8 value) i 0 l
-          ∙ get_or-bytes_low_first 8 0 i value (omega arith)
-          ∙ ap (λ e. value / 256 ^ e % 256) (zero-add i);
-    }
+digits_low_bytes value width few = grind (arith, nat_tests, length-take, get_or-take, get_or-bytes_low_first)
 
 reads_or_zero : (o : Option (List ℕ)) → ReadsAs (unwrap_or o zero_page) (unwrap_or o [])
-reads_or_zero None = λ i. get_or-zero_page i
-reads_or_zero (Some held) = λ i. refl
+reads_or_zero o = grind (arith, nat_tests, get_or-zero_page)
 
 length_or_zero : (o : Option (List ℕ)) → ((bytes : List ℕ) → o ≡ Some bytes → length bytes ≡ 4096) → length (unwrap_or o zero_page) ≡ 4096
-length_or_zero None h = length-zero_page
-length_or_zero (Some held) h = h held refl
+length_or_zero o h = grind (arith, nat_tests, length-zero_page)
 
 pub length-contents : (host : Host) (page : ℕ) → IsSound host → length (contents host.bytes page) ≡ 4096
 length-contents host page sound = length_or_zero (get host.bytes page) (sound.whole page)
@@ -91,23 +78,17 @@ page_start : (addr : ℕ) → addr % 4096 ≡ 0 → addr / 4096 * 4096 ≡ addr
 page_start addr h = omega arith
 
 memory-mapped : (host : Host) (len start : ℕ) (prot : Prot) (place : Place) → start % 4096 ≡ 0 → memory (host_changed host (Mmap len prot place) (At start)) ≡ fill (memory host) start (rounded len) (zeros_with prot)
-memory-mapped host len start prot place whole =
-    memory-map host (start / 4096) (pages_of len) prot ∙ ap (λ s. fill (memory host) s (rounded len) (zeros_with prot)) (page_start start whole)
+memory-mapped host len start prot place whole = grind (arith, nat_tests, memory-map, page_start)
 
 memory-unmapped : (host : Host) (addr len : ℕ) → addr % 4096 ≡ 0 → memory (host_changed host (Munmap addr len) Done) ≡ clear (memory host) addr (rounded len)
-memory-unmapped host addr len whole =
-    memory-unmap host (addr / 4096) (pages_of len) ∙ ap (λ s. clear (memory host) s (rounded len)) (page_start addr whole)
+memory-unmapped host addr len whole = grind (arith, nat_tests, memory-unmap, page_start)
 
 memory-zeroed : (host : Host) (addr len : ℕ) → addr % 4096 ≡ 0 → memory (host_dropped host (addr / 4096) (pages_of len)) ≡ zeroed (memory host) addr (rounded len)
-memory-zeroed host addr len whole =
-    memory-dropped host (addr / 4096) (pages_of len) ∙ ap (λ s. zeroed (memory host) s (rounded len)) (page_start addr whole)
+memory-zeroed host addr len whole = grind (arith, nat_tests, memory-dropped, page_start)
 
 memory-remapped : (host : Host) (addr old_len new_len target : ℕ) → addr % 4096 ≡ 0 → target % 4096 ≡ 0 →
     memory (host_moved host (addr / 4096) (pages_of old_len) (target / 4096) (pages_of new_len)) ≡ moved (memory host) addr (rounded old_len) target (rounded new_len)
-memory-remapped host addr old_len new_len target old new =
-    memory-moved host (addr / 4096) (pages_of old_len) (target / 4096) (pages_of new_len)
-    ∙ ap (λ s. moved (memory host) s (rounded old_len) (target / 4096 * 4096) (rounded new_len)) (page_start addr old)
-    ∙ ap (λ s. moved (memory host) addr (rounded old_len) s (rounded new_len)) (page_start target new)
+memory-remapped host addr old_len new_len target old new = grind (arith, nat_tests, memory-moved, page_start)
 
 -- The place of an mremap
 
@@ -141,9 +122,7 @@ pub memory-changed : (host : Host) (command : Command) (reply : Reply) → IsSou
 memory-changed host (Store addr width value) Done sound h = memory-stored host addr width value sound (stored_form (memory host) addr width value h)
 memory-changed host (Mmap len prot place) (At start) sound h = memory-mapped host len start prot place (mmap_inside (memory host) len prot place start h).whole
 memory-changed host (Munmap addr len) Done sound h = memory-unmapped host addr len (munmap_whole addr len h)
-memory-changed host (Mremap addr old_len new_len may_move fixed) (At target) sound h =
-    let told = mremap_told (memory host) addr old_len new_len may_move fixed target h in
-    memory-remapped host addr old_len new_len target told.whole (remapped_place host addr old_len new_len target sound told).whole
+memory-changed host (Mremap addr old_len new_len may_move fixed) (At target) sound h = grind (arith, nat_tests, mremap_told, memory-remapped, remapped_place)
 memory-changed host (DontNeed addr len) Done sound h = memory-zeroed host addr len (dontneed_done (memory host) addr len h)
 memory-changed host (DontNeed addr len) (Refused Enomem) sound h = memory-zeroed host addr len (dontneed_hole (memory host) addr len h)
 memory-changed host _ _ sound h = refl

@@ -1,53 +1,36 @@
 -- The events of every map call: they change the owed relation as the call changes the pages, and each is of whole pages.
-use Rattle.std.proofs.Common.{◌≡◌, ℕ, ◌+◌, ◌-◌, ◌*◌, ◌/◌, ◌%◌, ◌<◌, ◌≤◌, ◌&&◌, Bool, true, false, cond, not, eqb, ltb, leb, Option, None, refl, sym, ap, ◌⊎◌, ⊎_elim, inl, inr, arith, is_some}
-use Rattle.std.specs.FinMap.{contains_key}
+use Rattle.std.proofs.Common.{◌≡◌, ℕ, ◌+◌, ◌-◌, ◌*◌, ◌/◌, ◌%◌, ◌≤◌, ◌&&◌, Bool, true, false, not, eqb, ltb, Option, refl, ◌⊎◌, arith}
 use Rattle.std.specs.FinSet.{contains}
 use Rattle.std.proofs.lemmas.Bool.Decides.{nat_tests}
-use Rattle.std.proofs.lemmas.Bool.{or_left, cases_lt}
-use Rattle.mig_base.specs.declared.TheConstants.{HIGH, HIGH_PAGE}
+use Rattle.std.proofs.lemmas.Bool.{or_left}
+use Rattle.mig_base.specs.declared.TheConstants.{HIGH}
 use Rattle.mig_base.specs.declared.command.Errno.TheVariants.{Enomem}
 use Rattle.mig_base.specs.declared.command.Command.{Command}
 use Rattle.mig_base.specs.declared.command.Command.TheVariants.{Mmap, Munmap, Mremap, DontNeed}
 use Rattle.mig_base.specs.declared.command.Reply.{Reply}
 use Rattle.mig_base.specs.declared.command.Reply.TheVariants.{Done, At, Refused}
 use Rattle.mig_base.specs.declared.message.Message.TheVariants.{Remap, Remove, Unmap}
-use Rattle.mig_base.specs.Ranges.{in_range, lesser, pages_of, rounded}
+use Rattle.mig_base.specs.Ranges.{lesser, pages_of, rounded}
 use Rattle.mig_base.specs.Flat.{reply_of}
 use Rattle.mig_base.proofs.ReplyLemmas.{mremap_told, mmap_inside, munmap_whole, dontneed_done, dontneed_hole}
 use Rattle.mig_model.specs.Host.{Host, memory, IsSound}
 use Rattle.mig_model.specs.Space.{Space, IsSoundSpace, call_messages}
 use Rattle.mig_model.specs.Userfault.{is_watched}
 use Rattle.mig_model.proofs.CommandLemmas.{remapped_place}
-use Rattle.mig_model.proofs.SeenLemmas.{AreMapped, AreWatched, owed_none, watched_mapped}
+use Rattle.mig_model.proofs.SeenLemmas.{AreMapped, AreWatched, watched_mapped}
 use Rattle.mig_model.proofs.SettledCalls.{AreInside, AllRight, settled_messages, right-append, right-told, gone, owed_changed, told_gone, unmap_right, remove_right}
 use Rattle.mig_model.proofs.CalledLemmas.{IsLaid, remapped_laid, settled_remapped}
-use Rattle.mig_model.proofs.CalledLemmas.IsLaid.{Stays, Goes}
 use Rattle.mig_model.specs.Owed.{owed_after}
-use Rattle.mig_model.proofs.Facts.{none_absurd, lesser_right, whole_page, lesser_left}
+use Rattle.mig_model.proofs.Facts.{lesser_right, whole_page}
 
 inside_of : (space : Space) (owed : ℕ → Option ℕ) → AreWatched space owed → AreInside space.object owed
 inside_of space owed watched page origin h = or_left (contains space.object.missing page) (contains space.object.protect page) (watched page origin h)
 
 -- the owed relation
 
-same_range : (addr len page : ℕ) → page < HIGH_PAGE → in_range (addr / 4096) (lesser (addr + rounded len) HIGH / 4096 - addr / 4096) page ≡ in_range (addr / 4096) (pages_of len) page
-same_range addr len page low = grind (arith, nat_tests, low)
-
-cond_none : (b c : Bool) (x : Option ℕ) → x ≡ None → cond b None x ≡ cond c None x
-cond_none true true x h = refl
-cond_none true false x h = sym h
-cond_none false true x h = h
-cond_none false false x h = refl
-
 -- a range that reaches past the address space is cut at its end, behind which nothing is owed
 hole_right : (here : Host) (owed : ℕ → Option ℕ) (addr len page : ℕ) → IsSound here → AreMapped here owed → owed_after (Remove addr (lesser (addr + rounded len) HIGH)) owed page ≡ gone owed (addr / 4096) (pages_of len) page
-hole_right here owed addr len page sound mapped =
-    ⊎_elim
-    (λ (low : page < HIGH_PAGE). ap (λ b. cond b None (owed page)) (same_range addr len page low))
-    (λ (high : HIGH_PAGE ≤ page).
-    cond_none (in_range (addr / 4096) (lesser (addr + rounded len) HIGH / 4096 - addr / 4096) page) (in_range (addr / 4096) (pages_of len) page) (owed page)
-    (owed_none owed (λ q. contains_key here.areas q) page mapped (ap is_some (sound.bound page high))))
-    (cases_lt page HIGH_PAGE)
+hole_right here owed addr len page sound mapped = grind (arith, nat_tests)
 
 pub settled_called : (space : Space) (owed : ℕ → Option ℕ) (command : Command) (reply : Reply) → IsSoundSpace space → AreWatched space owed → reply ≡ reply_of (memory space.host) command →
     settled_messages (call_messages space.object command reply) owed ≡ owed_changed owed command reply
@@ -71,40 +54,22 @@ whole_end : (start len : ℕ) → start % 4096 ≡ 0 → (start + rounded len) %
 whole_end start len h = omega arith
 
 whole_lesser : (a b : ℕ) → a % 4096 ≡ 0 → b % 4096 ≡ 0 → lesser a b % 4096 ≡ 0
-whole_lesser a b h g = lesser_one (leb a b) a b h g
-  where
-    lesser_one : (c : Bool) (a b : ℕ) → a % 4096 ≡ 0 → b % 4096 ≡ 0 → cond c a b % 4096 ≡ 0
-    lesser_one true a b h g = h
-    lesser_one false a b h g = g
+whole_lesser a b h g = grind (arith, nat_tests)
 
 whole_times : (n : ℕ) → (4096 * n) % 4096 ≡ 0
 whole_times n = omega arith
 
 away_not : (b w : Bool) → (not b && w) ≡ true → b ≡ false
-away_not true w h = none_absurd h
-away_not false w h = refl
-
-same_not : (a b : ℕ) → a ≡ b → eqb a b ≡ false → ⊥
-same_not a b e h = grind (arith, nat_tests, e, h)
+away_not b w h = grind (arith, nat_tests)
 
 fewer_apart : (here : Host) (from count to new_count n : ℕ) → IsLaid here from count to new_count → eqb to from ≡ false → n ≡ lesser count new_count → (from + n ≤ to) ⊎ (to + n ≤ from)
-fewer_apart here from count to new_count n (Stays same free) other is = absurd (same_not to from same other)
-fewer_apart here from count to new_count n (Goes away (inl h)) other is = let l = lesser_left count new_count in inl (omega (arith, h, l, is))
-fewer_apart here from count to new_count n (Goes away (inr h)) other is = let l = lesser_right count new_count in inr (omega (arith, h, l, is))
+fewer_apart here from count to new_count n h other is = grind (arith, nat_tests)
 
 pub right_called : (space : Space) (command : Command) (reply : Reply) → IsSoundSpace space → reply ≡ reply_of (memory space.host) command → AllRight (call_messages space.object command reply)
-right_called space (Mmap len prot place) (At start) sound is =
-    let whole = (mmap_inside (memory space.host) len prot place start is).whole in
-    right-told (is_watched space.object (start / 4096) (pages_of len)) (Unmap start (start + rounded len)) (λ b. (whole, whole_end start len whole))
-right_called space (Munmap addr len) Done sound is =
-    let whole = munmap_whole addr len is in
-    right-told (is_watched space.object (addr / 4096) (pages_of len)) (Unmap addr (addr + rounded len)) (λ b. (whole, whole_end addr len whole))
-right_called space (DontNeed addr len) Done sound is =
-    let whole = dontneed_done (memory space.host) addr len is in
-    right-told (is_watched space.object (addr / 4096) (pages_of len)) (Remove addr (addr + rounded len)) (λ b. (whole, whole_end addr len whole))
-right_called space (DontNeed addr len) (Refused Enomem) sound is =
-    let whole = dontneed_hole (memory space.host) addr len is in
-    right-told (is_watched space.object (addr / 4096) (pages_of len)) (Remove addr (lesser (addr + rounded len) HIGH)) (λ b. (whole, whole_lesser (addr + rounded len) HIGH (whole_end addr len whole) refl))
+right_called space (Mmap len prot place) (At start) sound is = grind (arith, nat_tests, mmap_inside, right-told, whole_end)
+right_called space (Munmap addr len) Done sound is = grind (arith, nat_tests, munmap_whole, right-told, whole_end)
+right_called space (DontNeed addr len) Done sound is = grind (arith, nat_tests, dontneed_done, right-told, whole_end)
+right_called space (DontNeed addr len) (Refused Enomem) sound is = grind (arith, nat_tests, dontneed_hole, right-told, whole_lesser, whole_end)
 right_called space (Mremap addr old_len new_len may_move fixed) (At target) sound is =
     let here = mremap_told (memory space.host) addr old_len new_len may_move fixed target is in
     let placed = remapped_place space.host addr old_len new_len target sound.host here in

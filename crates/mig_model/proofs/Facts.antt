@@ -1,11 +1,10 @@
 -- Small facts on tests, options, numbers and lists, each in one place.
-use Rattle.std.proofs.Common.{◌≡◌, ℕ, zero, suc, ◌+◌, ◌*◌, ◌/◌, ◌%◌, ◌<◌, ◌≤◌, ◌||◌, Bool, true, false, cond, not, eqb, ltb, if◌then◌else◌, Option, Some, None, is_some, List, [], ◌∷◌, ◌++◌, length, refl, sym, ap, ◌∙◌, arith}
+use Rattle.std.proofs.Common.{◌≡◌, ℕ, ◌+◌, ◌*◌, ◌/◌, ◌%◌, ◌<◌, ◌≤◌, ◌||◌, Bool, true, false, cond, not, eqb, ltb, if◌then◌else◌, Option, Some, is_some, List, [], ◌∷◌, ◌++◌, length, refl, sym, ap, ◌∙◌, arith}
 use Rattle.std.proofs.lemmas.Bool.Decides.{nat_tests}
 use Rattle.std.proofs.lemmas.Bool.{false≢true, and_parts, eqb-true}
 use Rattle.std.specs.Prelude.{replicate}
 use Rattle.std.proofs.Common.{append-nil}
 use Rattle.std.proofs.lemmas.List.{append_assoc}
-use Rattle.std.proofs.lemmas.Option.{same_Some}
 use Rattle.std.specs.List.{list_all}
 use Rattle.std.specs.Ordering.{nat_cmp}
 use Rattle.std.specs.FinMap.{FinMap, insert}
@@ -14,12 +13,9 @@ pub use Rattle.std.proofs.lemmas.Option.{same_Some as some_command, same_Some as
 pub use Rattle.std.proofs.lemmas.Bool.{ne_eqb as eqb_other}
 use Rattle.mig_base.proofs.SetLemmas.{member_below}
 use Rattle.mig_base.specs.declared.TheConstants.{HIGH_PAGE}
-use Rattle.mig_base.specs.declared.command.Access.TheVariants.{Answered}
 use Rattle.mig_model.specs.Wire.Frame.{Page, Zero}
 use Rattle.mig_base.specs.declared.command.Command.{Command}
-use Rattle.mig_base.specs.declared.command.Command.TheVariants.{Mmap, Munmap, Mremap}
 use Rattle.mig_base.specs.declared.command.Reply.{Reply}
-use Rattle.mig_base.specs.declared.command.Reply.TheVariants.{Done, At}
 use Rattle.mig_base.specs.declared.effect.Effect.{Effect}
 use Rattle.mig_base.specs.declared.message.Message.{Message}
 use Rattle.mig_base.specs.Ranges.{lesser}
@@ -34,7 +30,7 @@ use Rattle.mig_model.specs.Wire.{Copy, Frame, Sent, Wire, copies_in, kept_after}
 use Rattle.mig_model.specs.Log.{no_pages, present}
 use Rattle.mig_model.specs.Owed.{owed_after, settled_by}
 use Rattle.mig_model.specs.Source.{Source, not_clean, space_of}
-use Rattle.mig_model.specs.Migration.{World, start, with_guest_by}
+use Rattle.mig_model.specs.Migration.{World, with_guest_by}
 use Rattle.mig_model.specs.Invariant.{AreFaithful, AreOf, AreWhole, copies_of}
 use Rattle.mig_model.specs.Parts.{Grows}
 
@@ -62,8 +58,7 @@ pub lesser_right : (a b : ℕ) → lesser a b ≤ b
 lesser_right a b = grind (arith, nat_tests)
 
 pub put_whole : (here : Bool) (put held : List ℕ) (o : Option (List ℕ)) → length put ≡ 4096 → (o ≡ Some held → length held ≡ 4096) → cond here (Some put) o ≡ Some held → length held ≡ 4096
-put_whole true put held o n rest h = ap length (sym (same_Some put held h)) ∙ n
-put_whole false put held o n rest h = rest h
+put_whole here put held o n rest h = grind (arith, nat_tests)
 
 pub up_not_down : {A : Type 0} (up : Bool) → up ≡ true → up ≡ false → A
 up_not_down up h k = none_absurd (sym k ∙ h)
@@ -75,8 +70,7 @@ pub lesser_left : (a b : ℕ) → lesser a b ≤ a
 lesser_left a b = grind (arith, nat_tests)
 
 pub either : {A : Type 0} (a b : Bool) → (a || b) ≡ true → (a ≡ true → A) → (b ≡ true → A) → A
-either true b h one two = one refl
-either false b h one two = two h
+either a b h one two = grind (arith, nat_tests)
 
 pub all_zero : (bytes : List ℕ) → list_all (λ byte. eqb byte 0) bytes ≡ true → bytes ≡ replicate (length bytes) 0
 all_zero [] h = refl
@@ -89,8 +83,7 @@ unfolding zero_page
 zero_bytes bytes n h = all_zero bytes h ∙ ap (λ k. replicate {A = ℕ} k 0) n
 
 pub kept_page : (b : Bool) (kept : FinMap nat_cmp (List ℕ)) (page : ℕ) (bytes : List ℕ) → (b ≡ true → bytes ≡ zero_page) → kept_after kept (if b then Zero page else Page page bytes) ≡ insert kept page bytes
-kept_page true kept page bytes h = ap (insert kept page) (sym (h refl))
-kept_page false kept page bytes h = refl
+kept_page b kept page bytes h = grind (arith, nat_tests)
 
 pub dropped_not : (a c d : ℕ) → Effect.Dropped a ≡ Effect.Installed c d → ⊥
 dropped_not a c d h = cc
@@ -99,11 +92,7 @@ pub as_it_was : (wire : Wire) → Grows wire wire
 as_it_was wire = record { more = []; is = ap (λ f. record wire { frames = f }) (sym (append-nil wire.frames)) }
 
 pub tried_up : (ran : Bool) (world : World) (guest : Guest) → (with_guest_by ran world guest).up ≡ world.up
-tried_up true world guest = refl
-tried_up false world guest = refl
-
-pub answered_as : (reply other : Reply) → Answered reply ≡ Answered other → other ≡ reply
-answered_as reply other h = cc
+tried_up ran world guest = grind (arith, nat_tests)
 
 pub copies_of-append : (a b : List Sent) → copies_of (a ++ b) ≡ copies_of a ++ copies_of b
 copies_of-append [] b = refl
@@ -129,14 +118,10 @@ pub page_again : (page addr : ℕ) → 4096 * page ≡ addr → page ≡ addr / 
 page_again page addr h = omega (arith, h)
 
 pub entered_once : (cpu : ℕ) (command : Command) (reply : Reply) (count : ℕ) → entries_of cpu command (call_took reply count) ≡ record { cpu = cpu; command = command; reply = reply } ∷ []
-entered_once cpu command reply zero = refl
-entered_once cpu command reply (suc count) = refl
+entered_once cpu command reply count = grind (arith, nat_tests)
 
 pub modes_events : (object : Object) (command : Command) (reply : Reply) → (modes_after object command reply).events ≡ object.events
-modes_events object (Mmap len prot place) (At start) = refl
-modes_events object (Munmap addr len) Done = refl
-modes_events object (Mremap addr old_len new_len may_move fixed) (At target) = refl
-modes_events object _ _ = refl
+modes_events object command reply = grind (arith, nat_tests)
 
 pub owed_is_present : (source : Source) (page : ℕ) → contains (not_clean source) page ≡ true → is_present (space_of source) page ≡ true
 owed_is_present source page h =
@@ -149,10 +134,8 @@ no_event [] h = refl
 no_event (noted ∷ events) h = absurd (grind (arith, nat_tests))
 
 pub some_either : {X : Type 0} (here : Bool) (value : X) (o : Option X) → is_some o ≡ true → is_some (cond here (Some value) o) ≡ true
-some_either true value o h = refl
-some_either false value o h = h
+some_either here value o h = grind (arith, nat_tests)
 
 -- by the answer of a test
 pub by_test : {A : Type 0} (here : Bool) → (here ≡ true → A) → (here ≡ false → A) → A
-by_test true holds fails = holds refl
-by_test false holds fails = fails refl
+by_test here holds fails = grind (arith, nat_tests)

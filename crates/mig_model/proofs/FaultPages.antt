@@ -31,7 +31,7 @@ use Rattle.mig_model.specs.Invariant.{AreRight, IsRight, IsSoundWorld}
 use Rattle.mig_model.specs.Promises.{IsReached}
 use Rattle.mig_model.specs.Bounds.{IsMapping, IsPage, IsRightAccess}
 use Rattle.mig_model.proofs.Bounded.{IsBounded, bounded-first, bounded-next, has_memory}
-use Rattle.mig_model.proofs.FaultLemmas.{modes_faults, queued_faults}
+use Rattle.mig_model.proofs.FaultLemmas.{called_faults}
 use Rattle.mig_model.proofs.Registering.{pages_again}
 use Rattle.mig_model.proofs.RightCommands.{right_slept}
 use Rattle.mig_model.proofs.StepCases.{made-break, made-deliver, made-deliver_back, made-deliver_urgent, made-dest_act, made-dest_read, made-end, made-install, made-issue, made-notice, made-push, made-push_urgent, made-resume, made-retry, made-round, made-send, made-send_run, made-serve, made-source_act, made-source_read, made-start, made-switch}
@@ -86,7 +86,7 @@ tried_pages : (access : Bool) (space : Space) (cpu : ℕ) (command : Command) �
 tried_pages true space cpu command is mapping are = accessed_pages (access_of space command) space cpu command refl is mapping are
 tried_pages false space cpu command is mapping are =
     let reply = reply_of (memory space.host) command in
-    subst AreFaultPages (sym (queued_faults (modes_after space.object command reply) (call_messages space.object command reply) cpu ∙ modes_faults space.object command reply)) are
+    subst AreFaultPages (sym (called_faults space cpu command)) are
 
 -- Messages that are read
 

@@ -1,18 +1,18 @@
 -- No flat memory has more than MAX_PAGES pages.
-use Rattle.std.proofs.Common.{◌≡◌, ℕ, zero, suc, ◌+◌, ◌-◌, ◌*◌, ◌<◌, ◌≤◌, ◌&&◌, ◌||◌, Bool, true, false, cond, not, eqb, ltb, Option, Some, None, is_some, List, [], ◌∷◌, ◌++◌, inr, refl, ap, ◌∙◌, arith}
-use Rattle.std.proofs.lemmas.Bool.{false≢true, ltb-false}
+use Rattle.std.proofs.lemmas.Bool.Decides.{nat_tests}
+use Rattle.std.proofs.Common.{◌≡◌, ℕ, zero, suc, ◌+◌, ◌-◌, ◌*◌, ◌<◌, ◌≤◌, ◌&&◌, ◌||◌, Bool, true, false, cond, not, eqb, ltb, Option, Some, None, is_some, List, [], ◌∷◌, inr, refl, ap, ◌∙◌, arith}
+use Rattle.std.proofs.lemmas.Bool.{ltb-false}
 use Rattle.mig_base.specs.declared.TheConstants.{LOW, HIGH, MAX_PAGES}
 use Rattle.mig_base.specs.declared.Prot.{Prot}
-use Rattle.mig_base.specs.declared.command.Errno.TheVariants.{Eexist, Einval, Enomem, Efault}
+use Rattle.mig_base.specs.declared.command.Errno.TheVariants.{Einval, Enomem, Efault}
 use Rattle.mig_base.specs.declared.command.Place.{Place}
 use Rattle.mig_base.specs.declared.command.Place.TheVariants.{Anywhere, Fixed, NoReplace}
 use Rattle.mig_base.specs.declared.command.Command.{Command}
-use Rattle.mig_base.specs.declared.command.Command.TheVariants.{Store, Mmap, Munmap, Mremap, DontNeed}
 use Rattle.mig_base.specs.declared.command.Reply.{Reply}
-use Rattle.mig_base.specs.declared.command.Reply.TheVariants.{Done, At, Refused}
+use Rattle.mig_base.specs.declared.command.Reply.TheVariants.{At}
 use Rattle.mig_base.specs.declared.command.Entry.{Entry}
 use Rattle.mig_base.specs.Ranges.{count_below, in_range, rounded, free_place}
-use Rattle.mig_base.specs.Flat.{Cell, Memory, no_memory, is_mapped, mapped_count, exceeds_limit, fill, moved, zeros_with, place_refusals, is_unmapped, is_page_start, is_bad_target, has_one_prot, at_place, mmap_reply, mremap_place, mremap_reply, mremap_target, written, reply_of, changed, after, memory_from, memory_of}
+use Rattle.mig_base.specs.Flat.{Cell, Memory, no_memory, is_mapped, mapped_count, fill, moved, zeros_with, is_page_start, is_bad_target, has_one_prot, at_place, mmap_reply, mremap_reply, mremap_target, written, reply_of, changed, after, memory_from, memory_of}
 use Rattle.mig_base.proofs.RangeLemmas.{count_below-append, count_below-constant, ranges, in_range-true, in_range-false_above, in_range-false_below}
 use Rattle.mig_base.proofs.ReplyLemmas.{at_passed, mmap_inside, mremap_told, same_at}
 use Rattle.mig_base.proofs.BoundLemmas.{IsBounded, changed_bounded, remapped_inside, high_or}
@@ -35,10 +35,7 @@ count_inside : (first count bound : ℕ) → first + count ≤ bound → count_b
 count_inside first count bound h = ap (count_below (in_range first count)) (omega (arith, h)) ∙ count_range first count (bound - (first + count))
 
 either_one : (p q r : Bool) → (r ≡ true → (p || q) ≡ true) → cond r 1 0 ≤ cond p 1 0 + cond q 1 0
-either_one p q false h = omega arith
-either_one true q true h = omega arith
-either_one false true true h = omega arith
-either_one false false true h = absurd (false≢true (h refl))
+either_one p q r h = grind (arith, nat_tests)
 
 sum_either : (a b c d e f : ℕ) → a ≤ b + c → d ≤ e + f → a + d ≤ (b + e) + (c + f)
 sum_either a b c d e f h k = omega (arith, h, k)
@@ -47,14 +44,10 @@ sum_either a b c d e f h k = omega (arith, h, k)
 count_either : (p q r : ℕ → Bool) (bound : ℕ) → ((i : ℕ) → r i ≡ true → (p i || q i) ≡ true) → count_below r bound ≤ count_below p bound + count_below q bound
 unfolding count_below
 count_either p q r zero h = omega arith
-count_either p q r (suc bound) h =
-    sum_either (count_below r bound) (count_below p bound) (count_below q bound) (cond (r bound) 1 0) (cond (p bound) 1 0) (cond (q bound) 1 0) (count_either p q r bound h) (either_one (p bound) (q bound) (r bound) (h bound))
+count_either p q r (suc bound) h = grind (arith, nat_tests, sum_either, either_one, count_either p q r bound h)
 
 apart_one : (all part : Bool) → (part ≡ true → all ≡ true) → cond (all && not part) 1 0 + cond part 1 0 ≡ cond all 1 0
-apart_one true true h = refl
-apart_one true false h = refl
-apart_one false true h = absurd (false≢true (h refl))
-apart_one false false h = refl
+apart_one all part h = grind (arith, nat_tests)
 
 sum_apart : (a b c d e f : ℕ) → a + b ≡ c → d + e ≡ f → (a + d) + (b + e) ≡ c + f
 sum_apart a b c d e f h k = omega (arith, h, k)
@@ -63,9 +56,7 @@ sum_apart a b c d e f h k = omega (arith, h, k)
 count_apart : (all part : ℕ → Bool) (bound : ℕ) → ((i : ℕ) → part i ≡ true → all i ≡ true) → count_below (λ i. all i && not (part i)) bound + count_below part bound ≡ count_below all bound
 unfolding count_below
 count_apart all part zero h = refl
-count_apart all part (suc bound) h =
-    sum_apart (count_below (λ i. all i && not (part i)) bound) (count_below part bound) (count_below all bound) (cond (all bound && not (part bound)) 1 0) (cond (part bound) 1 0) (cond (all bound) 1 0)
-    (count_apart all part bound h) (apart_one (all bound) (part bound) (h bound))
+count_apart all part (suc bound) h = grind (arith, nat_tests, sum_apart, apart_one, count_apart all part bound h)
 
 -- Memories
 
@@ -77,8 +68,7 @@ less_few : (old new : Memory) → ((addr : ℕ) → is_mapped new addr ≡ true 
 less_few old new h few = let less = count_below-few (is_mapped new) (is_mapped old) HIGH h in omega (arith, few, less)
 
 put_or_was : (here : Bool) (cell : Cell) (o : Option Cell) → is_some (cond here (Some cell) o) ≡ true → (here || is_some o) ≡ true
-put_or_was true cell o h = refl
-put_or_was false cell o h = h
+put_or_was here cell o h = grind (arith, nat_tests)
 
 sum_few : (new added add old limit : ℕ) → new ≤ added + old → added ≡ add → old + add ≤ limit → new ≤ limit
 sum_few new added add old limit h is k = omega (arith, h, is, k)
@@ -95,24 +85,16 @@ mapped_few memory len prot Anywhere start h few =
     let told =
     at_passed ((eqb len 0, Einval) ∷ (ltb (HIGH - LOW) (rounded len), Enomem) ∷ (ltb (4096 * MAX_PAGES) (mapped_count memory + rounded len), Enomem) ∷ []) (at_place (free_place (is_mapped memory) (rounded len))) start h in
     filled_few memory start (rounded len) (zeros_with prot) (mmap_inside memory len prot Anywhere start h).high (ltb-false (4096 * MAX_PAGES) (mapped_count memory + rounded len) told.0.1.1.0)
-mapped_few memory len prot (Fixed addr) start h few =
-    let told = at_passed ((eqb len 0, Einval) ∷ (place_refusals addr (rounded len) ++ (exceeds_limit (fill memory addr (rounded len) (zeros_with prot)), Enomem) ∷ [])) (At addr) start h in
-    rw (same_at start addr told.1) (ltb-false (4096 * MAX_PAGES) _ told.0.1.1.1.1.1.0)
-mapped_few memory len prot (NoReplace addr) start h few =
-    let told =
-    at_passed ((eqb len 0, Einval) ∷ (place_refusals addr (rounded len) ++ (not (is_unmapped memory addr (rounded len)), Eexist) ∷ (exceeds_limit (fill memory addr (rounded len) (zeros_with prot)), Enomem) ∷ [])) (At addr) start h in
-    rw (same_at start addr told.1) (ltb-false (4096 * MAX_PAGES) _ told.0.1.1.1.1.1.1.0)
+mapped_few memory len prot (Fixed addr) start h few = grind (arith, nat_tests, at_passed, same_at, ltb-false)
+mapped_few memory len prot (NoReplace addr) start h few = grind (arith, nat_tests, at_passed, same_at, ltb-false)
 
 -- mremap
 
 some_or : {A : Type 0} (o : Option A) → (o ≡ None → ⊥) → is_some o ≡ true
-some_or None h = absurd (h refl)
-some_or (Some x) h = refl
+some_or o h = grind (arith, nat_tests)
 
 moved_or_was : (target old : Bool) (put here : Option Cell) → is_some (cond target put (cond old None here)) ≡ true → (target || (is_some here && not old)) ≡ true
-moved_or_was true old put here h = refl
-moved_or_was false true put here h = absurd (false≢true h)
-moved_or_was false false put here h = ap (λ b. b && true) h
+moved_or_was target old put here h = grind (arith, nat_tests)
 
 in_range_at : (first count n : ℕ) → in_range first count n ≡ true → (first + (n - first) ≡ n) × (n - first < count)
 in_range_at first count n h = grind (arith, ranges)
@@ -138,12 +120,7 @@ remapped_few memory addr old_size target new_size bounded some one high room =
 
 target_few : (memory : Memory) (addr old_size new_size : ℕ) (may_move : Bool) (fixed : Option ℕ) (target : ℕ) → IsBounded memory → 0 < old_size → has_one_prot memory addr old_size ≡ true → target + new_size ≤ HIGH →
     At target ≡ mremap_target memory addr old_size new_size may_move fixed → IsFew (moved memory addr old_size target new_size)
-target_few memory addr old_size new_size may_move None target bounded some one high h =
-    let told = at_passed ((ltb (4096 * MAX_PAGES) (mapped_count memory - old_size + new_size), Enomem) ∷ []) (mremap_place memory addr old_size new_size may_move) target h in
-    remapped_few memory addr old_size target new_size bounded some one high (ltb-false (4096 * MAX_PAGES) (mapped_count memory - old_size + new_size) told.0.0)
-target_few memory addr old_size new_size may_move (Some fixed) target bounded some one high h =
-    let told = at_passed ((exceeds_limit (moved memory addr old_size fixed new_size), Enomem) ∷ []) (At fixed) target h in
-    rw (same_at target fixed told.1) (ltb-false (4096 * MAX_PAGES) _ told.0.0)
+target_few memory addr old_size new_size may_move fixed target bounded some one high h = grind (arith, nat_tests, at_passed, remapped_few, ltb-false, same_at)
 
 mremap_few : (memory : Memory) (addr old_len new_len : ℕ) (may_move : Bool) (fixed : Option ℕ) (target : ℕ) → IsBounded memory → At target ≡ mremap_reply memory addr old_len new_len may_move fixed →
     IsFew (moved memory addr (rounded old_len) target (rounded new_len))
@@ -157,27 +134,17 @@ mremap_few memory addr old_len new_len may_move fixed target bounded h =
 -- Every command
 
 written_was : (here : Bool) (o : Option Cell) (byte : ℕ) → is_some (cond here (written o byte) o) ≡ true → is_some o ≡ true
-written_was true (Some cell) byte h = refl
-written_was true None byte h = h
-written_was false o byte h = h
+written_was here o byte h = grind (arith, nat_tests)
 
 cleared_was : (here : Bool) (o : Option Cell) → is_some (cond here None o) ≡ true → is_some o ≡ true
-cleared_was true o h = absurd (false≢true h)
-cleared_was false o h = h
+cleared_was here o h = grind (arith, nat_tests)
 
 few_changed : (memory : Memory) (command : Command) (reply : Reply) → IsBounded memory → reply ≡ reply_of memory command → IsFew memory → IsFew (changed memory command reply)
-few_changed memory (Store addr width value) Done bounded h few = less_few memory _ (λ n is. written_was (in_range addr width n) (memory n) _ is) few
-few_changed memory (Mmap len prot place) (At start) bounded h few = mapped_few memory len prot place start h few
-few_changed memory (Munmap addr len) Done bounded h few = less_few memory _ (λ n is. cleared_was (in_range addr (rounded len) n) (memory n) is) few
-few_changed memory (Mremap addr old_len new_len may_move fixed) (At target) bounded h few = mremap_few memory addr old_len new_len may_move fixed target bounded h
-few_changed memory (DontNeed addr len) Done bounded h few = less_few memory _ (λ n is. written_was (in_range addr (rounded len) n) (memory n) 0 is) few
-few_changed memory (DontNeed addr len) (Refused Enomem) bounded h few = less_few memory _ (λ n is. written_was (in_range addr (rounded len) n) (memory n) 0 is) few
-few_changed memory _ _ bounded h few = few
+few_changed memory command reply bounded h few = grind (arith, nat_tests, less_few, written_was, mapped_few, cleared_was, mremap_few)
 
 few_from : (memory : Memory) (entries : List Entry) → IsBounded memory → IsFew memory → IsFew (memory_from memory entries)
 few_from memory [] bounded few = few
-few_from memory (entry ∷ entries) bounded few =
-    few_from (after memory entry.command) entries (changed_bounded memory entry.command (reply_of memory entry.command) bounded refl) (few_changed memory entry.command (reply_of memory entry.command) bounded refl few)
+few_from memory (entry ∷ entries) bounded few = grind (arith, nat_tests, changed_bounded, few_changed, few_from (after memory entry.command) entries (changed_bounded memory entry.command (reply_of memory entry.command) bounded refl) (few_changed memory entry.command (reply_of memory entry.command) bounded refl few))
 
 none_mapped : IsFew no_memory
 none_mapped = let none = count_below-constant (is_mapped no_memory) false HIGH (λ i l. refl) in omega (arith, none)

@@ -1,11 +1,12 @@
 -- Where a step zeroes, unprotects, protects, installs or registers, the call of the userfault object is accepted and does just that.
 use Rattle.mig_model.proofs.FrameSteps.{end_below, first_in, last_in, some_bound}
-use Rattle.std.proofs.Common.{◌≡◌, ℕ, ◌*◌, ◌&&◌, ◌||◌, Bool, true, false, not, ltb, Option, Some, None, List, ◌∷◌, refl, sym, ap, ◌∙◌, subst, length, if◌then◌else◌, IsOk, ◌<◌, ◌-◌, ◌+◌}
+use Rattle.std.proofs.Common.{◌≡◌, ℕ, ◌*◌, ◌&&◌, ◌||◌, Bool, true, false, not, ltb, Option, Some, None, List, ◌∷◌, refl, sym, ap, ◌∙◌, subst, length, if◌then◌else◌, IsOk, ◌<◌, ◌-◌, ◌+◌, arith}
+use Rattle.std.proofs.lemmas.Bool.Decides.{nat_tests}
 use Rattle.std.specs.Prelude.{Ok}
 use Rattle.std.specs.Ordering.{nat_cmp}
 use Rattle.std.specs.FinMap.{contains_key, get}
 use Rattle.std.specs.FinSet.{contains, contains-empty}
-use Rattle.std.proofs.lemmas.Bool.{false≢true, or_parts, not-false, or_left, or_right}
+use Rattle.std.proofs.lemmas.Bool.{or_left, or_right}
 use Rattle.mig_base.specs.declared.TheConstants.{HIGH_PAGE}
 use Rattle.mig_base.specs.declared.Run.{Run}
 use Rattle.mig_base.specs.declared.effect.Effect.{Effect}
@@ -52,37 +53,22 @@ use Rattle.mig_model.proofs.StepPromises.{told_zeroed}
 -- Pages that a handler has not forgotten
 
 not_forgotten : (space : Space) (page : ℕ) → is_forgotten space page ≡ false → (contains_key space.host.areas page ≡ true) × (is_registered space.object page ≡ true)
-not_forgotten space page h =
-    let told = or_parts (not (contains_key space.host.areas page)) (not (is_registered space.object page)) h in
-    (not-false (contains_key space.host.areas page) told.0, not-false (is_registered space.object page) told.1)
+not_forgotten space page h = grind (arith, nat_tests)
 
 source_served : (gone here protected : Bool) → source_act_by gone here protected ≡ Zeroed → gone ≡ false
-source_served true here protected h = absurd (let other : Forgot ≡ Zeroed = h in cc)
-source_served false here protected h = refl
+source_served gone here protected h = grind (arith, nat_tests)
 
 source_cleared : (gone here protected : Bool) → source_act_by gone here protected ≡ Unprotected → protected ≡ true
-source_cleared true here protected h = absurd (let other : Forgot ≡ Unprotected = h in cc)
-source_cleared false false protected h = absurd (let other : Zeroed ≡ Unprotected = h in cc)
-source_cleared false true true h = refl
-source_cleared false true false h = absurd (let other : Woke ≡ Unprotected = h in cc)
+source_cleared gone here protected h = grind (arith, nat_tests)
 
 destination_served : (gone here : Bool) (owed : Option ℕ) → destination_act_by gone here owed ≡ Zeroed → gone ≡ false
-destination_served true here owed h = absurd (let other : Forgot ≡ Zeroed = h in cc)
-destination_served false here owed h = refl
+destination_served gone here owed h = grind (arith, nat_tests)
 
 told_unprotected : (act : Act) (a b : ℕ) → act_effect act a ≡ Effect.Unprotected b → (act ≡ Unprotected) × (a ≡ b)
-told_unprotected Unprotected a b h = (refl, cc)
-told_unprotected Zeroed a b h = absurd (cc)
-told_unprotected Woke a b h = absurd (cc)
-told_unprotected Forgot a b h = absurd (cc)
-told_unprotected (Requested origin) a b h = absurd (cc)
+told_unprotected act a b h = grind (arith, nat_tests)
 
 unswitched_unreleased : (phase : SourcePhase) (switched : Bool) → SwitchedAt phase switched → switched ≡ false → is_released phase ≡ false
-unswitched_unreleased SourcePhase.Released switched at not = absurd (false≢true (sym not ∙ at))
-unswitched_unreleased SourcePhase.Idle switched at not = refl
-unswitched_unreleased SourcePhase.Precopy switched at not = refl
-unswitched_unreleased SourcePhase.Stopped switched at not = refl
-unswitched_unreleased SourcePhase.Paused switched at not = refl
+unswitched_unreleased phase switched at not = grind (arith, nat_tests)
 
 -- the object of a source that runs its processors
 source_open : (cpus : ℕ) (world : World) → IsBounded cpus world → world.source.switched ≡ false → IsOpen (space_of world.source).object all_features
@@ -178,12 +164,10 @@ unfolding is_one
 one_is_protect = refl
 
 told_page : (zeros : Bool) (a b : ℕ) → (if zeros then Effect.SentZero a else Effect.SentPage a) ≡ Effect.SentPage b → a ≡ b
-told_page true a b h = absurd (cc)
-told_page false a b h = cc
+told_page zeros a b h = grind (arith, nat_tests)
 
 told_zero : (zeros : Bool) (a b : ℕ) → (if zeros then Effect.SentZero a else Effect.SentPage a) ≡ Effect.SentZero b → a ≡ b
-told_zero true a b h = cc
-told_zero false a b h = absurd (cc)
+told_zero zeros a b h = grind (arith, nat_tests)
 
 -- the page that is sent is protected, as it is found
 sent_protected : (cpus : ℕ) (world : World) (page : ℕ) → IsBounded cpus world → least_of world.source.log.todo ≡ Some page → is_precopy world.source.phase ≡ true → ltb 0 (length (space_of world.source).object.events) ≡ false →
@@ -214,9 +198,7 @@ zero_protected cpus world addr all answered =
 -- the pages of a run are protected together, as they are found
 run_watched : (world : World) (first bound : ℕ) → IsSoundWorld world → is_precopy world.source.phase ≡ true → ltb 0 (length (space_of world.source).object.events) ≡ false → (q : ℕ) → in_range first (run_length world.source.log.todo first bound) q ≡ true →
     contains (space_of world.source).object.protect q ≡ true
-run_watched world first bound kept precopy quiet q h =
-    (kept.precopy.todo_sendable (precopy_unswitched world.source.phase world.source.switched precopy kept.phases.source_phase) q (member_run world.source.log.todo first bound q h)
-    (ap (λ events. is_unread events q) (no_event (space_of world.source).object.events quiet))).1
+run_watched world first bound kept precopy quiet q h = grind (arith, nat_tests, precopy_unswitched, member_run, no_event)
 
 abbrev run_guest : World → ℕ → ℕ → Guest
 run_guest world first number = record world.source.guest { space = protected_in (space_of world.source) first number true }
@@ -266,8 +248,7 @@ destination_zeroes cpus world addr all answered =
     (subst (λ act. IsZeroPage world.destination.guest (destination_acted_by act world.destination fault.page).guest (4096 * fault.page)) (sym told.0) made))) answered refl
 
 told_installed : (o : Option ℕ) (origin addr source : ℕ) → install_effect o origin ≡ Effect.Installed addr source → (page : ℕ) × (o ≡ Some page) × (4096 * page ≡ addr)
-told_installed None origin addr source h = absurd (cc)
-told_installed (Some page) origin addr source h = (page, refl, cc)
+told_installed o origin addr source h = grind (arith, nat_tests)
 
 -- a page was put by UFFDIO_COPY, or by UFFDIO_ZEROPAGE where it is a page of zeros
 abbrev pub IsPlaced : Guest → Guest → ℕ → List ℕ → Type 0
@@ -347,8 +328,7 @@ round_registers cpus world runs all ok are =
 -- The run of the destination
 
 neither : {A : Type 0} (one other : Bool) → one ≡ false → other ≡ false → (one || other) ≡ true → A
-neither true other a b h = absurd (false≢true (sym a))
-neither false other a b h = absurd (false≢true (sym b ∙ h))
+neither one other a b h = grind (arith, nat_tests)
 
 abbrev opened_space : Host → Space
 opened_space host = record fresh_space { host = host; object = enabled_with fresh_object event_features }

@@ -1,11 +1,11 @@
 -- The memory of a host, and how the changes of its maps change it.
-use Rattle.std.proofs.Common.{◌≡◌, ◌≢◌, ℕ, ◌+◌, ◌-◌, ◌*◌, ◌/◌, ◌%◌, ◌^◌, ◌<◌, ◌≤◌, Bool, true, false, cond, eqb, ltb, Option, Some, None, List, [], refl, sym, ap, ◌∙◌, ◌⊎◌, ⊎_elim, arith, length, get_or, is_some, unwrap_or}
+use Rattle.std.proofs.Common.{◌≡◌, ℕ, ◌+◌, ◌-◌, ◌*◌, ◌/◌, ◌%◌, ◌^◌, ◌<◌, ◌≤◌, Bool, true, cond, eqb, ltb, Option, Some, None, List, [], refl, sym, ap, ◌∙◌, arith, length, get_or, is_some, unwrap_or}
 use Rattle.std.specs.Option.{option_map}
 use Rattle.std.specs.Ordering.{nat_cmp}
 use Rattle.std.specs.Cmp.{nat_cmp_total, unsigned_tied}
 use Rattle.std.specs.FinMap.{FinMap, get, insert, empty, len, contains_key, get-insert, get-empty}
 use Rattle.std.proofs.lemmas.Bool.Decides.{nat_tests}
-use Rattle.std.proofs.lemmas.Bool.{false≢true, eqb-true, eq-eqb, cases_eq}
+use Rattle.std.proofs.lemmas.Bool.{eqb-true, eq-eqb, cases_eq}
 use Rattle.std.proofs.lemmas.Option.{none-some}
 use Rattle.mig_base.specs.declared.TheConstants.{HIGH, HIGH_PAGE}
 use Rattle.mig_base.specs.declared.Prot.{Prot}
@@ -13,7 +13,7 @@ use Rattle.mig_base.specs.Ranges.{in_range, count_below}
 use Rattle.mig_base.specs.Pages.{set_range, remove_range}
 use Rattle.mig_base.specs.Bytes.{page_at, overwrite}
 use Rattle.mig_base.specs.Flat.{Memory, Cell, no_memory, is_mapped, mapped_count, fill, clear, zeroed, moved, grown, write, written}
-use Rattle.mig_base.proofs.RangeLemmas.{count_below-blocks, in_range_tells, in_range-true, in_range-false_below, in_range-false_above}
+use Rattle.mig_base.proofs.RangeLemmas.{count_below-blocks, in_range_tells, in_range-false_above}
 use Rattle.mig_base.proofs.PageLemmas.{get-set_range, get-remove_range, get-moved_range, count_below-contains_key}
 use Rattle.mig_base.proofs.ByteLemmas.{get_or-overwrite_below, get_or-overwrite_in, get_or-overwrite_above}
 use Rattle.mig_base.proofs.TestLemmas.{cond_none}
@@ -50,8 +50,7 @@ IsSound-empty =
     }
 
 is_some-cell : (bytes : FinMap nat_cmp (List ℕ)) (addr : ℕ) (o : Option Prot) → is_some (cell_at bytes addr o) ≡ is_some o
-is_some-cell bytes addr None = refl
-is_some-cell bytes addr (Some prot) = refl
+is_some-cell bytes addr o = grind (arith, nat_tests)
 
 pub is_mapped-memory : (host : Host) → is_mapped (memory host) ≡ (λ addr. contains_key host.areas (addr / 4096))
 is_mapped-memory host = λ i addr. (ap is_some (memory-at host addr) ∙ is_some-cell host.bytes addr (get host.areas (addr / 4096))) i
@@ -63,44 +62,15 @@ mapped_count-memory host sound =
     ∙ count_below-blocks 4096 (λ addr. contains_key host.areas (addr / 4096)) (λ page. contains_key host.areas page) HIGH_PAGE (λ k i l. ap (λ page. contains_key host.areas page) (omega arith))
     ∙ ap (λ n. 4096 * n) (count_below-contains_key HIGH_PAGE host.areas sound.bound)
 
--- the same look-ups of areas, and the same bytes
-same_cells : (a b : Host) → ((page : ℕ) → get a.areas page ≡ get b.areas page) → ((addr : ℕ) → byte_in a.bytes addr ≡ byte_in b.bytes addr) → memory a ≡ memory b
-same_cells a b areas bytes = same_memory (memory a) (memory b) (λ addr.
-    memory-at a addr
-    ∙ ap (cell_at a.bytes addr) (areas (addr / 4096))
-    ∙ ap (λ byte. option_map (λ prot. record { byte = byte; prot = prot }) (get b.areas (addr / 4096))) (bytes addr)
-    ∙ sym (memory-at b addr))
-
 -- A page put in
 
 pub get-put : (bytes : FinMap nat_cmp (List ℕ)) (page q : ℕ) (held : List ℕ) → get (insert bytes page held) q ≡ cond (eqb q page) (Some held) (get bytes q)
 get-put bytes page q held = get-insert nat_cmp_total bytes page held q ∙ ap (λ b. cond b (Some held) (get bytes q)) (unsigned_tied q page)
 
--- a mapped page is put or written
-mapped_put : (b : Bool) (q page : ℕ) (held : List ℕ) (areas : Option Prot) (o : Option (List ℕ)) → b ≡ eqb q page → (b ≡ true → areas ≡ None → ⊥) → (areas ≡ None → o ≡ None) → areas ≡ None → cond b (Some held) o ≡ None
-mapped_put true q page held areas o e some rest none = absurd (some refl none)
-mapped_put false q page held areas o e some rest none = rest none
-
-has_not_none : (areas : FinMap nat_cmp Prot) (page : ℕ) → contains_key areas page ≡ true → get areas page ≡ None → ⊥
-has_not_none areas page has none = false≢true (sym (ap is_some none) ∙ has)
-
 pub IsSound-put : (host : Host) (page : ℕ) (held : List ℕ) → IsSound host → contains_key host.areas page ≡ true → length held ≡ 4096 → IsSound (record host { bytes = insert host.bytes page held })
-IsSound-put host page held sound has n =
-    record {
-      bound = sound.bound;
-      mapped = λ q none. get-put host.bytes page q held ∙ mapped_put (eqb q page) q page held (get host.areas q) (get host.bytes q) refl (λ e gone. has_not_none host.areas page has (ap (get host.areas) (sym (eqb-true q page e)) ∙ gone)) (sound.mapped q) none;
-      whole = λ q bytes h. put_whole (eqb q page) held bytes (get host.bytes q) n (sound.whole q bytes) (sym (get-put host.bytes page q held) ∙ h);
-    }
+IsSound-put host page held sound has n = grind (arith, nat_tests, get-put, eqb-true, put_whole)
 
 -- A write
-
-outside_page : (bytes : FinMap nat_cmp (List ℕ)) (page addr : ℕ) (held : List ℕ) → addr / 4096 ≢ page → byte_in (insert bytes page held) addr ≡ byte_in bytes addr
-outside_page bytes page addr held other =
-    ap (λ o. get_or (unwrap_or o []) (addr % 4096) 0) (get-put bytes page (addr / 4096) held ∙ ap (λ b. cond b (Some held) (get bytes (addr / 4096))) (eqb_other (addr / 4096) page other))
-
-inside_page : (bytes : FinMap nat_cmp (List ℕ)) (page addr : ℕ) (held : List ℕ) → addr / 4096 ≡ page → byte_in (insert bytes page held) addr ≡ get_or held (addr % 4096) 0
-inside_page bytes page addr held here =
-    ap (λ o. get_or (unwrap_or o []) (addr % 4096) 0) (get-put bytes page (addr / 4096) held ∙ ap (λ b. cond b (Some held) (get bytes (addr / 4096))) (eq-eqb (addr / 4096) page here))
 
 -- the digits of a number
 pub record AreDigits (digits : List ℕ) (width value : ℕ) : Type 0 where
@@ -112,42 +82,10 @@ abbrev pub ReadsAs : List ℕ → List ℕ → Type 0
 ReadsAs held other = (i : ℕ) → get_or held i 0 ≡ get_or other i 0
 
 byte_in-write : (bytes : FinMap nat_cmp (List ℕ)) (addr width value : ℕ) (held digits : List ℕ) → ReadsAs held (page_at bytes (addr / 4096)) → length held ≡ 4096 → AreDigits digits width value → addr % 4096 + width ≤ 4096 → (q : ℕ) → byte_in (insert bytes (addr / 4096) (overwrite held (addr % 4096) digits)) q ≡ cond (in_range addr width q) (value / 256 ^ (q - addr) % 256) (byte_in bytes q)
-byte_in-write bytes addr width value held digits same n are inside q =
-    let count = are.count in
-    let fits : addr % 4096 + length digits ≤ length held = omega arith in
-    let written_page = overwrite held (addr % 4096) digits in
-    let old_byte : q / 4096 ≡ addr / 4096 → get_or held (q % 4096) 0 ≡ byte_in bytes q = λ here. same (q % 4096) ∙ ap (λ p. get_or (page_at bytes p) (q % 4096) 0) (sym here) in
-    ⊎_elim
-    (λ (t : (in_range addr width q ≡ true) × (addr ≤ q) × (q < addr + width)).
-    let low = t.1 in
-    let high = t.2 in
-    let at : q % 4096 - addr % 4096 ≡ q - addr = omega arith in
-    inside_page bytes (addr / 4096) q written_page (omega arith)
-    ∙ get_or-overwrite_in held digits (addr % 4096) (q % 4096) fits (omega arith) (omega arith)
-    ∙ ap (λ i. get_or digits i 0) at
-    ∙ are.each (q - addr) (omega arith)
-    ∙ sym (ap (λ b. cond b (value / 256 ^ (q - addr) % 256) (byte_in bytes q)) t.0))
-    (λ (t : (in_range addr width q ≡ false) × ((q < addr) ⊎ (addr + width ≤ q))).
-    ⊎_elim
-    (λ (here : q / 4096 ≡ addr / 4096).
-    inside_page bytes (addr / 4096) q written_page here
-    ∙ ⊎_elim
-    (λ (below : q < addr). get_or-overwrite_below held digits (addr % 4096) (q % 4096) fits (omega arith))
-    (λ (above : addr + width ≤ q). get_or-overwrite_above held digits (addr % 4096) (q % 4096) fits (omega arith))
-    t.1
-    ∙ old_byte here)
-    (λ (other : q / 4096 ≢ addr / 4096). outside_page bytes (addr / 4096) q written_page other)
-    (cases_eq (q / 4096) (addr / 4096))
-    ∙ sym (ap (λ b. cond b (value / 256 ^ (q - addr) % 256) (byte_in bytes q)) t.0))
-    (in_range_tells addr width q)
-
-written-cell : (bytes : FinMap nat_cmp (List ℕ)) (addr byte : ℕ) (o : Option Prot) → written (cell_at bytes addr o) byte ≡ option_map (λ prot. record { byte = byte; prot = prot }) o
-written-cell bytes addr byte None = refl
-written-cell bytes addr byte (Some prot) = refl
+byte_in-write bytes addr width value held digits same n are inside q = grind (arith, nat_tests, get_or-overwrite_in, get_or-overwrite_below, get_or-overwrite_above, cases_eq, in_range_tells, get-put, eq-eqb, eqb_other)
 
 chosen : (b : Bool) (bytes : FinMap nat_cmp (List ℕ)) (addr byte : ℕ) (o : Option Prot) → option_map (λ prot. record { byte = cond b byte (byte_in bytes addr); prot = prot }) o ≡ cond b (written (cell_at bytes addr o) byte) (cell_at bytes addr o)
-chosen true bytes addr byte o = sym (written-cell bytes addr byte o)
-chosen false bytes addr byte o = refl
+chosen b bytes addr byte o = grind (arith, nat_tests)
 
 pub memory-write : (host : Host) (addr width value : ℕ) (held digits : List ℕ) → ReadsAs held (page_at host.bytes (addr / 4096)) → length held ≡ 4096 → AreDigits digits width value → addr % 4096 + width ≤ 4096 → memory (record host { bytes = insert host.bytes (addr / 4096) (overwrite held (addr % 4096) digits) }) ≡ write (memory host) addr width value
 memory-write host addr width value held digits same n are inside =
@@ -164,114 +102,36 @@ ltb_same : (a b c d : ℕ) → (a < b → c < d) → (c < d → a < b) → ltb a
 ltb_same a b c d f g = grind (arith, nat_tests, f, g)
 
 in_range-pages : (first count q : ℕ) → in_range first count (q / 4096) ≡ in_range (first * 4096) (4096 * count) q
-in_range-pages first count q =
-    ⊎_elim
-    (λ (t : (in_range first count (q / 4096) ≡ true) × (first ≤ q / 4096) × (q / 4096 < first + count)).
-    let low = t.1 in
-    let high = t.2 in
-    t.0 ∙ sym (in_range-true (first * 4096) (4096 * count) q (omega arith) (omega arith)))
-    (λ (t : (in_range first count (q / 4096) ≡ false) × ((q / 4096 < first) ⊎ (first + count ≤ q / 4096))).
-    t.0 ∙ sym (⊎_elim
-    (λ (below : q / 4096 < first). in_range-false_below (first * 4096) (4096 * count) q (omega arith))
-    (λ (above : first + count ≤ q / 4096). in_range-false_above (first * 4096) (4096 * count) q (omega arith))
-    t.1))
-    (in_range_tells first count (q / 4096))
-
-no_byte : (b : Bool) (o : Option (List ℕ)) (i : ℕ) → get_or (unwrap_or (cond b None o) []) i 0 ≡ cond b 0 (get_or (unwrap_or o []) i 0)
-no_byte true o i = refl
-no_byte false o i = refl
+in_range-pages first count q = grind (arith, nat_tests)
 
 byte_in-remove : (bytes : FinMap nat_cmp (List ℕ)) (first count addr : ℕ) → byte_in (remove_range bytes first count) addr ≡ cond (in_range first count (addr / 4096)) 0 (byte_in bytes addr)
-byte_in-remove bytes first count addr =
-    ap (λ o. get_or (unwrap_or o []) (addr % 4096) 0) (get-remove_range bytes first count (addr / 4096))
-    ∙ no_byte (in_range first count (addr / 4096)) (get bytes (addr / 4096)) (addr % 4096)
+byte_in-remove bytes first count addr = grind (arith, nat_tests, get-remove_range)
 
 abbrev with_byte : ℕ → Option Prot → Option Cell
 with_byte byte o = option_map (λ prot. record { byte = byte; prot = prot }) o
 
-filled : (b : Bool) (byte : ℕ) (prot : Prot) (o : Option Prot) → with_byte (cond b 0 byte) (cond b (Some prot) o) ≡ cond b (Some (record { byte = 0; prot = prot })) (with_byte byte o)
-filled true byte prot o = refl
-filled false byte prot o = refl
-
 pub memory-map : (host : Host) (first count : ℕ) (prot : Prot) → memory (record { areas = set_range host.areas first count prot; bytes = remove_range host.bytes first count }) ≡ fill (memory host) (first * 4096) (4096 * count) (record { byte = 0; prot = prot })
-memory-map host first count prot =
-    let new : Host = record { areas = set_range host.areas first count prot; bytes = remove_range host.bytes first count } in
-    same_memory (memory new) (fill (memory host) (first * 4096) (4096 * count) (record { byte = 0; prot = prot })) (λ q.
-    memory-at new q
-    ∙ ap (cell_at new.bytes q) (get-set_range host.areas first count prot (q / 4096))
-    ∙ ap (λ byte. with_byte byte (cond (in_range first count (q / 4096)) (Some prot) (get host.areas (q / 4096)))) (byte_in-remove host.bytes first count q)
-    ∙ filled (in_range first count (q / 4096)) (byte_in host.bytes q) prot (get host.areas (q / 4096))
-    ∙ ap (λ b. cond b (Some (record { byte = 0; prot = prot })) (cell_at host.bytes q (get host.areas (q / 4096)))) (in_range-pages first count q)
-    ∙ ap (λ c. cond (in_range (first * 4096) (4096 * count) q) (Some (record { byte = 0; prot = prot })) c) (sym (memory-at host q)))
-
-some_or_none : (b : Bool) (prot : Prot) (o : Option Prot) (p : Option (List ℕ)) → cond b (Some prot) o ≡ None → (o ≡ None → p ≡ None) → cond b None p ≡ None
-some_or_none true prot o p h rest = refl
-some_or_none false prot o p h rest = rest h
+memory-map host first count prot = grind (arith, nat_tests, same_memory, memory-at, cell_at, get-set_range, with_byte, byte_in-remove, in_range-pages)
 
 pub some_kept : (b : Bool) (bytes : List ℕ) (p : Option (List ℕ)) → cond b None p ≡ Some bytes → p ≡ Some bytes
-some_kept true bytes p h = absurd (none-some bytes h)
-some_kept false bytes p h = h
+some_kept b bytes p h = grind (arith, nat_tests)
 
 pub IsSound-map : (host : Host) (first count : ℕ) (prot : Prot) → IsSound host → first + count ≤ HIGH_PAGE → IsSound (record { areas = set_range host.areas first count prot; bytes = remove_range host.bytes first count })
-IsSound-map host first count prot sound high =
-    record {
-      bound = λ page l. get-set_range host.areas first count prot page ∙ ap (λ b. cond b (Some prot) (get host.areas page)) (in_range-false_above first count page (omega arith)) ∙ sound.bound page l;
-      mapped = λ page none.
-          get-remove_range host.bytes first count page
-          ∙ some_or_none (in_range first count page) prot (get host.areas page) (get host.bytes page) (sym (get-set_range host.areas first count prot page) ∙ none) (sound.mapped page);
-      whole = λ page bytes h. sound.whole page bytes (some_kept (in_range first count page) bytes (get host.bytes page) (sym (get-remove_range host.bytes first count page) ∙ h));
-    }
-
-cleared : (b : Bool) (old new : FinMap nat_cmp (List ℕ)) (addr : ℕ) (o : Option Prot) → (b ≡ false → byte_in new addr ≡ byte_in old addr) → cell_at new addr (cond b None o) ≡ cond b None (cell_at old addr o)
-cleared true old new addr o h = refl
-cleared false old new addr o h = ap (λ byte. option_map (λ prot. record { byte = byte; prot = prot }) o) (h refl)
+IsSound-map host first count prot sound high = grind (arith, nat_tests, get-set_range, in_range-false_above, get-remove_range, some_kept)
 
 pub memory-unmap : (host : Host) (first count : ℕ) → memory (record { areas = remove_range host.areas first count; bytes = remove_range host.bytes first count }) ≡ clear (memory host) (first * 4096) (4096 * count)
-memory-unmap host first count =
-    let new : Host = record { areas = remove_range host.areas first count; bytes = remove_range host.bytes first count } in
-    same_memory (memory new) (clear (memory host) (first * 4096) (4096 * count)) (λ q.
-    memory-at new q
-    ∙ ap (cell_at new.bytes q) (get-remove_range host.areas first count (q / 4096))
-    ∙ cleared (in_range first count (q / 4096)) host.bytes new.bytes q (get host.areas (q / 4096))
-    (λ e. ap (λ o. get_or (unwrap_or o []) (q % 4096) 0) (get-remove_range host.bytes first count (q / 4096) ∙ ap (λ b. cond b None (get host.bytes (q / 4096))) e))
-    ∙ ap (λ b. cond b None (cell_at host.bytes q (get host.areas (q / 4096)))) (in_range-pages first count q)
-    ∙ ap (λ c. cond (in_range (first * 4096) (4096 * count) q) None c) (sym (memory-at host q)))
-
-none_kept : (b : Bool) (a o : Option Prot) (p : Option (List ℕ)) → cond b None o ≡ None → (o ≡ None → p ≡ None) → cond b None p ≡ None
-none_kept true a o p h rest = refl
-none_kept false a o p h rest = rest h
+memory-unmap host first count = grind (arith, nat_tests, same_memory, memory-at, cell_at, get-remove_range, in_range-pages)
 
 pub IsSound-unmap : (host : Host) (first count : ℕ) → IsSound host → IsSound (record { areas = remove_range host.areas first count; bytes = remove_range host.bytes first count })
-IsSound-unmap host first count sound =
-    record {
-      bound = λ page l. get-remove_range host.areas first count page ∙ cond_none (in_range first count page) (get host.areas page) (sound.bound page l);
-      mapped = λ page none. get-remove_range host.bytes first count page ∙ none_kept (in_range first count page) None (get host.areas page) (get host.bytes page) (sym (get-remove_range host.areas first count page) ∙ none) (sound.mapped page);
-      whole = λ page bytes h. sound.whole page bytes (some_kept (in_range first count page) bytes (get host.bytes page) (sym (get-remove_range host.bytes first count page) ∙ h));
-    }
+IsSound-unmap host first count sound = grind (arith, nat_tests, get-remove_range, cond_none, some_kept)
 
 -- Pages made missing
 
-zeroes : (b : Bool) (byte : ℕ) (o : Option Prot) → with_byte (cond b 0 byte) o ≡ cond b (written (with_byte byte o) 0) (with_byte byte o)
-zeroes true byte None = refl
-zeroes true byte (Some prot) = refl
-zeroes false byte o = refl
-
 pub memory-dropped : (host : Host) (first count : ℕ) → memory (host_dropped host first count) ≡ zeroed (memory host) (first * 4096) (4096 * count)
-memory-dropped host first count =
-    same_memory (memory (host_dropped host first count)) (zeroed (memory host) (first * 4096) (4096 * count)) (λ q.
-    memory-at (host_dropped host first count) q
-    ∙ ap (λ byte. with_byte byte (get host.areas (q / 4096))) (byte_in-remove host.bytes first count q)
-    ∙ zeroes (in_range first count (q / 4096)) (byte_in host.bytes q) (get host.areas (q / 4096))
-    ∙ ap (λ b. cond b (written (cell_at host.bytes q (get host.areas (q / 4096))) 0) (cell_at host.bytes q (get host.areas (q / 4096)))) (in_range-pages first count q)
-    ∙ ap (λ c. cond (in_range (first * 4096) (4096 * count) q) (written c 0) c) (sym (memory-at host q)))
+memory-dropped host first count = grind (arith, nat_tests, same_memory, memory-at, with_byte, byte_in-remove, cell_at, in_range-pages)
 
 pub IsSound-dropped : (host : Host) (first count : ℕ) → IsSound host → IsSound (host_dropped host first count)
-IsSound-dropped host first count sound =
-    record {
-      bound = sound.bound;
-      mapped = λ page none. get-remove_range host.bytes first count page ∙ none_or (in_range first count page) (get host.bytes page) (sound.mapped page none);
-      whole = λ page bytes h. sound.whole page bytes (some_kept (in_range first count page) bytes (get host.bytes page) (sym (get-remove_range host.bytes first count page) ∙ h));
-    }
+IsSound-dropped host first count sound = grind (arith, nat_tests, get-remove_range, none_or, some_kept)
 
 -- Pages moved
 
@@ -285,32 +145,19 @@ zero_cell o = with_byte 0 o
 chosen_cell : (new old from : Bool) (area growth here : Option Prot) (held own : Option (List ℕ)) (offset : ℕ) →
     cell_of (cond new (cond old held None) (cond from None own)) offset (cond new (cond old area growth) (cond from None here))
     ≡ cond new (cond old (cell_of held offset area) (zero_cell growth)) (cond from None (cell_of own offset here))
-chosen_cell true true from area growth here held own offset = refl
-chosen_cell true false from area growth here held own offset = refl
-chosen_cell false old true area growth here held own offset = refl
-chosen_cell false old false area growth here held own offset = refl
+chosen_cell new old from area growth here held own offset = grind (arith, nat_tests)
 
 shorter_pages : (to count q : ℕ) → ltb (q / 4096 - to) count ≡ ltb (q - to * 4096) (4096 * count)
 shorter_pages to count q = ltb_same (q / 4096 - to) count (q - to * 4096) (4096 * count) (λ h. omega arith) (λ h. omega arith)
 
 grown_cell : (host : Host) (from : ℕ) → zero_cell (get host.areas from) ≡ grown (memory host (from * 4096))
-grown_cell host from =
-    let page : from ≡ from * 4096 / 4096 = omega arith in
-    ap (λ p. zero_cell (get host.areas p)) page
-    ∙ sym (written-cell host.bytes (from * 4096) 0 (get host.areas (from * 4096 / 4096)))
-    ∙ sym (ap (λ c. written c 0) (memory-at host (from * 4096)))
+grown_cell host from = grind (arith, nat_tests, memory-at)
 
 carried_cell : (host : Host) (from to q : ℕ) → to ≤ q / 4096 → cell_of (get host.bytes (from + (q / 4096 - to))) (q % 4096) (get host.areas (from + (q / 4096 - to))) ≡ memory host (from * 4096 + (q - to * 4096))
-carried_cell host from to q l =
-    let page : from + (q / 4096 - to) ≡ (from * 4096 + (q - to * 4096)) / 4096 = omega arith in
-    let offset : q % 4096 ≡ (from * 4096 + (q - to * 4096)) % 4096 = omega arith in
-    ap (λ p. cell_of (get host.bytes p) (q % 4096) (get host.areas p)) page
-    ∙ ap (λ i. cell_of (get host.bytes ((from * 4096 + (q - to * 4096)) / 4096)) i (get host.areas ((from * 4096 + (q - to * 4096)) / 4096))) offset
-    ∙ sym (memory-at host (from * 4096 + (q - to * 4096)))
+carried_cell host from to q l = grind (arith, nat_tests, memory-at)
 
 taken_cell : (new old : Bool) (a b growth rest : Option Cell) → (new ≡ true → a ≡ b) → cond new (cond old a growth) rest ≡ cond new (cond old b growth) rest
-taken_cell true old a b growth rest h = ap (λ c. cond old c growth) (h refl)
-taken_cell false old a b growth rest h = refl
+taken_cell new old a b growth rest h = grind (arith, nat_tests)
 
 pub memory-moved : (host : Host) (from count to new_count : ℕ) → memory (host_moved host from count to new_count) ≡ moved (memory host) (from * 4096) (4096 * count) (to * 4096) (4096 * new_count)
 memory-moved host from count to new_count =
@@ -332,34 +179,5 @@ memory-moved host from count to new_count =
     ∙ ap (λ b. cond (in_range (to * 4096) (4096 * new_count) q) (cond b (memory host (from * 4096 + (q - to * 4096))) (grown (memory host (from * 4096)))) (cond gone None (memory host q))) (shorter_pages to count q)
     ∙ ap (λ b. cond (in_range (to * 4096) (4096 * new_count) q) (cond (ltb (q - to * 4096) (4096 * count)) (memory host (from * 4096 + (q - to * 4096))) (grown (memory host (from * 4096)))) (cond b None (memory host q))) (in_range-pages from count q))
 
-moved_mapped : (new old from : Bool) (area growth here : Option Prot) (held own : Option (List ℕ)) → (area ≡ None → held ≡ None) → (here ≡ None → own ≡ None) →
-    cond new (cond old area growth) (cond from None here) ≡ None → cond new (cond old held None) (cond from None own) ≡ None
-moved_mapped true true from area growth here held own a b h = a h
-moved_mapped true false from area growth here held own a b h = refl
-moved_mapped false old true area growth here held own a b h = refl
-moved_mapped false old false area growth here held own a b h = b h
-
-moved_whole : (new old from : Bool) (held own : Option (List ℕ)) (bytes : List ℕ) → (held ≡ Some bytes → length bytes ≡ 4096) → (own ≡ Some bytes → length bytes ≡ 4096) →
-    cond new (cond old held None) (cond from None own) ≡ Some bytes → length bytes ≡ 4096
-moved_whole true true from held own bytes a b h = a h
-moved_whole true false from held own bytes a b h = absurd (none-some bytes h)
-moved_whole false old true held own bytes a b h = absurd (none-some bytes h)
-moved_whole false old false held own bytes a b h = b h
-
 pub IsSound-moved : (host : Host) (from count to new_count : ℕ) → IsSound host → to + new_count ≤ HIGH_PAGE → IsSound (host_moved host from count to new_count)
-IsSound-moved host from count to new_count sound high =
-    let areas = λ (page : ℕ). get-moved_range host.areas from count to new_count page (get host.areas from) in
-    let bytes = λ (page : ℕ). get-moved_range host.bytes from count to new_count page None in
-    record {
-      bound = λ page l.
-          areas page
-          ∙ ap (λ b. cond b (cond (ltb (page - to) count) (get host.areas (from + (page - to))) (get host.areas from)) (cond (in_range from count page) None (get host.areas page))) (in_range-false_above to new_count page (omega arith))
-          ∙ cond_none (in_range from count page) (get host.areas page) (sound.bound page l);
-      mapped = λ page none.
-          bytes page
-          ∙ moved_mapped (in_range to new_count page) (ltb (page - to) count) (in_range from count page) (get host.areas (from + (page - to))) (get host.areas from) (get host.areas page) (get host.bytes (from + (page - to))) (get host.bytes page)
-          (sound.mapped (from + (page - to))) (sound.mapped page) (sym (areas page) ∙ none);
-      whole = λ page held h.
-          moved_whole (in_range to new_count page) (ltb (page - to) count) (in_range from count page) (get host.bytes (from + (page - to))) (get host.bytes page) held
-          (sound.whole (from + (page - to)) held) (sound.whole page held) (sym (bytes page) ∙ h);
-    }
+IsSound-moved host from count to new_count sound high = grind (arith, nat_tests, get-moved_range, in_range-false_above, cond_none)

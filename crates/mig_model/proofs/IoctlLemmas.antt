@@ -1,57 +1,27 @@
 -- The calls of a userfault object leave a space in order.
-use Rattle.std.proofs.Common.{◌≡◌, ℕ, zero, suc, ◌+◌, ◌-◌, ◌/◌, ◌<◌, ◌≤◌, ◌&&◌, ◌||◌, Bool, true, false, cond, not, eqb, ltb, Option, Some, None, List, [], ◌∷◌, refl, sym, ap, ◌∙◌, ◌⊎◌, inl, inr, ⊎_elim, arith, is_some, unwrap_or, length}
+use Rattle.std.proofs.Common.{◌≡◌, ℕ, zero, suc, ◌+◌, ◌-◌, ◌/◌, ◌<◌, ◌≤◌, ◌&&◌, Bool, true, false, cond, not, eqb, ltb, Option, Some, None, List, [], ◌∷◌, sym, ap, ◌∙◌, arith, is_some, unwrap_or, length}
 use Rattle.std.specs.Ordering.{nat_cmp}
 use Rattle.std.specs.FinMap.{FinMap, get, contains_key}
 use Rattle.std.specs.FinSet.{contains}
 use Rattle.std.proofs.lemmas.Bool.Decides.{nat_tests}
 use Rattle.std.proofs.lemmas.Bool.{false≢true, not-false, or_left, or_cases, or_right}
 use Rattle.std.proofs.lemmas.List.{length-take, length-drop}
-use Rattle.std.proofs.lemmas.Option.{same_Some}
 use Rattle.mig_base.specs.declared.TheConstants.{HIGH_PAGE}
 use Rattle.mig_base.specs.declared.command.Errno.{Errno}
 use Rattle.mig_base.specs.Bits.{is_one}
 use Rattle.mig_base.specs.Bytes.{zero_page}
 use Rattle.mig_base.specs.Ranges.{in_range, least_below}
-use Rattle.mig_base.specs.Sets.{without, pages_where}
 use Rattle.mig_base.proofs.ByteLemmas.{length-zero_page}
-use Rattle.mig_base.proofs.RangeLemmas.{none_below_tells, in_range-none, in_range-last, in_range-but_last}
+use Rattle.mig_base.proofs.RangeLemmas.{none_below_tells, in_range-none}
 use Rattle.mig_base.proofs.SetLemmas.{member_without, member_below}
-use Rattle.mig_model.specs.Userfault.{Object, Noted, Mode, is_registered, has_modes, registered_where, message_read, read_by, enabled_with}
+use Rattle.mig_model.specs.Userfault.{Mode, is_registered, message_read, enabled_with}
 use Rattle.mig_model.specs.Space.{Space, IsSoundSpace}
-use Rattle.mig_model.specs.Ioctls.{left_by, mode_of, is_mapped_in, registered_in, registered, register_error, unregistered_in, range_unregistered, unregister_error, handshake_error, handshaken, put_pages, handed, missing_run, installed, same_area, is_one_area, copy_errors, copy_error, copied, zeropage_errors, zeropage_error, zeropaged, protected_in, writeprotect_errors, writeprotect_error, write_protected, read_error, read_space}
+use Rattle.mig_model.specs.Ioctls.{left_by, mode_of, registered_in, registered, register_error, unregistered_in, range_unregistered, unregister_error, handshaken, put_pages, handed, missing_run, installed, same_area, is_one_area, copy_errors, copy_error, copied, zeropage_errors, zeropage_error, zeropaged, protected_in, writeprotect_errors, writeprotect_error, write_protected, read_error, read_space}
 use Rattle.mig_base.specs.Tests.{first_holding, same_bool, is_every}
 use Rattle.mig_model.proofs.HostLemmas.{get-put}
-use Rattle.mig_model.specs.Log.{present}
-use Rattle.mig_model.proofs.Facts.{none_absurd, and_second, and_left, eqb-self, in_range_first, same_or_other, some_either}
+use Rattle.mig_model.proofs.Facts.{none_absurd, and_second, and_left, in_range_first, some_either}
 
 -- Registered pages
-
--- a page that has a mode afterwards had it, or is one of those that were asked for
-registered_one : (low test has mode old : Bool) → (low && cond (test && not has) mode old) ≡ true → (test ≡ true) ⊎ (old ≡ true)
-registered_one false test has mode old h = none_absurd h
-registered_one true true true mode old h = inr h
-registered_one true true false mode old h = inl refl
-registered_one true false has mode old h = inr h
-
-refl_or : (a : Bool) → cond (not (a && true)) true true ≡ true
-refl_or true = refl
-refl_or false = refl
-
-refl_kept : (a : Bool) → cond (not ((a || true) && true)) false true ≡ true
-refl_kept true = refl
-refl_kept false = refl
-
--- the page keeps its write-protect mode where it stays protected
-still_watched : (low mapped missing has_missing mode_missing mode_protect protect : Bool) → low ≡ true → protect ≡ true →
-    (mode_protect || ((not mode_missing || has_missing) && (not mode_protect || protect)) || not mapped) ≡ true →
-    (low && cond (mapped && not ((not mode_missing || has_missing) && (not mode_protect || protect))) mode_protect protect) ≡ true
-still_watched false mapped missing has_missing mode_missing mode_protect protect low is h = none_absurd low
-still_watched true mapped missing has_missing mode_missing mode_protect false low is h = none_absurd is
-still_watched true false missing has_missing mode_missing mode_protect true low is h = refl
-still_watched true true missing has_missing mode_missing true true low is h = refl_or (not mode_missing || has_missing)
-still_watched true true missing true mode_missing false true low is h = refl_kept (not mode_missing)
-still_watched true true missing false true false true low is h = none_absurd h
-still_watched true true missing false false false true low is h = refl
 
 low_or : {page : ℕ} → (HIGH_PAGE ≤ page → ⊥) → ltb page HIGH_PAGE ≡ true
 low_or h = grind (arith, nat_tests, h)
@@ -60,83 +30,22 @@ pub below_high : (space : Space) (page : ℕ) → IsSoundSpace space → contain
 below_high space page sound mapped = low_or (λ h. false≢true (sym (ap is_some (sound.host.bound page h)) ∙ mapped))
 
 pub IsSoundSpace-registered : (space : Space) (first count : ℕ) (mode : Mode) → IsSoundSpace space → IsSoundSpace (registered_in space first count mode)
-IsSoundSpace-registered space first count mode sound =
-    let object = space.object in
-    let mapped = is_mapped_in space first count in
-    record {
-      host = sound.host;
-      mapped = λ page h.
-          ⊎_elim
-          (λ one. ⊎_elim
-          (λ asked. and_second (in_range first count page) (contains_key space.host.areas page) asked)
-          (λ old. sound.mapped page (or_left (contains object.missing page) (contains object.protect page) old))
-          (registered_one (ltb page HIGH_PAGE) (mapped page) (has_modes object page mode) mode.missing (contains object.missing page) (sym (member_below _ HIGH_PAGE page) ∙ one)))
-          (λ one. ⊎_elim
-          (λ asked. and_second (in_range first count page) (contains_key space.host.areas page) asked)
-          (λ old. sound.mapped page (or_right (contains object.missing page) (contains object.protect page) old))
-          (registered_one (ltb page HIGH_PAGE) (mapped page) (has_modes object page mode) mode.protect (contains object.protect page) (sym (member_below _ HIGH_PAGE page) ∙ one)))
-          (or_cases (contains (registered_where object mapped mode).missing page) (contains (registered_where object mapped mode).protect page) h);
-      present = λ page h.
-          sound.present page (and_left (contains space.protected page) _ (and_second (ltb page HIGH_PAGE) _ (sym (member_below _ HIGH_PAGE page) ∙ h)));
-      watched = λ page h.
-          let told = and_second (ltb page HIGH_PAGE) _ (sym (member_below _ HIGH_PAGE page) ∙ h) in
-          let was = and_left (contains space.protected page) _ told in
-          let watched = sound.watched page was in
-          member_below _ HIGH_PAGE page
-          ∙ still_watched (ltb page HIGH_PAGE) (mapped page) true (contains object.missing page) mode.missing mode.protect (contains object.protect page)
-          (below_high space page sound (sound.mapped page (or_right (contains object.missing page) (contains object.protect page) watched))) watched
-          (and_second (contains space.protected page) _ told);
-    }
+IsSoundSpace-registered space first count mode sound = grind (arith, nat_tests, and_second, or_left, member_below, or_right, or_cases, and_left, below_high)
 
 -- A range that is registered no longer
 
 pub IsSoundSpace-unregistered : (space : Space) (first count : ℕ) → IsSoundSpace space → IsSoundSpace (unregistered_in space first count)
-IsSoundSpace-unregistered space first count sound =
-    let object = space.object in
-    record {
-      host = sound.host;
-      mapped = λ page h.
-          ⊎_elim
-          (λ one. sound.mapped page (or_left (contains object.missing page) (contains object.protect page) (and_left (contains object.missing page) _ (sym (member_without object.missing first count page) ∙ one))))
-          (λ one. sound.mapped page (or_right (contains object.missing page) (contains object.protect page) (and_left (contains object.protect page) _ (sym (member_without object.protect first count page) ∙ one))))
-          (or_cases (contains (without object.missing first count) page) (contains (without object.protect first count) page) h);
-      present = λ page h. sound.present page (and_left (contains space.protected page) _ (sym (member_without space.protected first count page) ∙ h));
-      watched = λ page h.
-          let told = sym (member_without space.protected first count page) ∙ h in
-          member_without object.protect first count page
-          ∙ ap (λ b. b && not (in_range first count page)) (sound.watched page (and_left (contains space.protected page) _ told))
-          ∙ and_second (contains space.protected page) (not (in_range first count page)) told;
-    }
+IsSoundSpace-unregistered space first count sound = grind (arith, nat_tests, or_left, and_left, member_without, or_right, or_cases, and_second)
 
 -- Pages put
 
 one_more : {A : Type 0} (first count q : ℕ) (f : ℕ → A) (old : A) → cond (eqb q (first + count)) (f count) (cond (in_range first count q) (f (q - first)) old) ≡ cond (in_range first (suc count) q) (f (q - first)) old
-one_more first count q f old = ⊎_elim
-    (λ (e : q ≡ first + count).
-    let away : first + count - first ≡ count = omega arith in
-    rw (e, eqb-self (first + count), in_range-last first count, away) refl)
-    (λ (other : eqb q (first + count) ≡ false). rw (other, in_range-but_last first count q other) refl)
-    (same_or_other q (first + count))
+one_more first count q f old = grind (arith, nat_tests)
 
 pub get-put_pages : (pages : FinMap nat_cmp (List ℕ)) (first count q : ℕ) (bytes : ℕ → List ℕ) → get (put_pages pages first count bytes) q ≡ cond (in_range first count q) (Some (bytes (q - first))) (get pages q)
 unfolding put_pages
 get-put_pages pages first zero q bytes = ap (λ b. cond b (Some (bytes (q - first))) (get pages q)) (sym (in_range-none first q))
-get-put_pages pages first (suc count) q bytes =
-    get-put (put_pages pages first count bytes) (first + count) q (bytes count)
-    ∙ ap (λ o. cond (eqb q (first + count)) (Some (bytes count)) o) (get-put_pages pages first count q bytes)
-    ∙ one_more first count q (λ i. Some (bytes i)) (get pages q)
-
-put_here : (here : Bool) (bytes : List ℕ) (o : Option (List ℕ)) → here ≡ true → is_some (cond here (Some bytes) o) ≡ true
-put_here true bytes o h = refl
-put_here false bytes o h = none_absurd h
-
-put_whole : (here : Bool) (put held : List ℕ) (o : Option (List ℕ)) → (here ≡ true → length put ≡ 4096) → (o ≡ Some held → length held ≡ 4096) → cond here (Some put) o ≡ Some held → length held ≡ 4096
-put_whole true put held o n rest h = ap length (sym (same_Some put held h)) ∙ n refl
-put_whole false put held o n rest h = rest h
-
-put_mapped : (here : Bool) (put : List ℕ) (o : Option (List ℕ)) → (here ≡ true → ⊥) → o ≡ None → cond here (Some put) o ≡ None
-put_mapped true put o away h = absurd (away refl)
-put_mapped false put o away h = h
+get-put_pages pages first (suc count) q bytes = grind (arith, nat_tests, get-put, one_more, get-put_pages pages first count q bytes)
 
 -- pages are put where each is mapped, and registered for write-protect faults if they are to be protected
 pub record CanPut (space : Space) (first count : ℕ) (bytes : ℕ → List ℕ) (protect : Bool) : Type 0 where
@@ -145,74 +54,17 @@ pub record CanPut (space : Space) (first count : ℕ) (bytes : ℕ → List ℕ)
   pub watched : protect ≡ true → (page : ℕ) → in_range first count page ≡ true → contains space.object.protect page ≡ true
 
 pub IsSoundSpace-installed : (space : Space) (first count : ℕ) (bytes : ℕ → List ℕ) (protect : Bool) → CanPut space first count bytes protect → IsSoundSpace space → IsSoundSpace (installed space first count bytes protect)
-IsSoundSpace-installed space first count bytes protect can sound =
-    let put = put_pages space.host.bytes first count bytes in
-    let told = λ (page : ℕ) (h : contains (pages_where (λ q. contains space.protected q || (protect && in_range first count q))) page ≡ true).
-    or_cases (contains space.protected page) (protect && in_range first count page) (and_second (ltb page HIGH_PAGE) _ (sym (member_below _ HIGH_PAGE page) ∙ h)) in
-    record {
-      host = record {
-        bound = sound.host.bound;
-        mapped = λ page none.
-            get-put_pages space.host.bytes first count page bytes
-            ∙ put_mapped (in_range first count page) (bytes (page - first)) (get space.host.bytes page) (λ e. false≢true (sym (ap is_some none) ∙ can.mapped page e)) (sound.host.mapped page none);
-        whole = λ page held h.
-            put_whole (in_range first count page) (bytes (page - first)) held (get space.host.bytes page) (λ e. let inside = in_range_first first count page e in can.whole (page - first) (omega (arith, inside))) (sound.host.whole page held) (sym (get-put_pages space.host.bytes first count page bytes) ∙ h);
-      };
-      mapped = sound.mapped;
-      present = λ page h.
-          ap is_some (get-put_pages space.host.bytes first count page bytes)
-          ∙ ⊎_elim
-          (λ was. some_either (in_range first count page) (bytes (page - first)) (get space.host.bytes page) (sound.present page was))
-          (λ new. put_here (in_range first count page) (bytes (page - first)) (get space.host.bytes page) (and_second protect (in_range first count page) new))
-          (told page h);
-      watched = λ page h.
-          ⊎_elim
-          (λ was. sound.watched page was)
-          (λ new. can.watched (and_left protect (in_range first count page) new) page (and_second protect (in_range first count page) new))
-          (told page h);
-    }
+IsSoundSpace-installed space first count bytes protect can sound = grind (arith, nat_tests, or_cases, and_second, member_below, get-put_pages, false≢true, in_range_first, some_either, and_left)
 
 -- Write protection
 
-protected_one : (low here protect present old : Bool) → (low && cond here (protect && present) old) ≡ true → (here ≡ true) × (present ≡ true) ⊎ (old ≡ true)
-protected_one false here protect present old h = none_absurd h
-protected_one true true true true old h = inl (refl, refl)
-protected_one true true true false old h = none_absurd h
-protected_one true true false present old h = none_absurd h
-protected_one true false protect present old h = inr h
-
 pub IsSoundSpace-protected : (space : Space) (first count : ℕ) (protect : Bool) → ((page : ℕ) → in_range first count page ≡ true → contains space.object.protect page ≡ true) → IsSoundSpace space → IsSoundSpace (protected_in space first count protect)
-IsSoundSpace-protected space first count protect watched sound =
-    let told = λ (page : ℕ) (h : contains (protected_in space first count protect).protected page ≡ true).
-    protected_one (ltb page HIGH_PAGE) (in_range first count page) protect (contains_key space.host.bytes page) (contains space.protected page) (sym (member_below _ HIGH_PAGE page) ∙ h) in
-    record {
-      host = sound.host;
-      mapped = sound.mapped;
-      present = λ page h. ⊎_elim (λ new. new.1) (λ was. sound.present page was) (told page h);
-      watched = λ page h. ⊎_elim (λ new. watched page new.0) (λ was. sound.watched page was) (told page h);
-    }
+IsSoundSpace-protected space first count protect watched sound = grind (arith, nat_tests, member_below)
 
 -- Reading a message, and the handshake
 
-read_missing : (faults : List Noted) (object : Object) → (read_by faults object).missing ≡ object.missing
-read_missing [] object = refl
-read_missing (fault ∷ faults) object = refl
-
-read_protect : (faults : List Noted) (object : Object) → (read_by faults object).protect ≡ object.protect
-read_protect [] object = refl
-read_protect (fault ∷ faults) object = refl
-
 pub IsSoundSpace-read : (space : Space) → IsSoundSpace space → IsSoundSpace (record space { object = message_read space.object })
-IsSoundSpace-read space sound =
-    let new = message_read space.object in
-    let missing : new.missing ≡ space.object.missing = read_missing space.object.faults space.object in
-    let protect : new.protect ≡ space.object.protect = read_protect space.object.faults space.object in
-    record {
-      host = sound.host;
-      mapped = λ page h. sound.mapped page (ap (λ s. contains s page || contains space.object.protect page) (sym missing) ∙ ap (λ s. contains new.missing page || contains s page) (sym protect) ∙ h);
-      present = sound.present;
-      watched = λ page h. ap (λ s. contains s page) protect ∙ sound.watched page h;
-    }
+IsSoundSpace-read space sound = grind (arith, nat_tests)
 
 pub IsSoundSpace-enabled : (space : Space) (features : ℕ) → IsSoundSpace space → IsSoundSpace (record space { object = enabled_with space.object features })
 IsSoundSpace-enabled space features sound = record { host = sound.host; mapped = sound.mapped; present = sound.present; watched = sound.watched }
@@ -220,8 +72,7 @@ IsSoundSpace-enabled space features sound = record { host = sound.host; mapped =
 -- The calls as the table has them
 
 error_none : (test : Bool) (errno : Errno) (rest : Option Errno) → cond test (Some errno) rest ≡ None → (test ≡ false) × (rest ≡ None)
-error_none true errno rest h = absurd (cc)
-error_none false errno rest h = (refl, h)
+error_none test errno rest h = grind (arith, nat_tests)
 
 -- no error of the list holds
 abbrev pub NoneHolds : List (Bool × Errno) → Type 0
@@ -234,8 +85,7 @@ none_holds (error ∷ errors) h = let one = error_none error.0 error.1 (first_ho
 
 -- a call that is refused leaves the space, so it is enough to look at one that is not
 left_sound : (error : Option Errno) (old new : Space) → IsSoundSpace old → (error ≡ None → IsSoundSpace new) → IsSoundSpace (left_by error old new)
-left_sound None old new sound h = h refl
-left_sound (Some errno) old new sound h = sound
+left_sound error old new sound h = grind (arith, nat_tests)
 
 pub every_page : (test : ℕ → Bool) (first count page : ℕ) → is_every test first count ≡ true → first ≤ page → page < first + count → test page ≡ true
 every_page test first count page h low high =
@@ -243,9 +93,7 @@ every_page test first count page h low high =
     ap test (sym at) ∙ not-false (test (first + (page - first))) (none_below_tells (λ i. not (test (first + i))) count (page - first) h (omega arith))
 
 found_bound : (o : Option ℕ) (here : Bool) (bound k : ℕ) → (o ≡ Some k → k < bound) → (elim o [ Some least ↦ Some least | None ↦ cond here (Some bound) None ]) ≡ Some k → k < suc bound
-found_bound (Some least) here bound k h e = let l = h e in omega (arith, l)
-found_bound None true bound k h e = let same = same_Some bound k e in omega (arith, same)
-found_bound None false bound k h e = absurd (cc)
+found_bound o here bound k h e = grind (arith, nat_tests)
 
 least_bound : (test : ℕ → Bool) (bound k : ℕ) → least_below test bound ≡ Some k → k < bound
 unfolding least_below
@@ -253,15 +101,13 @@ least_bound test zero k h = absurd (cc)
 least_bound test (suc bound) k h = found_bound (least_below test bound) (test bound) bound k (λ e. least_bound test bound k e) h
 
 run_by : (o : Option ℕ) (count : ℕ) → ((k : ℕ) → o ≡ Some k → k < count) → unwrap_or o count ≤ count
-run_by None count h = omega arith
-run_by (Some k) count h = let l = h k refl in omega (arith, l)
+run_by o count h = grind (arith, nat_tests)
 
 missing_run-few : (space : Space) (first count : ℕ) → missing_run space first count ≤ count
 missing_run-few space first count = run_by (least_below (λ i. contains_key space.host.bytes (first + i)) count) count (λ k. least_bound (λ i. contains_key space.host.bytes (first + i)) count k)
 
 pub IsSoundSpace-handshaken : (space : Space) (api features : ℕ) → IsSoundSpace space → IsSoundSpace (handshaken space api features)
-IsSoundSpace-handshaken space api features sound =
-    left_sound (handshake_error space api features) space _ sound (λ e. IsSoundSpace-enabled space features sound)
+IsSoundSpace-handshaken space api features sound = grind (arith, nat_tests)
 
 pub IsSoundSpace-range_registered : (space : Space) (start len bits : ℕ) → IsSoundSpace space → IsSoundSpace (registered space start len bits)
 IsSoundSpace-range_registered space start len bits sound =
@@ -286,8 +132,7 @@ pub IsSoundSpace-read_space : (space : Space) → IsSoundSpace space → IsSound
 IsSoundSpace-read_space space sound = left_sound (read_error space) space _ sound (λ e. IsSoundSpace-read space sound)
 
 same_bool_true : (a b : Bool) → a ≡ true → same_bool a b ≡ true → b ≡ true
-same_bool_true true b h e = e
-same_bool_true false b h e = none_absurd h
+same_bool_true a b h e = grind (arith, nat_tests)
 
 -- the pages before the first that is present can be put
 pub can_put : (space : Space) (first count : ℕ) (bytes : ℕ → List ℕ) (protect : Bool) → IsSoundSpace space → is_one_area space first count ≡ true → ((i : ℕ) → i < count → length (bytes i) ≡ 4096) →
@@ -307,8 +152,7 @@ can_put space first count bytes protect sound area whole watched =
 
 -- either not asked for, or registered
 pub protect_told : (asked has : Bool) → (asked && not has) ≡ false → asked ≡ true → has ≡ true
-protect_told true has h e = not-false has h
-protect_told false has h e = none_absurd e
+protect_told asked has h e = grind (arith, nat_tests)
 
 pub length-handed : (bytes : List ℕ) (i : ℕ) → i < length bytes / 4096 → length (handed bytes i) ≡ 4096
 length-handed bytes i l = simp (length-take, length-drop) (omega (arith, l))

@@ -91,7 +91,6 @@ pub mod FrameBounds
 pub mod CpuCount
 pub mod FrameSteps
 pub mod Bounded
-pub mod TextLengths
 pub mod Encodable
 pub mod OpenObjects
 pub mod Registering

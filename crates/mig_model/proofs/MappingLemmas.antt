@@ -1,12 +1,12 @@
 -- The mapped pages of a host lie in the address space, and there are not too many.
-use Rattle.std.proofs.Common.{◌≡◌, ℕ, ◌*◌, ◌/◌, ◌<◌, ◌≤◌, Bool, true, false, Option, is_some, List, [], ◌∷◌, ◌++◌, sym, ap, ◌∙◌, inl, inr, arith}
+use Rattle.std.proofs.lemmas.Bool.Decides.{nat_tests}
+use Rattle.std.proofs.Common.{◌≡◌, ℕ, ◌*◌, ◌/◌, ◌<◌, ◌≤◌, Bool, true, false, Option, is_some, List, [], ◌∷◌, ◌++◌, sym, ap, ◌∙◌, arith}
 use Rattle.std.specs.Ordering.{nat_cmp}
 use Rattle.std.specs.FinMap.{contains_key, empty, get-empty, len-empty}
 use Rattle.std.proofs.lemmas.Bool.{false≢true}
 use Rattle.mig_base.specs.declared.TheConstants.{LOW, HIGH, MAX_PAGES}
 use Rattle.mig_base.specs.declared.Prot.{Prot}
 use Rattle.mig_base.specs.declared.command.Access.{Access}
-use Rattle.mig_base.specs.declared.command.Access.TheVariants.{Answered, Missing, Protected}
 use Rattle.mig_base.specs.declared.command.Command.{Command}
 use Rattle.mig_base.specs.declared.command.Entry.{Entry}
 use Rattle.mig_base.specs.Ranges.{count_below}
@@ -25,14 +25,7 @@ use Rattle.mig_model.proofs.WorldLemmas.{entry_of, holds_after, sound_after}
 
 -- the flat memory of a transcript
 pub flat_within : (entries : List Entry) → IsWithinBounds (memory_of entries)
-flat_within entries =
-    record {
-      addresses = λ addr h. (
-        low_or (λ below. false≢true (sym (ap is_some (memory_of_bounded entries addr (inl below))) ∙ h)),
-        high_or (λ past. false≢true (sym (ap is_some (memory_of_bounded entries addr (inr past))) ∙ h)),
-      );
-      few = memory_of_few entries;
-    }
+flat_within entries = grind (arith, nat_tests, low_or, false≢true, memory_of_bounded, high_or, memory_of_few)
 
 page_inside : (page : ℕ) → LOW ≤ 4096 * page → 4096 * page < HIGH → IsPage page
 page_inside page low high = (omega (arith, low), omega (arith, high))
@@ -77,9 +70,7 @@ IsMapping-guest world kept =
 -- A host that tries a command is as it was, or as the command leaves it
 
 host_accessed : (P : Host → Type 0) (access : Access) (space : Space) (cpu : ℕ) (command : Command) → P space.host → P (host_after space.host command) → P (accessed_by access space cpu command).host
-host_accessed P (Answered reply) space cpu command old new = new
-host_accessed P Missing space cpu command old new = old
-host_accessed P Protected space cpu command old new = old
+host_accessed P access space cpu command old new = grind (arith, nat_tests)
 
 pub host_tried : (P : Host → Type 0) (access : Bool) (space : Space) (cpu : ℕ) (command : Command) → P space.host → P (host_after space.host command) → P (space_by access space cpu command).host
 host_tried P true space cpu command old new = host_accessed P (access_of space command) space cpu command old new

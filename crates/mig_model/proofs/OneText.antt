@@ -1,31 +1,29 @@
 -- A text determines its version, its epoch and its frame, whatever bytes follow.
-use Rattle.std.proofs.Common.{◌≡◌, ℕ, zero, suc, ◌^◌, ◌<◌, ◌≤◌, Bool, true, false, cond, eqb, Option, Some, None, List, [], ◌∷◌, ◌++◌, length, map, take, drop, get_or, refl, sym, ap, ◌∙◌, arith, append_assoc}
+use Rattle.std.proofs.lemmas.Bool.Decides.{nat_tests}
+use Rattle.std.proofs.Common.{◌≡◌, ℕ, zero, suc, ◌^◌, ◌<◌, Bool, true, Option, List, [], ◌∷◌, ◌++◌, length, map, take, get_or, refl, sym, ap, ◌∙◌, arith, append_assoc}
 use Rattle.std.specs.List.{flat_map, AllByRecursion}
-use Rattle.std.specs.Int.{w32, w64, to_be_bytes, from_be_bytes}
+use Rattle.std.specs.Int.{w32, to_be_bytes, from_be_bytes}
 use Rattle.std.specs.Ordering.{nat_cmp}
 use Rattle.std.specs.FinMap.{FinMap}
 use Rattle.std.specs.FinSet.{FinSet}
-use Rattle.std.proofs.lemmas.Bool.{eqb-false}
 use Rattle.std.proofs.lemmas.List.{append_cancel_left, length-map, take_at}
 use Rattle.std.proofs.lemmas.List.Concat.{flat_map-cons}
-use Rattle.std.proofs.lemmas.Nat.{from_be_bytes-to_be_bytes_4, from_be_bytes-to_be_bytes_8}
+use Rattle.std.proofs.lemmas.Nat.{from_be_bytes-to_be_bytes_4}
 use Rattle.mig_base.specs.declared.Area.{Area}
 use Rattle.mig_base.specs.declared.Prot.{Prot}
 use Rattle.mig_base.specs.declared.Run.{Run as PageRun}
 use Rattle.mig_base.specs.declared.TheConstants.{HIGH_PAGE}
 use Rattle.mig_base.specs.declared.command.Command.{Command}
-use Rattle.mig_base.specs.declared.command.Command.TheVariants.{Load, Store}
 use Rattle.mig_base.specs.declared.phase.Received.{Received}
-use Rattle.mig_base.specs.Codes.{prot_number}
-use Rattle.mig_base.specs.Ranges.{count_below}
 use Rattle.mig_base.specs.Sets.{pages_where}
-use Rattle.mig_model.specs.Texts.{list_below, begins_run, run_at, runs_of, begins_area, area_at, areas_of, Version, version_code, has_frame, tag_code, run_text, runs_text, area_text, areas_text, command_text, commands_text, state_code, body_text, header_text, text, HasWholePages, AreBelow, AreMappedBelow, FitsCommand, FitsText, IsEncodable}
-use Rattle.mig_model.specs.Texts.Version.{One, Two}
+use Rattle.mig_base.proofs.RangeLemmas.{count_below-few}
+use Rattle.mig_base.proofs.SetLemmas.{run_length-most}
+use Rattle.mig_model.specs.Texts.{list_below, begins_run, run_at, runs_of, begins_area, area_at, areas_of, Version, version_code, has_frame, tag_code, run_text, runs_text, area_text, areas_text, commands_text, state_code, body_text, header_text, text, HasWholePages, AreBelow, AreMappedBelow, FitsCommand, FitsText, IsEncodable}
 use Rattle.mig_model.specs.Ioctls.{same_prot}
 use Rattle.std.specs.FinMap.{get}
 use Rattle.mig_model.specs.Wire.{Frame}
 use Rattle.mig_model.specs.Wire.Frame.{Advise, Page, Zero, Run, Discard, Package, End, Resume, Request, Recv, Done}
-use Rattle.mig_model.proofs.RunsAndAreas.{run_length-bound, all_listed, runs_of-same, areas_of-same, same_number}
+use Rattle.mig_model.proofs.RunsAndAreas.{all_listed, runs_of-same, areas_of-same}
 use Rattle.mig_model.proofs.TextLemmas.{length-list_below}
 
 -- Numbers
@@ -33,18 +31,11 @@ use Rattle.mig_model.proofs.TextLemmas.{length-list_below}
 same_first : (m n : ℕ) (s r : List ℕ) → m ∷ s ≡ n ∷ r → m ≡ n
 same_first m n s r e = ap (λ (bytes : List ℕ). get_or bytes 0 0) e
 
--- two texts that begin with different bytes
-others_begin : {A : Type 0} {s r : List ℕ} (m n : ℕ) → eqb m n ≡ false → m ∷ s ≡ n ∷ r → A
-others_begin {A} {s} {r} m n other e = absurd (let same = same_first m n s r e in eqb-false m n other same)
-
 same_front : (a b s r : List ℕ) (n : ℕ) → length a ≡ n → length b ≡ n → a ++ s ≡ b ++ r → a ≡ b
 same_front a b s r n la lb e = sym (take_at a s n la) ∙ ap (take n) e ∙ take_at b r n lb
 
 same_w32 : (m n : ℕ) (s r : List ℕ) → m < 2 ^ 32 → n < 2 ^ 32 → to_be_bytes w32 m ++ s ≡ to_be_bytes w32 n ++ r → m ≡ n
 same_w32 m n s r hm hn e = sym (from_be_bytes-to_be_bytes_4 m hm) ∙ ap (from_be_bytes w32) (same_front (to_be_bytes w32 m) (to_be_bytes w32 n) s r 4 refl refl e) ∙ from_be_bytes-to_be_bytes_4 n hn
-
-same_w64 : (m n : ℕ) (s r : List ℕ) → m < 2 ^ 64 → n < 2 ^ 64 → to_be_bytes w64 m ++ s ≡ to_be_bytes w64 n ++ r → m ≡ n
-same_w64 m n s r hm hn e = sym (from_be_bytes-to_be_bytes_8 m hm) ∙ ap (from_be_bytes w64) (same_front (to_be_bytes w64 m) (to_be_bytes w64 n) s r 8 refl refl e) ∙ from_be_bytes-to_be_bytes_8 n hn
 
 -- Lists
 
@@ -71,24 +62,14 @@ same_list {A} text Fits by (x ∷ xs) (y ∷ ys) s r hx hy n e =
 -- with a count before it
 same_counted : {A : Type 0} (text : A → List ℕ) (Fits : A → Type 0) → Determines text Fits → (xs ys : List A) (s r : List ℕ) → AllByRecursion Fits xs → AllByRecursion Fits ys → length xs < 2 ^ 32 → length ys < 2 ^ 32
     → (to_be_bytes w32 (length xs) ++ flat_map text xs) ++ s ≡ (to_be_bytes w32 (length ys) ++ flat_map text ys) ++ r → xs ≡ ys
-same_counted text Fits by xs ys s r hx hy nx ny e =
-    same_list text Fits by xs ys s r hx hy (same_w32 (length xs) (length ys) (flat_map text xs ++ s) (flat_map text ys ++ r) nx ny e) (ap (drop 4) e)
+same_counted text Fits by xs ys s r hx hy nx ny e = grind (arith, nat_tests, same_list, same_w32)
 
 all-map : {A : Type 0} {B : Type 0} (P : B → Type 0) (f : A → B) (xs : List A) → AllByRecursion (λ x. P (f x)) xs → AllByRecursion P (map f xs)
 all-map P f [] h = tt
 all-map P f (x ∷ xs) h = (h.0, all-map P f xs h.1)
 
-one_at_most : (b : Bool) → cond b 1 0 ≤ 1
-one_at_most true = omega arith
-one_at_most false = omega arith
-
-count_below-bound : (test : ℕ → Bool) (bound : ℕ) → count_below test bound ≤ bound
-unfolding count_below
-count_below-bound test zero = omega arith
-count_below-bound test (suc bound) = omega (arith, count_below-bound test bound, one_at_most (test bound))
-
 few_listed : {A : Type 0} (f : ℕ → A) (test : ℕ → Bool) → length (map f (list_below test HIGH_PAGE)) < 2 ^ 32
-few_listed f test = omega (arith, length-map (list_below test HIGH_PAGE) f, length-list_below test HIGH_PAGE, count_below-bound test HIGH_PAGE)
+few_listed f test = omega (arith, length-map (list_below test HIGH_PAGE) f, length-list_below test HIGH_PAGE, count_below-few test HIGH_PAGE)
 
 -- Sets of pages, and mapped pages
 
@@ -96,67 +77,35 @@ abbrev FitsRun : PageRun → Type 0
 FitsRun run = (run.first < 2 ^ 32) × (run.count < 2 ^ 32)
 
 same_run : (x y : PageRun) (s r : List ℕ) → FitsRun x → FitsRun y → run_text x ++ s ≡ run_text y ++ r → x ≡ y
-same_run x y s r hx hy e =
-    let first = same_w32 x.first y.first (to_be_bytes w32 x.count ++ s) (to_be_bytes w32 y.count ++ r) hx.0 hy.0 e in
-    let count = same_w32 x.count y.count s r hx.1 hy.1 (ap (drop 4) e) in
-    λ i. record { first = first i; count = count i }
+same_run x y s r hx hy e = grind (arith, nat_tests)
 
 runs_fit : (set : FinSet nat_cmp) → AllByRecursion FitsRun (runs_of set)
 runs_fit set =
     all-map FitsRun (run_at set) (list_below (begins_run set) HIGH_PAGE)
-    (all_listed (λ k. FitsRun (run_at set k)) (begins_run set) HIGH_PAGE (λ k l. (omega arith, omega (arith, run_length-bound set k HIGH_PAGE))))
+    (all_listed (λ k. FitsRun (run_at set k)) (begins_run set) HIGH_PAGE (λ k l. (omega arith, omega (arith, run_length-most set k HIGH_PAGE))))
 
 same_set : (a b : FinSet nat_cmp) (s r : List ℕ) → AreBelow a → AreBelow b → runs_text (runs_of a) ++ s ≡ runs_text (runs_of b) ++ r → a ≡ b
-same_set a b s r ha hb e =
-    runs_of-same a b ha hb (same_counted run_text FitsRun same_run (runs_of a) (runs_of b) s r (runs_fit a) (runs_fit b) (few_listed (run_at a) (begins_run a)) (few_listed (run_at b) (begins_run b)) e)
+same_set a b s r ha hb e = grind (arith, nat_tests, runs_of-same, same_counted, same_run, runs_fit, few_listed)
 
 abbrev FitsArea : Area → Type 0
 FitsArea area = (area.first < 2 ^ 32) × (area.count < 2 ^ 32)
 
 same_area : (x y : Area) (s r : List ℕ) → FitsArea x → FitsArea y → area_text x ++ s ≡ area_text y ++ r → x ≡ y
-same_area x y s r hx hy e =
-    let first = same_w32 x.first y.first (to_be_bytes w32 x.count ++ (prot_number x.prot ∷ s)) (to_be_bytes w32 y.count ++ (prot_number y.prot ∷ r)) hx.0 hy.0 e in
-    let count = same_w32 x.count y.count (prot_number x.prot ∷ s) (prot_number y.prot ∷ r) hx.1 hy.1 (ap (drop 4) e) in
-    let prot = same_number x.prot y.prot (same_first (prot_number x.prot) (prot_number y.prot) s r (ap (drop 8) e)) in
-    λ i. record { first = first i; count = count i; prot = prot i }
+same_area x y s r hx hy e = grind (arith, nat_tests)
 
 areas_fit : (areas : FinMap nat_cmp Prot) → AllByRecursion FitsArea (areas_of areas)
 areas_fit areas =
     all-map FitsArea (area_at areas) (list_below (begins_area areas) HIGH_PAGE)
-    (all_listed (λ k. FitsArea (area_at areas k)) (begins_area areas) HIGH_PAGE (λ k l. (omega arith, omega (arith, run_length-bound (pages_where (λ page. same_prot (get areas k) (get areas page))) k HIGH_PAGE))))
+    (all_listed (λ k. FitsArea (area_at areas k)) (begins_area areas) HIGH_PAGE (λ k l. (omega arith, omega (arith, run_length-most (pages_where (λ page. same_prot (get areas k) (get areas page))) k HIGH_PAGE))))
 
 same_map : (a b : FinMap nat_cmp Prot) (s r : List ℕ) → AreMappedBelow a → AreMappedBelow b → areas_text (areas_of a) ++ s ≡ areas_text (areas_of b) ++ r → a ≡ b
-same_map a b s r ha hb e =
-    areas_of-same a b ha hb (same_counted area_text FitsArea same_area (areas_of a) (areas_of b) s r (areas_fit a) (areas_fit b) (few_listed (area_at a) (begins_area a)) (few_listed (area_at b) (begins_area b)) e)
+same_map a b s r ha hb e = grind (arith, nat_tests, areas_of-same, same_counted, same_area, areas_fit, few_listed)
 
 -- Commands
 
-same_command : (x y : Option Command) (s r : List ℕ) → FitsCommand x → FitsCommand y → command_text x ++ s ≡ command_text y ++ r → x ≡ y
-same_command None None s r hx hy e = refl
-same_command (Some (Load addr width)) (Some (Load other size)) s r hx hy e =
-    let at = same_w64 addr other (width ∷ s) (size ∷ r) hx hy (ap (drop 1) e) in
-    let bytes = same_first width size s r (ap (drop 9) e) in
-    λ i. Some (Load (at i) (bytes i))
-same_command (Some (Store addr width value)) (Some (Store other size number)) s r hx hy e =
-    let at = same_w64 addr other (width ∷ (to_be_bytes w64 value ++ s)) (size ∷ (to_be_bytes w64 number ++ r)) hx.0 hy.0 (ap (drop 1) e) in
-    let bytes = same_first width size (to_be_bytes w64 value ++ s) (to_be_bytes w64 number ++ r) (ap (drop 9) e) in
-    let stored = same_w64 value number s r hx.1 hy.1 (ap (drop 10) e) in
-    λ i. Some (Store (at i) (bytes i) (stored i))
-same_command None (Some (Load addr width)) s r hx hy e = others_begin 0 1 refl e
-same_command None (Some (Store addr width value)) s r hx hy e = others_begin 0 2 refl e
-same_command (Some (Load addr width)) None s r hx hy e = others_begin 1 0 refl e
-same_command (Some (Store addr width value)) None s r hx hy e = others_begin 2 0 refl e
-same_command (Some (Load addr width)) (Some (Store other size value)) s r hx hy e = others_begin 1 2 refl e
-same_command (Some (Store addr width value)) (Some (Load other size)) s r hx hy e = others_begin 2 1 refl e
-same_command None (Some command) s r hx hy e = absurd hy
-same_command (Some (Load addr width)) (Some command) s r hx hy e = absurd hy
-same_command (Some (Store addr width value)) (Some command) s r hx hy e = absurd hy
-same_command (Some command) y s r hx hy e = absurd hx
-
 -- with a count of one byte
 same_commands : (x y : List (Option Command)) (s r : List ℕ) → AllByRecursion FitsCommand x → AllByRecursion FitsCommand y → commands_text x ++ s ≡ commands_text y ++ r → x ≡ y
-same_commands x y s r hx hy e =
-    same_list command_text FitsCommand same_command x y s r hx hy (same_first (length x) (length y) (flat_map command_text x ++ s) (flat_map command_text y ++ r) e) (ap (drop 1) e)
+same_commands x y s r hx hy e = grind (arith, nat_tests, same_list, same_first)
 
 -- Bodies
 
@@ -169,9 +118,7 @@ state_numbered (suc zero) = Received.Running
 state_numbered (suc (suc _)) = Received.Ended
 
 state_numbered-state_code : (state : Received) → state_numbered (state_code state) ≡ state
-state_numbered-state_code Received.NotRun = refl
-state_numbered-state_code Received.Running = refl
-state_numbered-state_code Received.Ended = refl
+state_numbered-state_code state = grind (arith, nat_tests)
 
 same_package : (areas others : FinMap nat_cmp Prot) (owed due : FinSet nat_cmp) (x y : List (Option Command)) (s r : List ℕ) → FitsText (Package areas owed x) → FitsText (Package others due y)
     → body_text (Package areas owed x) ++ s ≡ body_text (Package others due y) ++ r → Package areas owed x ≡ Package others due y
@@ -187,35 +134,22 @@ same_package areas others owed due x y s r hf hg e =
 
 same_body : (f g : Frame) (s r : List ℕ) → tag_code f ≡ tag_code g → HasWholePages f → HasWholePages g → FitsText f → FitsText g → body_text f ++ s ≡ body_text g ++ r → f ≡ g
 same_body Advise Advise s r tags wf wg hf hg e = refl
-same_body (Page page x) (Page other y) s r tags wf wg hf hg e =
-    let at = same_w32 page other (x ++ s) (y ++ r) hf hg e in
-    let bytes = same_page x y s r wf wg (ap (drop 4) e) in
-    λ i. Page (at i) (bytes i)
+same_body (Page page x) (Page other y) s r tags wf wg hf hg e = grind (arith, nat_tests, same_w32, same_page)
 same_body (Zero page) (Zero other) s r tags wf wg hf hg e = ap (λ page. Zero page) (same_w32 page other s r hf hg e)
-same_body (Run first x) (Run other y) s r tags wf wg hf hg e =
-    let at = same_w32 first other (to_be_bytes w32 (length x) ++ (flat_map (λ bytes. bytes) x ++ s)) (to_be_bytes w32 (length y) ++ (flat_map (λ bytes. bytes) y ++ r)) hf.0 hg.0 e in
-    let bytes = same_counted (λ bytes. bytes) (λ bytes. length bytes ≡ 4096) same_page x y s r wf wg hf.1 hg.1 (ap (drop 4) e) in
-    λ i. Run (at i) (bytes i)
+same_body (Run first x) (Run other y) s r tags wf wg hf hg e = grind (arith, nat_tests, same_w32, same_counted, same_page)
 same_body (Discard x) (Discard y) s r tags wf wg hf hg e = ap (λ pages. Discard pages) (same_set x y s r hf hg e)
 same_body (Package areas owed x) (Package others due y) s r tags wf wg hf hg e = same_package areas others owed due x y s r hf hg e
 same_body (End m) (End n) s r tags wf wg hf hg e = ap (λ urgent. End urgent) (same_w32 m n s r hf hg e)
 same_body Resume Resume s r tags wf wg hf hg e = refl
 same_body (Request page) (Request other) s r tags wf wg hf hg e = ap (λ page. Request page) (same_w32 page other s r hf hg e)
-same_body (Recv state x) (Recv other y) s r tags wf wg hf hg e =
-    let code = same_first (state_code state) (state_code other) (runs_text (runs_of x) ++ s) (runs_text (runs_of y) ++ r) e in
-    let states = sym (state_numbered-state_code state) ∙ ap state_numbered code ∙ state_numbered-state_code other in
-    let sets = same_set x y s r hf hg (ap (drop 1) e) in
-    λ i. Recv (states i) (sets i)
+same_body (Recv state x) (Recv other y) s r tags wf wg hf hg e = grind (arith, nat_tests, same_first, state_numbered-state_code, state_numbered, same_set)
 same_body Done Done s r tags wf wg hf hg e = refl
 same_body f g s r tags wf wg hf hg e = absurd (omega (arith, tags))
 
 -- Texts
 
 same_version : (v w : Version) → version_code v ≡ version_code w → v ≡ w
-same_version One One e = refl
-same_version Two Two e = refl
-same_version One Two e = absurd (omega (arith, e))
-same_version Two One e = absurd (omega (arith, e))
+same_version v w e = grind (arith, nat_tests)
 
 pub text-is : (v : Version) (epoch : ℕ) (frame : Frame) → has_frame v frame ≡ true → text v epoch frame ≡ header_text v (tag_code frame) epoch (length (body_text frame)) ++ body_text frame
 unfolding text
@@ -229,12 +163,4 @@ pub record IsSameText (v w : Version) (d e : ℕ) (f g : Frame) (s r : List ℕ)
   pub rest : s ≡ r
 
 pub same_text : (v w : Version) (d e : ℕ) (f g : Frame) (s r : List ℕ) → IsEncodable v d f → IsEncodable w e g → text v d f ++ s ≡ text w e g ++ r → IsSameText v w d e f g s r
-same_text v w d e f g s r hf hg eq =
-    let spelled : (header_text v (tag_code f) d (length (body_text f)) ++ body_text f) ++ s ≡ (header_text w (tag_code g) e (length (body_text g)) ++ body_text g) ++ r =
-    ap (λ t. t ++ s) (sym (text-is v d f hf.has)) ∙ eq ∙ ap (λ t. t ++ r) (text-is w e g hg.has) in
-    let versions = same_version v w (ap (λ (bytes : List ℕ). get_or bytes 0 0) spelled) in
-    let tags : tag_code f ≡ tag_code g = ap (λ (bytes : List ℕ). get_or bytes 1 0) spelled in
-    let epochs = same_w32 d e (to_be_bytes w32 (length (body_text f)) ++ (body_text f ++ s)) (to_be_bytes w32 (length (body_text g)) ++ (body_text g ++ r)) hf.epoch_fits hg.epoch_fits (ap (drop 4) spelled) in
-    let bodies : body_text f ++ s ≡ body_text g ++ r = ap (drop 12) spelled in
-    let frames = same_body f g s r tags hf.whole hg.whole hf.fits hg.fits bodies in
-    record { version = versions; epoch = epochs; frame = frames; rest = same_rest body_text f g s r frames bodies }
+same_text v w d e f g s r hf hg eq = grind (arith, nat_tests, text-is, same_version, same_w32, same_body, same_rest)

@@ -1,28 +1,21 @@
 -- The userfault objects stay enabled, with the features that were asked for.
-use Rattle.std.proofs.Common.{◌≡◌, ℕ, Bool, true, false, Option, Some, None, List, [], ◌∷◌, refl, sym, ◌∙◌, if◌then◌else◌}
-use Rattle.std.specs.Ordering.{nat_cmp}
-use Rattle.std.specs.FinSet.{FinSet}
+use Rattle.std.proofs.lemmas.Bool.Decides.{nat_tests}
+use Rattle.std.proofs.Common.{◌≡◌, ℕ, Bool, true, false, Option, List, [], ◌∷◌, refl, ◌∙◌, arith}
 use Rattle.std.proofs.lemmas.Bool.{false≢true}
 use Rattle.mig_base.specs.declared.command.Access.{Access}
-use Rattle.mig_base.specs.declared.command.Access.TheVariants.{Answered, Missing, Protected}
 use Rattle.mig_base.specs.declared.command.Command.{Command}
-use Rattle.mig_base.specs.declared.command.Command.TheVariants.{Mmap, Munmap, Mremap}
 use Rattle.mig_base.specs.declared.command.Reply.{Reply}
-use Rattle.mig_base.specs.declared.command.Reply.TheVariants.{Done, At}
 use Rattle.mig_base.specs.declared.message.Message.{Message}
-use Rattle.mig_base.specs.declared.message.Message.TheVariants.{PageFault, Remap, Remove, Unmap}
-use Rattle.mig_base.specs.declared.phase.Received.{Received}
 use Rattle.mig_base.specs.declared.phase.SourcePhase.{SourcePhase}
 use Rattle.mig_base.specs.declared.schedule.Side.{Side}
 use Rattle.mig_base.specs.declared.schedule.Step.{Step}
 use Rattle.mig_base.specs.Commands.{is_access}
 use Rattle.mig_base.specs.Flat.{reply_of}
 use Rattle.mig_model.specs.Host.{memory}
-use Rattle.mig_model.specs.Userfault.{Noted, Object, event_queued, fault_queued, read_by, waits_fault}
+use Rattle.mig_model.specs.Userfault.{Object, event_queued}
 use Rattle.mig_model.specs.Space.{Space, access_of, accessed_by, all_queued, call_messages, modes_after}
 use Rattle.mig_model.specs.Ioctls.{all_features, event_features}
 use Rattle.mig_model.specs.Guest.{Act, Guest, read_guest, space_by, tried}
-use Rattle.mig_model.specs.Guest.Act.{Unprotected, Zeroed, Woke, Forgot, Requested}
 use Rattle.mig_model.specs.Owed.{home}
 use Rattle.mig_model.specs.Wire.{Copy, Frame}
 use Rattle.mig_model.specs.Wire.Frame.{Page, Zero, Package, Resume, Request, Recv, Done as Finished}
@@ -42,27 +35,15 @@ pub record IsOpen (object : Object) (features : ℕ) : Type 0 where
 
 -- One object
 
-queued_by_open : (waits : Bool) (object more : Object) (features : ℕ) → IsOpen object features → IsOpen more features → IsOpen (if waits then object else more) features
-queued_by_open true object more features open_one open_more = open_one
-queued_by_open false object more features open_one open_more = open_more
-
-fault_open : (object : Object) (addr : ℕ) (write wp : Bool) (cpu features : ℕ) → IsOpen object features → IsOpen (fault_queued object addr write wp cpu) features
-fault_open object addr write wp cpu features open_one = queued_by_open (waits_fault object.faults addr wp) object _ features open_one (record { enabled = open_one.enabled; asked = open_one.asked })
-
 events_open : (object : Object) (messages : List Message) (cpu features : ℕ) → IsOpen object features → IsOpen (all_queued object messages cpu) features
 events_open object [] cpu features open_one = open_one
 events_open object (message ∷ messages) cpu features open_one = events_open (event_queued object message cpu) messages cpu features (record { enabled = open_one.enabled; asked = open_one.asked })
 
 modes_open : (object : Object) (command : Command) (reply : Reply) (features : ℕ) → IsOpen object features → IsOpen (modes_after object command reply) features
-modes_open object (Mmap len prot place) (At start) features open_one = record { enabled = open_one.enabled; asked = open_one.asked }
-modes_open object (Munmap addr len) Done features open_one = record { enabled = open_one.enabled; asked = open_one.asked }
-modes_open object (Mremap addr old_len new_len may_move fixed) (At target) features open_one = record { enabled = open_one.enabled; asked = open_one.asked }
-modes_open object _ _ features open_one = open_one
+modes_open object command reply features open_one = grind (arith, nat_tests)
 
 accessed_open : (access : Access) (space : Space) (cpu : ℕ) (command : Command) (features : ℕ) → IsOpen space.object features → IsOpen (accessed_by access space cpu command).object features
-accessed_open (Answered reply) space cpu command features open_one = open_one
-accessed_open Missing space cpu command features open_one = fault_open space.object _ _ _ cpu features open_one
-accessed_open Protected space cpu command features open_one = fault_open space.object _ _ _ cpu features open_one
+accessed_open access space cpu command features open_one = grind (arith, nat_tests)
 
 tried_open : (access : Bool) (space : Space) (cpu : ℕ) (command : Command) (features : ℕ) → IsOpen space.object features → IsOpen (space_by access space cpu command).object features
 tried_open true space cpu command features open_one = accessed_open (access_of space command) space cpu command features open_one
@@ -70,15 +51,8 @@ tried_open false space cpu command features open_one =
     let reply = reply_of (memory space.host) command in
     events_open (modes_after space.object command reply) (call_messages space.object command reply) cpu features (modes_open space.object command reply features open_one)
 
-message_open : (faults : List Noted) (object : Object) (features : ℕ) → IsOpen object features → IsOpen (read_by faults object) features
-message_open [] object features open_one = record { enabled = open_one.enabled; asked = open_one.asked }
-message_open (fault ∷ faults) object features open_one = record { enabled = open_one.enabled; asked = open_one.asked }
-
 read_open : (guest : Guest) (cpu : ℕ) (message : Message) (features : ℕ) → IsOpen guest.space.object features → IsOpen (read_guest guest cpu message).space.object features
-read_open guest cpu (PageFault addr write wp tid) features open_one = message_open guest.space.object.faults guest.space.object features open_one
-read_open guest cpu (Remap from to len) features open_one = message_open guest.space.object.faults guest.space.object features open_one
-read_open guest cpu (Remove start end) features open_one = message_open guest.space.object.faults guest.space.object features open_one
-read_open guest cpu (Unmap start end) features open_one = message_open guest.space.object.faults guest.space.object features open_one
+read_open guest cpu message features open_one = grind (arith, nat_tests)
 
 -- Both nodes
 
@@ -108,38 +82,16 @@ guest_open true world cpu command h = with_destination _ (tried_open (is_access 
 guest_open false world cpu command h = with_source _ _ (λ u. u) (tried_open (is_access command) (space_of world.source) cpu command all_features) h
 
 acted_open : (act : Act) (world : World) (page : ℕ) → HasOpenObjects world → HasOpenObjects (record world { source = source_acted_by act world.source page })
-acted_open Unprotected world page h = h
-acted_open Zeroed world page h = h
-acted_open Woke world page h = h
-acted_open Forgot world page h = h
-acted_open (Requested origin) world page h = h
+acted_open act world page h = grind (arith, nat_tests)
 
 handled_open : (act : Act) (world : World) (page : ℕ) → HasOpenObjects world → HasOpenObjects (record world { destination = destination_acted_by act world.destination page })
-handled_open Unprotected world page h = h
-handled_open Zeroed world page h = h
-handled_open Woke world page h = h
-handled_open Forgot world page h = h
-handled_open (Requested origin) world page h = h
+handled_open act world page h = grind (arith, nat_tests)
 
 installed_open : (o : Option ℕ) (world : World) (copy : Copy) (rest : List Copy) → HasOpenObjects world → HasOpenObjects (record world { destination = install_by o world.destination copy rest })
-installed_open None world copy rest h = h
-installed_open (Some page) world copy rest h = h
-
-came_open : (ran : Bool) (world : World) (copy : Copy) → HasOpenObjects world → HasOpenObjects (record world { destination = copy_came ran world.destination copy })
-came_open true world copy h = h
-came_open false world copy h = h
-
-resumed_open : (state : Received) (world : World) (epoch : ℕ) → HasOpenObjects world → HasOpenObjects (record world { destination = resumed_by state (record world.destination { epoch = epoch; urgent_taken = 0 }) })
-resumed_open Received.NotRun world epoch h = h
-resumed_open Received.Running world epoch h = h
-resumed_open Received.Ended world epoch h = h
+installed_open o world copy rest h = grind (arith, nat_tests)
 
 took_open : (frame : Frame) (epoch : ℕ) (world : World) → HasOpenObjects world → HasOpenObjects (record world { destination = destination_took world.destination epoch frame })
-took_open (Package areas owed commands) epoch world h = record { source = h.source; destination = λ r. record { enabled = refl; asked = refl } }
-took_open (Page page bytes) epoch world h = came_open world.destination.has_run world _ h
-took_open (Zero page) epoch world h = came_open world.destination.has_run world _ h
-took_open Resume epoch world h = resumed_open (received_of world.destination) world epoch h
-took_open _ epoch world h = h
+took_open frame epoch world h = grind (arith, nat_tests)
 
 urgent_open : (frame : Frame) (world : World) → HasOpenObjects world → HasOpenObjects (record world { destination = urgent_took world.destination frame })
 urgent_open (Page page bytes) world h = h
@@ -149,38 +101,13 @@ urgent_open _ world h = h
 -- Phases in which the source is not released
 
 pub idle_unreleased : (phase : SourcePhase) → is_source_idle phase ≡ true → is_released phase ≡ false
-idle_unreleased SourcePhase.Released h = sym h
-idle_unreleased SourcePhase.Idle h = refl
-idle_unreleased SourcePhase.Precopy h = refl
-idle_unreleased SourcePhase.Stopped h = refl
-idle_unreleased SourcePhase.Paused h = refl
+idle_unreleased phase h = grind (arith, nat_tests)
 
 precopy_unreleased : (phase : SourcePhase) → is_precopy phase ≡ true → is_released phase ≡ false
-precopy_unreleased SourcePhase.Released h = sym h
-precopy_unreleased SourcePhase.Idle h = refl
-precopy_unreleased SourcePhase.Precopy h = refl
-precopy_unreleased SourcePhase.Stopped h = refl
-precopy_unreleased SourcePhase.Paused h = refl
-
-paused_unreleased : (phase : SourcePhase) → is_source_paused phase ≡ true → is_released phase ≡ false
-paused_unreleased SourcePhase.Released h = sym h
-paused_unreleased SourcePhase.Idle h = refl
-paused_unreleased SourcePhase.Precopy h = refl
-paused_unreleased SourcePhase.Stopped h = refl
-paused_unreleased SourcePhase.Paused h = refl
-
-rebuilt_open : (switched : Bool) (world : World) (owed : FinSet nat_cmp) → is_released world.source.phase ≡ false → HasOpenObjects world →
-    HasOpenObjects (record world { source = source_rebuilt Received.NotRun owed (record world.source { switched = switched }) })
-rebuilt_open true world owed unreleased h = with_source _ _ (λ u. unreleased) (λ o. o) h
-rebuilt_open false world owed unreleased h = with_source _ _ (λ u. unreleased) (λ o. o) h
+precopy_unreleased phase h = grind (arith, nat_tests)
 
 back_open : (frame : Frame) (world : World) → IsInPlaceBack world.source frame → HasOpenObjects world → HasOpenObjects (record world { source = source_took world.source frame })
-back_open (Recv Received.NotRun owed) world place h = rebuilt_open world.source.switched world owed (paused_unreleased world.source.phase place.0) h
-back_open (Recv Received.Running owed) world place h = with_source _ _ (λ u. paused_unreleased world.source.phase place.0) (λ o. o) h
-back_open (Recv Received.Ended owed) world place h = record { source = λ u. absurd (false≢true (sym u)); destination = h.destination }
-back_open Finished world place h = record { source = λ u. absurd (false≢true (sym u)); destination = h.destination }
-back_open (Request page) world place h = h
-back_open _ world place h = absurd place
+back_open frame world place h = grind (arith, nat_tests)
 
 -- Steps
 

@@ -1,11 +1,11 @@
 -- The bytes of the present pages are numbers below 256, whatever is stored.
-use Rattle.std.proofs.Common.{◌≡◌, ℕ, zero, suc, ◌+◌, ◌-◌, ◌/◌, ◌%◌, ◌<◌, Bool, true, false, cond, eqb, ltb, Option, Some, None, List, ◌++◌, take, drop, refl, sym, ◌∙◌, subst, arith, unwrap_or, length}
+use Rattle.std.proofs.lemmas.Bool.Decides.{nat_tests}
+use Rattle.std.proofs.Common.{◌≡◌, ℕ, zero, suc, ◌+◌, ◌/◌, ◌%◌, ◌<◌, Bool, cond, eqb, Option, Some, None, List, ◌++◌, take, drop, sym, ◌∙◌, arith, unwrap_or, length}
 use Rattle.std.specs.Int.{byte_at, bytes_low_first}
 use Rattle.std.specs.List.{All}
 use Rattle.std.specs.Ordering.{nat_cmp}
 use Rattle.std.specs.FinMap.{FinMap, get, insert}
 use Rattle.std.proofs.lemmas.List.Elements.{All-append, All-drop, All-replicate, All-take}
-use Rattle.std.proofs.lemmas.Option.{none-some, same_Some}
 use Rattle.mig_base.specs.declared.TheConstants.{PAGE_SIZE}
 use Rattle.mig_base.specs.declared.command.Errno.TheVariants.{Enomem}
 use Rattle.mig_base.specs.declared.command.Command.{Command}
@@ -29,8 +29,7 @@ abbrev pub HasBytes : FinMap nat_cmp (List ℕ) → Type 0
 HasBytes pages = (page : ℕ) (bytes : List ℕ) → get pages page ≡ Some bytes → AreBytes bytes
 
 byte_below : (i n : ℕ) → byte_at i n < 256
-byte_below zero n = omega arith
-byte_below (suc i) n = omega arith
+byte_below i n = grind (arith, nat_tests)
 
 low_first_bytes : (k i n : ℕ) → AreBytes (bytes_low_first i k n)
 low_first_bytes zero i n j d l = absurd (omega (arith, l))
@@ -42,8 +41,7 @@ unfolding zero_page
 zero_bytes = All-replicate (λ byte. byte < 256) PAGE_SIZE 0 (omega arith)
 
 bytes_or_zero : (o : Option (List ℕ)) → ((bytes : List ℕ) → o ≡ Some bytes → AreBytes bytes) → AreBytes (unwrap_or o zero_page)
-bytes_or_zero None h = zero_bytes
-bytes_or_zero (Some bytes) h = h bytes refl
+bytes_or_zero o h = grind (arith, nat_tests, zero_bytes)
 
 pub contents_bytes : (pages : FinMap nat_cmp (List ℕ)) (page : ℕ) → HasBytes pages → AreBytes (contents pages page)
 contents_bytes pages page h = bytes_or_zero (get pages page) (h page)
@@ -55,8 +53,7 @@ written_bytes held bytes offset old new =
     (All-append (λ byte. byte < 256) bytes (drop (offset + length bytes) held) new (All-drop (λ byte. byte < 256) (offset + length bytes) held old))
 
 put_bytes : (here : Bool) (put bytes : List ℕ) (o : Option (List ℕ)) → AreBytes put → (o ≡ Some bytes → AreBytes bytes) → cond here (Some put) o ≡ Some bytes → AreBytes bytes
-put_bytes true put bytes o new old h = subst AreBytes (same_Some put bytes h) new
-put_bytes false put bytes o new old h = old h
+put_bytes here put bytes o new old h = grind (arith, nat_tests)
 
 pub inserted_bytes : (pages : FinMap nat_cmp (List ℕ)) (page : ℕ) (put : List ℕ) → HasBytes pages → AreBytes put → HasBytes (insert pages page put)
 inserted_bytes pages page put old new q bytes h = put_bytes (eqb q page) put bytes (get pages q) new (old q bytes) (sym (get-put pages page q put) ∙ h)
@@ -69,10 +66,7 @@ removed_bytes pages first count old q bytes h = old q bytes (some_kept (in_range
 
 moved_bytes : (target longer gone : Bool) (from own : Option (List ℕ)) (bytes : List ℕ) → (from ≡ Some bytes → AreBytes bytes) → (own ≡ Some bytes → AreBytes bytes) →
     cond target (cond longer from None) (cond gone None own) ≡ Some bytes → AreBytes bytes
-moved_bytes true true gone from own bytes a b h = a h
-moved_bytes true false gone from own bytes a b h = absurd (none-some bytes h)
-moved_bytes false longer true from own bytes a b h = absurd (none-some bytes h)
-moved_bytes false longer false from own bytes a b h = b h
+moved_bytes target longer gone from own bytes a b h = grind (arith, nat_tests)
 
 -- every command leaves bytes
 pub changed_bytes : (host : Host) (command : Command) (reply : Reply) → HasBytes host.bytes → HasBytes (host_changed host command reply).bytes
@@ -81,11 +75,7 @@ changed_bytes host (Store addr width value) Done old =
     (written_bytes (contents host.bytes (addr / 4096)) (low_bytes value width) (addr % 4096) (contents_bytes host.bytes (addr / 4096) old) (All-take (λ byte. byte < 256) width (bytes_low_first 0 8 value) (low_first_bytes 8 0 value)))
 changed_bytes host (Mmap len prot place) (At start) old = removed_bytes host.bytes (start / 4096) (pages_of len) old
 changed_bytes host (Munmap addr len) Done old = removed_bytes host.bytes (addr / 4096) (pages_of len) old
-changed_bytes host (Mremap addr old_len new_len may_move fixed) (At target) old = λ page bytes h.
-    let from = addr / 4096 in
-    let to = target / 4096 in
-    moved_bytes (in_range to (pages_of new_len) page) (ltb (page - to) (pages_of old_len)) (in_range from (pages_of old_len) page) (get host.bytes (from + (page - to))) (get host.bytes page) bytes
-    (old (from + (page - to)) bytes) (old page bytes) (sym (get-moved_range host.bytes from (pages_of old_len) to (pages_of new_len) page None) ∙ h)
+changed_bytes host (Mremap addr old_len new_len may_move fixed) (At target) old = grind (arith, nat_tests, moved_bytes, get-moved_range)
 changed_bytes host (DontNeed addr len) Done old = removed_bytes host.bytes (addr / 4096) (pages_of len) old
 changed_bytes host (DontNeed addr len) (Refused Enomem) old = removed_bytes host.bytes (addr / 4096) (pages_of len) old
 changed_bytes host _ _ old = old

@@ -4,9 +4,11 @@ use Rattle.std.proofs.lemmas.Bool.Decides.{nat_tests}
 use Rattle.std.proofs.Common.{◌≡◌, ℕ, ◌+◌, ◌*◌, ◌/◌, ◌<◌, ◌≤◌, ◌&&◌, ◌||◌, Bool, true, false, not, eqb, ltb, Option, Some, None, is_some, unwrap_or, List, refl, sym, ap, ◌∙◌, arith, length, if◌then◌else◌, ◌-◌, ◌∷◌, []}
 use Rattle.std.specs.Prelude.{Ok}
 use Rattle.std.specs.Ordering.{nat_cmp}
-use Rattle.std.specs.FinMap.{FinMap, contains_key, get, insert}
+use Rattle.std.specs.FinMap.{FinMap, contains_key, insert}
 use Rattle.std.specs.FinSet.{contains}
 use Rattle.std.proofs.lemmas.Bool.{false≢true, and_from, not_from_true}
+use Rattle.std.proofs.lemmas.Bool.Decides.{nat_tests}
+use Rattle.mig_base.specs.declared.TheConstants.{LOW_PAGE, HIGH_PAGE}
 use Rattle.std.proofs.lemmas.List.{take_all}
 use Rattle.mig_base.specs.declared.Prot.{Prot}
 use Rattle.mig_base.specs.declared.command.Errno.{Errno}
@@ -14,7 +16,6 @@ use Rattle.mig_base.specs.declared.command.Errno.TheVariants.{Eexist, Einval}
 use Rattle.mig_base.specs.declared.wake.Wake.TheVariants.{Nobody, Range}
 use Rattle.mig_base.specs.Bits.{is_one}
 use Rattle.mig_base.specs.Bytes.{zero_page}
-use Rattle.mig_base.specs.Codes.{prot_number}
 use Rattle.mig_base.specs.Ranges.{in_range}
 use Rattle.mig_base.specs.Sets.{pages_where}
 use Rattle.mig_base.specs.Tests.{is_every, same_bool}
@@ -47,32 +48,24 @@ every_one : (test : ℕ → Bool) (page : ℕ) → test page ≡ true → is_eve
 every_one test page h = none_below-from (λ i. not (test (page + i))) 1 (λ i l. not_from_true (test (page + i)) (ap test (at_page page i l) ∙ h))
 
 same_prot_self : (o : Option Prot) → is_some o ≡ true → same_prot o o ≡ true
-same_prot_self None h = absurd (false≢true h)
-same_prot_self (Some prot) h = eqb-self (prot_number prot)
+same_prot_self o h = grind (arith, nat_tests)
 
 same_bool_self : (b : Bool) → same_bool b b ≡ true
-same_bool_self true = refl
-same_bool_self false = refl
+same_bool_self b = grind (arith, nat_tests)
 
 and_three : (a b c : Bool) → a ≡ true → b ≡ true → c ≡ true → (a && b && c) ≡ true
-and_three true b c ha hb hc = ap (λ t. t && c) hb ∙ hc
-and_three false b c ha hb hc = absurd (false≢true ha)
+and_three a b c ha hb hc = grind (arith, nat_tests)
 
 -- a mapped page that is registered is one area
 one_area : (space : Space) (page : ℕ) → contains_key space.host.areas page ≡ true → is_registered space.object page ≡ true → is_one_area space page 1 ≡ true
-one_area space page mapped registered =
-    every_one (λ q. is_registered space.object q && same_area space page q) page
-    (and_from (is_registered space.object page) (same_area space page page) registered
-    (and_three (same_prot (get space.host.areas page) (get space.host.areas page)) (same_bool (contains space.object.missing page) (contains space.object.missing page)) (same_bool (contains space.object.protect page) (contains space.object.protect page))
-    (same_prot_self (get space.host.areas page) mapped) (same_bool_self (contains space.object.missing page)) (same_bool_self (contains space.object.protect page))))
+one_area space page mapped registered = grind (arith, nat_tests, every_one, and_from, and_three, same_prot_self, same_bool_self)
 
 -- a missing page is put whole
 missing_one : (space : Space) (page : ℕ) → is_present space page ≡ false → missing_run space page 1 ≡ 1
 missing_one space page h = ap (λ o. unwrap_or o 1) (least_below-none (λ i. contains_key space.host.bytes (page + i)) 1 (λ i l. ap (contains_key space.host.bytes) (at_page page i l) ∙ h))
 
 put_new : (error : Option Errno) (put : Put) → error ≡ None → put_by error put ≡ put
-put_new None put h = refl
-put_new (Some errno) put h = absurd (cc)
+put_new error put h = grind (arith, nat_tests)
 
 one_put : (addr : ℕ) → put_answer addr 1 1 0 Eexist ≡ page_put addr
 one_put addr = ap (λ b. record { bytes = 4096; fault = None; wake = if b then Nobody else Range addr 4096 }) (zero_is_no_one 0)
@@ -90,11 +83,7 @@ page_woken guest page space = let same : (λ q. eqb q page) ≡ in_bytes (4096 *
 -- UFFDIO_ZEROPAGE
 
 zeropage_accepted : (space : Space) (page : ℕ) → IsCalled space page → contains_key space.host.areas page ≡ true → is_registered space.object page ≡ true → zeropage_error space (4096 * page) 4096 0 ≡ None
-zeropage_accepted space page is mapped registered =
-    nothing_holds (zeropage_errors space (4096 * page) 4096 0) (
-      not_from_true space.object.enabled is.enabled,
-      (refl, (page_range page is.inside, (is.quiet, (not_from_true (is_one_area space (4096 * page / 4096) 1) (ap (λ q. is_one_area space q 1) (pages_again page) ∙ one_area space page mapped registered), tt)))),
-    )
+zeropage_accepted space page is mapped registered = grind (arith, nat_tests, nothing_holds, not_from_true, page_range, pages_again, one_area)
 
 pub zero_page_made : (guest : Guest) (page : ℕ) → IsCalled guest.space page → contains_key guest.space.host.areas page ≡ true → is_registered guest.space.object page ≡ true → is_present guest.space page ≡ false →
     IsZeroPage guest (resolved guest page (zero_installed guest.space page)) (4096 * page)
@@ -117,23 +106,7 @@ abbrev copy_errors_of : Space → ℕ → ℕ → List (Bool × Errno)
 copy_errors_of space page len = copy_errors space (4096 * page) len 0
 
 copy_accepted : (space : Space) (page : ℕ) → IsCalled space page → contains_key space.host.areas page ≡ true → is_registered space.object page ≡ true → copy_error space (4096 * page) 4096 0 ≡ None
-copy_accepted space page is mapped registered =
-    nothing_holds (copy_errors_of space page 4096) (
-      not_from_true space.object.enabled is.enabled,
-      (
-        refl,
-        (
-          page_range page is.inside,
-          (
-            is.quiet,
-            (
-              not_from_true (is_one_area space (4096 * page / 4096) 1) (ap (λ q. is_one_area space q 1) (pages_again page) ∙ one_area space page mapped registered),
-              (ap (λ b. b && not (contains space.object.protect (4096 * page / 4096))) (zero_is_no_one 1), tt),
-            ),
-          ),
-        ),
-      ),
-    )
+copy_accepted space page is mapped registered = grind (arith, nat_tests, nothing_holds, copy_errors_of, not_from_true, page_range, pages_again, one_area, zero_is_no_one)
 
 put_one : (pages : FinMap nat_cmp (List ℕ)) (page : ℕ) (one other : ℕ → List ℕ) → one 0 ≡ other 0 → put_pages pages page 1 one ≡ put_pages pages page 1 other
 unfolding put_pages
@@ -169,8 +142,7 @@ copy_made guest page bytes is mapped registered gone whole =
 -- UFFDIO_WRITEPROTECT
 
 answered_new : {A : Type 0} (error : Option Errno) (answer : A) → error ≡ None → answered_by error answer ≡ Ok answer
-answered_new None answer h = refl
-answered_new (Some errno) answer h = absurd (cc)
+answered_new error answer h = grind (arith, nat_tests)
 
 in_run : (first count i : ℕ) → i < count → in_range first count (first + i) ≡ true
 in_run first count i l = grind (arith, nat_tests, l)

@@ -1,10 +1,11 @@
 -- After a map call each page that is still owed is registered and missing, and where no page was protected or registered for
 -- write-protect faults, none is.
-use Rattle.std.proofs.Common.{◌≡◌, ℕ, ◌+◌, ◌-◌, ◌/◌, ◌<◌, ◌≤◌, ◌&&◌, Bool, true, false, cond, not, ltb, Option, Some, None, refl, sym, ap, ◌∙◌, ⊎_elim, arith, is_some}
+use Rattle.std.proofs.lemmas.Bool.Decides.{nat_tests}
+use Rattle.std.proofs.Common.{◌≡◌, ℕ, ◌+◌, ◌-◌, ◌/◌, ◌≤◌, ◌&&◌, Bool, true, false, cond, not, ltb, Option, Some, None, refl, sym, ap, ◌∙◌, arith, is_some}
 use Rattle.std.specs.Ordering.{nat_cmp}
 use Rattle.std.specs.FinMap.{get, contains_key}
 use Rattle.std.specs.FinSet.{FinSet, contains}
-use Rattle.std.proofs.lemmas.Bool.{cases_lt, lt-ltb, and_left}
+use Rattle.std.proofs.lemmas.Bool.{lt-ltb, and_left}
 use Rattle.mig_base.specs.declared.TheConstants.{HIGH, HIGH_PAGE}
 use Rattle.mig_base.specs.declared.command.Errno.TheVariants.{Enomem}
 use Rattle.mig_base.specs.declared.command.Command.{Command}
@@ -38,39 +39,21 @@ ArePairs space owed = (page origin : ℕ) → owed page ≡ Some origin → (con
 pub pairs_watched : (space : Space) (owed : ℕ → Option ℕ) → ArePairs space owed → AreWatched space owed
 pairs_watched space owed pairs page origin h = (pairs page origin h).0
 
--- one page of a range that goes
-gone_pair : {X : Type 0} (c m : Bool) (o : Option ℕ) (b : Option X) (origin : ℕ) → ((origin : ℕ) → o ≡ Some origin → (m ≡ true) × (is_some b ≡ false)) → cond c None o ≡ Some origin → ((m && not c) ≡ true) × (m ≡ true) × (is_some (cond c None b) ≡ false)
-gone_pair true m o b origin pairs h = absurd (cc)
-gone_pair false m o b origin pairs h = let is = pairs origin h in (and_true m is.0, is.0, is.1)
-  where
-    and_true : (m : Bool) → m ≡ true → (m && true) ≡ true
-    and_true true h = refl
-    and_true false h = h
-
 -- one page of a range that moves
 moved_pair : {X : Type 0} (low new old from m1 m2 mg : Bool) (x y : Option ℕ) (b1 b2 : Option X) (origin : ℕ) → (new ≡ true → low ≡ true) → (y ≡ Some origin → low ≡ true) →
     ((origin : ℕ) → x ≡ Some origin → (m1 ≡ true) × (is_some b1 ≡ false)) → ((origin : ℕ) → y ≡ Some origin → (m2 ≡ true) × (is_some b2 ≡ false)) →
     cond new (cond old x None) (cond from None y) ≡ Some origin → ((low && cond new (cond old m1 mg) (not from && m2)) ≡ true) × (is_some (cond new (cond old b1 None) (cond from None b2)) ≡ false)
-moved_pair true true true from m1 m2 mg x y b1 b2 origin high low one two h = one origin h
-moved_pair true true false from m1 m2 mg x y b1 b2 origin high low one two h = absurd (cc)
-moved_pair true false old true m1 m2 mg x y b1 b2 origin high low one two h = absurd (cc)
-moved_pair true false old false m1 m2 mg x y b1 b2 origin high low one two h = two origin h
-moved_pair false true old from m1 m2 mg x y b1 b2 origin high low one two h = none_absurd (high refl)
-moved_pair false false old true m1 m2 mg x y b1 b2 origin high low one two h = absurd (cc)
-moved_pair false false old false m1 m2 mg x y b1 b2 origin high low one two h = none_absurd (low h)
+moved_pair low new old from m1 m2 mg x y b1 b2 origin high below one two h = grind (arith, nat_tests)
 
 mapped_below : (here : Host) (page : ℕ) → IsSound here → contains_key here.areas page ≡ true → ltb page HIGH_PAGE ≡ true
-mapped_below here page sound h =
-    ⊎_elim (λ (low : page < HIGH_PAGE). lt-ltb page HIGH_PAGE low) (λ (high : HIGH_PAGE ≤ page). none_absurd (sym (ap is_some (sound.bound page high)) ∙ h)) (cases_lt page HIGH_PAGE)
+mapped_below here page sound h = grind (arith, nat_tests)
 
 in_new : (to target new_len page : ℕ) → to ≡ target / 4096 → target + rounded new_len ≤ HIGH → in_range to (pages_of new_len) page ≡ true → ltb page HIGH_PAGE ≡ true
 in_new to target new_len page is high h = let r = in_range_first to (pages_of new_len) page h in let a = r.1 in lt-ltb page HIGH_PAGE (omega (arith, is, high, a))
 
 gone_pairs : (space : Space) (owed : ℕ → Option ℕ) (first count page origin : ℕ) → ArePairs space owed → cond (in_range first count page) None (owed page) ≡ Some origin →
     (contains (without space.object.missing first count) page ≡ true) × (contains space.object.missing page ≡ true) × (contains_key (remove_range space.host.bytes first count) page ≡ false)
-gone_pairs space owed first count page origin pairs h =
-    let is = gone_pair (in_range first count page) (contains space.object.missing page) (owed page) (get space.host.bytes page) origin (pairs page) h in
-    (member_without space.object.missing first count page ∙ is.0, is.1, ap is_some (get-remove_range space.host.bytes first count page) ∙ is.2)
+gone_pairs space owed first count page origin pairs h = grind (arith, nat_tests, member_without, get-remove_range)
 
 pub pairs_called : (space : Space) (owed : ℕ → Option ℕ) (command : Command) (reply : Reply) → is_access command ≡ false → IsSoundSpace space → reply ≡ reply_of (memory space.host) command → ArePairs space owed →
     (page origin : ℕ) → owed_changed owed command reply page ≡ Some origin → (contains (modes_after space.object command reply).missing page ≡ true) × (contains_key (host_changed space.host command reply).bytes page ≡ false)
@@ -99,32 +82,14 @@ pairs_called space owed _ _ call sound is pairs page origin h = pairs page origi
 abbrev pub HasNone : FinSet nat_cmp → Type 0
 HasNone set = (page : ℕ) → contains set page ≡ false
 
-none_moved : (low new old from m1 m2 mg : Bool) → m1 ≡ false → m2 ≡ false → mg ≡ false → (low && cond new (cond old m1 mg) (not from && m2)) ≡ false
-none_moved false new old from m1 m2 mg a b c = refl
-none_moved true true true from m1 m2 mg a b c = a
-none_moved true true false from m1 m2 mg a b c = c
-none_moved true false old true m1 m2 mg a b c = refl
-none_moved true false old false m1 m2 mg a b c = b
-
 none-without : (set : Set) (first count : ℕ) → HasNone set → HasNone (without set first count)
 none-without set first count none page = member_without set first count page ∙ and_left (contains set page) (not (in_range first count page)) (none page)
 
 none-moved : (set : Set) (from count to new_count : ℕ) (growth : Bool) → growth ≡ false → HasNone set → HasNone (moved_set set from count to new_count growth)
-none-moved set from count to new_count growth never none page =
-    member_below _ HIGH_PAGE page
-    ∙ none_moved (ltb page HIGH_PAGE) (in_range to new_count page) (ltb (page - to) count) (in_range from count page) (contains set (from + (page - to))) (contains set page) growth (none (from + (page - to))) (none page) never
+none-moved set from count to new_count growth never none page = grind (arith, nat_tests, member_below)
 
 pub none_protected : (set : FinSet nat_cmp) (command : Command) (reply : Reply) → HasNone set → HasNone (protected_after set command reply)
-none_protected set (Mmap len prot place) (At start) none = none-without set (start / 4096) (pages_of len) none
-none_protected set (Munmap addr len) Done none = none-without set (addr / 4096) (pages_of len) none
-none_protected set (Mremap addr old_len new_len may_move fixed) (At target) none = none-moved set (addr / 4096) (pages_of old_len) (target / 4096) (pages_of new_len) false refl none
-none_protected set (DontNeed addr len) Done none = none-without set (addr / 4096) (pages_of len) none
-none_protected set (DontNeed addr len) (Refused Enomem) none = none-without set (addr / 4096) (pages_of len) none
-none_protected set _ _ none = none
+none_protected set command reply none = grind (arith, nat_tests, none-without, none-moved)
 
 pub none_in_mode : (object : Object) (command : Command) (reply : Reply) → HasNone object.protect → HasNone (modes_after object command reply).protect
-none_in_mode object (Mmap len prot place) (At start) none = none-without object.protect (start / 4096) (pages_of len) none
-none_in_mode object (Munmap addr len) Done none = none-without object.protect (addr / 4096) (pages_of len) none
-none_in_mode object (Mremap addr old_len new_len may_move fixed) (At target) none =
-    none-moved object.protect (addr / 4096) (pages_of old_len) (target / 4096) (pages_of new_len) (contains object.protect (addr / 4096 + (pages_of old_len - 1))) (none (addr / 4096 + (pages_of old_len - 1))) none
-none_in_mode object _ _ none = none
+none_in_mode object command reply none = grind (arith, nat_tests, none-without, none-moved)

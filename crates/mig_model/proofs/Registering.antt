@@ -1,11 +1,11 @@
 -- Registering the areas of a guest one behind the other is registering every mapped page at once.
-use Rattle.std.proofs.Common.{◌≡◌, ℕ, zero, suc, ◌+◌, ◌-◌, ◌*◌, ◌/◌, ◌%◌, ◌<◌, ◌≤◌, ◌&&◌, ◌||◌, Bool, true, false, cond, not, eqb, ltb, Option, Some, None, List, [], ◌∷◌, refl, sym, ap, ◌∙◌, subst, arith, if◌then◌else◌}
+use Rattle.std.proofs.Common.{◌≡◌, ℕ, zero, suc, ◌+◌, ◌-◌, ◌*◌, ◌/◌, ◌<◌, ◌≤◌, ◌&&◌, ◌||◌, Bool, true, false, cond, not, ltb, Option, Some, None, List, [], ◌∷◌, refl, sym, ap, ◌∙◌, subst, arith, if◌then◌else◌}
 use Rattle.std.specs.Ordering.{nat_cmp}
 use Rattle.std.specs.FinMap.{FinMap, contains_key}
 use Rattle.std.specs.FinSet.{FinSet, contains}
-use Rattle.std.proofs.lemmas.Bool.{false≢true, or_left, or_right, not_from_true}
+use Rattle.std.proofs.lemmas.Bool.{or_left, or_right, not_from_true}
 use Rattle.std.proofs.lemmas.Bool.Decides.{nat_tests}
-use Rattle.mig_base.specs.declared.TheConstants.{PAGE_SIZE, LOW, HIGH, LOW_PAGE, HIGH_PAGE}
+use Rattle.mig_base.specs.declared.TheConstants.{PAGE_SIZE, LOW_PAGE, HIGH_PAGE}
 use Rattle.mig_base.specs.declared.Prot.{Prot}
 use Rattle.mig_base.specs.declared.Run.{Run}
 use Rattle.mig_base.specs.declared.command.Errno.{Errno}
@@ -15,6 +15,7 @@ use Rattle.mig_base.specs.Ranges.{in_range}
 use Rattle.mig_base.specs.Sets.{pages_where}
 use Rattle.mig_base.specs.Tests.{first_holding}
 use Rattle.mig_base.proofs.RangeLemmas.{in_range-true, none_below-not}
+use Rattle.mig_base.proofs.TestLemmas.{none_below_zero}
 use Rattle.mig_base.proofs.SetLemmas.{member_below, same_members}
 use Rattle.mig_model.specs.Userfault.{Mode, Object, has_modes, registered_where}
 use Rattle.mig_model.specs.Space.{Space, IsSoundSpace}
@@ -35,14 +36,8 @@ registered_by space test mode =
 
 -- Sets by tests
 
-where_low : (low one other : Bool) → (low ≡ true → one ≡ other) → (low && one) ≡ (low && other)
-where_low true one other h = h refl
-where_low false one other h = refl
-
 same_where : (one other : ℕ → Bool) → ((page : ℕ) → ltb page HIGH_PAGE ≡ true → one page ≡ other page) → pages_where one ≡ pages_where other
-same_where one other h =
-    same_members (pages_where one) (pages_where other)
-    (λ page. member_below one HIGH_PAGE page ∙ where_low (ltb page HIGH_PAGE) (one page) (other page) (h page) ∙ sym (member_below other HIGH_PAGE page))
+same_where one other h = grind (arith, nat_tests, same_members, member_below)
 
 -- whether a page below the bound is in
 in_where : (test : ℕ → Bool) (page : ℕ) → ltb page HIGH_PAGE ≡ true → contains (pages_where test) page ≡ test page
@@ -53,38 +48,20 @@ in_where test page low = member_below test HIGH_PAGE page ∙ ap (λ l. l && tes
 modes_again : (missing protect here watched one : Bool) →
     let all = (not missing || here) && (not protect || watched) in
     ((not missing || cond (one && not all) missing here) && (not protect || cond (one && not all) protect watched)) ≡ (one || all)
-modes_again missing protect here watched false = refl
-modes_again false false here watched true = refl
-modes_again true false true watched true = refl
-modes_again true false false watched true = refl
-modes_again false true here true true = refl
-modes_again false true here false true = refl
-modes_again true true true true true = refl
-modes_again true true true false true = refl
-modes_again true true false watched true = refl
+modes_again missing protect here watched one = grind (arith, nat_tests)
 
 chosen_again : (one two all new old : Bool) → cond (two && not (one || all)) new (cond (one && not all) new old) ≡ cond ((one || two) && not all) new old
-chosen_again true true true new old = refl
-chosen_again true true false new old = refl
-chosen_again true false true new old = refl
-chosen_again true false false new old = refl
-chosen_again false two all new old = refl
+chosen_again one two all new old = grind (arith, nat_tests)
 
 guarded_again : (held protect all one two : Bool) → ((held && (protect || all || not one)) && (protect || (one || all) || not two)) ≡ (held && (protect || all || not (one || two)))
-guarded_again false protect all one two = refl
-guarded_again true true all one two = refl
-guarded_again true false true true two = refl
-guarded_again true false true false two = refl
-guarded_again true false false true two = refl
-guarded_again true false false false two = refl
+guarded_again held protect all one two = grind (arith, nat_tests)
 
 abbrev with_sets : Space → FinSet nat_cmp → FinSet nat_cmp → FinSet nat_cmp → Space
 with_sets space missing protect protected = record space { object = record space.object { missing = missing; protect = protect }; protected = protected }
 
 same_sets : (space : Space) (missing protect protected other_missing other_protect other_protected : FinSet nat_cmp) → missing ≡ other_missing → protect ≡ other_protect → protected ≡ other_protected →
     with_sets space missing protect protected ≡ with_sets space other_missing other_protect other_protected
-same_sets space missing protect protected other_missing other_protect other_protected a b c =
-    ap (λ s. with_sets space s protect protected) a ∙ ap (λ s. with_sets space other_missing s protected) b ∙ ap (λ s. with_sets space other_missing other_protect s) c
+same_sets space missing protect protected other_missing other_protect other_protected a b c = grind (arith, nat_tests)
 
 registered_twice : (space : Space) (one two : ℕ → Bool) (mode : Mode) → registered_by (registered_by space one mode) two mode ≡ registered_by space (λ page. one page || two page) mode
 registered_twice space one two mode =
@@ -113,9 +90,7 @@ registered_twice space one two mode =
 -- Registered where no page passes
 
 past_none : (low here : Bool) → (here ≡ true → low ≡ true) → (low && here) ≡ here
-past_none true here h = refl
-past_none false true h = h refl
-past_none false false h = refl
+past_none low here h = grind (arith, nat_tests)
 
 never : (held protect all : Bool) → (held && (protect || all || not false)) ≡ held
 never held protect all = ap (λ b. held && b) (or_true (protect || all)) ∙ and_true held
@@ -142,34 +117,9 @@ pub nothing_holds : (errors : List (Bool × Errno)) → NoneHolds errors → fir
 nothing_holds [] h = refl
 nothing_holds (error ∷ errors) h = ap (λ t. cond t (Some error.1) (first_holding errors)) h.0 ∙ nothing_holds errors h.1
 
-none_of_five : (a b c d e : Bool) → a ≡ true → b ≡ true → c ≡ false → d ≡ false → e ≡ false → (not a || not b || c || d || e) ≡ false
-none_of_five true true false false false ha hb hc hd he = refl
-none_of_five false b c d e ha hb hc hd he = absurd (false≢true ha)
-none_of_five true false c d e ha hb hc hd he = absurd (false≢true hb)
-none_of_five true true true d e ha hb hc hd he = hc
-none_of_five true true false true e ha hb hc hd he = hd
-none_of_five true true false false true ha hb hc hd he = he
-
-whole : (pages : ℕ) → eqb (4096 * pages % 4096) 0 ≡ true
-whole pages = let none : 4096 * pages % 4096 ≡ 0 = omega arith in grind (arith, nat_tests, none)
-
-some_bytes : (count : ℕ) → 0 < count → eqb (4096 * count) 0 ≡ false
-some_bytes count h = grind (arith, nat_tests, h)
-
-not_low : (first : ℕ) → LOW_PAGE ≤ first → ltb (4096 * first) LOW ≡ false
-not_low first h = grind (arith, nat_tests, h)
-
-not_past : (first count : ℕ) → first + count ≤ HIGH_PAGE → ltb HIGH (4096 * first + 4096 * count) ≡ false
-not_past first count h = grind (arith, nat_tests, h)
-
 -- a range of whole pages that may be mapped is not wrong
 pub range_good : (first count : ℕ) → 0 < count → LOW_PAGE ≤ first → first + count ≤ HIGH_PAGE → is_bad_range (4096 * first) (4096 * count) ≡ false
-range_good first count some low high =
-    none_of_five (eqb (4096 * first % 4096) 0) (eqb (4096 * count % 4096) 0) (eqb (4096 * count) 0) (ltb (4096 * first) LOW) (ltb HIGH (4096 * first + 4096 * count)) (whole first) (whole count) (some_bytes count some)
-    (not_low first low) (not_past first count high)
-
-last_page : (first count : ℕ) → 0 < count → first + (count - 1) < HIGH_PAGE → first + count ≤ HIGH_PAGE
-last_page first count some last = omega (arith, some, last)
+range_good first count some low high = grind (arith, nat_tests)
 
 pub pages_again : (pages : ℕ) → 4096 * pages / 4096 ≡ pages
 pages_again pages = omega arith
@@ -198,17 +148,15 @@ run_accepted space first count bits can mode mapping some mapped =
       not_from_true space.object.enabled can.enabled,
       (
         not_from_true (has_events space.object) can.events,
-        (mode, (range_good first count some lowest.0 (last_page first count some highest.1), (none_below-not (λ i. contains_key space.host.areas (4096 * first / 4096 + i)) (4096 * count / 4096) 0 (omega (arith, some)) found, tt))),
+        (mode, (range_good first count some lowest.0 (let last = highest.1 in omega (arith, some, last)), (none_below-not (λ i. contains_key space.host.areas (4096 * first / 4096 + i)) (4096 * count / 4096) 0 (omega (arith, some)) found, tt))),
       ),
     )
 
 mapped_test : (here mapped : Bool) → (here ≡ true → mapped ≡ true) → (here && mapped) ≡ here
-mapped_test true mapped h = h refl
-mapped_test false mapped h = refl
+mapped_test here mapped h = grind (arith, nat_tests)
 
 pub left_new : (error : Option Errno) (old new : Space) → error ≡ None → left_by error old new ≡ new
-left_new None old new h = refl
-left_new (Some errno) old new h = absurd (cc)
+left_new error old new h = grind (arith, nat_tests)
 
 run_registered : (space : Space) (first count bits : ℕ) → CanRegister space.object → is_bad_mode bits ≡ false → IsMapping space.host.areas → 0 < count → IsMappedRun space first count →
     registered space (4096 * first) (4096 * count) bits ≡ registered_by space (in_range first count) (mode_of bits)
@@ -245,19 +193,9 @@ areas_registered space runs bits sound can mode mapping are =
     let all = turned runs space bits sound can mode mapping are.some (λ page h. sym (are.pages page) ∙ h) in
     record { accepted = all.0; leaves = sym (all.1 ∙ same_test space (in_runs runs) (λ page. contains_key space.host.areas page) (mode_of bits) are.pages) }
 
-whole_range : (page : ℕ) → ltb page HIGH_PAGE ≡ true → in_range 0 HIGH_PAGE page ≡ true
-whole_range page h = grind (arith, nat_tests, h)
-
-inside : (low mapped : Bool) → (mapped ≡ true → low ≡ true) → mapped ≡ (low && mapped)
-inside low true h = ap (λ b. b && true) (sym (h refl))
-inside true false h = refl
-inside false false h = refl
-
 -- the same as the registration of the whole address space
 pub every_registered : (space : Space) (mode : Mode) → IsSoundSpace space → registered_by space (λ page. contains_key space.host.areas page) mode ≡ registered_in space 0 HIGH_PAGE mode
-every_registered space mode sound =
-    same_test space (λ page. contains_key space.host.areas page) (is_mapped_in space 0 HIGH_PAGE) mode
-    (λ page. inside (in_range 0 HIGH_PAGE page) (contains_key space.host.areas page) (λ h. whole_range page (below_high space page sound h)))
+every_registered space mode sound = grind (arith, nat_tests)
 
 -- There are such runs: each mapped page is one
 
@@ -268,26 +206,18 @@ abbrev pages_below : (ℕ → Bool) → ℕ → List Run
 pages_below test zero = []
 pages_below test (suc bound) = if test bound then one_page bound ∷ pages_below test bound else pages_below test bound
 
-below_zero : (page : ℕ) (here : Bool) → false ≡ (ltb page 0 && here)
-below_zero page here = grind (arith, nat_tests)
-
 below_next : (page bound : ℕ) (here there : Bool) → (page ≡ bound → here ≡ there) → cond there (in_range bound 1 page || (ltb page bound && here)) (ltb page bound && here) ≡ (ltb page (suc bound) && here)
 below_next page bound here there h = grind (arith, nat_tests)
 
 runs_or : (there : Bool) (run : Run) (runs : List Run) (page : ℕ) → in_runs (if there then run ∷ runs else runs) page ≡ cond there (in_range run.first run.count page || in_runs runs page) (in_runs runs page)
-runs_or true run runs page = refl
-runs_or false run runs page = refl
+runs_or there run runs page = grind (arith, nat_tests)
 
 in_pages_below : (test : ℕ → Bool) (bound page : ℕ) → in_runs (pages_below test bound) page ≡ (ltb page bound && test page)
-in_pages_below test zero page = below_zero page (test page)
-in_pages_below test (suc bound) page =
-    runs_or (test bound) (one_page bound) (pages_below test bound) page
-    ∙ ap (λ b. cond (test bound) (in_range bound 1 page || b) b) (in_pages_below test bound page)
-    ∙ below_next page bound (test page) (test bound) (λ same. ap test same)
+in_pages_below test zero page = none_below_zero page (test page)
+in_pages_below test (suc bound) page = grind (arith, nat_tests, runs_or, one_page, pages_below, below_next, in_pages_below test bound page)
 
 some_or : (there : Bool) (page : ℕ) (runs : List Run) → AreSome runs → AreSome (if there then one_page page ∷ runs else runs)
-some_or true page runs some = (omega arith, some)
-some_or false page runs some = some
+some_or there page runs some = grind (arith, nat_tests)
 
 some_below : (test : ℕ → Bool) (bound : ℕ) → AreSome (pages_below test bound)
 some_below test zero = tt

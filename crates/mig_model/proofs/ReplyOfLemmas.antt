@@ -1,8 +1,9 @@
 -- What a reply depends on: that of a map call on which addresses are mapped with which protection, and that of an access on the cells
 -- that it reads.
-use Rattle.std.proofs.Common.{◌≡◌, ℕ, zero, suc, ◌+◌, ◌-◌, ◌*◌, ◌/◌, ◌^◌, ◌<◌, ◌&&◌, ◌||◌, Bool, true, false, cond, not, eqb, ltb, leb, Option, Some, None, [], ◌∷◌, ◌++◌, refl, sym, ap, ◌∙◌, arith, is_some, add-zero}
+use Rattle.std.proofs.lemmas.Bool.Decides.{nat_tests}
+use Rattle.std.proofs.Common.{◌≡◌, ◌≢◌, ℕ, ◌+◌, ◌-◌, ◌*◌, ◌/◌, ◌^◌, ◌&&◌, ◌||◌, Bool, true, false, cond, not, eqb, ltb, leb, Option, Some, None, [], ◌∷◌, ◌++◌, refl, sym, ap, ◌∙◌, arith, is_some}
 use Rattle.std.specs.Option.{option_map}
-use Rattle.mig_base.specs.declared.TheConstants.{LOW, HIGH, MAX_PAGES}
+use Rattle.mig_base.specs.declared.TheConstants.{HIGH, MAX_PAGES}
 use Rattle.mig_base.specs.declared.Prot.{Prot}
 use Rattle.mig_base.specs.declared.command.Errno.TheVariants.{Enomem, Efault, Eexist, Einval}
 use Rattle.mig_base.specs.declared.command.Place.{Place}
@@ -10,13 +11,13 @@ use Rattle.mig_base.specs.declared.command.Place.TheVariants.{Anywhere, Fixed, N
 use Rattle.mig_base.specs.declared.command.Command.{Command}
 use Rattle.mig_base.specs.declared.command.Command.TheVariants.{Load, Store, Mmap, Munmap, Mremap, DontNeed}
 use Rattle.mig_base.specs.declared.command.Reply.{Reply}
-use Rattle.mig_base.specs.declared.command.Reply.TheVariants.{Value, Done, At, Segv, BadAccess, Refused}
+use Rattle.mig_base.specs.declared.command.Reply.TheVariants.{Value, Done, At, BadAccess, Refused}
 use Rattle.mig_base.specs.Codes.{prot_number}
 use Rattle.mig_base.specs.Ranges.{in_range, count_below, none_below, rounded, free_place}
-use Rattle.mig_base.specs.Flat.{Cell, Memory, is_mapped, fill, zeros_with, moved, grown, written, same_prot, has_one_prot, is_unmapped, exceeds_limit, mremap_target, mremap_reply, mmap_reply, dontneed_reply, place_refusals, at_place, first_refusal, is_bad_target, is_page_start, is_aligned, access_reply, allows_load, allows_store, number_at, byte_of, reply_of}
+use Rattle.mig_base.specs.Flat.{Cell, Memory, is_mapped, fill, zeros_with, moved, grown, written, same_prot, has_one_prot, is_unmapped, exceeds_limit, mremap_target, mremap_reply, mmap_reply, dontneed_reply, place_refusals, at_place, first_refusal, is_bad_target, is_page_start, is_aligned, access_reply, allows_load, allows_store, number_at, reply_of}
 use Rattle.mig_base.specs.Commands.{is_access, page_of}
 use Rattle.mig_model.specs.Space.{is_made}
-use Rattle.mig_model.proofs.NumberLemmas.{aligned_inside}
+use Rattle.mig_model.specs.Bounds.{IsRightAccess}
 use Rattle.mig_model.proofs.Facts.{none_absurd}
 
 -- which addresses are mapped, with which protection
@@ -24,29 +25,23 @@ abbrev pub prots : Memory → ℕ → Option Prot
 prots memory = λ addr. option_map (λ cell. cell.prot) (memory addr)
 
 mapped_prot : (o : Option Cell) → is_some o ≡ is_some (option_map (λ cell. cell.prot) o)
-mapped_prot None = refl
-mapped_prot (Some cell) = refl
+mapped_prot o = grind (arith, nat_tests)
 
 -- the tests of the flat memory see no bytes
 same_mapped : (m n : Memory) → prots m ≡ prots n → is_mapped m ≡ is_mapped n
 same_mapped m n h = λ i addr. (mapped_prot (m addr) ∙ ap (λ f. is_some (f addr)) h ∙ sym (mapped_prot (n addr))) i
 
 filled : (b : Bool) (cell : Cell) (o p : Option Cell) → is_some o ≡ is_some p → is_some (cond b (Some cell) o) ≡ is_some (cond b (Some cell) p)
-filled true cell o p h = refl
-filled false cell o p h = h
+filled b cell o p h = grind (arith, nat_tests)
 
 same_fill : (m n : Memory) (start len : ℕ) (cell : Cell) → is_mapped m ≡ is_mapped n → is_mapped (fill m start len cell) ≡ is_mapped (fill n start len cell)
 same_fill m n start len cell h = λ i addr. (filled (in_range start len addr) cell (m addr) (n addr) (ap (λ f. f addr) h)) i
 
 pub is_some-written : (o : Option Cell) (byte : ℕ) → is_some (written o byte) ≡ is_some o
-is_some-written None byte = refl
-is_some-written (Some cell) byte = refl
+is_some-written o byte = grind (arith, nat_tests)
 
 moved_one : (new old from : Bool) (a b c p q r : Option Cell) → is_some a ≡ is_some p → is_some b ≡ is_some q → is_some c ≡ is_some r → is_some (cond new (cond old a b) (cond from None c)) ≡ is_some (cond new (cond old p q) (cond from None r))
-moved_one true true from a b c p q r x y z = x
-moved_one true false from a b c p q r x y z = y
-moved_one false old true a b c p q r x y z = refl
-moved_one false old false a b c p q r x y z = z
+moved_one new old from a b c p q r x y z = grind (arith, nat_tests)
 
 same_moved : (m n : Memory) (old old_size new new_size : ℕ) → is_mapped m ≡ is_mapped n → is_mapped (moved m old old_size new new_size) ≡ is_mapped (moved n old old_size new new_size)
 same_moved m n old old_size new new_size h =
@@ -62,8 +57,7 @@ same_exceeds m n h = ap (λ f. ltb (4096 * MAX_PAGES) (count_below f HIGH)) h
 -- Replies of map calls
 
 same_mmap : (m n : Memory) (len : ℕ) (prot : Prot) (place : Place) → is_mapped m ≡ is_mapped n → mmap_reply m len prot place ≡ mmap_reply n len prot place
-same_mmap m n len prot Anywhere h =
-    ap (λ f. first_refusal ((eqb len 0, Einval) ∷ (ltb (HIGH - LOW) (rounded len), Enomem) ∷ (ltb (4096 * MAX_PAGES) (count_below f HIGH + rounded len), Enomem) ∷ []) (at_place (free_place f (rounded len)))) h
+same_mmap m n len prot Anywhere h = grind (arith, nat_tests)
 same_mmap m n len prot (Fixed addr) h =
     ap (λ b. first_refusal ((eqb len 0, Einval) ∷ (place_refusals addr (rounded len) ++ (b, Enomem) ∷ [])) (At addr))
     (same_exceeds (fill m addr (rounded len) (zeros_with prot)) (fill n addr (rounded len) (zeros_with prot)) (same_fill m n addr (rounded len) (zeros_with prot) h))
@@ -85,9 +79,7 @@ same_of (Some a) None = false
 same_of None b = false
 
 same_prot-of : (a b : Option Cell) → same_prot a b ≡ same_of (option_map (λ cell. cell.prot) a) (option_map (λ cell. cell.prot) b)
-same_prot-of (Some a) (Some b) = refl
-same_prot-of (Some a) None = refl
-same_prot-of None b = refl
+same_prot-of a b = grind (arith, nat_tests)
 
 one_prot-of : (m : Memory) (start len : ℕ) → has_one_prot m start len ≡ none_below (λ i. not (same_of (prots m start) (prots m (start + i)))) len
 one_prot-of m start len = ap (λ f. none_below f len) (λ k i. not (same_prot-of (m start) (m (start + i)) k))
@@ -111,30 +103,17 @@ same_mremap m n addr old_len new_len may_move fixed h =
 
 -- the reply of a map call
 pub reply_of-prots : (m n : Memory) (command : Command) → prots m ≡ prots n → is_access command ≡ false → reply_of m command ≡ reply_of n command
-reply_of-prots m n (Load addr width) h call = none_absurd (sym call)
-reply_of-prots m n (Store addr width value) h call = none_absurd (sym call)
 reply_of-prots m n (Mmap len prot place) h call = same_mmap m n len prot place (same_mapped m n h)
 reply_of-prots m n (Munmap addr len) h call = refl
 reply_of-prots m n (Mremap addr old_len new_len may_move fixed) h call = same_mremap m n addr old_len new_len may_move fixed h
 reply_of-prots m n (DontNeed addr len) h call = same_dontneed m n addr len (same_mapped m n h)
+reply_of-prots m n _ h call = none_absurd (sym call)
 
 -- Replies of accesses
 
-unmade_of : (a b made : Bool) (v w : Reply) → a ≡ b → is_made v ≡ true → is_made (cond a v (Segv true)) ≡ false → cond b w (Segv true) ≡ cond a v (Segv true)
-unmade_of true b made v w h right un = none_absurd (sym un ∙ right)
-unmade_of false true made v w h right un = none_absurd h
-unmade_of false false made v w h right un = refl
-
-some_prot : (c d : Cell) → Some c.prot ≡ Some d.prot → c.prot ≡ d.prot
-some_prot c d h = cc
-
 unmade : (form : Bool) (o p : Option Cell) (allows : Prot → Bool) (v w : Reply) → option_map (λ cell. cell.prot) o ≡ option_map (λ cell. cell.prot) p → is_made v ≡ true →
     is_made (cond form (access_reply o allows v) BadAccess) ≡ false → cond form (access_reply p allows w) BadAccess ≡ cond form (access_reply o allows v) BadAccess
-unmade false o p allows v w h right un = refl
-unmade true None None allows v w h right un = refl
-unmade true None (Some d) allows v w h right un = absurd (cc)
-unmade true (Some c) None allows v w h right un = absurd (cc)
-unmade true (Some c) (Some d) allows v w h right un = unmade_of (allows c.prot) (allows d.prot) true v w (ap allows (some_prot c d h)) right un
+unmade form o p allows v w h right un = grind (arith, nat_tests)
 
 -- that of an access which is not made sees no bytes
 pub reply_of-unmade : (m n : Memory) (command : Command) → prots m ≡ prots n → is_access command ≡ true → is_made (reply_of m command) ≡ false → reply_of n command ≡ reply_of m command
@@ -142,30 +121,12 @@ reply_of-unmade m n (Load addr width) h access un =
     unmade (is_aligned addr width) (m addr) (n addr) allows_load (Value (number_at m addr width)) (Value (number_at n addr width)) (ap (λ f. f addr) h) refl un
 reply_of-unmade m n (Store addr width value) h access un =
     unmade (is_aligned addr width && ltb value (256 ^ width)) (m addr) (n addr) allows_store Done Done (ap (λ f. f addr) h) refl un
-reply_of-unmade m n (Mmap len prot place) h access un = none_absurd access
 reply_of-unmade m n _ h access un = none_absurd access
-
-same_number : (m n : Memory) (addr width : ℕ) → ((i : ℕ) → i < width → m (addr + i) ≡ n (addr + i)) → number_at m addr width ≡ number_at n addr width
-same_number m n addr zero h = refl
-same_number m n addr (suc width) h =
-    let first : m addr ≡ n addr = rw add-zero at (h 0 (omega arith)) in
-    let rest : number_at m (addr + 1) width ≡ number_at n (addr + 1) width =
-    same_number m n (addr + 1) width (λ i l. let at : addr + 1 + i ≡ addr + suc i = omega arith in rw at (h (suc i) (omega arith))) in
-    ap (λ o. byte_of o + 256 * number_at m (addr + 1) width) first ∙ ap (λ k. byte_of (n addr) + 256 * k) rest
-
-loaded : (form : Bool) (m n : Memory) (addr width : ℕ) → form ≡ is_aligned addr width → ((at : ℕ) → at / 4096 ≡ addr / 4096 → m at ≡ n at) →
-    cond form (access_reply (m addr) allows_load (Value (number_at m addr width))) BadAccess ≡ cond form (access_reply (n addr) allows_load (Value (number_at n addr width))) BadAccess
-loaded false m n addr width form h = refl
-loaded true m n addr width form h =
-    let is = aligned_inside addr width (sym form) in
-    let inside = is.inside in
-    ap (λ o. access_reply o allows_load (Value (number_at m addr width))) (h addr refl)
-    ∙ ap (λ k. access_reply (n addr) allows_load (Value k)) (same_number m n addr width (λ i l. h (addr + i) (omega arith)))
 
 -- that of an access sees the cells of its page alone
 pub reply_of-page : (m n : Memory) (command : Command) → is_access command ≡ true → ((addr : ℕ) → addr / 4096 ≡ page_of command → m addr ≡ n addr) → reply_of m command ≡ reply_of n command
-reply_of-page m n (Load addr width) access h = loaded (is_aligned addr width) m n addr width refl h
-reply_of-page m n (Store addr width value) access h =
-    ap (λ o. cond (is_aligned addr width && ltb value (256 ^ width)) (access_reply o allows_store Done) BadAccess) (h addr refl)
-reply_of-page m n (Mmap len prot place) access h = none_absurd access
-reply_of-page m n _ access h = none_absurd access
+reply_of-page m n command access h = grind (arith, nat_tests)
+
+-- a load or store of the right form is answered so on no memory
+pub right_answered : (memory : Memory) (command : Command) → IsRightAccess command → reply_of memory command ≢ BadAccess
+right_answered memory command is = grind (arith, nat_tests)

@@ -1,4 +1,5 @@
 -- The runs of a set have its pages, and the areas of mapped pages their protections: so either tells what it is of.
+use Rattle.std.proofs.lemmas.Bool.Decides.{nat_tests}
 use Rattle.std.proofs.Common.{◌≡◌, ℕ, zero, suc, ◌+◌, ◌-◌, ◌<◌, ◌≤◌, ◌||◌, if◌then◌else◌, ⊎_elim, Bool, true, false, cond, ltb, Option, Some, None, is_some, List, [], ◌∷◌, ◌++◌, map, refl, sym, ap, ◌∙◌, subst, arith}
 use Rattle.std.specs.List.{AllByRecursion}
 use Rattle.std.proofs.Math.Bool.{or-true}
@@ -6,15 +7,14 @@ use Rattle.std.specs.Cmp.{both_ways}
 use Rattle.std.specs.Ordering.{nat_cmp}
 use Rattle.std.specs.FinMap.{FinMap, get}
 use Rattle.std.specs.FinSet.{FinSet, contains}
-use Rattle.std.proofs.lemmas.Bool.{eqb-true, lt-ltb}
+use Rattle.std.proofs.lemmas.Bool.{lt-ltb}
 use Rattle.mig_base.specs.declared.Area.{Area}
 use Rattle.mig_base.specs.declared.Prot.{Prot}
-use Rattle.mig_base.specs.declared.Prot.TheVariants.{NoAccess}
 use Rattle.mig_base.specs.declared.TheConstants.{HIGH_PAGE}
-use Rattle.mig_base.specs.Codes.{prot_number, prot_numbered, prot_numbered-prot_number}
+use Rattle.mig_base.specs.Codes.{prot_number}
 use Rattle.mig_base.specs.PageSets.{in_runs}
 use Rattle.mig_base.specs.Ranges.{in_range}
-use Rattle.mig_base.specs.Sets.{pages_where, run_length}
+use Rattle.mig_base.specs.Sets.{run_length}
 use Rattle.mig_base.proofs.PageLemmas.{same_pages}
 use Rattle.mig_base.proofs.RangeLemmas.{in_range-true}
 use Rattle.mig_base.proofs.SetLemmas.{same_members, member_below, member_run}
@@ -36,16 +36,6 @@ run_length-covers set first (suc bound) (suc n) below all =
     let here : contains set first ≡ true = let e : first + 0 ≡ first = omega arith in rw e at (all 0 (omega arith)) in
     let more = run_length-covers set (1 + first) bound n (omega arith) (λ j l. let e : 1 + first + j ≡ first + suc j = omega arith in rw e (all (suc j) (omega arith))) in
     rw here (omega (arith, more))
-
--- and no longer than the bound
-pub run_length-bound : (set : FinSet nat_cmp) (first bound : ℕ) → run_length set first bound ≤ bound
-unfolding run_length
-run_length-bound set first zero = omega arith
-run_length-bound set first (suc bound) =
-    elim (contains set first) as (λ b. cond b (1 + run_length set (1 + first) bound) 0 ≤ suc bound) [
-      | true ↦ let more = run_length-bound set (1 + first) bound in omega (arith, more)
-      | false ↦ omega arith
-    ]
 
 -- Numbers that pass a test
 
@@ -80,9 +70,7 @@ all-append P (n ∷ a) b x y = (x.0, all-append P a b x.1 y)
 pub all_listed : (P : ℕ → Type 0) (test : ℕ → Bool) (bound : ℕ) → ((k : ℕ) → k < bound → P k) → AllByRecursion P (list_below test bound)
 unfolding list_below
 all_listed P test zero are = tt
-all_listed P test (suc bound) are =
-    all-append P (list_below test bound) (cond (test bound) (bound ∷ []) []) (all_listed P test bound (λ k l. are k (omega arith)))
-    (elim (test bound) as (λ b. AllByRecursion P (cond b (bound ∷ []) [])) [ true ↦ (are bound (omega arith), tt) | false ↦ tt ])
+all_listed P test (suc bound) are = grind (arith, nat_tests, all-append, all_listed P test bound (λ k l. are k (omega arith)))
 
 -- where the run of a number begins, and what holds of each number from there on
 record BeginsAt (begins : ℕ → Bool) (Passes : ℕ → Type 0) (q : ℕ) : Type 0 where
@@ -95,16 +83,7 @@ begins_here : (begins : ℕ → Bool) (Passes : ℕ → Type 0) (q : ℕ) → be
 begins_here begins Passes q is passes = record { first = q; low = omega arith; is = is; all = λ j l m. let at : q ≡ j = omega arith in subst Passes at passes }
 
 begins_before : (begins : ℕ → Bool) (Passes : ℕ → Type 0) (q : ℕ) → Passes (suc q) → BeginsAt begins Passes q → BeginsAt begins Passes (suc q)
-begins_before begins Passes q passes before = record {
-  first = before.first;
-  low = let low = before.low in omega (arith, low);
-  is = before.is;
-  all = λ j l m.
-      ⊎_elim
-      (λ (less : j < suc q). before.all j l (omega arith))
-      (λ (at : j ≡ suc q). subst Passes (sym at) passes)
-      (below_or_at j (suc q) (omega arith));
-}
+begins_before begins Passes q passes before = grind (arith, nat_tests)
 
 -- The pages of a set
 
@@ -147,13 +126,8 @@ runs_of-same a b in_a in_b e = same_members a b (λ q. sym (member-runs_of a in_
 
 -- The protections of mapped pages
 
-pub same_number : (prot other : Prot) → prot_number prot ≡ prot_number other → prot ≡ other
-same_number prot other e = sym (prot_numbered-prot_number prot) ∙ ap prot_numbered e ∙ prot_numbered-prot_number other
-
 same_prot_tells : (a b : Option Prot) → same_prot a b ≡ true → (a ≡ b) × (is_some a ≡ true)
-same_prot_tells (Some prot) (Some other) h = (ap (λ p. Some p) (same_number prot other (eqb-true (prot_number prot) (prot_number other) h)), refl)
-same_prot_tells (Some prot) None h = none_absurd h
-same_prot_tells None b h = none_absurd h
+same_prot_tells a b h = grind (arith, nat_tests)
 
 pub same_prot-self : (prot : Prot) → same_prot (Some prot) (Some prot) ≡ true
 same_prot-self prot = eqb-self (prot_number prot)
@@ -174,24 +148,14 @@ prot_in (area ∷ areas) q = if in_range area.first area.count q then Some area.
 
 -- the pages of the area that begins at a page have its protection
 area_tells : (areas : FinMap nat_cmp Prot) (first q : ℕ) → in_range first (area_at areas first).count q ≡ true → get areas q ≡ Some (area_at areas first).prot
-area_tells areas first q h =
-    let there = member_run (pages_where (λ page. same_prot (get areas first) (get areas page))) first HIGH_PAGE q h in
-    let same = same_prot_tells (get areas first) (get areas q) (and_second (ltb q HIGH_PAGE) (same_prot (get areas first) (get areas q)) (sym (member_below (λ page. same_prot (get areas first) (get areas page)) HIGH_PAGE q) ∙ there)) in
-    sym same.0 ∙ sym (present_bytes (get areas first) NoAccess same.1)
+area_tells areas first q h = grind (arith, nat_tests, member_run, same_prot_tells, and_second, member_below, present_bytes)
 
 prots_covered : (areas : FinMap nat_cmp Prot) (firsts : List ℕ) (q : ℕ) → prot_in (map (area_at areas) firsts) q ≡ cond (covered (λ first q. in_range first (area_at areas first).count q) firsts q) (get areas q) None
 prots_covered areas [] q = refl
-prots_covered areas (first ∷ firsts) q =
-    elim (in_range first (area_at areas first).count q) as
-    (λ b. in_range first (area_at areas first).count q ≡ b → cond b (Some (area_at areas first).prot) (prot_in (map (area_at areas) firsts) q) ≡ cond (b || covered (λ first q. in_range first (area_at areas first).count q) firsts q) (get areas q) None) [
-      | true ↦ λ e. sym (area_tells areas first q e)
-      | false ↦ λ e. prots_covered areas firsts q
-    ] refl
+prots_covered areas (first ∷ firsts) q = grind (arith, nat_tests, prot_in, covered, area_tells, prots_covered areas firsts q)
 
 area_covers : (areas : FinMap nat_cmp Prot) (prot : Prot) (first q : ℕ) → first ≤ q → q < HIGH_PAGE → ((j : ℕ) → first ≤ j → j ≤ q → get areas j ≡ Some prot) → in_range first (area_at areas first).count q ≡ true
-area_covers areas prot first q low below all =
-    run_covers (pages_where (λ page. same_prot (get areas first) (get areas page))) first q low below
-    (λ j l m. member_below (λ page. same_prot (get areas first) (get areas page)) HIGH_PAGE j ∙ rw (lt-ltb j HIGH_PAGE (omega arith), all first (omega arith) low, all j l m) (same_prot-self prot))
+area_covers areas prot first q low below all = grind (arith, nat_tests, run_covers, member_below, lt-ltb, same_prot-self)
 
 in_areas_of : (areas : FinMap nat_cmp Prot) (prot : Prot) (q : ℕ) → q < HIGH_PAGE → get areas q ≡ Some prot → covered (λ first q. in_range first (area_at areas first).count q) (list_below (begins_area areas) HIGH_PAGE) q ≡ true
 in_areas_of areas prot q below h =
@@ -200,15 +164,11 @@ in_areas_of areas prot q below h =
     covered-listed (λ first q. in_range first (area_at areas first).count q) (begins_area areas) HIGH_PAGE begins.first q (omega (arith, low)) begins.is (area_covers areas prot begins.first q low below begins.all)
 
 all_shown : (b : Bool) (o : Option Prot) → ((prot : Prot) → o ≡ Some prot → b ≡ true) → cond b o None ≡ o
-all_shown true o h = refl
-all_shown false None h = refl
-all_shown false (Some prot) h = none_absurd (h prot refl)
+all_shown b o h = grind (arith, nat_tests)
 
 -- mapped pages have the protections of their areas
 pub prot_in-areas_of : (areas : FinMap nat_cmp Prot) → AreMappedBelow areas → (q : ℕ) → prot_in (areas_of areas) q ≡ get areas q
-prot_in-areas_of areas below q =
-    prots_covered areas (list_below (begins_area areas) HIGH_PAGE) q
-    ∙ all_shown (covered (λ first q. in_range first (area_at areas first).count q) (list_below (begins_area areas) HIGH_PAGE) q) (get areas q) (λ prot e. in_areas_of areas prot q (below q (rw e refl)) e)
+prot_in-areas_of areas below q = grind (arith, nat_tests, prots_covered, all_shown, covered, in_areas_of)
 
 pub areas_of-same : (a b : FinMap nat_cmp Prot) → AreMappedBelow a → AreMappedBelow b → areas_of a ≡ areas_of b → a ≡ b
 areas_of-same a b in_a in_b e = same_pages a b (λ q. sym (prot_in-areas_of a in_a q) ∙ ap (λ areas. prot_in areas q) e ∙ prot_in-areas_of b in_b q)

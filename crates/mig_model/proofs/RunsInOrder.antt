@@ -1,4 +1,5 @@
 -- The runs of a set are in order, and no other runs in order have its pages.
+use Rattle.std.proofs.lemmas.Bool.Decides.{nat_tests}
 use Rattle.std.proofs.Common.{◌≡◌, ℕ, zero, suc, ◌+◌, ◌-◌, ◌<◌, ◌≤◌, ◌&&◌, ◌||◌, ⊎_elim, Bool, true, false, cond, not, ltb, List, [], ◌∷◌, ◌++◌, map, refl, sym, ap, ◌∙◌, subst, arith}
 use Rattle.std.specs.Ordering.{nat_cmp}
 use Rattle.std.specs.FinSet.{FinSet, contains}
@@ -92,11 +93,7 @@ no_shorter from x y xs ys at hx hy same =
     (cases_lt x.count y.count)
 
 same_rest_by : (first count q : ℕ) (xs ys : List PageRun) → AreRunsFrom (first + count + 1) xs → AreRunsFrom (first + count + 1) ys → (in_range first count q || in_runs xs q) ≡ (in_range first count q || in_runs ys q) → in_runs xs q ≡ in_runs ys q
-same_rest_by first count q xs ys hx hy same =
-    ⊎_elim
-    (λ (less : q < first + count + 1). none_below_runs (first + count + 1) xs q hx less ∙ sym (none_below_runs (first + count + 1) ys q hy less))
-    (λ (past : first + count + 1 ≤ q). rw (in_range-false_above first count q (omega arith)) at same)
-    (cases_lt q (first + count + 1))
+same_rest_by first count q xs ys hx hy same = grind (arith, nat_tests, none_below_runs, in_range-false_above, cases_lt)
 
 -- runs in order that have the same pages are the same
 same_runs : (from : ℕ) (xs ys : List PageRun) → AreRunsFrom from xs → AreRunsFrom from ys → ((q : ℕ) → in_runs xs q ≡ in_runs ys q) → xs ≡ ys

@@ -1,18 +1,16 @@
 -- The host that the guest sees at the destination: what it has, and what it answers.
-use Rattle.std.proofs.Common.{◌≡◌, ℕ, ◌/◌, ◌%◌, ◌≤◌, ◌&&◌, Bool, true, false, cond, not, ltb, Option, Some, None, List, [], refl, sym, ap, ◌∙◌, ◌⊎◌, ⊎_elim, inl, inr, arith, is_some, unwrap_or, length}
-use Rattle.std.specs.Prelude.{slice_index}
+use Rattle.std.proofs.Common.{◌≡◌, ℕ, ◌/◌, ◌≤◌, ◌&&◌, Bool, true, false, cond, not, ltb, Option, Some, None, List, refl, sym, ap, ◌∙◌, ◌⊎◌, ⊎_elim, inl, inr, arith, is_some}
 use Rattle.std.specs.Option.{option_map, option_and_then}
 use Rattle.std.specs.Ordering.{nat_cmp}
 use Rattle.std.specs.FinMap.{FinMap, get, contains_key}
 use Rattle.std.specs.FinSet.{contains}
 use Rattle.std.proofs.lemmas.Bool.Decides.{nat_tests}
 use Rattle.std.proofs.lemmas.Bool.{or_left, le-ltb}
-use Rattle.mig_base.specs.declared.TheConstants.{HIGH_PAGE}
 use Rattle.mig_base.specs.declared.Prot.{Prot}
 use Rattle.mig_base.specs.declared.command.Command.{Command}
 use Rattle.mig_base.specs.declared.command.Reply.{Reply}
 use Rattle.mig_base.specs.declared.command.Access.TheVariants.{Answered, Missing, Protected}
-use Rattle.mig_base.specs.Flat.{Cell, reply_of}
+use Rattle.mig_base.specs.Flat.{reply_of}
 use Rattle.mig_base.proofs.PageLemmas.{get-map_below}
 use Rattle.mig_model.specs.Host.{Host, memory, IsSound}
 use Rattle.mig_base.specs.Commands.{is_access, page_of, is_store}
@@ -23,7 +21,6 @@ use Rattle.mig_model.proofs.ReplyOfLemmas.{prots, reply_of-prots, reply_of-page,
 use Rattle.mig_model.specs.Log.{present}
 use Rattle.mig_model.specs.Promises.{gone}
 use Rattle.mig_model.specs.Migration.{made}
-use Rattle.mig_model.proofs.Facts.{none_absurd, answered_as}
 
 abbrev pub PageMap : Type 0 → Type 0
 PageMap X = FinMap nat_cmp X
@@ -37,53 +34,29 @@ abbrev pub overlay : PageMap (List ℕ) → Option (List ℕ) → Option ℕ →
 overlay there o origin = elim o [ Some bytes ↦ Some bytes | None ↦ option_and_then (get there) origin ]
 
 none_unless : (o : Option ℕ) (b : Bool) → ((origin : ℕ) → o ≡ Some origin → b ≡ true) → b ≡ false → o ≡ None
-none_unless None b h is = refl
-none_unless (Some origin) b h is = none_absurd (sym is ∙ h origin refl)
+none_unless o b h is = grind (arith, nat_tests)
 
 -- a page that is not mapped is not owed, nor is one that does not pass any test that owed pages pass
 pub owed_none : (owed : ℕ → Option ℕ) (test : ℕ → Bool) (page : ℕ) → ((page origin : ℕ) → owed page ≡ Some origin → test page ≡ true) → test page ≡ false → owed page ≡ None
 owed_none owed test page h is = none_unless (owed page) (test page) (h page) is
 
-overlay_none : (there : PageMap (List ℕ)) (o : Option (List ℕ)) (origin : Option ℕ) → o ≡ None → origin ≡ None → overlay there o origin ≡ None
-overlay_none there o origin a b = ap (λ p. overlay there p origin) a ∙ ap (λ g. overlay there None g) b
-
 pub below_or_not : (page bound : ℕ) → (ltb page bound ≡ true) ⊎ (bound ≤ page)
 below_or_not page bound = grind (arith, nat_tests)
 
 pub unmapped_none : (here there : Host) (owed : ℕ → Option ℕ) (page : ℕ) → IsSound here → AreMapped here owed → get here.areas page ≡ None → seen_bytes here there owed page ≡ None
-unmapped_none here there owed page sound mapped h =
-    overlay_none there.bytes (get here.bytes page) (owed page) (sound.mapped page h) (owed_none owed (λ q. contains_key here.areas q) page mapped (ap is_some h))
+unmapped_none here there owed page sound mapped h = grind (arith, nat_tests)
 
 -- what the seen host has at each page
 pub get-seen : (here there : Host) (owed : ℕ → Option ℕ) (page : ℕ) → IsSound here → AreMapped here owed → get (seen_host here there owed).bytes page ≡ seen_bytes here there owed page
-get-seen here there owed page sound mapped =
-    get-map_below (seen_bytes here there owed) HIGH_PAGE page
-    ∙ ⊎_elim
-    (λ (low : ltb page HIGH_PAGE ≡ true). ap (λ b. cond b (seen_bytes here there owed page) None) low)
-    (λ (high : HIGH_PAGE ≤ page).
-    ap (λ b. cond b (seen_bytes here there owed page) None) (le-ltb page HIGH_PAGE high)
-    ∙ sym (unmapped_none here there owed page sound mapped (sound.bound page high)))
-    (below_or_not page HIGH_PAGE)
-
-whole_overlay : (there : PageMap (List ℕ)) (o : Option (List ℕ)) (origin : Option ℕ) (bytes : List ℕ) → ((bytes : List ℕ) → o ≡ Some bytes → length bytes ≡ 4096) →
-    ((page : ℕ) (bytes : List ℕ) → get there page ≡ Some bytes → length bytes ≡ 4096) → overlay there o origin ≡ Some bytes → length bytes ≡ 4096
-whole_overlay there (Some held) origin bytes own other h = own bytes h
-whole_overlay there None (Some page) bytes own other h = other page bytes h
-whole_overlay there None None bytes own other h = absurd (cc)
+get-seen here there owed page sound mapped = grind (arith, nat_tests, get-map_below, le-ltb, unmapped_none, below_or_not)
 
 pub IsSound-seen : (here there : Host) (owed : ℕ → Option ℕ) → IsSound here → IsSound there → AreMapped here owed → IsSound (seen_host here there owed)
-IsSound-seen here there owed sound far mapped =
-    record {
-      bound = sound.bound;
-      mapped = λ page h. get-seen here there owed page sound mapped ∙ unmapped_none here there owed page sound mapped h;
-      whole = λ page bytes h. whole_overlay there.bytes (get here.bytes page) (owed page) bytes (sound.whole page) far.whole (sym (get-seen here there owed page sound mapped) ∙ h);
-    }
+IsSound-seen here there owed sound far mapped = grind (arith, nat_tests, get-seen, unmapped_none)
 
 -- Replies
 
 prot_cell : (bytes : PageMap (List ℕ)) (addr : ℕ) (o : Option Prot) → option_map (λ cell. cell.prot) (cell_at bytes addr o) ≡ o
-prot_cell bytes addr None = refl
-prot_cell bytes addr (Some prot) = refl
+prot_cell bytes addr o = grind (arith, nat_tests)
 
 prots-memory : (host : Host) → prots (memory host) ≡ (λ addr. get host.areas (addr / 4096))
 prots-memory host = λ i addr. (ap (option_map (λ cell. cell.prot)) (memory-at host addr) ∙ prot_cell host.bytes addr (get host.areas (addr / 4096))) i
@@ -98,30 +71,20 @@ reply_of-seen_call here there owed command call = reply_of-prots (memory here) (
 
 -- a page with the same bytes has the same cells
 same_cells : (areas : PageMap Prot) (bytes other : PageMap (List ℕ)) (page addr : ℕ) → get bytes page ≡ get other page → addr / 4096 ≡ page → memory (record { areas = areas; bytes = bytes }) addr ≡ memory (record { areas = areas; bytes = other }) addr
-same_cells areas bytes other page addr h at =
-    let same : get bytes (addr / 4096) ≡ get other (addr / 4096) = ap (get bytes) at ∙ h ∙ sym (ap (get other) at) in
-    memory-at (record { areas = areas; bytes = bytes }) addr
-    ∙ ap {B = Option Cell} (λ o. option_map (λ prot. record { byte = slice_index (unwrap_or o []) (addr % 4096); prot = prot }) (get areas (addr / 4096))) same
-    ∙ sym (memory-at (record { areas = areas; bytes = other }) addr)
+same_cells areas bytes other page addr h at = grind (arith, nat_tests, memory-at)
 
 overlay_own : (there : PageMap (List ℕ)) (o : Option (List ℕ)) (origin : Option ℕ) → (is_some o ≡ true) ⊎ (origin ≡ None) → overlay there o origin ≡ o
-overlay_own there (Some held) origin h = refl
-overlay_own there None origin (inl h) = none_absurd h
-overlay_own there None origin (inr h) = ap (λ g. overlay there None g) h
+overlay_own there o origin h = grind (arith, nat_tests)
 
 -- a page that is present, or is not owed, is seen as it is
 pub seen_own : (here there : Host) (owed : ℕ → Option ℕ) (page : ℕ) → IsSound here → AreMapped here owed → (contains_key here.bytes page ≡ true) ⊎ (owed page ≡ None) → get (seen_host here there owed).bytes page ≡ get here.bytes page
 seen_own here there owed page sound mapped h = get-seen here there owed page sound mapped ∙ overlay_own there.bytes (get here.bytes page) (owed page) h
 
 answered_how : (made gone protect : Bool) (reply other : Reply) → cond (not made) (Answered reply) (cond gone Missing (cond protect Protected (Answered reply))) ≡ Answered other → (other ≡ reply) × ((made ≡ false) ⊎ (gone ≡ false))
-answered_how false gone protect reply other h = (answered_as reply other h, inl refl)
-answered_how true true protect reply other h = absurd (cc)
-answered_how true false true reply other h = absurd (cc)
-answered_how true false false reply other h = (answered_as reply other h, inr refl)
+answered_how made gone protect reply other h = grind (arith, nat_tests)
 
 here_or_none : (present missing : Bool) → (not present && missing) ≡ false → (present ≡ true) ⊎ (missing ≡ false)
-here_or_none true missing h = inl refl
-here_or_none false missing h = inr h
+here_or_none present missing h = grind (arith, nat_tests)
 
 -- an owed page is registered for missing faults
 abbrev pub AreWatched : Space → (ℕ → Option ℕ) → Type 0
@@ -137,8 +100,7 @@ pub record IsAnswered (space : Space) (there : Host) (owed : ℕ → Option ℕ)
   pub own : is_made reply ≡ true → (contains_key space.host.bytes (page_of command) ≡ true) ⊎ (contains space.object.missing (page_of command) ≡ false)
 
 own_of : (reply : Reply) (present missing : Bool) → (is_made reply ≡ false) ⊎ ((not present && missing) ≡ false) → is_made reply ≡ true → (present ≡ true) ⊎ (missing ≡ false)
-own_of reply present missing (inl un) made = none_absurd (sym un ∙ made)
-own_of reply present missing (inr h) made = here_or_none present missing h
+own_of reply present missing h made = grind (arith, nat_tests)
 
 pub answered_seen : (space : Space) (there : Host) (owed : ℕ → Option ℕ) (command : Command) (reply : Reply) → IsSoundSpace space → AreWatched space owed → is_access command ≡ true → access_of space command ≡ Answered reply → IsAnswered space there owed command reply
 answered_seen space there owed command reply sound watched access h =

@@ -1,5 +1,5 @@
 -- How many pages sets and maps have, compared.
-use Rattle.std.proofs.Common.{◌≡◌, ℕ, zero, suc, ◌+◌, ◌-◌, ◌≤◌, ◌&&◌, Bool, true, false, cond, ltb, refl, sym, ap, ◌∙◌, arith}
+use Rattle.std.proofs.Common.{◌≡◌, ℕ, zero, suc, ◌+◌, ◌-◌, ◌≤◌, Bool, true, false, cond, sym, ap, ◌∙◌, arith}
 use Rattle.std.specs.Ordering.{nat_cmp}
 use Rattle.std.specs.Cmp.{nat_cmp_total}
 use Rattle.std.specs.FinSet as finset
@@ -9,35 +9,27 @@ use Rattle.std.proofs.lemmas.Bool.Decides.{nat_tests}
 use Rattle.mig_base.specs.declared.TheConstants.{HIGH_PAGE}
 use Rattle.mig_base.specs.Ranges.{count_below}
 use Rattle.mig_base.specs.Sets.{set_below}
+use Rattle.mig_base.proofs.TestLemmas.{all_below}
 use Rattle.mig_base.proofs.SetLemmas.{len-set_below, member_below, same_members}
 
-one_or_none : (a b : Bool) → (a ≡ true → b ≡ true) → cond a 1 0 ≤ cond b 1 0
-one_or_none true true h = omega arith
-one_or_none true false h = absurd (false≢true (h refl))
-one_or_none false b h = omega arith
-
-sum_few : (a b c d : ℕ) → a ≤ c → b ≤ d → a + b ≤ c + d
-sum_few a b c d h k = omega (arith, h, k)
+more_if : (b c : Bool) (m n : ℕ) → (b ≡ true → c ≡ true) → m ≤ n → m + cond b 1 0 ≤ n + cond c 1 0
+more_if b c m n h l = grind (arith, nat_tests)
 
 -- a test that passes wherever another does passes as often at least
 pub count_below-few : (p q : ℕ → Bool) (bound : ℕ) → ((i : ℕ) → p i ≡ true → q i ≡ true) → count_below p bound ≤ count_below q bound
 unfolding count_below
 count_below-few p q zero h = omega arith
-count_below-few p q (suc bound) h = sum_few (count_below p bound) _ (count_below q bound) _ (count_below-few p q bound h) (one_or_none (p bound) (q bound) (h bound))
-
-below : (q bound : ℕ) (here : Bool) → (bound ≤ q → here ≡ false) → here ≡ (ltb q bound && here)
-below q bound here h = grind (arith, nat_tests)
+count_below-few p q (suc bound) h = more_if (p bound) (q bound) (count_below p bound) (count_below q bound) (h bound) (count_below-few p q bound h)
 
 -- a set whose pages lie below a bound
 pub len-below : (set : FinSet nat_cmp) (bound : ℕ) → ((q : ℕ) → bound ≤ q → contains set q ≡ false) → len set ≡ count_below (contains set) bound
 len-below set bound h =
-    ap len (same_members set (set_below (contains set) bound) (λ q. below q bound (contains set q) (h q) ∙ sym (member_below (contains set) bound q)))
+    ap len (same_members set (set_below (contains set) bound) (λ q. sym (member_below (contains set) bound q ∙ all_below q bound (contains set q) (h q))))
     ∙ len-set_below (contains set) bound
 
 -- what holds only where something else does holds nowhere else
 pub only_where : (one other : Bool) → (one ≡ true → other ≡ true) → other ≡ false → one ≡ false
-only_where true other h none = sym (h refl) ∙ none
-only_where false other h none = refl
+only_where one other h none = grind (arith, nat_tests)
 
 -- a part of such a set has no more pages than it
 pub len-part : (part set : FinSet nat_cmp) → ((q : ℕ) → contains part q ≡ true → contains set q ≡ true) → ((q : ℕ) → HIGH_PAGE ≤ q → contains set q ≡ false) → len part ≤ len set
@@ -49,8 +41,7 @@ len-part part set h low =
 
 -- a set without one of its pages has one less
 one_less : (here : Bool) (n m : ℕ) → m ≡ cond here (n - 1) n → here ≡ true → m ≡ n - 1
-one_less true n m h is = h
-one_less false n m h is = absurd (false≢true is)
+one_less here n m h is = grind (arith, nat_tests)
 
 pub len-removed : (set : FinSet nat_cmp) (page : ℕ) → contains set page ≡ true → len (finset.remove set page) ≡ len set - 1
 len-removed set page h = one_less (contains set page) (len set) _ (len-remove nat_cmp_total set page) h

@@ -1,21 +1,17 @@
 -- The owed table and its look-up once events are applied, and the page to which a page of the source is owed.
-use Rattle.std.proofs.Common.{◌≡◌, ℕ, ◌+◌, ◌-◌, ◌/◌, ◌<◌, ◌≤◌, Bool, true, false, eqb, ltb, Option, Some, None, List, [], ◌∷◌, refl, sym, ap, ◌∙◌, ◌⊎◌, ⊎_elim, arith, is_some, if◌then◌else◌}
+use Rattle.std.proofs.Common.{◌≡◌, ℕ, ◌+◌, ◌-◌, ◌<◌, ◌≤◌, Bool, true, false, eqb, Option, Some, None, List, [], ◌∷◌, sym, ap, ◌∙◌, ◌⊎◌, ⊎_elim, arith, is_some, if◌then◌else◌}
 use Rattle.std.specs.Ordering.{nat_cmp}
 use Rattle.std.specs.FinMap.{FinMap, get}
 use Rattle.std.proofs.lemmas.Bool.Decides.{nat_tests}
-use Rattle.std.proofs.lemmas.Bool.{false≢true, eqb-true, false_from_ne_true}
-use Rattle.std.proofs.lemmas.Option.{same_Some, none-some}
+use Rattle.std.proofs.lemmas.Bool.{false≢true, false_from_ne_true}
 use Rattle.mig_base.specs.declared.TheConstants.{HIGH_PAGE}
 use Rattle.mig_base.specs.declared.message.Message.{Message}
-use Rattle.mig_base.specs.declared.message.Message.TheVariants.{PageFault, Remap, Remove, Unmap}
 use Rattle.mig_base.specs.Ranges.{in_range}
 use Rattle.mig_base.proofs.RangeLemmas.{least_below_tells, least_below-is, least_below-some}
 use Rattle.mig_base.proofs.PageLemmas.{get-remove_range, get-moved_range}
 use Rattle.mig_model.specs.Userfault.{Noted}
 use Rattle.mig_model.specs.Invariant.{IsRight}
 use Rattle.mig_model.specs.Owed.{home, owed_after, owed_table_after, owes_to, settled_by}
-use Rattle.mig_model.specs.Migration.{start}
-use Rattle.mig_model.proofs.Facts.{none_absurd, eqb-self}
 
 -- no source page has two pages
 abbrev pub IsOneToOne : (ℕ → Option ℕ) → Type 0
@@ -23,17 +19,8 @@ IsOneToOne owed = (page other origin : ℕ) → owed page ≡ Some origin → ow
 
 -- The table and its look-up
 
--- a page of a range of equal length has its page in the other range
-all_carried : {A : Type 0} (to count q : ℕ) (a b rest : A) → (if in_range to count q then (if ltb (q - to) count then a else b) else rest) ≡ (if in_range to count q then a else rest)
-all_carried to count q a b rest = grind (arith, nat_tests)
-
 pub get-owed_table_after : (message : Message) (owed : FinMap nat_cmp ℕ) (page : ℕ) → get (owed_table_after message owed) page ≡ owed_after message (get owed) page
-get-owed_table_after (Remap from to len) owed page =
-    get-moved_range owed (from / 4096) (len / 4096) (to / 4096) (len / 4096) page None
-    ∙ all_carried (to / 4096) (len / 4096) page (get owed (from / 4096 + (page - to / 4096))) None (if in_range (from / 4096) (len / 4096) page then None else get owed page)
-get-owed_table_after (Remove start end) owed page = get-remove_range owed (start / 4096) (end / 4096 - start / 4096) page
-get-owed_table_after (Unmap start end) owed page = get-remove_range owed (start / 4096) (end / 4096 - start / 4096) page
-get-owed_table_after (PageFault addr write wp tid) owed page = refl
+get-owed_table_after message owed page = grind (arith, nat_tests, get-moved_range, get-remove_range)
 
 -- the same as functions
 pub owed_table_after-applied : (message : Message) (owed : FinMap nat_cmp ℕ) → get (owed_table_after message owed) ≡ owed_after message (get owed)
@@ -47,34 +34,19 @@ settled_by-applied noted events owed = ap (settled_by events) (owed_table_after-
 
 -- pages that are gone
 gone_value : (gone : Bool) (o : Option ℕ) (origin : ℕ) → (if gone then None else o) ≡ Some origin → o ≡ Some origin
-gone_value true o origin h = absurd (none-some origin h)
-gone_value false o origin h = h
-
-moved_value : (to from : Bool) (there here : ℕ) (a o : Option ℕ) (owed : ℕ → Option ℕ) (origin : ℕ) → owed there ≡ a → owed here ≡ o → (if to then a else if from then None else o) ≡ Some origin → (other : ℕ) × (owed other ≡ Some origin)
-moved_value true from there here a o owed origin p q h = (there, p ∙ h)
-moved_value false true there here a o owed origin p q h = absurd (none-some origin h)
-moved_value false false there here a o owed origin p q h = (here, q ∙ h)
+gone_value gone o origin h = grind (arith, nat_tests)
 
 -- each source page that is owed after an event was owed before
 pub values-after : (message : Message) (owed : ℕ → Option ℕ) (page origin : ℕ) → owed_after message owed page ≡ Some origin → (other : ℕ) × (owed other ≡ Some origin)
-values-after (Remap from to len) owed page origin h =
-    moved_value (in_range (to / 4096) (len / 4096) page) (in_range (from / 4096) (len / 4096) page) (from / 4096 + (page - to / 4096)) page _ _ owed origin refl refl h
-values-after (Remove start end) owed page origin h = (page, gone_value (in_range (start / 4096) (end / 4096 - start / 4096) page) (owed page) origin h)
-values-after (Unmap start end) owed page origin h = (page, gone_value (in_range (start / 4096) (end / 4096 - start / 4096) page) (owed page) origin h)
-values-after (PageFault addr write wp tid) owed page origin h = (page, h)
+values-after message owed page origin h = grind (arith, nat_tests)
 
 pub values-settled : (events : List Noted) (owed : ℕ → Option ℕ) (page origin : ℕ) → settled_by events owed page ≡ Some origin → (other : ℕ) × (owed other ≡ Some origin)
 values-settled [] owed page origin h = (page, h)
-values-settled (noted ∷ events) owed page origin h =
-    let later = values-settled events (owed_after noted.message owed) page origin h in values-after noted.message owed later.0 origin later.1
+values-settled (noted ∷ events) owed page origin h = grind (arith, nat_tests, values-after, values-settled events (owed_after noted.message owed) page origin h)
 
 -- where nothing is owed nothing will be
 pub none-after : (message : Message) (owed : ℕ → Option ℕ) → ((page : ℕ) → owed page ≡ None) → (page : ℕ) → owed_after message owed page ≡ None
-none-after message owed none page =
-    elim (owed_after message owed page) as (λ o. owed_after message owed page ≡ o → o ≡ None) [
-      | None ↦ λ e. refl
-      | Some origin ↦ λ e. let value = values-after message owed page origin e in absurd (none-some origin (sym (none value.0) ∙ value.1))
-    ] refl
+none-after message owed none page = grind (arith, nat_tests)
 
 pub none-settled : (events : List Noted) (owed : ℕ → Option ℕ) → ((page : ℕ) → owed page ≡ None) → (page : ℕ) → settled_by events owed page ≡ None
 none-settled [] owed none page = none page
@@ -118,12 +90,7 @@ moved_one from to count owed one page other origin h k =
     (moved_from from to count owed page origin h)
 
 pub IsOneToOne-after : (message : Message) (owed : ℕ → Option ℕ) → IsOneToOne owed → IsOneToOne (owed_after message owed)
-IsOneToOne-after (Remap from to len) owed one page other origin h k = moved_one (from / 4096) (to / 4096) (len / 4096) owed one page other origin h k
-IsOneToOne-after (Remove start end) owed one page other origin h k =
-    one page other origin (gone_value (in_range (start / 4096) (end / 4096 - start / 4096) page) (owed page) origin h) (gone_value (in_range (start / 4096) (end / 4096 - start / 4096) other) (owed other) origin k)
-IsOneToOne-after (Unmap start end) owed one page other origin h k =
-    one page other origin (gone_value (in_range (start / 4096) (end / 4096 - start / 4096) page) (owed page) origin h) (gone_value (in_range (start / 4096) (end / 4096 - start / 4096) other) (owed other) origin k)
-IsOneToOne-after (PageFault addr write wp tid) owed one page other origin h k = one page other origin h k
+IsOneToOne-after message owed one page other origin h k = grind (arith, nat_tests, moved_one, gone_value)
 
 pub IsOneToOne-settled : (events : List Noted) (owed : ℕ → Option ℕ) → IsOneToOne owed → IsOneToOne (settled_by events owed)
 IsOneToOne-settled [] owed one = one
@@ -131,30 +98,17 @@ IsOneToOne-settled (noted ∷ events) owed one = IsOneToOne-settled events (owed
 
 -- Pages of the address space
 
-moved_below : (from to count high : ℕ) (owed : ℕ → Option ℕ) (page origin : ℕ) → to + count ≤ high → (owed page ≡ Some origin → page < high) → moved from to count owed page ≡ Some origin → page < high
-moved_below from to count high owed page origin inside below h =
-    ⊎_elim
-    (λ (a : (to ≤ page) × (page < to + count) × (owed (from + (page - to)) ≡ Some origin)). let l = a.1 in omega arith)
-    (λ (a : ((page < from) ⊎ (from + count ≤ page)) × (owed page ≡ Some origin)). below a.1)
-    (moved_from from to count owed page origin h)
-
 -- owed pages lie in the address space, and still do after an event that is right
 pub owed_below-after : (message : Message) (owed : ℕ → Option ℕ) → IsRight message → ((page origin : ℕ) → owed page ≡ Some origin → page < HIGH_PAGE) → (page origin : ℕ) → owed_after message owed page ≡ Some origin → page < HIGH_PAGE
-owed_below-after (Remap from to len) owed right below page origin h =
-    moved_below (from / 4096) (to / 4096) (len / 4096) HIGH_PAGE owed page origin right.3 (below page origin) h
-owed_below-after (Remove start end) owed right below page origin h = below page origin (gone_value (in_range (start / 4096) (end / 4096 - start / 4096) page) (owed page) origin h)
-owed_below-after (Unmap start end) owed right below page origin h = below page origin (gone_value (in_range (start / 4096) (end / 4096 - start / 4096) page) (owed page) origin h)
-owed_below-after (PageFault addr write wp tid) owed right below page origin h = absurd right
+owed_below-after message owed right below page origin h = grind (arith, nat_tests)
 
 -- The page to which a source page is owed
 
 owes_told : (o : Option ℕ) (source : ℕ) → (elim o [ None ↦ false | Some origin ↦ eqb origin source ]) ≡ true → o ≡ Some source
-owes_told None source h = none_absurd h
-owes_told (Some origin) source h = ap Some (eqb-true origin source h)
+owes_told o source h = grind (arith, nat_tests)
 
 owes_so : (o : Option ℕ) (source : ℕ) → o ≡ Some source → (elim o [ None ↦ false | Some origin ↦ eqb origin source ]) ≡ true
-owes_so None source h = absurd (none-some source h)
-owes_so (Some origin) source h = ap (λ n. eqb n source) (same_Some origin source h) ∙ eqb-self source
+owes_so o source h = grind (arith, nat_tests)
 
 pub home_tells : (owed : FinMap nat_cmp ℕ) (source page : ℕ) → home owed source ≡ Some page → get owed page ≡ Some source
 home_tells owed source page h = owes_told (get owed page) source (least_below_tells (owes_to owed source) HIGH_PAGE page h)

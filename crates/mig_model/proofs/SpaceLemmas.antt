@@ -1,9 +1,9 @@
 -- What a space keeps over each load, store and map call.
+use Rattle.std.proofs.lemmas.Bool.Decides.{nat_tests}
 use Rattle.std.proofs.Common.{◌≡◌, ℕ, ◌+◌, ◌-◌, ◌/◌, ◌&&◌, ◌||◌, Bool, true, false, cond, not, eqb, ltb, Option, Some, None, List, refl, sym, ap, ◌∙◌, subst, arith, is_some}
 use Rattle.std.specs.Ordering.{nat_cmp}
 use Rattle.std.specs.FinMap.{FinMap, get, insert, contains_key}
 use Rattle.std.specs.FinSet.{FinSet, empty, contains, contains-empty}
-use Rattle.std.proofs.lemmas.Bool.{false≢true}
 use Rattle.mig_base.specs.declared.TheConstants.{HIGH_PAGE}
 use Rattle.mig_base.specs.declared.Prot.{Prot}
 use Rattle.mig_base.specs.declared.command.Errno.TheVariants.{Enomem}
@@ -23,11 +23,11 @@ use Rattle.mig_base.proofs.ReplyLemmas.{IsRemapped, mremap_told}
 use Rattle.mig_model.specs.Host.{Host, memory, host_changed, host_after, IsSound}
 use Rattle.mig_base.specs.Commands.{is_access}
 use Rattle.mig_base.proofs.BoundLemmas.{one_prot_some}
-use Rattle.mig_model.specs.Userfault.{Object, Mode, mode_at, fault_queued, waits_fault}
+use Rattle.mig_model.specs.Userfault.{Mode, mode_at, fault_queued}
 use Rattle.mig_model.specs.Space.{Space, fresh_space, IsSoundSpace, access_of, accessed_by, accessed, called, modes_after, protected_after, call_messages}
 use Rattle.mig_model.proofs.HostLemmas.{IsSound-empty, memory-none, get-put}
 use Rattle.mig_model.proofs.CommandLemmas.{IsSound-changed}
-use Rattle.mig_model.proofs.Facts.{none_absurd, queued_missing, queued_protect, answered_as, some_either}
+use Rattle.mig_model.proofs.Facts.{none_absurd, queued_missing, queued_protect, some_either}
 
 abbrev PageMap : Type 0 → Type 0
 PageMap X = FinMap nat_cmp X
@@ -50,19 +50,10 @@ sound_of space host parts = record { host = host; mapped = parts.mapped; present
 -- Ranges taken out
 
 both_left : (a b gone : Bool) → ((a && not gone) || (b && not gone)) ≡ true → (gone ≡ false) × ((a || b) ≡ true)
-both_left true true true h = none_absurd h
-both_left true false true h = none_absurd h
-both_left false true true h = none_absurd h
-both_left false false true h = none_absurd h
-both_left true b false h = (refl, refl)
-both_left false true false h = (refl, refl)
-both_left false false false h = none_absurd h
+both_left a b gone h = grind (arith, nat_tests)
 
 one_left : (a gone : Bool) → (a && not gone) ≡ true → (gone ≡ false) × (a ≡ true)
-one_left true true h = none_absurd h
-one_left true false h = (refl, refl)
-one_left false true h = none_absurd h
-one_left false false h = none_absurd h
+one_left a gone h = grind (arith, nat_tests)
 
 left_of : (s : Set) (first count page : ℕ) → contains (without s first count) page ≡ true → (in_range first count page ≡ false) × (contains s page ≡ true)
 left_of s first count page h = one_left (contains s page) (in_range first count page) (sym (member_without s first count page) ∙ h)
@@ -111,27 +102,15 @@ member_moved s from count to new_count page growth = member_below _ HIGH_PAGE pa
 
 moved_mapped : (low new old from : Bool) (m1 m2 p1 p2 mg pg : Bool) (a1 ag a2 : Option Prot) → ((m1 || p1) ≡ true → is_some a1 ≡ true) → is_some ag ≡ true → ((m2 || p2) ≡ true → is_some a2 ≡ true) →
     ((low && cond new (cond old m1 mg) (not from && m2)) || (low && cond new (cond old p1 pg) (not from && p2))) ≡ true → is_some (cond new (cond old a1 ag) (cond from None a2)) ≡ true
-moved_mapped false new old from m1 m2 p1 p2 mg pg a1 ag a2 one growth two h = none_absurd h
-moved_mapped true true true from m1 m2 p1 p2 mg pg a1 ag a2 one growth two h = one h
-moved_mapped true true false from m1 m2 p1 p2 mg pg a1 ag a2 one growth two h = growth
-moved_mapped true false old true m1 m2 p1 p2 mg pg a1 ag a2 one growth two h = none_absurd h
-moved_mapped true false old false m1 m2 p1 p2 mg pg a1 ag a2 one growth two h = two h
+moved_mapped low new old from m1 m2 p1 p2 mg pg a1 ag a2 one growth two h = grind (arith, nat_tests)
 
 moved_present : {X : Type 0} (low new old from p1 p2 : Bool) (b1 b2 : Option X) → (p1 ≡ true → is_some b1 ≡ true) → (p2 ≡ true → is_some b2 ≡ true) →
     (low && cond new (cond old p1 false) (not from && p2)) ≡ true → is_some (cond new (cond old b1 None) (cond from None b2)) ≡ true
-moved_present false new old from p1 p2 b1 b2 one two h = none_absurd h
-moved_present true true true from p1 p2 b1 b2 one two h = one h
-moved_present true true false from p1 p2 b1 b2 one two h = none_absurd h
-moved_present true false old true p1 p2 b1 b2 one two h = none_absurd h
-moved_present true false old false p1 p2 b1 b2 one two h = two h
+moved_present low new old from p1 p2 b1 b2 one two h = grind (arith, nat_tests)
 
 moved_watched : (low new old from p1 p2 w1 w2 wg : Bool) → (p1 ≡ true → w1 ≡ true) → (p2 ≡ true → w2 ≡ true) →
     (low && cond new (cond old p1 false) (not from && p2)) ≡ true → (low && cond new (cond old w1 wg) (not from && w2)) ≡ true
-moved_watched false new old from p1 p2 w1 w2 wg one two h = h
-moved_watched true true true from p1 p2 w1 w2 wg one two h = one h
-moved_watched true true false from p1 p2 w1 w2 wg one two h = none_absurd h
-moved_watched true false old true p1 p2 w1 w2 wg one two h = h
-moved_watched true false old false p1 p2 w1 w2 wg one two h = two h
+moved_watched low new old from p1 p2 w1 w2 wg one two h = grind (arith, nat_tests)
 
 moved_parts : (areas : PageMap Prot) (bytes : PageMap (List ℕ)) (missing protect protected : Set) (from count to new_count : ℕ) (mode : Mode) → contains_key areas from ≡ true → IsWatched areas bytes missing protect protected →
     IsWatched (moved_range areas from count to new_count (get areas from)) (moved_range bytes from count to new_count None) (moved_set missing from count to new_count mode.missing) (moved_set protect from count to new_count mode.protect) (moved_set protected from count to new_count false)
@@ -156,16 +135,6 @@ moved_parts areas bytes missing protect protected from count to new_count mode s
           (sym (member_moved protected from count to new_count page false) ∙ h);
     }
 
--- Messages leave the modes
-
-fault_missing : (waits : Bool) (object other : Object) → other.missing ≡ object.missing → (cond waits object other).missing ≡ object.missing
-fault_missing true object other h = refl
-fault_missing false object other h = h
-
-fault_protect : (waits : Bool) (object other : Object) → other.protect ≡ object.protect → (cond waits object other).protect ≡ object.protect
-fault_protect true object other h = refl
-fault_protect false object other h = h
-
 -- Map calls
 
 first_mapped : (space : Space) (addr old_len new_len target : ℕ) → IsRemapped (memory space.host) addr old_len new_len target → contains_key space.host.areas (addr / 4096) ≡ true
@@ -181,12 +150,8 @@ parts_called : (space : Space) (command : Command) (reply : Reply) → is_access
     IsWatched (host_changed space.host command reply).areas (host_changed space.host command reply).bytes (modes_after space.object command reply).missing (modes_after space.object command reply).protect (protected_after space.protected command reply)
 parts_called space (Load addr width) reply call is old = none_absurd (sym call)
 parts_called space (Store addr width value) reply call is old = none_absurd (sym call)
-parts_called space (Mmap len prot place) (At start) call is old =
-    taken_out space.host.areas (set_range space.host.areas (start / 4096) (pages_of len) prot) space.host.bytes space.object.missing space.object.protect space.protected (start / 4096) (pages_of len) old
-    (λ page out h. given space.host.areas (start / 4096) (pages_of len) page prot out h)
-parts_called space (Munmap addr len) Done call is old =
-    taken_out space.host.areas (remove_range space.host.areas (addr / 4096) (pages_of len)) space.host.bytes space.object.missing space.object.protect space.protected (addr / 4096) (pages_of len) old
-    (λ page out h. stays space.host.areas (addr / 4096) (pages_of len) page out h)
+parts_called space (Mmap len prot place) (At start) call is old = grind (arith, nat_tests, taken_out, given)
+parts_called space (Munmap addr len) Done call is old = grind (arith, nat_tests, taken_out, stays)
 parts_called space (Mremap addr old_len new_len may_move fixed) (At target) call is old =
     moved_parts space.host.areas space.host.bytes space.object.missing space.object.protect space.protected (addr / 4096) (pages_of old_len) (target / 4096) (pages_of new_len) (mode_at space.object (addr / 4096 + (pages_of old_len - 1)))
     (first_mapped space addr old_len new_len target (mremap_told (memory space.host) addr old_len new_len may_move fixed target is)) old
@@ -236,16 +201,7 @@ answered_sound space command access sound =
     }
 
 faulted_sound : (space : Space) (addr : ℕ) (write wp : Bool) (cpu : ℕ) → IsSoundSpace space → IsSoundSpace (record space { object = fault_queued space.object addr write wp cpu })
-faulted_sound space addr write wp cpu sound =
-    let new = fault_queued space.object addr write wp cpu in
-    let missing : new.missing ≡ space.object.missing = fault_missing (waits_fault space.object.faults addr wp) space.object _ refl in
-    let protect : new.protect ≡ space.object.protect = fault_protect (waits_fault space.object.faults addr wp) space.object _ refl in
-    record {
-      host = sound.host;
-      mapped = λ page h. sound.mapped page (ap (λ s. contains s page || contains space.object.protect page) (sym missing) ∙ ap (λ s. contains new.missing page || contains s page) (sym protect) ∙ h);
-      present = sound.present;
-      watched = λ page h. ap (λ s. contains s page) protect ∙ sound.watched page h;
-    }
+faulted_sound space addr write wp cpu sound = grind (arith, nat_tests)
 
 accessed_sound : (access : Access) (space : Space) (cpu : ℕ) (command : Command) → is_access command ≡ true → IsSoundSpace space → IsSoundSpace (accessed_by access space cpu command)
 accessed_sound (Answered reply) space cpu command is sound = answered_sound space command is sound
@@ -259,9 +215,7 @@ pub no_member : (page : ℕ) → contains {R = nat_cmp} empty page ≡ false
 no_member page = contains-empty nat_cmp page
 
 none_registered : (a b : Bool) → a ≡ false → b ≡ false → (a || b) ≡ true → ⊥
-none_registered true b ha hb h = false≢true (sym ha)
-none_registered false true ha hb h = false≢true (sym hb)
-none_registered false false ha hb h = false≢true h
+none_registered a b ha hb h = grind (arith, nat_tests)
 
 pub IsSoundSpace-fresh : IsSoundSpace fresh_space
 IsSoundSpace-fresh =
@@ -275,10 +229,7 @@ IsSoundSpace-fresh =
 -- What an access answers
 
 answered_reply : (made missing protect : Bool) (reply other : Reply) → cond (not made) (Answered reply) (cond missing Missing (cond protect Protected (Answered reply))) ≡ Answered other → other ≡ reply
-answered_reply false missing protect reply other h = answered_as reply other h
-answered_reply true true protect reply other h = absurd (cc)
-answered_reply true false true reply other h = absurd (cc)
-answered_reply true false false reply other h = answered_as reply other h
+answered_reply made missing protect reply other h = grind (arith, nat_tests)
 
 pub access_reply : (space : Space) (command : Command) (reply : Reply) → access_of space command ≡ Answered reply → reply ≡ reply_of (memory space.host) command
 access_reply space command reply h = answered_reply _ _ _ (reply_of (memory space.host) command) reply h

@@ -1,5 +1,6 @@
 -- The length of a text is what the machine counts.
-use Rattle.std.proofs.Common.{◌≡◌, ℕ, zero, suc, ◌*◌, Bool, true, false, cond, Option, Some, None, List, [], ◌∷◌, ◌++◌, length, refl, ap, ◌∙◌, arith}
+use Rattle.std.proofs.lemmas.Bool.Decides.{nat_tests}
+use Rattle.std.proofs.Common.{◌≡◌, ℕ, zero, suc, ◌*◌, Bool, true, cond, Option, List, [], ◌∷◌, length, refl, ap, ◌∙◌, arith}
 use Rattle.std.specs.List.{flat_map, AllByRecursion}
 use Rattle.std.specs.Int.{w32, to_be_bytes}
 use Rattle.std.specs.Ordering.{nat_cmp}
@@ -12,21 +13,17 @@ use Rattle.mig_base.specs.declared.Prot.{Prot}
 use Rattle.mig_base.specs.declared.Run.{Run as PageRun}
 use Rattle.mig_base.specs.declared.TheConstants.{HIGH_PAGE}
 use Rattle.mig_base.specs.declared.command.Command.{Command}
-use Rattle.mig_base.specs.declared.command.Command.TheVariants.{Load, Store}
 use Rattle.mig_base.specs.Ranges.{count_below}
-use Rattle.mig_model.specs.Texts.{list_below, begins_run, run_at, runs_of, begins_area, area_at, areas_of, Version, has_frame, run_text, runs_text, area_text, areas_text, command_text, commands_text, body_text, text, run_count, area_count, runs_len, areas_len, command_len, commands_len, body_len, text_len, HasWholePages}
+use Rattle.mig_model.specs.Texts.{list_below, begins_run, run_at, runs_of, begins_area, area_at, areas_of, Version, has_frame, run_text, runs_text, area_text, areas_text, command_text, body_text, text, run_count, area_count, runs_len, areas_len, command_len, commands_len, body_len, text_len, HasWholePages}
 use Rattle.mig_model.specs.Wire.{Frame}
-use Rattle.mig_model.specs.Wire.Frame.{Advise, Page, Zero, Run, Discard, Package, End, Resume, Request, Recv, Done}
 
 one_if : (b : Bool) (n : ℕ) → length (cond b (n ∷ []) []) ≡ cond b 1 0
-one_if true n = refl
-one_if false n = refl
+one_if b n = grind (arith, nat_tests)
 
 pub length-list_below : (test : ℕ → Bool) (bound : ℕ) → length (list_below test bound) ≡ count_below test bound
 unfolding list_below count_below
 length-list_below test zero = refl
-length-list_below test (suc bound) =
-    omega (arith, length-append (list_below test bound) (cond (test bound) (bound ∷ []) []), length-list_below test bound, one_if (test bound) bound)
+length-list_below test (suc bound) = grind (arith, nat_tests, length-append, one_if, length-list_below test bound)
 
 length-runs_of : (pages : FinSet nat_cmp) → length (runs_of pages) ≡ run_count pages
 unfolding run_count
@@ -39,8 +36,7 @@ length-areas_of areas = length-map (list_below (begins_area areas) HIGH_PAGE) (a
 -- texts of one length, one behind the other
 length-flat_map_same : {A : Type 0} (text : A → List ℕ) (size : ℕ) (xs : List A) → AllByRecursion (λ x. length (text x) ≡ size) xs → length (flat_map text xs) ≡ size * length xs
 length-flat_map_same text size [] h = omega arith
-length-flat_map_same text size (x ∷ xs) h =
-    omega (arith, ap length (flat_map-cons text x xs), length-append (text x) (flat_map text xs), h.0, length-flat_map_same text size xs h.1)
+length-flat_map_same text size (x ∷ xs) h = grind (arith, nat_tests, flat_map-cons, length-append, length-flat_map_same text size xs h.1)
 
 length-runs : (runs : List PageRun) → length (flat_map run_text runs) ≡ 8 * length runs
 length-runs [] = refl
@@ -57,37 +53,14 @@ length-areas_text : (areas : FinMap nat_cmp Prot) → length (areas_text (areas_
 length-areas_text areas = omega (arith, length-append (to_be_bytes w32 (length (areas_of areas))) (flat_map area_text (areas_of areas)), length-areas (areas_of areas), length-areas_of areas)
 
 length-command_text : (command : Option Command) → length (command_text command) ≡ command_len command
-length-command_text None = refl
-length-command_text (Some (Load addr width)) = refl
-length-command_text (Some (Store addr width value)) = refl
-length-command_text (Some command) = refl
+length-command_text command = grind (arith, nat_tests)
 
 length-commands : (commands : List (Option Command)) → length (flat_map command_text commands) ≡ commands_len commands
 length-commands [] = refl
-length-commands (command ∷ commands) =
-    omega (arith, ap length (flat_map-cons command_text command commands), length-append (command_text command) (flat_map command_text commands), length-command_text command, length-commands commands)
+length-commands (command ∷ commands) = grind (arith, nat_tests, flat_map-cons, length-append, length-command_text, length-commands commands)
 
 length-body_text : (frame : Frame) → HasWholePages frame → length (body_text frame) ≡ body_len frame
-length-body_text (Page page bytes) whole = omega (arith, length-append (to_be_bytes w32 page) bytes, whole)
-length-body_text (Run first pages) whole =
-    omega (arith, length-append (to_be_bytes w32 first ++ to_be_bytes w32 (length pages)) (flat_map (λ bytes. bytes) pages), length-flat_map_same (λ bytes. bytes) 4096 pages whole)
-length-body_text (Discard pages) whole = length-runs_text pages
-length-body_text (Package areas owed commands) whole =
-    omega (
-      arith,
-      length-append (areas_text (areas_of areas) ++ runs_text (runs_of owed)) (commands_text commands),
-      length-append (areas_text (areas_of areas)) (runs_text (runs_of owed)),
-      length-areas_text areas,
-      length-runs_text owed,
-      length-commands commands,
-    )
-length-body_text (Recv state owed) whole = ap suc (length-runs_text owed) ∙ omega arith
-length-body_text Advise whole = refl
-length-body_text (Zero page) whole = refl
-length-body_text (End urgent) whole = refl
-length-body_text Resume whole = refl
-length-body_text (Request page) whole = refl
-length-body_text Done whole = refl
+length-body_text frame whole = grind (arith, nat_tests, length-append, length-flat_map_same, length-runs_text, length-areas_text, length-commands)
 
 pub length-text : (version : Version) (epoch : ℕ) (frame : Frame) → has_frame version frame ≡ true → HasWholePages frame → length (text version epoch frame) ≡ text_len frame
 unfolding text

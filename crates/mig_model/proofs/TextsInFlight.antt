@@ -1,21 +1,18 @@
 -- The frames in flight carry whole pages, so each is as long as the machine counts.
-use Rattle.std.proofs.Common.{◌≡◌, ℕ, ◌+◌, ◌&&◌, ◌||◌, Bool, true, false, Some, List, [], ◌∷◌, length, refl, sym, subst}
+use Rattle.std.proofs.lemmas.Bool.Decides.{nat_tests}
+use Rattle.std.proofs.Common.{◌≡◌, ℕ, ◌+◌, ◌&&◌, ◌||◌, Bool, true, false, Some, List, [], ◌∷◌, length, refl, sym, subst, arith}
 use Rattle.std.specs.List.{AllByRecursion}
 use Rattle.std.specs.Ordering.{nat_cmp}
 use Rattle.std.specs.FinMap.{FinMap, get}
 use Rattle.mig_base.specs.declared.phase.DestPhase.{DestPhase}
-use Rattle.mig_base.specs.declared.phase.Received.{Received}
 use Rattle.mig_base.specs.declared.phase.SourcePhase.{SourcePhase}
 use Rattle.mig_base.specs.Tests.{is_empty}
 use Rattle.mig_model.specs.Texts.{HasWholePages, AreCounted}
 use Rattle.mig_model.specs.Texts.Version.{Two}
 use Rattle.mig_model.specs.Wire.{Frame, Sent, Copy, copies_in, run_copies}
-use Rattle.mig_model.specs.Wire.Frame.{Page, Run, Request, Done}
 use Rattle.mig_model.specs.Migration.{World}
-use Rattle.mig_model.specs.Invariant.{AreWhole, AreFaithful, IsSoundWorld, IsReceiving, copies_of, is_request, is_done, are_requests, are_requests_and_done}
+use Rattle.mig_model.specs.Invariant.{AreWhole, AreFaithful, IsSoundWorld, copies_of, is_request, is_done, are_requests, are_requests_and_done}
 use Rattle.mig_model.specs.Promises.{IsReached}
-use Rattle.mig_model.specs.Source.{Source}
-use Rattle.mig_model.specs.Destination.{Destination}
 use Rattle.mig_model.proofs.Delivery.{whole_parts}
 use Rattle.mig_model.proofs.EveryStep.{kept-reached, urgent-reached}
 use Rattle.mig_model.proofs.Facts.{none_absurd}
@@ -28,9 +25,7 @@ run_pages first [] whole = tt
 run_pages first (bytes ∷ pages) whole = (whole.0, run_pages (1 + first) pages whole.1)
 
 whole_pages : (frame : Frame) → AreWhole (copies_in frame) → HasWholePages frame
-whole_pages (Page page bytes) whole = whole.0
-whole_pages (Run first pages) whole = run_pages first pages whole
-whole_pages frame whole = tt
+whole_pages frame whole = grind (arith, nat_tests, run_pages)
 
 counted : (frames : List Sent) → AreWhole (copies_of frames) → AreCounted frames
 counted [] whole = tt
@@ -49,52 +44,25 @@ none_back : (back : List Sent) → back ≡ [] → AreWhole (copies_of back)
 none_back back none = subst (λ frames. AreWhole (copies_of frames)) (sym none) tt
 
 requests_by : (frame : Frame) (more : Bool) (rest : List Sent) → (more ≡ true → AreWhole (copies_of rest)) → (is_request frame && more) ≡ true → AreWhole (copies_of (record { epoch = 0; frame = frame } ∷ rest))
-requests_by (Request page) more rest then_so h = then_so h
-requests_by _ more rest then_so h = none_absurd h
+requests_by frame more rest then_so h = grind (arith, nat_tests)
 
 requests_whole : (back : List Sent) → are_requests back ≡ true → AreWhole (copies_of back)
 requests_whole [] h = tt
 requests_whole (sent ∷ rest) h = requests_by sent.frame (are_requests rest) rest (requests_whole rest) h
 
-none_behind : (rest : List Sent) → is_empty rest ≡ true → AreWhole (copies_of rest)
-none_behind [] h = tt
-none_behind (sent ∷ rest) h = none_absurd h
-
 done_by : (frame : Frame) (more : Bool) (rest : List Sent) → (more ≡ true → AreWhole (copies_of rest)) → (is_request frame && more || is_done frame && is_empty rest) ≡ true → AreWhole (copies_of (record { epoch = 0; frame = frame } ∷ rest))
-done_by (Request page) true rest then_so h = then_so refl
-done_by (Request page) false rest then_so h = none_absurd h
-done_by Done more rest then_so h = none_behind rest h
-done_by _ more rest then_so h = none_absurd h
+done_by frame more rest then_so h = grind (arith, nat_tests)
 
 requests_and_done_whole : (back : List Sent) → are_requests_and_done back ≡ true → AreWhole (copies_of back)
 requests_and_done_whole [] h = none_absurd h
 requests_and_done_whole (sent ∷ rest) h = done_by sent.frame (are_requests_and_done rest) rest (requests_and_done_whole rest) h
-
-receiving_whole : (source : Source) (destination : Destination) (state : Received) (back : List Sent) → IsReceiving source destination state back → AreWhole (copies_of back)
-receiving_whole source destination state back told = subst (λ frames. AreWhole (copies_of frames)) (sym told.first) (requests_whole told.rest told.requests)
 
 -- the world with its nodes in these phases
 abbrev in_phases : SourcePhase → DestPhase → World → World
 in_phases from to world = record world { source = record world.source { phase = from }; destination = record world.destination { phase = to } }
 
 back_whole_in : (from : SourcePhase) (to : DestPhase) (world : World) → world.up ≡ true → IsSoundWorld (in_phases from to world) → AreWhole (copies_of world.back.frames)
-back_whole_in SourcePhase.Stopped DestPhase.Running world up kept = requests_whole world.back.frames (kept.flight.wires up).1
-back_whole_in SourcePhase.Stopped DestPhase.Ended world up kept = requests_and_done_whole world.back.frames (kept.flight.wires up).1
-back_whole_in SourcePhase.Stopped DestPhase.Paused world up kept = absurd (kept.flight.wires up)
-back_whole_in SourcePhase.Stopped DestPhase.Idle world up kept = none_back world.back.frames (kept.flight.wires up).1
-back_whole_in SourcePhase.Stopped DestPhase.Advised world up kept = none_back world.back.frames (kept.flight.wires up).1
-back_whole_in SourcePhase.Stopped DestPhase.Discarding world up kept = none_back world.back.frames (kept.flight.wires up).1
-back_whole_in SourcePhase.Paused DestPhase.Advised world up kept = subst (λ frames. AreWhole (copies_of frames)) (sym (kept.flight.wires up).1) tt
-back_whole_in SourcePhase.Paused DestPhase.Running world up kept = receiving_whole _ _ Received.Running world.back.frames (kept.flight.wires up).1
-back_whole_in SourcePhase.Paused DestPhase.Ended world up kept = receiving_whole _ _ Received.Ended world.back.frames (kept.flight.wires up).1
-back_whole_in SourcePhase.Paused DestPhase.Paused world up kept = none_back world.back.frames (kept.flight.wires up).1
-back_whole_in SourcePhase.Paused DestPhase.Idle world up kept = absurd (kept.flight.wires up)
-back_whole_in SourcePhase.Paused DestPhase.Discarding world up kept = absurd (kept.flight.wires up)
-back_whole_in SourcePhase.Precopy DestPhase.Idle world up kept = none_back world.back.frames (kept.flight.wires up).1
-back_whole_in SourcePhase.Precopy DestPhase.Advised world up kept = none_back world.back.frames (kept.flight.wires up).1
-back_whole_in SourcePhase.Precopy _ world up kept = absurd (kept.flight.wires up)
-back_whole_in SourcePhase.Idle to world up kept = none_back world.back.frames (kept.flight.wires up).2
-back_whole_in SourcePhase.Released to world up kept = none_back world.back.frames (kept.flight.wires up).2
+back_whole_in from to world up kept = grind (arith, nat_tests, requests_whole, requests_and_done_whole, none_back)
 
 back_whole : (up : Bool) (world : World) → world.up ≡ up → IsSoundWorld world → AreWhole (copies_of world.back.frames)
 back_whole true world up kept = back_whole_in world.source.phase world.destination.phase world up kept

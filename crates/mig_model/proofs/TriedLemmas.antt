@@ -1,13 +1,11 @@
 -- A command that a processor tries at the destination: the destination's space stays in order with what is owed to it, and the host
 -- that the guest sees answers as its memory does and changes as the command says.
-use Rattle.std.proofs.Common.{◌≡◌, ℕ, ◌/◌, ◌*◌, Bool, true, false, cond, eqb, Option, Some, List, [], ◌∷◌, refl, sym, ap, ◌∙◌, subst, ◌⊎◌, ⊎_elim, inl, inr, is_some}
-use Rattle.std.specs.FinMap.{get, contains_key}
+use Rattle.std.proofs.lemmas.Bool.Decides.{nat_tests}
+use Rattle.std.proofs.Common.{◌≡◌, ℕ, ◌*◌, Bool, true, false, cond, Option, List, [], ◌∷◌, refl, sym, ap, ◌∙◌, subst, ◌⊎◌, ⊎_elim, inl, inr, arith}
+use Rattle.std.specs.FinMap.{contains_key}
 use Rattle.std.specs.FinSet.{contains}
-use Rattle.std.proofs.lemmas.Bool.{false≢true, eqb-true}
 use Rattle.mig_base.specs.declared.command.Command.{Command}
-use Rattle.mig_base.specs.declared.command.Command.TheVariants.{Load, Store, Mmap, Munmap, Mremap, DontNeed}
 use Rattle.mig_base.specs.declared.command.Reply.{Reply}
-use Rattle.mig_base.specs.declared.command.Reply.TheVariants.{Done}
 use Rattle.mig_base.specs.declared.command.Access.{Access}
 use Rattle.mig_base.specs.declared.command.Access.TheVariants.{Answered, Missing, Protected}
 use Rattle.mig_base.specs.declared.command.Entry.{Entry}
@@ -57,46 +55,12 @@ pub record IsTried (there : Host) (owed : ℕ → Option ℕ) (old new : Space) 
 -- one that sleeps
 faulted : (waits : Bool) (faults : List Noted) (there : Host) (owed : ℕ → Option ℕ) (space : Space) (cpu : ℕ) (command : Command) → IsReady space owed →
     IsTried there owed space (record space { object = cond waits space.object (record space.object { faults = faults }) }) cpu command Sleep
-faulted true faults there owed space cpu command ready = record { ready = ready; entered = Silent refl refl }
-faulted false faults there owed space cpu command ready =
-    record {
-      ready = record {
-        sound = record { host = ready.sound.host; mapped = ready.sound.mapped; present = ready.sound.present; watched = ready.sound.watched };
-        unprotected = ready.unprotected;
-        only_missing = ready.only_missing;
-        events = ready.events;
-        pairs = ready.pairs;
-      };
-      entered = Silent refl refl;
-    }
-
-put_still : {X : Type 0} (same : Bool) (held : X) (o : Option X) → (same ≡ true → ⊥) → is_some o ≡ false → is_some (cond same (Some held) o) ≡ false
-put_still true held o other h = absurd (other refl)
-put_still false held o other h = h
-
--- an owed page is not the one that is written
-not_written : (space : Space) (owed : ℕ → Option ℕ) (written page origin : ℕ) → ArePairs space owed → owed page ≡ Some origin →
-    (contains_key space.host.bytes written ≡ true) ⊎ (contains space.object.missing written ≡ false) → eqb page written ≡ true → ⊥
-not_written space owed written page origin pairs h own same =
-    let at = eqb-true page written same in
-    let is = pairs page origin h in
-    ⊎_elim
-    (λ (present : contains_key space.host.bytes written ≡ true). false≢true (sym is.1 ∙ ap (contains_key space.host.bytes) at ∙ present))
-    (λ (missing : contains space.object.missing written ≡ false). false≢true (sym missing ∙ sym (ap (contains space.object.missing) at) ∙ is.0))
-    own
+faulted waits faults there owed space cpu command ready = grind (arith, nat_tests)
 
 pairs_accessed : (space : Space) (owed : ℕ → Option ℕ) (command : Command) (reply : Reply) → is_access command ≡ true → ArePairs space owed →
     (is_made reply ≡ true → (contains_key space.host.bytes (page_of command) ≡ true) ⊎ (contains space.object.missing (page_of command) ≡ false)) →
     ArePairs (record space { host = host_changed space.host command reply }) owed
-pairs_accessed space owed (Load addr width) reply access pairs own page origin h = pairs page origin h
-pairs_accessed space owed (Store addr width value) Done access pairs own page origin h =
-    let is = pairs page origin h in (
-      is.0,
-      ap is_some (get-put space.host.bytes (addr / 4096) page _)
-          ∙ put_still (eqb page (addr / 4096)) _ (get space.host.bytes page) (not_written space owed (addr / 4096) page origin pairs h (own refl)) is.1,
-    )
-pairs_accessed space owed (Store addr width value) _ access pairs own page origin h = pairs page origin h
-pairs_accessed space owed _ reply access pairs own page origin h = none_absurd access
+pairs_accessed space owed command reply access pairs own page origin h = grind (arith, nat_tests, get-put, none_absurd)
 
 -- one that is answered
 answered : (there : Host) (owed : ℕ → Option ℕ) (space : Space) (cpu : ℕ) (command : Command) (reply : Reply) → IsSound there → is_access command ≡ true → IsReady space owed → access_of space command ≡ Answered reply →
@@ -139,12 +103,7 @@ access_tried Protected there owed space cpu command far access ready is = faulte
 -- what is settled after a map call: the owed relation has changed as the pages have
 pub settled_then : (space : Space) (owed : ℕ → Option ℕ) (cpu : ℕ) (command : Command) → IsReady space owed →
     settled_in (called space cpu command) owed ≡ owed_changed (settled_in space owed) command (reply_of (memory space.host) command)
-settled_then space owed cpu command ready =
-    let reply = reply_of (memory space.host) command in
-    let messages = call_messages space.object command reply in
-    settled-queued (modes_after space.object command reply) messages cpu owed
-    ∙ ap (λ events. settled_messages messages (settled_by events owed)) (modes_events space.object command reply)
-    ∙ settled_called space (settled_in space owed) command reply ready.sound (pairs_watched space (settled_in space owed) ready.pairs) refl
+settled_then space owed cpu command ready = grind (arith, nat_tests, settled-queued, settled_messages, modes_events, settled_called, pairs_watched)
 
 call_tried : (there : Host) (owed : ℕ → Option ℕ) (space : Space) (cpu : ℕ) (command : Command) → IsSound there → is_access command ≡ false → IsReady space owed →
     IsTried there owed space (called space cpu command) cpu command (call_took (reply_of (memory space.host) command) (queued_by space command))

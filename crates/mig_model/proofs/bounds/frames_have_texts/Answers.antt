@@ -1,5 +1,6 @@
 use Rattle.mig_model.proofs.Bounded.{frames_good}
-use Rattle.mig_model.proofs.TextLengths.{right_answered, text_short}
+use Rattle.mig_model.proofs.LengthBounds.{text_short}
+use Rattle.mig_model.proofs.ReplyOfLemmas.{right_answered}
 use Rattle.mig_model.proofs.Encodable.{encodable}
 use Rattle.mig_model.proofs.bounds.frames_have_texts.Goals as goal
 
