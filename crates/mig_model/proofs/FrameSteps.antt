@@ -73,15 +73,18 @@ pub record IsReady (cpus : ℕ) (world : World) : Type 0 where
   pub right : AreRight world
   pub many : length world.source.guest.cpus ≡ cpus
 
-no_pair : {X : Type 0} (page : ℕ) (value : X) → get {R = nat_cmp} finmap.empty page ≡ Some value → ⊥
-no_pair page value h = none-some value (sym (get-empty nat_cmp page) ∙ h)
+none_bytes : HasBytes finmap.empty
+none_bytes page bytes h = absurd (none-some bytes (sym (get-empty nat_cmp page) ∙ h))
+
+none_pages : ArePages no_pages
+none_pages page h = no_page page h
 
 pub limited-first : (cpus epoch rounds : ℕ) → AreLimited cpus (first_world_with cpus epoch rounds)
 limited-first cpus epoch rounds =
     record {
       areas = IsMapping-empty;
-      bytes = λ page bytes h. absurd (no_pair page bytes h);
-      sent_pages = λ page h. no_page page h;
+      bytes = none_bytes;
+      sent_pages = none_pages;
       started = λ h. absurd (false≢true (sym h));
       requested = tt;
       to_destination = λ c. tt;
@@ -100,46 +103,19 @@ with_host new areas bytes h = assumption
 with_forward : {cpus : ℕ} {from : SourcePhase} {epoch : ℕ} {host : Host} {sent : FinSet nat_cmp} {requests : List ℕ} {forward back urgent : List Sent} (new : List Sent) → (IsCpuCount cpus → AreBodies new) →
     IsLimited cpus from epoch host sent requests forward back urgent → IsLimited cpus from epoch host sent requests new back urgent
 with_forward new bodies h =
-    record {
-      areas = h.areas;
-      bytes = h.bytes;
-      sent_pages = h.sent_pages;
-      started = h.started;
-      requested = h.requested;
-      to_destination = bodies;
-      to_source = h.to_source;
-      on_urgent = h.on_urgent;
-    }
+    assumption
 
 -- other requests, and other frames on the wire back
 with_requests : {cpus : ℕ} {from : SourcePhase} {epoch : ℕ} {host : Host} {sent : FinSet nat_cmp} {requests : List ℕ} {forward back urgent : List Sent} (new : List ℕ) (frames : List Sent) → AreListed new → (IsCpuCount cpus → AreBodies frames) →
     IsLimited cpus from epoch host sent requests forward back urgent → IsLimited cpus from epoch host sent new forward frames urgent
 with_requests new frames listed bodies h =
-    record {
-      areas = h.areas;
-      bytes = h.bytes;
-      sent_pages = h.sent_pages;
-      started = h.started;
-      requested = listed;
-      to_destination = h.to_destination;
-      to_source = bodies;
-      on_urgent = h.on_urgent;
-    }
+    assumption
 
 -- other frames on the urgent wire
 with_urgent : {cpus : ℕ} {from : SourcePhase} {epoch : ℕ} {host : Host} {sent : FinSet nat_cmp} {requests : List ℕ} {forward back urgent : List Sent} (new : List Sent) → (IsCpuCount cpus → AreBodies new) →
     IsLimited cpus from epoch host sent requests forward back urgent → IsLimited cpus from epoch host sent requests forward back new
 with_urgent new bodies h =
-    record {
-      areas = h.areas;
-      bytes = h.bytes;
-      sent_pages = h.sent_pages;
-      started = h.started;
-      requested = h.requested;
-      to_destination = h.to_destination;
-      to_source = h.to_source;
-      on_urgent = bodies;
-    }
+    assumption
 
 guest_limited : {cpus : ℕ} → (ran : Bool) (world : World) (guest : Guest) → (ran ≡ false → IsMapping guest.space.host.areas × HasBytes guest.space.host.bytes) → AreLimited cpus world → AreLimited cpus (with_guest_by ran world guest)
 guest_limited true world guest new h = h
@@ -163,17 +139,11 @@ unused_next : (epoch : ℕ) → is_used epoch ≡ false → epoch + 1 < 42949672
 unused_next epoch h = grind (arith, nat_tests, h)
 
 start_limited : {cpus : ℕ} → (world : World) → is_used world.source.epoch ≡ false → AreLimited cpus world → AreLimited cpus (after_start world)
-start_limited world unused h =
-    record {
-      areas = h.areas;
-      bytes = h.bytes;
-      sent_pages = h.sent_pages;
-      started = λ s. unused_next world.source.epoch unused;
-      requested = h.requested;
-      to_destination = λ c. bodies-sending world.forward.frames (world.source.epoch + 1) (Advise ∷ []) (h.to_destination c) (tt, tt);
-      to_source = h.to_source;
-      on_urgent = h.on_urgent;
-    }
+start_limited {cpus = cpus} world unused h =
+    assumption (
+      unused_next world.source.epoch unused,
+      λ (c : IsCpuCount cpus). bodies-sending world.forward.frames (world.source.epoch + 1) (Advise ∷ []) (h.to_destination c) (tt, tt),
+    )
 
 -- the page that is sent is present
 sendable : (world : World) (page : ℕ) → IsSoundWorld world → least_of world.source.log.todo ≡ Some page → is_precopy world.source.phase ≡ true → is_changing world.source.guest ≡ false → is_present (space_of world.source) page ≡ true
@@ -189,18 +159,12 @@ inserted_pages : (set : FinSet nat_cmp) (page : ℕ) → ArePages set → IsPage
 inserted_pages set page are is q h = one_more (eqb q page) (contains set q) (λ e. subst IsPage (sym (eqb-true q page e)) is) (λ old. are q old) (sym (member_inserted set page q) ∙ h)
 
 send_limited : {cpus : ℕ} → (world : World) (page : ℕ) → IsSoundWorld world → is_present (space_of world.source) page ≡ true → AreLimited cpus world → AreLimited cpus (after_send world page)
-send_limited world page kept here h =
+send_limited {cpus = cpus} world page kept here h =
     let sound = kept.spaces.source_space.host in
-    record {
-      areas = h.areas;
-      bytes = h.bytes;
-      sent_pages = inserted_pages world.source.log.sent page h.sent_pages (present_page (space_of world.source).host page sound h.areas here);
-      started = h.started;
-      requested = h.requested;
-      to_destination = λ c. bodies-sending world.forward.frames world.source.epoch (page_frame page (bytes_of world.source page) ∷ []) (h.to_destination c) (page_good world.source page sound h.areas h.bytes here, tt);
-      to_source = h.to_source;
-      on_urgent = h.on_urgent;
-    }
+    assumption (
+      inserted_pages world.source.log.sent page h.sent_pages (present_page (space_of world.source).host page sound h.areas here),
+      λ (c : IsCpuCount cpus). bodies-sending world.forward.frames world.source.epoch (page_frame page (bytes_of world.source page) ∷ []) (h.to_destination c) (page_good world.source page sound h.areas h.bytes here, tt),
+    )
 
 -- the pages of a run: some, no more than a run may have, and all present
 record IsSendable (world : World) (first number : ℕ) : Type 0 where
@@ -241,21 +205,15 @@ end_below : (first number : ℕ) → 0 < number → first + (number - 1) < HIGH_
 end_below first number h l = omega (arith, h, l)
 
 run_limited : {cpus : ℕ} → (world : World) (first number : ℕ) → IsSoundWorld world → IsSendable world first number → AreLimited cpus world → AreLimited cpus (after_run world first number)
-run_limited world first number kept are h =
+run_limited {cpus = cpus} world first number kept are h =
     let sound = kept.spaces.source_space.host in
     let pages : (q : ℕ) → in_range first number q ≡ true → IsPage q = λ q i. present_page (space_of world.source).host q sound h.areas (are.present q i) in
     let end = end_below first number are.some (pages (first + (number - 1)) (last_in first number are.some)).1 in
     let frame = run_good world.source first number sound h.bytes are.some are.few (pages first (first_in first number are.some)).0 end in
-    record {
-      areas = h.areas;
-      bytes = h.bytes;
-      sent_pages = ranged_pages world.source.log.sent first number h.sent_pages pages;
-      started = h.started;
-      requested = h.requested;
-      to_destination = λ c. bodies-sending world.forward.frames world.source.epoch (Run first (run_of world.source first number) ∷ []) (h.to_destination c) (frame, tt);
-      to_source = h.to_source;
-      on_urgent = h.on_urgent;
-    }
+    assumption (
+      ranged_pages world.source.log.sent first number h.sent_pages pages,
+      λ (c : IsCpuCount cpus). bodies-sending world.forward.frames world.source.epoch (Run first (run_of world.source first number) ∷ []) (h.to_destination c) (frame, tt),
+    )
 
 read_host : (guest : Guest) (cpu : ℕ) (message : Message) → (read_guest guest cpu message).space.host ≡ guest.space.host
 read_host guest cpu (PageFault addr write wp tid) = refl
@@ -283,20 +241,13 @@ stopped_unreleased SourcePhase.Released h = sym h
 stopped_unreleased _ h = refl
 
 switch_limited : {cpus : ℕ} → (world : World) → IsReady cpus world → is_precopy world.source.phase ≡ true → AreLimited cpus world → AreLimited cpus (after_switch world)
-switch_limited world ready precopy h =
+switch_limited {cpus = cpus} world ready precopy h =
     let kept = ready.kept in
     let bare = not_run world.destination.has_run world.source.switched kept.phases.ran_after_switch (precopy_unswitched world.source.phase world.source.switched precopy kept.phases.source_phase) in
-    record {
-      areas = h.areas;
-      bytes = h.bytes;
-      sent_pages = h.sent_pages;
-      started = λ s. h.started (precopy_started world.source.phase precopy);
-      requested = h.requested;
-      to_destination = λ c. bodies-sending world.forward.frames world.source.epoch (switch_frames world.source) (h.to_destination c)
-          (switch_good world.source kept.spaces.source_space.host h.areas h.sent_pages (right_source world.destination.has_run world.source.guest world.destination.guest bare ready.right) (subst IsCpuCount (sym ready.many) c));
-      to_source = h.to_source;
-      on_urgent = h.on_urgent;
-    }
+    assumption (
+      h.started (precopy_started world.source.phase precopy),
+      λ (c : IsCpuCount cpus). bodies-sending world.forward.frames world.source.epoch (switch_frames world.source) (h.to_destination c) (switch_good world.source kept.spaces.source_space.host h.areas h.sent_pages (right_source world.destination.has_run world.source.guest world.destination.guest bare ready.right) (subst IsCpuCount (sym ready.many) c)),
+    )
 
 push_limited : {cpus : ℕ} → (world : World) (page : ℕ) → IsSoundWorld world → is_present (space_of world.source) page ≡ true → AreLimited cpus world → AreLimited cpus (after_push world page)
 push_limited world page kept here h =
@@ -392,43 +343,14 @@ bare_notrun world rest epoch owed kept up first paused =
 
 rebuilt_limited : {cpus : ℕ} → (switched : Bool) (world : World) (rest : List Sent) (owed : FinSet nat_cmp) → IsSoundWorld world → AllRight world.source.guest.cpus → length world.source.guest.cpus ≡ cpus → world.source.epoch < 2 ^ 32 → (IsCpuCount cpus → AreBodies rest) → AreLimited cpus world →
     AreLimited cpus (source_sends (record world { back = wire_behind rest }) (source_rebuilt Received.NotRun owed (record world.source { switched = switched })) (rebuild_frames Received.NotRun (record world.source { switched = switched })))
-rebuilt_limited true world rest owed kept right many epoch bodies h =
-    record {
-      areas = h.areas;
-      bytes = h.bytes;
-      sent_pages = h.sent_pages;
-      started = λ s. epoch;
-      requested = h.requested;
-      to_destination = λ c. bodies-sending world.forward.frames world.source.epoch (rebuild_frames Received.NotRun (record world.source { switched = true })) (h.to_destination c)
-          (rebuilt_good Received.NotRun (record world.source { switched = true }) kept.spaces.source_space.host h.areas (λ s. right) (subst IsCpuCount (sym many) c));
-      to_source = bodies;
-      on_urgent = h.on_urgent;
-    }
-rebuilt_limited false world rest owed kept right many epoch bodies h =
-    record {
-      areas = h.areas;
-      bytes = h.bytes;
-      sent_pages = λ page m. no_page page m;
-      started = λ s. epoch;
-      requested = h.requested;
-      to_destination = h.to_destination;
-      to_source = bodies;
-      on_urgent = h.on_urgent;
-    }
+rebuilt_limited {cpus = cpus} true world rest owed kept right many epoch bodies h =
+    assumption (λ (c : IsCpuCount cpus). bodies-sending world.forward.frames world.source.epoch (rebuild_frames Received.NotRun (record world.source { switched = true })) (h.to_destination c) (rebuilt_good Received.NotRun (record world.source { switched = true }) kept.spaces.source_space.host h.areas (λ s. right) (subst IsCpuCount (sym many) c)))
+rebuilt_limited {cpus = cpus} false world rest owed kept right many epoch bodies h =
+    assumption none_pages
 
 released_limited : {cpus : ℕ} → (world : World) (rest : List Sent) → world.source.epoch < 2 ^ 32 → (IsCpuCount cpus → AreBodies rest) → AreLimited cpus world →
     IsLimited cpus SourcePhase.Released world.source.epoch bare_host no_pages world.destination.requests world.forward.frames rest world.urgent.frames
-released_limited world rest epoch bodies h =
-    record {
-      areas = IsMapping-empty;
-      bytes = λ page bytes m. absurd (no_pair page bytes m);
-      sent_pages = λ page m. no_page page m;
-      started = λ s. epoch;
-      requested = h.requested;
-      to_destination = h.to_destination;
-      to_source = bodies;
-      on_urgent = h.on_urgent;
-    }
+released_limited world rest epoch bodies h = assumption (IsMapping-empty, none_bytes, none_pages)
 
 back_limited : {cpus : ℕ} → (frame : Frame) (epoch : ℕ) (rest : List Sent) (world : World) → IsReady cpus world → world.up ≡ true → world.source.epoch < 2 ^ 32 → world.back.frames ≡ record { epoch = epoch; frame = frame } ∷ rest → IsInPlaceBack world.source frame → (IsCpuCount cpus → AreBodies rest) →
     AreLimited cpus world → AreLimited cpus (after_deliver_back world (record { epoch = epoch; frame = frame }) rest)
@@ -436,16 +358,7 @@ back_limited (Recv Received.NotRun owed) epoch rest world ready up below first p
     rebuilt_limited world.source.switched world rest owed ready.kept
     (right_source world.destination.has_run world.source.guest world.destination.guest (bare_notrun world rest epoch owed ready.kept up first place.0) ready.right) ready.many below bodies h
 back_limited (Recv Received.Running owed) epoch rest world ready up below first place bodies h =
-    record {
-      areas = h.areas;
-      bytes = h.bytes;
-      sent_pages = h.sent_pages;
-      started = λ s. below;
-      requested = h.requested;
-      to_destination = h.to_destination;
-      to_source = bodies;
-      on_urgent = h.on_urgent;
-    }
+    assumption
 back_limited (Recv Received.Ended owed) epoch rest world ready up below first place bodies h = released_limited world rest below bodies h
 back_limited Done epoch rest world ready up below first place bodies h = released_limited world rest below bodies h
 back_limited (Request page) epoch rest world ready up below first place bodies h = with_requests world.destination.requests rest h.requested bodies h
@@ -462,30 +375,15 @@ break_limited : {cpus : ℕ} → (world : World) → AreLimited cpus world → A
 break_limited world h = with_forward [] (λ c. tt) (with_urgent [] (λ c. tt) (with_requests world.destination.requests [] h.requested (λ c. tt) h))
 
 notices_limited : {cpus : ℕ} → (world : World) → has_started world ≡ true → AreLimited cpus world → AreLimited cpus (after_notice world Side.Source)
-notices_limited world started h =
-    record {
-      areas = h.areas;
-      bytes = h.bytes;
-      sent_pages = h.sent_pages;
-      started = λ s. h.started (not-true (is_source_idle world.source.phase) started);
-      requested = h.requested;
-      to_destination = h.to_destination;
-      to_source = h.to_source;
-      on_urgent = h.on_urgent;
-    }
+notices_limited {cpus = cpus} world started h =
+    assumption (h.started (not-true (is_source_idle world.source.phase) started))
 
 resume_limited : {cpus : ℕ} → (world : World) → is_used world.source.epoch ≡ false → AreLimited cpus world → AreLimited cpus (after_resume world)
-resume_limited world unused h =
-    record {
-      areas = h.areas;
-      bytes = h.bytes;
-      sent_pages = h.sent_pages;
-      started = λ s. unused_next world.source.epoch unused;
-      requested = h.requested;
-      to_destination = λ c. bodies-sending world.forward.frames (world.source.epoch + 1) (Resume ∷ []) (h.to_destination c) (tt, tt);
-      to_source = h.to_source;
-      on_urgent = h.on_urgent;
-    }
+resume_limited {cpus = cpus} world unused h =
+    assumption (
+      unused_next world.source.epoch unused,
+      λ (c : IsCpuCount cpus). bodies-sending world.forward.frames (world.source.epoch + 1) (Resume ∷ []) (h.to_destination c) (tt, tt),
+    )
 
 -- Steps
 

@@ -92,36 +92,19 @@ released_not_paused h = cc
 start_urgent : (world : World) → IsSoundWorld world → is_source_idle world.source.phase ≡ true → AreSoundUrgent world → AreSoundUrgent (after_start world)
 start_urgent world kept idle h =
     let none = h.stopped (idle_unstopped world.source.phase idle) in
-    record {
-      copies = h.copies;
-      of_epoch = none_of_epoch (world.source.epoch + 1) world.urgent.frames none;
-      faithful = h.faithful;
-      stopped = λ s. none;
-      down = h.down;
-      ended = h.ended;
-      counted = h.counted;
-      told = subst (λ w. AreTold (world.source.epoch + 1) world.source.end_epoch world.source.urgent_sent (w ++ record { epoch = world.source.epoch + 1; frame = Advise } ∷ [])) (sym (idle_forward world kept idle)) (tt, tt);
-      fresh = λ up paused. absurd (precopy_not_paused paused);
-      none_taken = h.none_taken;
-      fits = h.fits;
-    }
+    assumption (
+      none_of_epoch (world.source.epoch + 1) world.urgent.frames none,
+      subst (λ w. AreTold (world.source.epoch + 1) world.source.end_epoch world.source.urgent_sent (w ++ record { epoch = world.source.epoch + 1; frame = Advise } ∷ [])) (sym (idle_forward world kept idle)) (tt, tt),
+      λ (paused : SourcePhase.Precopy ≡ SourcePhase.Paused). absurd {A = world.source.urgent_sent ≡ 0} (precopy_not_paused paused),
+    )
 
 switch_urgent : (world : World) → is_precopy world.source.phase ≡ true → AreSoundUrgent world → AreSoundUrgent (after_switch world)
 switch_urgent world precopy h =
     let none = h.stopped (precopy_unstopped world.source.phase precopy) in
-    record {
-      copies = h.copies;
-      of_epoch = h.of_epoch;
-      faithful = h.faithful;
-      stopped = λ s. none;
-      down = h.down;
-      ended = h.ended;
-      counted = h.counted;
-      told = told-sending world.source.epoch world.source.end_epoch world.source.urgent_sent world.forward.frames world.source.epoch (switch_frames world.source) h.told (tt, (tt, tt));
-      fresh = λ up paused. absurd (stopped_not_paused paused);
-      none_taken = h.none_taken;
-      fits = h.fits;
-    }
+    assumption (
+      told-sending world.source.epoch world.source.end_epoch world.source.urgent_sent world.forward.frames world.source.epoch (switch_frames world.source) h.told (tt, (tt, tt)),
+      λ (paused : SourcePhase.Stopped ≡ SourcePhase.Paused). absurd {A = world.source.urgent_sent ≡ 0} (stopped_not_paused paused),
+    )
 
 sent_urgent : (world : World) (page : ℕ) → AreSoundUrgent world → AreTold world.source.epoch world.source.end_epoch world.source.urgent_sent (sending world.forward.frames world.source.epoch (page_frame page (bytes_of world.source page) ∷ []))
 sent_urgent world page h =
@@ -133,20 +116,7 @@ run_urgent world first count h = told-sending world.source.epoch world.source.en
 
 end_urgent : (world : World) → AreSoundUrgent world → AreSoundUrgent (after_end world)
 end_urgent world h =
-    record {
-      copies = h.copies;
-      of_epoch = h.of_epoch;
-      faithful = h.faithful;
-      stopped = h.stopped;
-      down = h.down;
-      ended = h.ended;
-      counted = h.counted;
-      told = told-push world.source.epoch world.source.epoch world.source.urgent_sent world.forward.frames (record { epoch = world.source.epoch; frame = End world.source.urgent_sent })
-          (told_ended world.source.epoch world.source.end_epoch world.source.urgent_sent world.forward.frames h.told) (refl, refl);
-      fresh = h.fresh;
-      none_taken = h.none_taken;
-      fits = h.fits;
-    }
+    assumption (told-push world.source.epoch world.source.epoch world.source.urgent_sent world.forward.frames (record { epoch = world.source.epoch; frame = End world.source.urgent_sent }) (told_ended world.source.epoch world.source.end_epoch world.source.urgent_sent world.forward.frames h.told) (refl, refl))
 
 -- while the destination has ended End was sent in this epoch
 ended_told : (from : SourcePhase) (to : DestPhase) (source : Source) (node : Destination) (forward back urgent : List Sent) → is_stopped from ≡ true → to ≡ DestPhase.Ended →
@@ -193,37 +163,20 @@ moved_on : (world : World) (node : Destination) (rest : List Sent) (back : Wire)
     (node.phase ≡ DestPhase.Ended → world.urgent.frames ≡ []) → AreTold world.source.epoch world.source.end_epoch world.source.urgent_sent rest → AreSoundUrgent world →
     AreSoundUrgent (record world { destination = node; forward = wire_behind rest; back = back })
 moved_on world node rest back other same bare ended told h =
-    record {
-      copies = h.copies;
-      of_epoch = h.of_epoch;
-      faithful = h.faithful;
-      stopped = h.stopped;
-      down = h.down;
-      ended = ended;
-      counted = λ up p. h.counted up other ∙ ap (λ n. n + length world.urgent.frames) (sym same);
-      told = told;
-      fresh = h.fresh;
-      none_taken = λ r. same ∙ h.none_taken (bare r);
-      fits = h.fits;
-    }
+    assumption (
+      λ (up : world.up ≡ true) (p : node.phase ≢ DestPhase.Paused). h.counted up other ∙ ap (λ n. n + length world.urgent.frames) (sym same),
+      λ (r : node.has_run ≡ false). same ∙ h.none_taken (bare r),
+    )
 
 -- a frame that leaves the destination's phase and counts
 stays_on : (world : World) (node : Destination) (rest : List Sent) (back : Wire) → node.phase ≡ world.destination.phase → node.urgent_taken ≡ world.destination.urgent_taken → node.has_run ≡ world.destination.has_run →
     AreTold world.source.epoch world.source.end_epoch world.source.urgent_sent rest → AreSoundUrgent world → AreSoundUrgent (record world { destination = node; forward = wire_behind rest; back = back })
 stays_on world node rest back phase same ran told h =
-    record {
-      copies = h.copies;
-      of_epoch = h.of_epoch;
-      faithful = h.faithful;
-      stopped = h.stopped;
-      down = h.down;
-      ended = λ e. h.ended (sym phase ∙ e);
-      counted = λ up p. h.counted up (λ e. p (phase ∙ e)) ∙ ap (λ n. n + length world.urgent.frames) (sym same);
-      told = told;
-      fresh = h.fresh;
-      none_taken = λ r. same ∙ h.none_taken (sym ran ∙ r);
-      fits = h.fits;
-    }
+    assumption (
+      λ (e : node.phase ≡ DestPhase.Ended). h.ended (sym phase ∙ e),
+      λ (up : world.up ≡ true) (p : node.phase ≢ DestPhase.Paused). h.counted up (λ e. p (phase ∙ e)) ∙ ap (λ n. n + length world.urgent.frames) (sym same),
+      λ (r : node.has_run ≡ false). same ∙ h.none_taken (sym ran ∙ r),
+    )
 
 came_on : (ran : Bool) (node : Destination) (copy : Copy) → ((copy_came ran node copy).phase ≡ node.phase) × ((copy_came ran node copy).urgent_taken ≡ node.urgent_taken) × ((copy_came ran node copy).has_run ≡ node.has_run)
 came_on true node copy = (refl, refl, refl)
@@ -327,19 +280,7 @@ urgent_delivered world sent rest first ran h = urgent_taken_by sent.frame sent.e
 
 urgent_moved : (world : World) (n : ℕ) (sent : Sent) (rest : List Sent) → world.urgent.frames ≡ sent ∷ rest → is_short world.urgent sent.frame n ≡ true → AreSoundUrgent world → AreSoundUrgent (after_move_urgent world n)
 urgent_moved world n sent rest first short h =
-    record {
-      copies = h.copies;
-      of_epoch = h.of_epoch;
-      faithful = h.faithful;
-      stopped = h.stopped;
-      down = h.down;
-      ended = h.ended;
-      counted = h.counted;
-      told = h.told;
-      fresh = h.fresh;
-      none_taken = h.none_taken;
-      fits = fits-moved world.urgent n sent rest first short;
-    }
+    assumption (fits-moved world.urgent n sent rest first short)
 
 -- Frames that the source takes
 
@@ -347,19 +288,12 @@ urgent_moved world n sent rest first short h =
 resumes : (world : World) (node : Source) (frames : List Sent) (back : Wire) → world.urgent.frames ≡ [] → node.phase ≢ SourcePhase.Paused → node.epoch ≡ world.source.epoch → node.end_epoch ≡ world.source.end_epoch → node.urgent_sent ≡ world.source.urgent_sent →
     AreTold node.epoch node.end_epoch node.urgent_sent frames → AreSoundUrgent world → AreSoundUrgent (record world { source = node; forward = record world.forward { frames = frames }; back = back })
 resumes world node frames back none other epoch end_epoch count told h =
-    record {
-      copies = h.copies;
-      of_epoch = none_of_epoch node.epoch world.urgent.frames none;
-      faithful = none_faithful (space_of node).host.bytes world.urgent.frames none;
-      stopped = λ s. none;
-      down = h.down;
-      ended = h.ended;
-      counted = λ u p. count ∙ h.counted u p;
-      told = told;
-      fresh = λ u paused. absurd (other paused);
-      none_taken = h.none_taken;
-      fits = h.fits;
-    }
+    assumption (
+      none_of_epoch node.epoch world.urgent.frames none,
+      none_faithful (space_of node).host.bytes world.urgent.frames none,
+      λ (u : world.up ≡ true) (p : world.destination.phase ≢ DestPhase.Paused). count ∙ h.counted u p,
+      λ (paused : node.phase ≡ SourcePhase.Paused). absurd {A = node.urgent_sent ≡ 0} (other paused),
+    )
 
 -- a destination that sends Done has ended
 done_ended : (from : SourcePhase) (to : DestPhase) (source : Source) (node : Destination) (epoch : ℕ) (forward rest urgent : List Sent) → is_stopped from ≡ true →
@@ -414,35 +348,17 @@ break_urgent world h =
 
 source_notices : (world : World) → world.up ≡ false → AreSoundUrgent world → AreSoundUrgent (after_notice world Side.Source)
 source_notices world down h =
-    record {
-      copies = h.copies;
-      of_epoch = h.of_epoch;
-      faithful = h.faithful;
-      stopped = λ s. h.down down;
-      down = h.down;
-      ended = h.ended;
-      counted = h.counted;
-      told = h.told;
-      fresh = λ up. absurd (false≢true (sym down ∙ up));
-      none_taken = h.none_taken;
-      fits = h.fits;
-    }
+    assumption (
+      h.down down,
+      λ (up : world.up ≡ true). absurd {A = SourcePhase.Paused ≡ SourcePhase.Paused → world.source.urgent_sent ≡ 0} (false≢true (sym down ∙ up)),
+    )
 
 destination_notices : (world : World) → world.up ≡ false → AreSoundUrgent world → AreSoundUrgent (after_notice world Side.Destination)
 destination_notices world down h =
-    record {
-      copies = h.copies;
-      of_epoch = h.of_epoch;
-      faithful = h.faithful;
-      stopped = h.stopped;
-      down = h.down;
-      ended = λ e. h.down down;
-      counted = λ up p. absurd (p refl);
-      told = h.told;
-      fresh = h.fresh;
-      none_taken = h.none_taken;
-      fits = h.fits;
-    }
+    assumption (
+      h.down down,
+      λ (p : DestPhase.Paused ≢ DestPhase.Paused). absurd {A = world.source.urgent_sent ≡ world.destination.urgent_taken + length world.urgent.frames} (p refl),
+    )
 
 dest_paused : (to : DestPhase) → is_dest_paused to ≡ true → to ≡ DestPhase.Paused
 dest_paused DestPhase.Paused h = refl
@@ -451,19 +367,11 @@ dest_paused _ h = absurd (false≢true h)
 resume_urgent : (world : World) → IsSoundWorld world → is_dest_paused world.destination.phase ≡ true → world.up ≡ false → AreSoundUrgent world → AreSoundUrgent (after_resume world)
 resume_urgent world kept paused down h =
     let none = h.down down in
-    record {
-      copies = h.copies;
-      of_epoch = none_of_epoch (world.source.epoch + 1) world.urgent.frames none;
-      faithful = h.faithful;
-      stopped = λ s. none;
-      down = λ d. none;
-      ended = λ e. none;
-      counted = λ u p. absurd (p (dest_paused world.destination.phase paused));
-      told = subst (λ w. AreTold (world.source.epoch + 1) world.source.end_epoch 0 (w ++ record { epoch = world.source.epoch + 1; frame = Resume } ∷ [])) (sym (kept.flight.down down).0) (tt, tt);
-      fresh = λ u p. refl;
-      none_taken = h.none_taken;
-      fits = h.fits;
-    }
+    assumption (
+      none_of_epoch (world.source.epoch + 1) world.urgent.frames none,
+      λ (p : world.destination.phase ≢ DestPhase.Paused). absurd {A = 0 ≡ world.destination.urgent_taken + length world.urgent.frames} (p (dest_paused world.destination.phase paused)),
+      subst (λ w. AreTold (world.source.epoch + 1) world.source.end_epoch 0 (w ++ record { epoch = world.source.epoch + 1; frame = Resume } ∷ [])) (sym (kept.flight.down down).0) (tt, tt),
+    )
 
 -- Steps
 

@@ -87,36 +87,12 @@ told_ended epoch end_epoch count (sent ∷ wire) told = (ended_one epoch end_epo
 pub other_bytes : {from : SourcePhase} {epoch end_epoch count : ℕ} {bytes : FinMap nat_cmp (List ℕ)} {to : DestPhase} {has_run : Bool} {taken : ℕ} {forward : List Sent} {urgent : Wire} {up : Bool} (new : FinMap nat_cmp (List ℕ)) → is_stopped from ≡ false →
     IsSoundUrgent from epoch end_epoch count bytes to has_run taken forward urgent up → IsSoundUrgent from epoch end_epoch count new to has_run taken forward urgent up
 other_bytes {urgent = urgent} new not h =
-    record {
-      copies = h.copies;
-      of_epoch = h.of_epoch;
-      faithful = none_faithful new urgent.frames (h.stopped not);
-      stopped = h.stopped;
-      down = h.down;
-      ended = h.ended;
-      counted = h.counted;
-      told = h.told;
-      fresh = h.fresh;
-      none_taken = h.none_taken;
-      fits = h.fits;
-    }
+    assumption (none_faithful new urgent.frames (h.stopped not))
 
 pub other_forward : {from : SourcePhase} {epoch end_epoch count : ℕ} {bytes : FinMap nat_cmp (List ℕ)} {to : DestPhase} {has_run : Bool} {taken : ℕ} {forward : List Sent} {urgent : Wire} {up : Bool} (new : List Sent) → AreTold epoch end_epoch count new →
     IsSoundUrgent from epoch end_epoch count bytes to has_run taken forward urgent up → IsSoundUrgent from epoch end_epoch count bytes to has_run taken new urgent up
 other_forward new told h =
-    record {
-      copies = h.copies;
-      of_epoch = h.of_epoch;
-      faithful = h.faithful;
-      stopped = h.stopped;
-      down = h.down;
-      ended = h.ended;
-      counted = h.counted;
-      told = told;
-      fresh = h.fresh;
-      none_taken = h.none_taken;
-      fits = h.fits;
-    }
+    assumption
 
 -- Phases
 
