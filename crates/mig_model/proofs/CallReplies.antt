@@ -42,7 +42,7 @@ use Rattle.mig_model.proofs.FirstFrame.{comes, delivered, first_in_place}
 use Rattle.mig_model.proofs.FramesTaken.{with_first}
 use Rattle.mig_model.proofs.ReachedLemmas.{reached-next}
 use Rattle.mig_model.proofs.SourceHandler.{has_not_run}
-use Rattle.mig_model.proofs.StepCases.{made-break, made-deliver, made-deliver_back, made-dest_act, made-dest_read, made-end, made-install, made-issue, made-notice, made-push, made-resume, made-retry, made-round, made-send, made-send_run, made-serve, made-source_act, made-source_read, made-start, made-switch, made-deliver_urgent, made-push_urgent}
+use Rattle.mig_model.proofs.StepCases.{Makes, MakesWorld, holds-made, made-next, made-ok, made-effect, made-outcome}
 use Rattle.mig_model.proofs.StepLemmas.{Holds, Leaves, holds-effect, leaves-next}
 use Rattle.mig_model.proofs.Stopping.{append-nil}
 use Rattle.mig_model.proofs.WaitingCommands.{IsSame, acted_ran, installed_ran, is_try, map_at, package_told, same_took, same_urgent, set_other, set_there, tried_guest}
@@ -367,50 +367,47 @@ taken_calls epoch (Request page) rest world up first kept all k = same_node_call
 taken_calls epoch (Recv state owed) rest world up first kept all k = same_node_calls world _ (same_took (Recv state owed) world.destination epoch refl) k
 taken_calls epoch Done rest world up first kept all k = same_node_calls world _ (same_took Done world.destination epoch refl) k
 
-goes_on : (world : World) (step : Step) → IsSoundWorld world → AreSoundCalls world → is_try step ≡ false → Holds (GoesOn world) (answer world step)
+goes_on : (world : World) (step : Step) → IsSoundWorld world → AreSoundCalls world → is_try step ≡ false → Makes (GoesOn world) world step
 goes_on world (Step.Issue cpu command) kept all other = absurd (false≢true (sym other))
 goes_on world (Step.Retry cpu) kept all other = absurd (false≢true (sym other))
-goes_on world Step.Start kept all other = made-start _ world (λ idle. quietly world _ _ (at_source world _ (λ k. refl)) refl refl)
-goes_on world Step.Round kept all other = made-round _ world (λ precopy quiet. quietly world _ _ (at_source world _ (λ k. refl)) refl refl)
+goes_on world Step.Start kept all other = λ idle unused. quietly world _ _ (at_source world _ (λ k. refl)) refl refl
+goes_on world Step.Round kept all other = λ precopy quiet. quietly world _ _ (at_source world _ (λ k. refl)) refl refl
 goes_on world Step.Send kept all other =
-    made-send _ world (λ page is precopy up quiet. quietly world _ _ (at_source world _ (λ k. refl)) (page_not_last (is_zeros (bytes_of world.source page)) _) refl)
-goes_on world (Step.SendRun count) kept all other = made-send_run _ world count (λ first number is many precopy up quiet. quietly world _ _ (at_source world _ (λ k. refl)) refl refl)
+    λ page is precopy up quiet. quietly world _ _ (at_source world _ (λ k. refl)) (page_not_last (is_zeros (bytes_of world.source page)) _) refl
+goes_on world (Step.SendRun count) kept all other = λ first number is many precopy up quiet. quietly world _ _ (at_source world _ (λ k. refl)) refl refl
 goes_on world Step.SourceRead kept all other =
-    made-source_read _ world (λ noted is started unswitched.
+    λ noted is started unswitched.
     record {
       calls = source_goes_on world.destination.has_run world.source.guest _ world.destination.guest _ (has_not_run world kept unswitched) (read_goes_on world.source.guest noted.cpu noted.message);
       transcript = refl;
-    })
+    }
 goes_on world Step.SourceAct kept all other =
-    made-source_act _ world (λ fault rest is started unswitched quiet.
+    λ fault rest is started unswitched quiet.
     let act = source_act world.source fault in
-    quietly world _ _ (at_source world _ (source_act_calls act world.source fault.page)) (act_not_last act _) refl)
-goes_on world Step.Switch kept all other = made-switch _ world (λ precopy up quiet. quietly world _ _ (at_source world _ (λ k. refl)) refl refl)
+    quietly world _ _ (at_source world _ (source_act_calls act world.source fault.page)) (act_not_last act _) refl
+goes_on world Step.Switch kept all other = λ precopy up quiet. quietly world _ _ (at_source world _ (λ k. refl)) refl refl
 goes_on world (Step.Deliver n) kept all other =
-    made-deliver _ world n (λ sent rest is short. quietly world _ _ (λ k. refl) refl refl)
-    (λ sent rest is full started up free early. quietly world _ _ (taken_calls sent.epoch sent.frame rest world up is kept all) (frame_not_last sent.frame) refl)
+    ((λ sent rest is short. quietly world _ _ (λ k. refl) refl refl), (λ sent rest is full started up free early. quietly world _ _ (taken_calls sent.epoch sent.frame rest world up is kept all) (frame_not_last sent.frame) refl))
 goes_on world (Step.DeliverBack n) kept all other =
-    made-deliver_back _ world n (λ sent rest is short. quietly world _ _ (λ k. refl) refl refl)
-    (λ sent rest is full started up. quietly world _ _ (at_source world _ (back_calls sent.frame world.source)) (frame_not_last sent.frame) refl)
+    ((λ sent rest is short. quietly world _ _ (λ k. refl) refl refl), (λ sent rest is full started up. quietly world _ _ (at_source world _ (back_calls sent.frame world.source)) (frame_not_last sent.frame) refl))
 goes_on world Step.DestRead kept all other =
-    made-dest_read _ world (λ noted is ran.
-    record { calls = destination_goes_on world.destination.has_run world.source.guest world.destination.guest _ _ ran (read_goes_on world.destination.guest noted.cpu noted.message); transcript = refl })
-goes_on world Step.DestAct kept all other = made-dest_act _ world (λ fault rest is ran quiet. quietly world _ _ (acted_calls fault world) (act_not_last (destination_act world.destination fault) _) refl)
+    λ noted is ran.
+    record { calls = destination_goes_on world.destination.has_run world.source.guest world.destination.guest _ _ ran (read_goes_on world.destination.guest noted.cpu noted.message); transcript = refl }
+goes_on world Step.DestAct kept all other = λ fault rest is ran quiet. quietly world _ _ (acted_calls fault world) (act_not_last (destination_act world.destination fault) _) refl
 goes_on world Step.Install kept all other =
-    made-install _ world (λ copy rest is ran quiet. quietly world _ _ (installed_calls copy rest world) (install_not_last (home world.destination.owed copy.page) copy.page) refl)
+    λ copy rest is ran quiet. quietly world _ _ (installed_calls copy rest world) (install_not_last (home world.destination.owed copy.page) copy.page) refl
 goes_on world (Step.Push ticket) kept all other =
-    made-push _ world ticket (λ stopped up own present remains. quietly world _ _ (at_source world _ (λ k. refl)) (page_not_last (is_zeros (bytes_of world.source ticket.page)) _) refl)
+    λ stopped up own present remains. quietly world _ _ (at_source world _ (λ k. refl)) (page_not_last (is_zeros (bytes_of world.source ticket.page)) _) refl
 goes_on world (Step.PushUrgent ticket) kept all other =
-    made-push_urgent _ world ticket (λ stopped up own present remains. quietly world _ _ (at_source world _ (λ k. refl)) (page_not_last (is_zeros (bytes_of world.source ticket.page)) _) refl)
+    λ stopped up own present remains. quietly world _ _ (at_source world _ (λ k. refl)) (page_not_last (is_zeros (bytes_of world.source ticket.page)) _) refl
 goes_on world (Step.DeliverUrgent n) kept all other =
-    made-deliver_urgent _ world n (λ sent rest is short. quietly world _ _ (λ k. refl) refl refl)
-    (λ sent rest is full ran up. quietly world _ _ (same_node_calls world _ (same_urgent sent.frame world.destination)) (frame_not_last sent.frame) refl)
-goes_on world Step.Serve kept all other = made-serve _ world (λ page pages is stopped up. quietly world _ _ (at_source world _ (λ k. refl)) refl refl)
-goes_on world Step.End kept all other = made-end _ world (λ stopped other up none. quietly world _ _ (at_source world _ (λ k. refl)) refl refl)
-goes_on world Step.Break kept all other = made-break _ world (λ started unreleased up. quietly world _ _ (λ k. refl) refl refl)
-goes_on world (Step.Notice Side.Source) kept all other = made-notice _ world Side.Source (λ started unreleased down. quietly world _ _ (at_source world _ (λ k. refl)) refl refl)
-goes_on world (Step.Notice Side.Destination) kept all other = made-notice _ world Side.Destination (λ started unreleased down. quietly world _ _ (λ k. refl) refl refl)
-goes_on world Step.Resume kept all other = made-resume _ world (λ from to down. quietly world _ _ (at_source world _ (λ k. refl)) refl refl)
+    ((λ sent rest is short. quietly world _ _ (λ k. refl) refl refl), (λ sent rest is full ran up. quietly world _ _ (same_node_calls world _ (same_urgent sent.frame world.destination)) (frame_not_last sent.frame) refl))
+goes_on world Step.Serve kept all other = λ page pages is stopped up. quietly world _ _ (at_source world _ (λ k. refl)) refl refl
+goes_on world Step.End kept all other = λ stopped other up none. quietly world _ _ (at_source world _ (λ k. refl)) refl refl
+goes_on world Step.Break kept all other = λ started unreleased up. quietly world _ _ (λ k. refl) refl refl
+goes_on world (Step.Notice Side.Source) kept all other = λ started unreleased down. quietly world _ _ (at_source world _ (λ k. refl)) refl refl
+goes_on world (Step.Notice Side.Destination) kept all other = λ started unreleased down. quietly world _ _ (λ k. refl) refl refl
+goes_on world Step.Resume kept all other = λ from to down unused. quietly world _ _ (at_source world _ (λ k. refl)) refl refl
 
 -- Steps that try a command
 
@@ -421,11 +418,11 @@ record Tries (world : World) (made : Made) : Type 0 where
   effect : made.effect ≡ try_effect cpu (took_by (is_access command) (guest_of world).space command)
   is : made.world ≡ after_command world cpu command
 
-is_tried : (world : World) (step : Step) → is_try step ≡ true → Holds (Tries world) (answer world step)
+is_tried : (world : World) (step : Step) → is_try step ≡ true → Makes (Tries world) world step
 is_tried world (Step.Issue cpu command) h =
-    made-issue _ world cpu command (λ there idle may. record { cpu = cpu; command = command; free = idle_reply (processor_at (guest_of world).cpus cpu) idle; effect = refl; is = refl })
+    λ there idle may. record { cpu = cpu; command = command; free = idle_reply (processor_at (guest_of world).cpus cpu) idle; effect = refl; is = refl }
 is_tried world (Step.Retry cpu) h =
-    made-retry _ world cpu (λ command is woken may. record { cpu = cpu; command = command; free = woken_none (processor_at (guest_of world).cpus cpu) woken; effect = refl; is = refl })
+    λ command is woken may. record { cpu = cpu; command = command; free = woken_none (processor_at (guest_of world).cpus cpu) woken; effect = refl; is = refl }
 is_tried world _ h = absurd (false≢true h)
 
 -- the processors once one has tried a command
@@ -470,8 +467,8 @@ holds_as Q R (Err refusal) as_well h = h
 replies_answer : (world : World) (step : Step) → IsSoundWorld world → AreSoundCalls world → HasReplies world → Leaves HasReplies (answer world step)
 replies_answer world step kept all has =
     by_test (is_try step)
-    (λ tries. holds_as (Tries world) _ (answer world step) (λ made t. subst HasReplies (sym t.is) (tried_replies world t.cpu t.command t.free has)) (is_tried world step tries))
-    (λ other. holds_as (GoesOn world) _ (answer world step) (λ made g k reply h. ap (λ e. last_reply e k) g.transcript ∙ has k reply (g.calls.was k reply h)) (goes_on world step kept all other))
+    (λ tries. holds_as (Tries world) _ (answer world step) (λ made t. subst HasReplies (sym t.is) (tried_replies world t.cpu t.command t.free has)) (holds-made _ world step (is_tried world step tries)))
+    (λ other. holds_as (GoesOn world) _ (answer world step) (λ made g k reply h. ap (λ e. last_reply e k) g.transcript ∙ has k reply (g.calls.was k reply h)) (holds-made _ world step (goes_on world step kept all other)))
 
 replies_steps : (world : World) (steps : List Step) → IsReached world → HasReplies world → HasReplies (after_steps world steps)
 replies_steps world [] reached has = has
@@ -495,8 +492,8 @@ GoesOnOr k reply made = (reply_at (guest_of made.world).cpus k ≡ Some reply) �
 call_answer : (world : World) (step : Step) (k : ℕ) (reply : Reply) → IsSoundWorld world → AreSoundCalls world → reply_at (guest_of world).cpus k ≡ Some reply → Holds (GoesOnOr k reply) (answer world step)
 call_answer world step k reply kept all h =
     by_test (is_try step)
-    (λ tries. holds_as (Tries world) _ (answer world step) (λ made t. inl (ap (λ w. reply_at (guest_of w).cpus k) t.is ∙ tried_keeps world t.cpu t.command k reply t.free h)) (is_tried world step tries))
-    (λ other. holds_as (GoesOn world) _ (answer world step) (λ made g. g.calls.kept k reply h) (goes_on world step kept all other))
+    (λ tries. holds_as (Tries world) _ (answer world step) (λ made t. inl (ap (λ w. reply_at (guest_of w).cpus k) t.is ∙ tried_keeps world t.cpu t.command k reply t.free h)) (holds-made _ world step (is_tried world step tries)))
+    (λ other. holds_as (GoesOn world) _ (answer world step) (λ made g. g.calls.kept k reply h) (holds-made _ world step (goes_on world step kept all other)))
 
 outcome_last : (world : World) (result : Answer) (k : ℕ) (reply : Reply) → reply_at (guest_of world).cpus k ≡ Some reply → Holds (GoesOnOr k reply) result →
     (reply_at (guest_of (next_by world result)).cpus k ≡ Some reply) ⊎ ((event : Message) × (outcome_by result ≡ Ok (Effect.ReadLast event k reply)))
@@ -520,8 +517,8 @@ last_answer : (world : World) (step : Step) → IsSoundWorld world → AreSoundC
 last_answer world step kept all =
     by_test (is_try step)
     (λ tries. holds_as (Tries world) _ (answer world step)
-    (λ made t event k reply is. not_last (try_effect t.cpu (took_by (is_access t.command) (guest_of world).space t.command)) event k reply (try_not_last _ t.cpu) (sym t.effect ∙ is)) (is_tried world step tries))
-    (λ other. holds_as (GoesOn world) _ (answer world step) (λ made g event k reply is. g.calls.last event k reply is) (goes_on world step kept all other))
+    (λ made t event k reply is. not_last (try_effect t.cpu (took_by (is_access t.command) (guest_of world).space t.command)) event k reply (try_not_last _ t.cpu) (sym t.effect ∙ is)) (holds-made _ world step (is_tried world step tries)))
+    (λ other. holds_as (GoesOn world) _ (answer world step) (λ made g event k reply is. g.calls.last event k reply is) (holds-made _ world step (goes_on world step kept all other)))
 
 pub reply_handed_over : (world : World) (step : Step) (event : Message) (cpu : ℕ) (reply : Reply) → IsReached world → outcome world step ≡ Ok (Effect.ReadLast event cpu reply) →
     (processor_at (guest_of world).cpus cpu ≡ CpuState.InCall reply 1) × (processor_at (guest_of (next world step)).cpus cpu ≡ CpuState.Idle) × (last_reply world.transcript cpu ≡ Some reply)

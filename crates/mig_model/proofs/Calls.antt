@@ -31,7 +31,6 @@ use Rattle.mig_model.proofs.DestinationRead.{none_is}
 use Rattle.mig_model.proofs.EveryStep.{kept-next}
 use Rattle.mig_model.proofs.FirstWorld.{kept-first}
 use Rattle.mig_model.proofs.FramesTaken.{is_taken_back}
-use Rattle.mig_model.proofs.StepLemmas.{Leaves, leaves-next}
 use Rattle.mig_model.specs.Cpus.{access_took, all_woken, call_took, idle_processors, is_idle, is_woken, message_less, processor_after, processor_at, taken_over, woken_if}
 use Rattle.mig_model.specs.Guest.{Act, Guest, read_guest, resolved, tried, is_left_by}
 use Rattle.mig_model.specs.Owed.{home}
@@ -40,7 +39,7 @@ use Rattle.mig_model.specs.Destination.{Destination, copy_came, destination_act,
 use Rattle.mig_model.specs.Migration.{World, after_command, after_steps, answer, first_world_with, guest_by, guest_of, has_no_cpu, next, start, with_guest_by}
 use Rattle.mig_model.specs.Promises.{IsReached, is_last}
 use Rattle.mig_model.proofs.Taken.{IsInPlaceBack}
-use Rattle.mig_model.proofs.StepCases.{made-break, made-deliver, made-deliver_back, made-dest_act, made-dest_read, made-end, made-install, made-issue, made-notice, made-push, made-resume, made-retry, made-round, made-send, made-send_run, made-serve, made-source_act, made-source_read, made-start, made-switch, made-deliver_urgent, made-push_urgent}
+use Rattle.mig_model.proofs.StepCases.{Makes, MakesWorld, holds-made, made-next, made-ok, made-effect, made-outcome}
 use Rattle.mig_model.proofs.Facts.{eqb-self, some_is, modes_events}
 use Rattle.mig_model.proofs.UrgentSteps.{urgent-first, urgent-next}
 
@@ -293,46 +292,44 @@ last_switched (Recv Received.NotRun owed) world kept place h = absurd (false≢t
 last_switched (Recv Received.Running owed) world kept place h = absurd (false≢true h)
 last_switched _ world kept place h = absurd (false≢true h)
 
-calls_answer : (world : World) (step : Step) → IsSoundWorld world → AreSoundCalls world → Leaves AreSoundCalls (answer world step)
+calls_answer : (world : World) (step : Step) → IsSoundWorld world → AreSoundCalls world → MakesWorld AreSoundCalls world step
 calls_answer world (Step.Issue cpu command) kept all =
-    made-issue _ world cpu command (λ there idle may. command_calls world cpu command there (λ calls. idle_unread (processor_at (guest_of world).cpus cpu) _ idle (calls.fits cpu)) all)
+    λ there idle may. command_calls world cpu command there (λ calls. idle_unread (processor_at (guest_of world).cpus cpu) _ idle (calls.fits cpu)) all
 calls_answer world (Step.Retry cpu) kept all =
-    made-retry _ world cpu (λ command is woken may.
-    command_calls world cpu command (woken_there (guest_of world).cpus cpu woken) (λ calls. woken_unread (processor_at (guest_of world).cpus cpu) _ woken (calls.fits cpu)) all)
-calls_answer world Step.Start kept all = made-start _ world (λ idle. record { source = record { fits = all.source.fits; faults = all.source.faults }; destination = all.destination })
-calls_answer world Step.Round kept all = made-round _ world (λ precopy quiet. record { source = record { fits = all.source.fits; faults = all.source.faults }; destination = all.destination })
-calls_answer world Step.Send kept all = made-send _ world (λ page is precopy up quiet. record { source = record { fits = all.source.fits; faults = all.source.faults }; destination = all.destination })
-calls_answer world (Step.SendRun count) kept all = made-send_run _ world count (λ first number is many precopy up quiet. record { source = record { fits = all.source.fits; faults = all.source.faults }; destination = all.destination })
+    λ command is woken may.
+    command_calls world cpu command (woken_there (guest_of world).cpus cpu woken) (λ calls. woken_unread (processor_at (guest_of world).cpus cpu) _ woken (calls.fits cpu)) all
+calls_answer world Step.Start kept all = λ idle unused. record { source = record { fits = all.source.fits; faults = all.source.faults }; destination = all.destination }
+calls_answer world Step.Round kept all = λ precopy quiet. record { source = record { fits = all.source.fits; faults = all.source.faults }; destination = all.destination }
+calls_answer world Step.Send kept all = λ page is precopy up quiet. record { source = record { fits = all.source.fits; faults = all.source.faults }; destination = all.destination }
+calls_answer world (Step.SendRun count) kept all = λ first number is many precopy up quiet. record { source = record { fits = all.source.fits; faults = all.source.faults }; destination = all.destination }
 calls_answer world Step.SourceRead kept all =
-    made-source_read _ world (λ noted is started unswitched. record { source = read_calls world.source.guest noted is kept.spaces.source_events all.source; destination = all.destination })
+    λ noted is started unswitched. record { source = read_calls world.source.guest noted is kept.spaces.source_events all.source; destination = all.destination }
 calls_answer world Step.SourceAct kept all =
-    made-source_act _ world (λ fault rest is started unswitched quiet. record { source = source_act_calls (source_act world.source fault) world.source fault.page all.source; destination = all.destination })
-calls_answer world Step.Switch kept all = made-switch _ world (λ precopy up quiet. record { source = record { fits = all.source.fits; faults = tt }; destination = all.destination })
+    λ fault rest is started unswitched quiet. record { source = source_act_calls (source_act world.source fault) world.source fault.page all.source; destination = all.destination }
+calls_answer world Step.Switch kept all = λ precopy up quiet. record { source = record { fits = all.source.fits; faults = tt }; destination = all.destination }
 calls_answer world (Step.Deliver n) kept all =
-    made-deliver _ world n (λ sent rest is short. record { source = all.source; destination = all.destination })
-    (λ sent rest is full started up free early. record { source = all.source; destination = took_calls sent.frame world.destination sent.epoch all.destination })
+    ((λ sent rest is short. record { source = all.source; destination = all.destination }), (λ sent rest is full started up free early. record { source = all.source; destination = took_calls sent.frame world.destination sent.epoch all.destination }))
 calls_answer world (Step.DeliverBack n) kept all =
-    made-deliver_back _ world n (λ sent rest is short. record { source = all.source; destination = all.destination })
-    (λ sent rest is full started up.
+    ((λ sent rest is short. record { source = all.source; destination = all.destination }), (λ sent rest is full started up.
     record {
       source = back_calls sent.frame world.source (λ last. kept.phases.source_quiet (last_switched sent.frame world kept (is_taken_back world sent rest kept up is) last)) all.source;
       destination = all.destination;
-    })
+    }))
 calls_answer world Step.DestRead kept all =
-    made-dest_read _ world (λ noted is ran. record { source = all.source; destination = read_calls world.destination.guest noted is kept.spaces.destination_events all.destination })
+    λ noted is ran. record { source = all.source; destination = read_calls world.destination.guest noted is kept.spaces.destination_events all.destination }
 calls_answer world Step.DestAct kept all =
-    made-dest_act _ world (λ fault rest is ran quiet. record { source = all.source; destination = destination_act_calls (destination_act world.destination fault) world.destination fault.page all.destination })
+    λ fault rest is ran quiet. record { source = all.source; destination = destination_act_calls (destination_act world.destination fault) world.destination fault.page all.destination }
 calls_answer world Step.Install kept all =
-    made-install _ world (λ copy rest is ran quiet. record { source = all.source; destination = install_calls (home world.destination.owed copy.page) world.destination copy rest all.destination })
-calls_answer world (Step.Push ticket) kept all = made-push _ world ticket (λ stopped up own present remains. record { source = all.source; destination = all.destination })
-calls_answer world (Step.PushUrgent ticket) kept all = made-push_urgent _ world ticket (λ stopped up own present remains. record { source = all.source; destination = all.destination })
-calls_answer world (Step.DeliverUrgent n) kept all = made-deliver_urgent _ world n (λ sent rest is short. record { source = all.source; destination = all.destination }) (λ sent rest is full ran up. record { source = all.source; destination = urgent_calls sent.frame world.destination all.destination })
-calls_answer world Step.Serve kept all = made-serve _ world (λ page pages is stopped up. record { source = all.source; destination = all.destination })
-calls_answer world Step.End kept all = made-end _ world (λ stopped other up none. record { source = all.source; destination = all.destination })
-calls_answer world Step.Break kept all = made-break _ world (λ started unreleased up. record { source = all.source; destination = all.destination })
-calls_answer world (Step.Notice Side.Source) kept all = made-notice _ world Side.Source (λ started unreleased down. record { source = all.source; destination = all.destination })
-calls_answer world (Step.Notice Side.Destination) kept all = made-notice _ world Side.Destination (λ started unreleased down. record { source = all.source; destination = all.destination })
-calls_answer world Step.Resume kept all = made-resume _ world (λ from to down. record { source = all.source; destination = all.destination })
+    λ copy rest is ran quiet. record { source = all.source; destination = install_calls (home world.destination.owed copy.page) world.destination copy rest all.destination }
+calls_answer world (Step.Push ticket) kept all = λ stopped up own present remains. record { source = all.source; destination = all.destination }
+calls_answer world (Step.PushUrgent ticket) kept all = λ stopped up own present remains. record { source = all.source; destination = all.destination }
+calls_answer world (Step.DeliverUrgent n) kept all = ((λ sent rest is short. record { source = all.source; destination = all.destination }), (λ sent rest is full ran up. record { source = all.source; destination = urgent_calls sent.frame world.destination all.destination }))
+calls_answer world Step.Serve kept all = λ page pages is stopped up. record { source = all.source; destination = all.destination }
+calls_answer world Step.End kept all = λ stopped other up none. record { source = all.source; destination = all.destination }
+calls_answer world Step.Break kept all = λ started unreleased up. record { source = all.source; destination = all.destination }
+calls_answer world (Step.Notice Side.Source) kept all = λ started unreleased down. record { source = all.source; destination = all.destination }
+calls_answer world (Step.Notice Side.Destination) kept all = λ started unreleased down. record { source = all.source; destination = all.destination }
+calls_answer world Step.Resume kept all = λ from to down unused. record { source = all.source; destination = all.destination }
 
 idle_calls : (count k : ℕ) → CallFits (processor_at (idle_processors count) k) 0
 idle_calls zero k = refl
@@ -341,7 +338,7 @@ idle_calls (suc count) (suc k) = idle_calls count k
 
 steps_calls : (world : World) (steps : List Step) → IsSoundWorld world → AreSoundUrgent world → AreSoundCalls world → AreSoundCalls (after_steps world steps)
 steps_calls world [] kept urgent all = all
-steps_calls world (step ∷ steps) kept urgent all = steps_calls (next world step) steps (kept-next world step kept urgent) (urgent-next world step kept urgent) (leaves-next AreSoundCalls world step all (calls_answer world step kept all))
+steps_calls world (step ∷ steps) kept urgent all = steps_calls (next world step) steps (kept-next world step kept urgent) (urgent-next world step kept urgent) (made-next AreSoundCalls world step all (calls_answer world step kept all))
 
 pub are_sound_calls : (world : World) → IsReached world → AreSoundCalls world
 are_sound_calls world reached =

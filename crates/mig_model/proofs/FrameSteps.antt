@@ -46,8 +46,7 @@ use Rattle.mig_model.proofs.MappingLemmas.{IsMapping-after, IsMapping-empty, hos
 use Rattle.mig_model.proofs.RightCommands.{AllRight, AreRight, right_source}
 use Rattle.mig_model.proofs.SourceKept.{source_holds}
 use Rattle.mig_model.proofs.SourceRounds.{precopy_unswitched}
-use Rattle.mig_model.proofs.StepCases.{made-break, made-deliver, made-deliver_back, made-deliver_urgent, made-dest_act, made-dest_read, made-end, made-install, made-issue, made-notice, made-push, made-push_urgent, made-retry, made-round, made-send, made-send_run, made-serve, made-source_act, made-source_read, made-switch}
-use Rattle.mig_model.proofs.StepLemmas.{Leaves, holds-unless, leaves-next}
+use Rattle.mig_model.proofs.StepCases.{Makes, MakesWorld, holds-made, made-next, made-ok, made-effect, made-outcome}
 use Rattle.mig_model.proofs.UrgentWire.{is_paused}
 
 -- what the frames of a world rest on, and that each of them has a text, where the guest has that many processors
@@ -387,32 +386,32 @@ resume_limited {cpus = cpus} world unused h =
 
 -- Steps
 
-pub limited-answer : {cpus : ℕ} → (world : World) (step : Step) → IsReady cpus world → AreLimited cpus world → Leaves (AreLimited cpus) (answer world step)
-limited-answer world (Step.Issue cpu command) ready h = made-issue _ world cpu command (λ there idle may. command_limited world cpu command ready.kept h)
-limited-answer world (Step.Retry cpu) ready h = made-retry _ world cpu (λ command waits woken may. command_limited world cpu command ready.kept h)
-limited-answer world Step.Start ready h = holds-unless _ _ _ (λ told. start_limited world told.1.0 h)
-limited-answer world Step.Round ready h = made-round _ world (λ precopy quiet. h)
-limited-answer world Step.Send ready h = made-send _ world (λ page is precopy up quiet. send_limited world page ready.kept (sendable world page ready.kept is precopy quiet) h)
+pub limited-answer : {cpus : ℕ} → (world : World) (step : Step) → IsReady cpus world → AreLimited cpus world → MakesWorld (AreLimited cpus) world step
+limited-answer world (Step.Issue cpu command) ready h = λ there idle may. command_limited world cpu command ready.kept h
+limited-answer world (Step.Retry cpu) ready h = λ command waits woken may. command_limited world cpu command ready.kept h
+limited-answer world Step.Start ready h = λ idle unused. start_limited world unused h
+limited-answer world Step.Round ready h = λ precopy quiet. h
+limited-answer world Step.Send ready h = λ page is precopy up quiet. send_limited world page ready.kept (sendable world page ready.kept is precopy quiet) h
 limited-answer world (Step.SendRun count) ready h =
-    made-send_run _ world count (λ first number is many precopy up quiet.
-    run_limited world first number ready.kept (run_sendable world first number (run_bound count) ready.kept is many (some_bound count) (most_bound count) precopy quiet) h)
-limited-answer world Step.SourceRead ready h = made-source_read _ world (λ noted is started unswitched. read_limited world noted h)
-limited-answer world Step.SourceAct ready h = made-source_act _ world (λ fault rest is started unswitched quiet. acted_limited (source_act world.source fault) world fault.page h)
-limited-answer world Step.Switch ready h = made-switch _ world (λ precopy up quiet. switch_limited world ready precopy h)
-limited-answer world (Step.Deliver n) ready h = made-deliver _ world n (λ sent rest is short. h) (λ sent rest is full started up free early. deliver_limited world sent rest ready.kept is h)
-limited-answer world (Step.DeliverBack n) ready h = made-deliver_back _ world n (λ sent rest is short. h) (λ sent rest is full started up. deliver_back_limited world sent rest ready started up is h)
-limited-answer world Step.DestRead ready h = made-dest_read _ world (λ noted is ran. h)
-limited-answer world Step.DestAct ready h = made-dest_act _ world (λ fault rest is ran quiet. handled_limited world fault ready.kept h)
-limited-answer world Step.Install ready h = made-install _ world (λ copy rest is ran quiet. installed_limited (home world.destination.owed copy.page) world copy rest h)
-limited-answer world (Step.Push ticket) ready h = made-push _ world ticket (λ stopped up own present remains. push_limited world ticket.page ready.kept present h)
-limited-answer world (Step.PushUrgent ticket) ready h = made-push_urgent _ world ticket (λ stopped up own present remains. push_urgent_limited world ticket.page ready.kept present h)
-limited-answer world (Step.DeliverUrgent n) ready h = made-deliver_urgent _ world n (λ sent rest is short. h) (λ sent rest is full ran up. urgent_limited world sent rest is h)
-limited-answer world Step.Serve ready h = made-serve _ world (λ page pages is stopped up. h)
-limited-answer world Step.End ready h = made-end _ world (λ stopped other up none. end_limited world ready stopped h)
-limited-answer world Step.Break ready h = made-break _ world (λ started unreleased up. break_limited world h)
-limited-answer world (Step.Notice Side.Source) ready h = made-notice _ world Side.Source (λ started unreleased down. notices_limited world started h)
-limited-answer world (Step.Notice Side.Destination) ready h = made-notice _ world Side.Destination (λ started unreleased down. h)
-limited-answer world Step.Resume ready h = holds-unless _ _ _ (λ told. resume_limited world told.1.1.0 h)
+    λ first number is many precopy up quiet.
+    run_limited world first number ready.kept (run_sendable world first number (run_bound count) ready.kept is many (some_bound count) (most_bound count) precopy quiet) h
+limited-answer world Step.SourceRead ready h = λ noted is started unswitched. read_limited world noted h
+limited-answer world Step.SourceAct ready h = λ fault rest is started unswitched quiet. acted_limited (source_act world.source fault) world fault.page h
+limited-answer world Step.Switch ready h = λ precopy up quiet. switch_limited world ready precopy h
+limited-answer world (Step.Deliver n) ready h = ((λ sent rest is short. h), (λ sent rest is full started up free early. deliver_limited world sent rest ready.kept is h))
+limited-answer world (Step.DeliverBack n) ready h = ((λ sent rest is short. h), (λ sent rest is full started up. deliver_back_limited world sent rest ready started up is h))
+limited-answer world Step.DestRead ready h = λ noted is ran. h
+limited-answer world Step.DestAct ready h = λ fault rest is ran quiet. handled_limited world fault ready.kept h
+limited-answer world Step.Install ready h = λ copy rest is ran quiet. installed_limited (home world.destination.owed copy.page) world copy rest h
+limited-answer world (Step.Push ticket) ready h = λ stopped up own present remains. push_limited world ticket.page ready.kept present h
+limited-answer world (Step.PushUrgent ticket) ready h = λ stopped up own present remains. push_urgent_limited world ticket.page ready.kept present h
+limited-answer world (Step.DeliverUrgent n) ready h = ((λ sent rest is short. h), (λ sent rest is full ran up. urgent_limited world sent rest is h))
+limited-answer world Step.Serve ready h = λ page pages is stopped up. h
+limited-answer world Step.End ready h = λ stopped other up none. end_limited world ready stopped h
+limited-answer world Step.Break ready h = λ started unreleased up. break_limited world h
+limited-answer world (Step.Notice Side.Source) ready h = λ started unreleased down. notices_limited world started h
+limited-answer world (Step.Notice Side.Destination) ready h = λ started unreleased down. h
+limited-answer world Step.Resume ready h = λ from to down unused. resume_limited world unused h
 
 pub limited-next : {cpus : ℕ} → (world : World) (step : Step) → IsReady cpus world → AreLimited cpus world → AreLimited cpus (next world step)
-limited-next {cpus = cpus} world step ready h = leaves-next (AreLimited cpus) world step h (limited-answer world step ready h)
+limited-next {cpus = cpus} world step ready h = made-next (AreLimited cpus) world step h (limited-answer world step ready h)

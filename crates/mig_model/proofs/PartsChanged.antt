@@ -14,8 +14,7 @@ use Rattle.mig_model.specs.Wire.Frame.{Advise, Run, End, Resume}
 use Rattle.mig_model.specs.Migration.{World, next, guest_of, with_guest_by, after_command, source_sends, after_deliver, after_deliver_back, after_dest_act, answer, after_move, after_move_back}
 use Rattle.mig_model.specs.Parts.{Grows, Shrinks, GuestAlone, SourceAlone, DestinationAlone, Delivers, DeliversBack, ChangesParts}
 use Rattle.mig_model.proofs.Stopping.{append-nil}
-use Rattle.mig_model.proofs.StepLemmas.{Leaves, leaves-next}
-use Rattle.mig_model.proofs.StepCases.{made-break, made-deliver, made-deliver_back, made-dest_act, made-dest_read, made-end, made-install, made-issue, made-notice, made-push, made-resume, made-retry, made-round, made-send, made-send_run, made-serve, made-source_act, made-source_read, made-start, made-switch, made-deliver_urgent, made-push_urgent}
+use Rattle.mig_model.proofs.StepCases.{Makes, MakesWorld, holds-made, made-next, made-ok, made-effect, made-outcome}
 use Rattle.mig_model.specs.Source.{Source, bytes_of, page_pushed, page_sent, run_of, run_sent, source_answers, source_started, source_took, switch_frames, switch_made}
 use Rattle.mig_model.specs.Destination.{Destination}
 use Rattle.mig_model.proofs.Facts.{as_it_was, tried_up}
@@ -108,34 +107,33 @@ moved_back_one : (world : World) (n : ℕ) → DeliversBack world (after_move_ba
 moved_back_one world n = record { destination = refl; forward = as_it_was world.forward; back = record { taken = []; is = refl }; urgent = refl; up = refl; transcript = refl }
 
 -- what a step that is not refused changes
-made_alone : (world : World) (step : Step) → Leaves (ChangesParts world step) (answer world step)
-made_alone world (Step.Issue cpu command) = made-issue _ world cpu command (λ there idle may. guest_alone world cpu command)
-made_alone world (Step.Retry cpu) = made-retry _ world cpu (λ command waits woken may. guest_alone world cpu command)
-made_alone world Step.Start = made-start _ world (λ idle. sending_source world (source_started world.source) (Advise ∷ []))
-made_alone world Step.Round = made-round _ world (λ precopy quiet. quiet_source world _)
-made_alone world Step.Send = made-send _ world (λ page is precopy up quiet. sending_source world (page_sent world.source page) (page_frame page (bytes_of world.source page) ∷ []))
-made_alone world (Step.SendRun count) = made-send_run _ world count (λ first number is many precopy up quiet. sending_source world (run_sent world.source first number) (Run first (run_of world.source first number) ∷ []))
-made_alone world Step.SourceRead = made-source_read _ world (λ noted is started unswitched. quiet_source world _)
-made_alone world Step.SourceAct = made-source_act _ world (λ fault rest is started unswitched quiet. quiet_source world _)
-made_alone world Step.Switch = made-switch _ world (λ precopy up quiet. sending_source world (switch_made world.source) (switch_frames world.source))
-made_alone world (Step.Deliver n) = made-deliver _ world n (λ sent rest is short. moved_one world n) (λ sent rest is full started up free early. delivered_one world sent rest is)
-made_alone world (Step.DeliverBack n) = made-deliver_back _ world n (λ sent rest is short. moved_back_one world n) (λ sent rest is full started up. delivered_back_one world sent rest is)
-made_alone world Step.DestRead = made-dest_read _ world (λ noted is ran. quiet_destination world _)
-made_alone world Step.DestAct = made-dest_act _ world (λ fault rest is ran quiet. acted_alone world fault)
-made_alone world Step.Install = made-install _ world (λ copy rest is ran quiet. quiet_destination world _)
-made_alone world (Step.Push ticket) = made-push _ world ticket (λ stopped up own present remains. sending_source world (page_pushed world.source ticket.page) (page_frame ticket.page (bytes_of world.source ticket.page) ∷ []))
+made_alone : (world : World) (step : Step) → MakesWorld (ChangesParts world step) world step
+made_alone world (Step.Issue cpu command) = λ there idle may. guest_alone world cpu command
+made_alone world (Step.Retry cpu) = λ command waits woken may. guest_alone world cpu command
+made_alone world Step.Start = λ idle unused. sending_source world (source_started world.source) (Advise ∷ [])
+made_alone world Step.Round = λ precopy quiet. quiet_source world _
+made_alone world Step.Send = λ page is precopy up quiet. sending_source world (page_sent world.source page) (page_frame page (bytes_of world.source page) ∷ [])
+made_alone world (Step.SendRun count) = λ first number is many precopy up quiet. sending_source world (run_sent world.source first number) (Run first (run_of world.source first number) ∷ [])
+made_alone world Step.SourceRead = λ noted is started unswitched. quiet_source world _
+made_alone world Step.SourceAct = λ fault rest is started unswitched quiet. quiet_source world _
+made_alone world Step.Switch = λ precopy up quiet. sending_source world (switch_made world.source) (switch_frames world.source)
+made_alone world (Step.Deliver n) = ((λ sent rest is short. moved_one world n), (λ sent rest is full started up free early. delivered_one world sent rest is))
+made_alone world (Step.DeliverBack n) = ((λ sent rest is short. moved_back_one world n), (λ sent rest is full started up. delivered_back_one world sent rest is))
+made_alone world Step.DestRead = λ noted is ran. quiet_destination world _
+made_alone world Step.DestAct = λ fault rest is ran quiet. acted_alone world fault
+made_alone world Step.Install = λ copy rest is ran quiet. quiet_destination world _
+made_alone world (Step.Push ticket) = λ stopped up own present remains. sending_source world (page_pushed world.source ticket.page) (page_frame ticket.page (bytes_of world.source ticket.page) ∷ [])
 made_alone world (Step.PushUrgent ticket) =
-    made-push_urgent _ world ticket (λ stopped up own present remains.
-    record { destination = refl; forward = refl; back = refl; urgent = grows_by world.urgent world.source.epoch (page_frame ticket.page (bytes_of world.source ticket.page) ∷ []); up = refl; transcript = refl })
+    λ stopped up own present remains.
+    record { destination = refl; forward = refl; back = refl; urgent = grows_by world.urgent world.source.epoch (page_frame ticket.page (bytes_of world.source ticket.page) ∷ []); up = refl; transcript = refl }
 made_alone world (Step.DeliverUrgent n) =
-    made-deliver_urgent _ world n (λ sent rest is short. record { source = refl; forward = refl; back = refl; urgent = record { taken = []; is = refl }; up = refl; transcript = refl })
-    (λ sent rest is full ran up. record { source = refl; forward = refl; back = refl; urgent = record { taken = sent ∷ []; is = is }; up = refl; transcript = refl })
-made_alone world Step.Serve = made-serve _ world (λ page pages is stopped up. quiet_source world _)
-made_alone world Step.End = made-end _ world (λ stopped other up none. sending_source world (record world.source { end_epoch = world.source.epoch }) (End world.source.urgent_sent ∷ []))
-made_alone world Step.Break = made-break _ world (λ started unreleased up. record { source = refl; destination = refl; transcript = refl })
-made_alone world (Step.Notice Side.Source) = made-notice _ world Side.Source (λ started unreleased down. record { phase = SourcePhase.Paused; is = refl })
-made_alone world (Step.Notice Side.Destination) = made-notice _ world Side.Destination (λ started unreleased down. record { phase = DestPhase.Paused; is = refl })
-made_alone world Step.Resume = made-resume _ world (λ from to down. record { source = refl; destination = refl; forward = grows_by world.forward (world.source.epoch + 1) (Resume ∷ []); back = refl; urgent = refl; transcript = refl })
+    ((λ sent rest is short. record { source = refl; forward = refl; back = refl; urgent = record { taken = []; is = refl }; up = refl; transcript = refl }), (λ sent rest is full ran up. record { source = refl; forward = refl; back = refl; urgent = record { taken = sent ∷ []; is = is }; up = refl; transcript = refl }))
+made_alone world Step.Serve = λ page pages is stopped up. quiet_source world _
+made_alone world Step.End = λ stopped other up none. sending_source world (record world.source { end_epoch = world.source.epoch }) (End world.source.urgent_sent ∷ [])
+made_alone world Step.Break = λ started unreleased up. record { source = refl; destination = refl; transcript = refl }
+made_alone world (Step.Notice Side.Source) = λ started unreleased down. record { phase = SourcePhase.Paused; is = refl }
+made_alone world (Step.Notice Side.Destination) = λ started unreleased down. record { phase = DestPhase.Paused; is = refl }
+made_alone world Step.Resume = λ from to down unused. record { source = refl; destination = refl; forward = grows_by world.forward (world.source.epoch + 1) (Resume ∷ []); back = refl; urgent = refl; transcript = refl }
 
 -- a refused step changes nothing
 refused_alone : (world : World) (step : Step) → ChangesParts world step world
@@ -155,4 +153,4 @@ refused_alone world Step.Resume = record { source = refl; destination = refl; fo
 refused_alone world _ = source_kept world
 
 pub changes_parts : (world : World) (step : Step) → ChangesParts world step (next world step)
-changes_parts world step = leaves-next (ChangesParts world step) world step (refused_alone world step) (made_alone world step)
+changes_parts world step = made-next (ChangesParts world step) world step (refused_alone world step) (made_alone world step)

@@ -34,8 +34,7 @@ use Rattle.mig_model.proofs.DestinationCommands.{ready_of}
 use Rattle.mig_model.proofs.FirstFrame.{first_in_place}
 use Rattle.mig_model.proofs.FramesTaken.{with_first}
 use Rattle.mig_model.proofs.WaitingCommands.{package_told}
-use Rattle.mig_model.proofs.StepLemmas.{Leaves, holds-effect, leaves-next, leaves-ok}
-use Rattle.mig_model.proofs.StepCases.{made-break, made-deliver, made-deliver_back, made-dest_act, made-dest_read, made-end, made-install, made-issue, made-notice, made-push, made-resume, made-retry, made-round, made-send, made-send_run, made-serve, made-source_act, made-source_read, made-start, made-switch, made-deliver_urgent, made-push_urgent}
+use Rattle.mig_model.proofs.StepCases.{Makes, MakesWorld, holds-made, made-next, made-ok, made-effect, made-outcome}
 use Rattle.mig_model.proofs.DestinationRead.{none_is}
 use Rattle.mig_model.specs.Cpus.{outstanding, processor_at}
 use Rattle.mig_model.specs.Owed.{home, settled_by}
@@ -54,8 +53,8 @@ called_by true false world cpu command runs is kept page = ap (λ f. f page) (se
 pub settled_call : (world : World) (cpu : ℕ) (command : Command) → IsSoundWorld world → world.destination.has_run ≡ true → is_access command ≡ false → (page : ℕ) →
     IsOk (outcome world (Step.Issue cpu command)) → settled (next world (Step.Issue cpu command)).destination page ≡ owed_changed (settled world.destination) command (reply_of (memory world.destination.guest.space.host) command) page
 settled_call world cpu command kept ran is page ok =
-    leaves-ok (λ new. settled new.destination page ≡ owed_changed (settled world.destination) command (reply_of (memory world.destination.guest.space.host) command) page) world (Step.Issue cpu command)
-    (made-issue _ world cpu command (λ there idle may. called_by world.destination.has_run (is_access command) world cpu command ran is kept page)) ok
+    made-ok (λ new. settled new.destination page ≡ owed_changed (settled world.destination) command (reply_of (memory world.destination.guest.space.host) command) page) world (Step.Issue cpu command)
+    (λ there idle may. called_by world.destination.has_run (is_access command) world cpu command ran is kept page) ok
 
 -- A message that is read
 
@@ -115,7 +114,7 @@ abbrev SettledAs : World → ℕ → World → Type 0
 SettledAs world page new = settled new.destination page ≡ settled world.destination page
 
 pub settled_access : (world : World) (cpu : ℕ) (command : Command) → world.destination.has_run ≡ true → is_access command ≡ true → (page : ℕ) → settled (next world (Step.Issue cpu command)).destination page ≡ settled world.destination page
-settled_access world cpu command ran is page = leaves-next (SettledAs world page) world (Step.Issue cpu command) refl (made-issue _ world cpu command (λ there idle may. settled_try world cpu command ran is page))
+settled_access world cpu command ran is page = made-next (SettledAs world page) world (Step.Issue cpu command) refl (λ there idle may. settled_try world cpu command ran is page)
 
 -- An install takes away its own pair
 
@@ -138,9 +137,9 @@ installed_by (Some here) copy rest world addr source quiet same page =
 pub settled_install : (world : World) (addr source : ℕ) → outcome world Step.Install ≡ Ok (Effect.Installed addr source) → (page : ℕ) →
     settled (next world Step.Install).destination page ≡ (if eqb page (addr / 4096) then None else settled world.destination page)
 settled_install world addr source answered page =
-    holds-effect (λ effect new. effect ≡ Effect.Installed addr source → settled new.destination page ≡ (if eqb page (addr / 4096) then None else settled world.destination page)) world Step.Install (Effect.Installed addr source)
-    (made-install _ world (λ copy rest first ran quiet same.
-    installed_by (home world.destination.owed copy.page) copy rest world addr source (no_event world.destination.guest.space.object.events quiet) same page)) answered refl
+    made-effect (λ effect new. effect ≡ Effect.Installed addr source → settled new.destination page ≡ (if eqb page (addr / 4096) then None else settled world.destination page)) world Step.Install (Effect.Installed addr source)
+    (λ copy rest first ran quiet same.
+    installed_by (home world.destination.owed copy.page) copy rest world addr source (no_event world.destination.guest.space.object.events quiet) same page) answered refl
 
 -- Any other step
 
@@ -197,35 +196,35 @@ urgent_settled _ node page = refl
 same_node : (old new : World) (page : ℕ) → new.destination ≡ old.destination → settled new.destination page ≡ settled old.destination page
 same_node old new page h = ap (λ node. settled node page) h
 
-settled_answer : (world : World) (step : Step) → IsSoundWorld world → AreAccesses world → world.destination.has_run ≡ true → leaves_settled step ≡ true → (page : ℕ) → Leaves (SettledAs world page) (answer world step)
-settled_answer world (Step.Issue cpu command) kept waits ran leaves page = made-issue _ world cpu command (λ there idle may. settled_try world cpu command ran leaves page)
+settled_answer : (world : World) (step : Step) → IsSoundWorld world → AreAccesses world → world.destination.has_run ≡ true → leaves_settled step ≡ true → (page : ℕ) → MakesWorld (SettledAs world page) world step
+settled_answer world (Step.Issue cpu command) kept waits ran leaves page = λ there idle may. settled_try world cpu command ran leaves page
 settled_answer world (Step.Retry cpu) kept waits ran leaves page =
-    made-retry _ world cpu (λ command is woken may. settled_try world cpu command ran (waits_here world cpu command waits ran is) page)
+    λ command is woken may. settled_try world cpu command ran (waits_here world cpu command waits ran is) page
 settled_answer world Step.Install kept waits ran leaves page = absurd (false≢true leaves)
-settled_answer world Step.Start kept waits ran leaves page = made-start _ world (λ idle. refl)
-settled_answer world Step.Round kept waits ran leaves page = made-round _ world (λ precopy quiet. refl)
-settled_answer world Step.Send kept waits ran leaves page = made-send _ world (λ number is precopy up quiet. refl)
-settled_answer world (Step.SendRun count) kept waits ran leaves page = made-send_run _ world count (λ first number is many precopy up quiet. refl)
-settled_answer world Step.SourceRead kept waits ran leaves page = made-source_read _ world (λ noted is started unswitched. refl)
-settled_answer world Step.SourceAct kept waits ran leaves page = made-source_act _ world (λ fault rest is started unswitched quiet. refl)
-settled_answer world Step.Switch kept waits ran leaves page = made-switch _ world (λ precopy up quiet. refl)
-settled_answer world (Step.Deliver n) kept waits ran leaves page = made-deliver _ world n (λ sent rest is short. refl) (λ sent rest is full started up free early. frame_settled sent.frame sent.epoch rest world kept up ran is page)
-settled_answer world (Step.DeliverBack n) kept waits ran leaves page = made-deliver_back _ world n (λ sent rest is short. refl) (λ sent rest is full started up. refl)
+settled_answer world Step.Start kept waits ran leaves page = λ idle unused. refl
+settled_answer world Step.Round kept waits ran leaves page = λ precopy quiet. refl
+settled_answer world Step.Send kept waits ran leaves page = λ number is precopy up quiet. refl
+settled_answer world (Step.SendRun count) kept waits ran leaves page = λ first number is many precopy up quiet. refl
+settled_answer world Step.SourceRead kept waits ran leaves page = λ noted is started unswitched. refl
+settled_answer world Step.SourceAct kept waits ran leaves page = λ fault rest is started unswitched quiet. refl
+settled_answer world Step.Switch kept waits ran leaves page = λ precopy up quiet. refl
+settled_answer world (Step.Deliver n) kept waits ran leaves page = ((λ sent rest is short. refl), (λ sent rest is full started up free early. frame_settled sent.frame sent.epoch rest world kept up ran is page))
+settled_answer world (Step.DeliverBack n) kept waits ran leaves page = ((λ sent rest is short. refl), (λ sent rest is full started up. refl))
 settled_answer world Step.DestRead kept waits ran leaves page =
-    made-dest_read _ world (λ noted is runs. read_settled world.destination.guest.space.object.faults world.destination.guest.space.object.events noted world is kept.spaces.destination_faults kept.spaces.destination_events page)
-settled_answer world Step.DestAct kept waits ran leaves page = made-dest_act _ world (λ fault rest is runs quiet. acted_settled (destination_act world.destination fault) world.destination fault.page page)
-settled_answer world (Step.Push ticket) kept waits ran leaves page = made-push _ world ticket (λ stopped up own present remains. refl)
-settled_answer world (Step.PushUrgent ticket) kept waits ran leaves page = made-push_urgent _ world ticket (λ stopped up own present remains. refl)
-settled_answer world (Step.DeliverUrgent n) kept waits ran leaves page = made-deliver_urgent _ world n (λ sent rest is short. refl) (λ sent rest is full runs up. urgent_settled sent.frame world.destination page)
-settled_answer world Step.Serve kept waits ran leaves page = made-serve _ world (λ number pages is stopped up. refl)
-settled_answer world Step.End kept waits ran leaves page = made-end _ world (λ stopped other up none. refl)
-settled_answer world Step.Break kept waits ran leaves page = made-break _ world (λ started unreleased up. refl)
-settled_answer world (Step.Notice Side.Source) kept waits ran leaves page = made-notice _ world Side.Source (λ started unreleased down. refl)
-settled_answer world (Step.Notice Side.Destination) kept waits ran leaves page = made-notice _ world Side.Destination (λ started unreleased down. refl)
-settled_answer world Step.Resume kept waits ran leaves page = made-resume _ world (λ from to down. refl)
+    λ noted is runs. read_settled world.destination.guest.space.object.faults world.destination.guest.space.object.events noted world is kept.spaces.destination_faults kept.spaces.destination_events page
+settled_answer world Step.DestAct kept waits ran leaves page = λ fault rest is runs quiet. acted_settled (destination_act world.destination fault) world.destination fault.page page
+settled_answer world (Step.Push ticket) kept waits ran leaves page = λ stopped up own present remains. refl
+settled_answer world (Step.PushUrgent ticket) kept waits ran leaves page = λ stopped up own present remains. refl
+settled_answer world (Step.DeliverUrgent n) kept waits ran leaves page = ((λ sent rest is short. refl), (λ sent rest is full runs up. urgent_settled sent.frame world.destination page))
+settled_answer world Step.Serve kept waits ran leaves page = λ number pages is stopped up. refl
+settled_answer world Step.End kept waits ran leaves page = λ stopped other up none. refl
+settled_answer world Step.Break kept waits ran leaves page = λ started unreleased up. refl
+settled_answer world (Step.Notice Side.Source) kept waits ran leaves page = λ started unreleased down. refl
+settled_answer world (Step.Notice Side.Destination) kept waits ran leaves page = λ started unreleased down. refl
+settled_answer world Step.Resume kept waits ran leaves page = λ from to down unused. refl
 
 pub settled_else : (world : World) (step : Step) → IsSoundWorld world → AreAccesses world → world.destination.has_run ≡ true → leaves_settled step ≡ true → (page : ℕ) → settled (next world step).destination page ≡ settled world.destination page
-settled_else world step kept waits ran leaves page = leaves-next (SettledAs world page) world step refl (settled_answer world step kept waits ran leaves page)
+settled_else world step kept waits ran leaves page = made-next (SettledAs world page) world step refl (settled_answer world step kept waits ran leaves page)
 
 -- A copy that is given up leaves the relation
 
@@ -235,5 +234,5 @@ dropped_by (Some here) copy rest world source page same = absurd (cc)
 
 pub settled_dropped : (world : World) (source page : ℕ) → outcome world Step.Install ≡ Ok (Effect.Dropped source) → settled (next world Step.Install).destination page ≡ settled world.destination page
 settled_dropped world source page answered =
-    holds-effect (λ effect new. effect ≡ Effect.Dropped source → settled new.destination page ≡ settled world.destination page) world Step.Install (Effect.Dropped source)
-    (made-install _ world (λ copy rest first ran quiet same. dropped_by (home world.destination.owed copy.page) copy rest world source page same)) answered refl
+    made-effect (λ effect new. effect ≡ Effect.Dropped source → settled new.destination page ≡ settled world.destination page) world Step.Install (Effect.Dropped source)
+    (λ copy rest first ran quiet same. dropped_by (home world.destination.owed copy.page) copy rest world source page same) answered refl

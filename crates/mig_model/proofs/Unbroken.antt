@@ -34,8 +34,7 @@ use Rattle.mig_model.proofs.PromiseLemmas.{is_switching}
 use Rattle.mig_model.proofs.ReachedLemmas.{reached-after_steps, reached-next}
 use Rattle.mig_model.proofs.SendingLemmas.{has_package}
 use Rattle.mig_model.proofs.SourceRounds.{precopy_unswitched}
-use Rattle.mig_model.proofs.StepCases.{made-break, made-deliver, made-deliver_back, made-dest_act, made-dest_read, made-end, made-install, made-issue, made-notice, made-push, made-resume, made-retry, made-round, made-send, made-send_run, made-serve, made-source_act, made-source_read, made-start, made-switch, made-deliver_urgent, made-push_urgent}
-use Rattle.mig_model.proofs.StepLemmas.{Leaves, holds-effect, leaves-next, leaves-ok}
+use Rattle.mig_model.proofs.StepCases.{Makes, MakesWorld, holds-made, made-next, made-ok, made-effect, made-outcome}
 use Rattle.mig_model.proofs.Stopping.{in_phases}
 use Rattle.mig_model.proofs.UrgentSteps.{runs_unstopped}
 use Rattle.mig_model.proofs.UrgentWire.{idle_unstopped, not_stopped, precopy_unstopped}
@@ -94,51 +93,48 @@ no_back _ to world stopped up ran kept = none_absurd stopped
 sent_more : (host : Host) (frame_sent : Frame) (world : World) (more : List Sent) → HasSwitched host frame_sent world → package_in (world.forward.frames ++ more) ≡ Some frame_sent
 sent_more host frame_sent world more now = (has_package world.destination.kept world.forward.frames more frame_sent now.package_is).same ∙ now.package_is
 
-awaits_answer : (host : Host) (frame_sent : Frame) (world : World) (step : Step) → IsSoundWorld world → world.up ≡ true → Awaits host frame_sent world → Leaves (AwaitsUp host frame_sent) (answer world step)
-awaits_answer host frame_sent world (Step.Issue cpu command) kept linked h = made-issue _ world cpu command (λ there idle may up. no_command host frame_sent world cpu command kept may h)
-awaits_answer host frame_sent world (Step.Retry cpu) kept linked h = made-retry _ world cpu (λ command is woken may up. no_command host frame_sent world cpu command kept may h)
-awaits_answer host frame_sent world Step.Start kept linked h = made-start _ world (λ idle up ran. unstopped host frame_sent world (h ran) (idle_unstopped world.source.phase idle))
-awaits_answer host frame_sent world Step.Round kept linked h = made-round _ world (λ precopy quiet up ran. unstopped host frame_sent world (h ran) (precopy_unstopped world.source.phase precopy))
-awaits_answer host frame_sent world Step.Send kept linked h = made-send _ world (λ page is precopy link quiet up ran. unstopped host frame_sent world (h ran) (precopy_unstopped world.source.phase precopy))
-awaits_answer host frame_sent world (Step.SendRun count) kept linked h = made-send_run _ world count (λ first number is many precopy link quiet up ran. unstopped host frame_sent world (h ran) (precopy_unstopped world.source.phase precopy))
+awaits_answer : (host : Host) (frame_sent : Frame) (world : World) (step : Step) → IsSoundWorld world → world.up ≡ true → Awaits host frame_sent world → MakesWorld (AwaitsUp host frame_sent) world step
+awaits_answer host frame_sent world (Step.Issue cpu command) kept linked h = λ there idle may up. no_command host frame_sent world cpu command kept may h
+awaits_answer host frame_sent world (Step.Retry cpu) kept linked h = λ command is woken may up. no_command host frame_sent world cpu command kept may h
+awaits_answer host frame_sent world Step.Start kept linked h = λ idle unused up ran. unstopped host frame_sent world (h ran) (idle_unstopped world.source.phase idle)
+awaits_answer host frame_sent world Step.Round kept linked h = λ precopy quiet up ran. unstopped host frame_sent world (h ran) (precopy_unstopped world.source.phase precopy)
+awaits_answer host frame_sent world Step.Send kept linked h = λ page is precopy link quiet up ran. unstopped host frame_sent world (h ran) (precopy_unstopped world.source.phase precopy)
+awaits_answer host frame_sent world (Step.SendRun count) kept linked h = λ first number is many precopy link quiet up ran. unstopped host frame_sent world (h ran) (precopy_unstopped world.source.phase precopy)
 awaits_answer host frame_sent world Step.SourceRead kept linked h =
-    made-source_read _ world (λ noted is started unswitched up ran. unstopped host frame_sent world (h ran) (not_stopped world.source.phase world.source.switched kept.phases.source_phase unswitched))
+    λ noted is started unswitched up ran. unstopped host frame_sent world (h ran) (not_stopped world.source.phase world.source.switched kept.phases.source_phase unswitched)
 awaits_answer host frame_sent world Step.SourceAct kept linked h =
-    made-source_act _ world (λ fault rest is started unswitched quiet up ran. unstopped host frame_sent world (h ran) (not_stopped world.source.phase world.source.switched kept.phases.source_phase unswitched))
-awaits_answer host frame_sent world Step.Switch kept linked h = made-switch _ world (λ precopy link quiet up ran. unstopped host frame_sent world (h ran) (precopy_unstopped world.source.phase precopy))
+    λ fault rest is started unswitched quiet up ran. unstopped host frame_sent world (h ran) (not_stopped world.source.phase world.source.switched kept.phases.source_phase unswitched)
+awaits_answer host frame_sent world Step.Switch kept linked h = λ precopy link quiet up ran. unstopped host frame_sent world (h ran) (precopy_unstopped world.source.phase precopy)
 awaits_answer host frame_sent world (Step.Deliver n) kept linked h =
-    made-deliver _ world n (λ sent rest is short up ran. let now = h ran in record { stopped = now.stopped; host_is = now.host_is; package_is = now.package_is })
-    (λ sent rest is full started link free early up. taken_awaits host frame_sent sent.epoch sent.frame rest world is h)
+    ((λ sent rest is short up ran. let now = h ran in record { stopped = now.stopped; host_is = now.host_is; package_is = now.package_is }), (λ sent rest is full started link free early up. taken_awaits host frame_sent sent.epoch sent.frame rest world is h))
 awaits_answer host frame_sent world (Step.DeliverBack n) kept linked h =
-    made-deliver_back _ world n (λ sent rest is short up ran. let now = h ran in record { stopped = now.stopped; host_is = now.host_is; package_is = now.package_is })
-    (λ sent rest is full started link up ran. absurd (empty_not sent rest (sym is ∙ no_back world.source.phase world.destination.phase world (h ran).stopped linked ran kept)))
-awaits_answer host frame_sent world Step.DestRead kept linked h = made-dest_read _ world (λ noted is runs up ran. absurd (false≢true (sym ran ∙ runs)))
+    ((λ sent rest is short up ran. let now = h ran in record { stopped = now.stopped; host_is = now.host_is; package_is = now.package_is }), (λ sent rest is full started link up ran. absurd (empty_not sent rest (sym is ∙ no_back world.source.phase world.destination.phase world (h ran).stopped linked ran kept))))
+awaits_answer host frame_sent world Step.DestRead kept linked h = λ noted is runs up ran. absurd (false≢true (sym ran ∙ runs))
 awaits_answer host frame_sent world Step.DestAct kept linked h =
-    made-dest_act _ world (λ fault rest is runs quiet up ran. absurd (false≢true (sym ran ∙ acted_ran (destination_act world.destination fault) world.destination fault.page ∙ runs)))
+    λ fault rest is runs quiet up ran. absurd (false≢true (sym ran ∙ acted_ran (destination_act world.destination fault) world.destination fault.page ∙ runs))
 awaits_answer host frame_sent world Step.Install kept linked h =
-    made-install _ world (λ copy rest is runs quiet up ran. absurd (false≢true (sym ran ∙ installed_ran (home world.destination.owed copy.page) world.destination copy rest ∙ runs)))
+    λ copy rest is runs quiet up ran. absurd (false≢true (sym ran ∙ installed_ran (home world.destination.owed copy.page) world.destination copy rest ∙ runs))
 awaits_answer host frame_sent world (Step.Push ticket) kept linked h =
-    made-push _ world ticket (λ stopped link own present remains up ran. let now = h ran in record { stopped = now.stopped; host_is = now.host_is; package_is = sent_more host frame_sent world _ now })
+    λ stopped link own present remains up ran. let now = h ran in record { stopped = now.stopped; host_is = now.host_is; package_is = sent_more host frame_sent world _ now }
 awaits_answer host frame_sent world (Step.PushUrgent ticket) kept linked h =
-    made-push_urgent _ world ticket (λ stopped link own present remains up ran. let now = h ran in record { stopped = now.stopped; host_is = now.host_is; package_is = now.package_is })
+    λ stopped link own present remains up ran. let now = h ran in record { stopped = now.stopped; host_is = now.host_is; package_is = now.package_is }
 awaits_answer host frame_sent world (Step.DeliverUrgent n) kept linked h =
-    made-deliver_urgent _ world n (λ sent rest is short up ran. let now = h ran in record { stopped = now.stopped; host_is = now.host_is; package_is = now.package_is })
-    (λ sent rest is full runs link up ran. absurd (false≢true (sym ran ∙ (same_urgent sent.frame world.destination).ran ∙ runs)))
+    ((λ sent rest is short up ran. let now = h ran in record { stopped = now.stopped; host_is = now.host_is; package_is = now.package_is }), (λ sent rest is full runs link up ran. absurd (false≢true (sym ran ∙ (same_urgent sent.frame world.destination).ran ∙ runs))))
 awaits_answer host frame_sent world Step.Serve kept linked h =
-    made-serve _ world (λ page pages is stopped link up ran. let now = h ran in record { stopped = now.stopped; host_is = now.host_is; package_is = now.package_is })
+    λ page pages is stopped link up ran. let now = h ran in record { stopped = now.stopped; host_is = now.host_is; package_is = now.package_is }
 awaits_answer host frame_sent world Step.End kept linked h =
-    made-end _ world (λ stopped other link none up ran. let now = h ran in record { stopped = now.stopped; host_is = now.host_is; package_is = sent_more host frame_sent world _ now })
-awaits_answer host frame_sent world Step.Break kept linked h = made-break _ world (λ started unreleased link up. absurd (false≢true up))
-awaits_answer host frame_sent world (Step.Notice Side.Source) kept linked h = made-notice _ world Side.Source (λ started unreleased down. absurd (false≢true (sym down ∙ linked)))
-awaits_answer host frame_sent world (Step.Notice Side.Destination) kept linked h = made-notice _ world Side.Destination (λ started unreleased down. absurd (false≢true (sym down ∙ linked)))
-awaits_answer host frame_sent world Step.Resume kept linked h = made-resume _ world (λ from to down. absurd (false≢true (sym down ∙ linked)))
+    λ stopped other link none up ran. let now = h ran in record { stopped = now.stopped; host_is = now.host_is; package_is = sent_more host frame_sent world _ now }
+awaits_answer host frame_sent world Step.Break kept linked h = λ started unreleased link up. absurd (false≢true up)
+awaits_answer host frame_sent world (Step.Notice Side.Source) kept linked h = λ started unreleased down. absurd (false≢true (sym down ∙ linked))
+awaits_answer host frame_sent world (Step.Notice Side.Destination) kept linked h = λ started unreleased down. absurd (false≢true (sym down ∙ linked))
+awaits_answer host frame_sent world Step.Resume kept linked h = λ from to down unused. absurd (false≢true (sym down ∙ linked))
 
 awaits_steps : (host : Host) (frame_sent : Frame) (world : World) (steps : List Step) → IsReached world → world.up ≡ true → StaysUp world steps → Awaits host frame_sent world →
     ((after_steps world steps).up ≡ true) × Awaits host frame_sent (after_steps world steps)
 awaits_steps host frame_sent world [] reached linked stays h = (linked, h)
 awaits_steps host frame_sent world (step ∷ steps) reached linked stays h =
     awaits_steps host frame_sent (next world step) steps (reached-next world step reached) stays.0 stays.1
-    (leaves-next (AwaitsUp host frame_sent) world step (λ up. h) (awaits_answer host frame_sent world step (kept-reached world reached) linked h) stays.0)
+    (made-next (AwaitsUp host frame_sent) world step (λ up. h) (awaits_answer host frame_sent world step (kept-reached world reached) linked h) stays.0)
 
 -- The Switch
 
@@ -162,18 +158,18 @@ package_of source = Package (space_of source).host.areas (not_clean source) (com
 
 switch_awaits : (world : World) → IsSoundWorld world → IsOk (outcome world Step.Switch) → Awaits (space_of world.source).host (package_of world.source) (next world Step.Switch)
 switch_awaits world kept ok =
-    leaves-ok (Awaits (space_of world.source).host (package_of world.source)) world Step.Switch
-    (made-switch _ world (λ precopy up quiet ran.
+    made-ok (Awaits (space_of world.source).host (package_of world.source)) world Step.Switch
+    (λ precopy up quiet ran.
     let before = no_package_by (package_in world.forward.frames) (none_before world.source.phase world.destination.phase world precopy up kept) in
-    record { stopped = refl; host_is = refl; package_is = sent_first (world.forward.frames ++ _ ∷ []) _ (sent_first world.forward.frames _ before) })) ok
+    record { stopped = refl; host_is = refl; package_is = sent_first (world.forward.frames ++ _ ∷ []) _ (sent_first world.forward.frames _ before) }) ok
 
 -- what an accepted Switch was asked
 switch_free : (world : World) → IsOk (outcome world Step.Switch) → (is_precopy world.source.phase ≡ true) × (world.up ≡ true) × (is_changing world.source.guest ≡ false)
 switch_free world ok =
-    leaves-ok (λ new. (is_precopy world.source.phase ≡ true) × (world.up ≡ true) × (is_changing world.source.guest ≡ false)) world Step.Switch (made-switch _ world (λ precopy up quiet. (precopy, up, quiet))) ok
+    made-ok (λ new. (is_precopy world.source.phase ≡ true) × (world.up ≡ true) × (is_changing world.source.guest ≡ false)) world Step.Switch (λ precopy up quiet. (precopy, up, quiet)) ok
 
 switch_up : (world : World) → IsOk (outcome world Step.Switch) → (next world Step.Switch).up ≡ true
-switch_up world ok = leaves-ok (λ new. new.up ≡ true) world Step.Switch (made-switch _ world (λ precopy up quiet. up)) ok
+switch_up world ok = made-ok (λ new. new.up ≡ true) world Step.Switch (λ precopy up quiet. up) ok
 
 -- The Package is taken
 
@@ -189,8 +185,8 @@ takes_package _ owed h = absurd (cc)
 
 package_first : (world : World) (n owed : ℕ) → outcome world (Step.Deliver n) ≡ Ok (Effect.TookPackage owed) → IsPackageFirst world
 package_first world n owed answered =
-    holds-effect (λ effect new. effect ≡ Effect.TookPackage owed → IsPackageFirst world) world (Step.Deliver n) (Effect.TookPackage owed)
-    (made-deliver _ world n (λ sent rest is short h. absurd (cc)) (λ sent rest is full started up free early h. record { sent = sent; rest = rest; first = is; is = takes_package sent.frame owed h })) answered refl
+    made-effect (λ effect new. effect ≡ Effect.TookPackage owed → IsPackageFirst world) world (Step.Deliver n) (Effect.TookPackage owed)
+    ((λ sent rest is short h. absurd (cc)), (λ sent rest is full started up free early h. record { sent = sent; rest = rest; first = is; is = takes_package sent.frame owed h })) answered refl
 
 not_run_yet : (epoch : ℕ) (frame : Frame) (rest : List Sent) (world : World) → world.up ≡ true → world.forward.frames ≡ record { epoch = epoch; frame = frame } ∷ rest → IsSoundWorld world → is_package frame ≡ true → world.destination.has_run ≡ false
 not_run_yet epoch (Package areas owed commands) rest world up first kept is =

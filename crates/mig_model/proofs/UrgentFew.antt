@@ -34,8 +34,7 @@ use Rattle.mig_model.proofs.FramesTaken.{is_taken_back}
 use Rattle.mig_model.proofs.PushOrder.{idle_unswitched}
 use Rattle.mig_model.proofs.SetSizes.{len-part, len-removed, len-some}
 use Rattle.mig_model.proofs.SourceRounds.{precopy_unswitched}
-use Rattle.mig_model.proofs.StepCases.{made-break, made-deliver, made-deliver_back, made-deliver_urgent, made-dest_act, made-dest_read, made-end, made-install, made-issue, made-notice, made-push, made-push_urgent, made-resume, made-retry, made-round, made-send, made-send_run, made-serve, made-source_act, made-source_read, made-start, made-switch}
-use Rattle.mig_model.proofs.StepLemmas.{Leaves, leaves-next}
+use Rattle.mig_model.proofs.StepCases.{Makes, MakesWorld, holds-made, made-next, made-ok, made-effect, made-outcome}
 use Rattle.mig_model.proofs.Stopping.{present_below}
 use Rattle.mig_model.proofs.UrgentSteps.{urgent-first, urgent-next}
 use Rattle.mig_model.proofs.UrgentWire.{is_paused}
@@ -155,34 +154,34 @@ notices_few world unreleased h = record { before_switch = h.before_switch; few =
 
 -- Steps
 
-pub few-answer : (world : World) (step : Step) → IsSoundWorld world → AreSoundUrgent world → AreUrgentFew world → Leaves AreUrgentFew (answer world step)
-few-answer world (Step.Issue cpu command) kept urgent h = made-issue _ world cpu command (λ there idle may. command_few world cpu command may h)
-few-answer world (Step.Retry cpu) kept urgent h = made-retry _ world cpu (λ command waits woken may. command_few world cpu command may h)
-few-answer world Step.Start kept urgent h = made-start _ world (λ idle. before _ _ _ (idle_unswitched world.source.phase world.source.switched idle kept.phases.source_phase) h)
-few-answer world Step.Round kept urgent h = made-round _ world (λ precopy quiet. before _ _ _ (precopy_unswitched world.source.phase world.source.switched precopy kept.phases.source_phase) h)
-few-answer world Step.Send kept urgent h = made-send _ world (λ page is precopy up quiet. before _ _ _ (precopy_unswitched world.source.phase world.source.switched precopy kept.phases.source_phase) h)
-few-answer world (Step.SendRun count) kept urgent h = made-send_run _ world count (λ first number is many precopy up quiet. before _ _ _ (precopy_unswitched world.source.phase world.source.switched precopy kept.phases.source_phase) h)
-few-answer world Step.SourceRead kept urgent h = made-source_read _ world (λ noted is started unswitched. before _ _ _ unswitched h)
-few-answer world Step.SourceAct kept urgent h = made-source_act _ world (λ fault rest is started unswitched quiet. acted_few (source_act world.source fault) world fault.page unswitched h)
-few-answer world Step.Switch kept urgent h = made-switch _ world (λ precopy up quiet. switch_few world kept precopy h)
-few-answer world (Step.Deliver n) kept urgent h = made-deliver _ world n (λ sent rest is short. h) (λ sent rest is full started up free early. h)
+pub few-answer : (world : World) (step : Step) → IsSoundWorld world → AreSoundUrgent world → AreUrgentFew world → MakesWorld AreUrgentFew world step
+few-answer world (Step.Issue cpu command) kept urgent h = λ there idle may. command_few world cpu command may h
+few-answer world (Step.Retry cpu) kept urgent h = λ command waits woken may. command_few world cpu command may h
+few-answer world Step.Start kept urgent h = λ idle unused. before _ _ _ (idle_unswitched world.source.phase world.source.switched idle kept.phases.source_phase) h
+few-answer world Step.Round kept urgent h = λ precopy quiet. before _ _ _ (precopy_unswitched world.source.phase world.source.switched precopy kept.phases.source_phase) h
+few-answer world Step.Send kept urgent h = λ page is precopy up quiet. before _ _ _ (precopy_unswitched world.source.phase world.source.switched precopy kept.phases.source_phase) h
+few-answer world (Step.SendRun count) kept urgent h = λ first number is many precopy up quiet. before _ _ _ (precopy_unswitched world.source.phase world.source.switched precopy kept.phases.source_phase) h
+few-answer world Step.SourceRead kept urgent h = λ noted is started unswitched. before _ _ _ unswitched h
+few-answer world Step.SourceAct kept urgent h = λ fault rest is started unswitched quiet. acted_few (source_act world.source fault) world fault.page unswitched h
+few-answer world Step.Switch kept urgent h = λ precopy up quiet. switch_few world kept precopy h
+few-answer world (Step.Deliver n) kept urgent h = ((λ sent rest is short. h), (λ sent rest is full started up free early. h))
 few-answer world (Step.DeliverBack n) kept urgent h =
-    made-deliver_back _ world n (λ sent rest is short. h) (λ sent rest is full started up. back_few sent.frame sent.epoch rest world kept urgent up (is_taken_back world sent rest kept up is) h)
-few-answer world Step.DestRead kept urgent h = made-dest_read _ world (λ noted is ran. h)
-few-answer world Step.DestAct kept urgent h = made-dest_act _ world (λ fault rest is ran quiet. h)
-few-answer world Step.Install kept urgent h = made-install _ world (λ copy rest is ran quiet. h)
-few-answer world (Step.Push ticket) kept urgent h = made-push _ world ticket (λ stopped up own present remains. push_few world ticket.page remains h)
-few-answer world (Step.PushUrgent ticket) kept urgent h = made-push_urgent _ world ticket (λ stopped up own present remains. push_urgent_few world ticket.page kept stopped remains h)
-few-answer world (Step.DeliverUrgent n) kept urgent h = made-deliver_urgent _ world n (λ sent rest is short. h) (λ sent rest is full ran up. h)
-few-answer world Step.Serve kept urgent h = made-serve _ world (λ page pages is stopped up. h)
-few-answer world Step.End kept urgent h = made-end _ world (λ stopped other up none. h)
-few-answer world Step.Break kept urgent h = made-break _ world (λ started unreleased up. h)
-few-answer world (Step.Notice Side.Source) kept urgent h = made-notice _ world Side.Source (λ started unreleased down. notices_few world unreleased h)
-few-answer world (Step.Notice Side.Destination) kept urgent h = made-notice _ world Side.Destination (λ started unreleased down. h)
-few-answer world Step.Resume kept urgent h = made-resume _ world (λ from to down. resume_few world kept h)
+    ((λ sent rest is short. h), (λ sent rest is full started up. back_few sent.frame sent.epoch rest world kept urgent up (is_taken_back world sent rest kept up is) h))
+few-answer world Step.DestRead kept urgent h = λ noted is ran. h
+few-answer world Step.DestAct kept urgent h = λ fault rest is ran quiet. h
+few-answer world Step.Install kept urgent h = λ copy rest is ran quiet. h
+few-answer world (Step.Push ticket) kept urgent h = λ stopped up own present remains. push_few world ticket.page remains h
+few-answer world (Step.PushUrgent ticket) kept urgent h = λ stopped up own present remains. push_urgent_few world ticket.page kept stopped remains h
+few-answer world (Step.DeliverUrgent n) kept urgent h = ((λ sent rest is short. h), (λ sent rest is full ran up. h))
+few-answer world Step.Serve kept urgent h = λ page pages is stopped up. h
+few-answer world Step.End kept urgent h = λ stopped other up none. h
+few-answer world Step.Break kept urgent h = λ started unreleased up. h
+few-answer world (Step.Notice Side.Source) kept urgent h = λ started unreleased down. notices_few world unreleased h
+few-answer world (Step.Notice Side.Destination) kept urgent h = λ started unreleased down. h
+few-answer world Step.Resume kept urgent h = λ from to down unused. resume_few world kept h
 
 pub few-next : (world : World) (step : Step) → IsSoundWorld world → AreSoundUrgent world → AreUrgentFew world → AreUrgentFew (next world step)
-few-next world step kept urgent h = leaves-next AreUrgentFew world step h (few-answer world step kept urgent h)
+few-next world step kept urgent h = made-next AreUrgentFew world step h (few-answer world step kept urgent h)
 
 few-after_steps : (world : World) (steps : List Step) → IsSoundWorld world → AreSoundUrgent world → AreUrgentFew world → AreUrgentFew (after_steps world steps)
 few-after_steps world [] kept urgent h = h

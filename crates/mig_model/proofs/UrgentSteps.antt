@@ -18,13 +18,12 @@ use Rattle.mig_model.specs.Guest.{Guest, Act, is_present, tried}
 use Rattle.mig_model.specs.Guest.Act.{Unprotected, Zeroed, Woke, Forgot, Requested}
 use Rattle.mig_model.specs.Source.{Source, is_stopped, bytes_of, is_precopy, is_source_idle, package_frames, rebuild_frames, released, source_act, source_acted_by, source_rebuilt, space_of, switch_frames, run_of}
 use Rattle.mig_model.specs.Destination.{Destination, copy_came, destination_act, destination_acted_by, destination_took, install_by, is_dest_paused, received_of, resumed_by, urgent_came}
-use Rattle.mig_model.proofs.StepLemmas.{Leaves, leaves-next}
 use Rattle.mig_model.specs.Invariant.{AreFaithful, AreSoundUrgent, AreTold, IsSoundWorld, RanAt, SwitchedAt, Wires, are_copies, copies_of}
 use Rattle.mig_model.proofs.Taken.{IsInPlaceBack}
 use Rattle.mig_model.specs.Log.{no_pages, present}
 use Rattle.mig_model.specs.Owed.{home}
 use Rattle.mig_model.proofs.Facts.{AreFaithful-append, AreOf-one, and_second, copies_of-append}
-use Rattle.mig_model.proofs.StepCases.{made-break, made-deliver, made-deliver_back, made-deliver_urgent, made-dest_act, made-dest_read, made-end, made-install, made-issue, made-notice, made-push, made-push_urgent, made-resume, made-retry, made-round, made-send, made-send_run, made-serve, made-source_act, made-source_read, made-start, made-switch}
+use Rattle.mig_model.proofs.StepCases.{Makes, MakesWorld, holds-made, made-next, made-ok, made-effect, made-outcome}
 use Rattle.mig_model.proofs.HeldLemmas.{fits-more, fits-moved, fits-none}
 use Rattle.mig_model.proofs.SendingLemmas.{copies_of-page}
 use Rattle.mig_model.proofs.Stopping.{not_ended, present_bytes}
@@ -375,35 +374,35 @@ resume_urgent world kept paused down h =
 
 -- Steps
 
-pub urgent-answer : (world : World) (step : Step) → IsSoundWorld world → AreSoundUrgent world → Leaves AreSoundUrgent (answer world step)
-urgent-answer world (Step.Issue cpu command) kept h = made-issue _ world cpu command (λ there idle may. command_urgent world cpu command kept may h)
-urgent-answer world (Step.Retry cpu) kept h = made-retry _ world cpu (λ command waits woken may. command_urgent world cpu command kept may h)
-urgent-answer world Step.Start kept h = made-start _ world (λ idle. start_urgent world kept idle h)
-urgent-answer world Step.Round kept h = made-round _ world (λ precopy quiet. other_bytes _ (precopy_unstopped world.source.phase precopy) h)
+pub urgent-answer : (world : World) (step : Step) → IsSoundWorld world → AreSoundUrgent world → MakesWorld AreSoundUrgent world step
+urgent-answer world (Step.Issue cpu command) kept h = λ there idle may. command_urgent world cpu command kept may h
+urgent-answer world (Step.Retry cpu) kept h = λ command waits woken may. command_urgent world cpu command kept may h
+urgent-answer world Step.Start kept h = λ idle unused. start_urgent world kept idle h
+urgent-answer world Step.Round kept h = λ precopy quiet. other_bytes _ (precopy_unstopped world.source.phase precopy) h
 urgent-answer world Step.Send kept h =
-    made-send _ world (λ page is precopy up quiet. other_bytes _ (precopy_unstopped world.source.phase precopy) (other_forward _ (sent_urgent world page h) h))
+    λ page is precopy up quiet. other_bytes _ (precopy_unstopped world.source.phase precopy) (other_forward _ (sent_urgent world page h) h)
 urgent-answer world (Step.SendRun count) kept h =
-    made-send_run _ world count (λ first number is many precopy up quiet. other_bytes _ (precopy_unstopped world.source.phase precopy) (other_forward _ (run_urgent world first number h) h))
-urgent-answer world Step.SourceRead kept h = made-source_read _ world (λ noted is started unswitched. other_bytes _ (not_stopped world.source.phase world.source.switched kept.phases.source_phase unswitched) h)
+    λ first number is many precopy up quiet. other_bytes _ (precopy_unstopped world.source.phase precopy) (other_forward _ (run_urgent world first number h) h)
+urgent-answer world Step.SourceRead kept h = λ noted is started unswitched. other_bytes _ (not_stopped world.source.phase world.source.switched kept.phases.source_phase unswitched) h
 urgent-answer world Step.SourceAct kept h =
-    made-source_act _ world (λ fault rest is started unswitched quiet.
-    acted_urgent (source_act world.source fault) world fault.page (not_stopped world.source.phase world.source.switched kept.phases.source_phase unswitched) h)
-urgent-answer world Step.Switch kept h = made-switch _ world (λ precopy up quiet. switch_urgent world precopy h)
-urgent-answer world (Step.Deliver n) kept h = made-deliver _ world n (λ sent rest is short. h) (λ sent rest is full started up free early. deliver_urgent_kept world sent rest kept is up early h)
+    λ fault rest is started unswitched quiet.
+    acted_urgent (source_act world.source fault) world fault.page (not_stopped world.source.phase world.source.switched kept.phases.source_phase unswitched) h
+urgent-answer world Step.Switch kept h = λ precopy up quiet. switch_urgent world precopy h
+urgent-answer world (Step.Deliver n) kept h = ((λ sent rest is short. h), (λ sent rest is full started up free early. deliver_urgent_kept world sent rest kept is up early h))
 urgent-answer world (Step.DeliverBack n) kept h =
-    made-deliver_back _ world n (λ sent rest is short. h) (λ sent rest is full started up. back_urgent sent.frame sent.epoch rest world kept up is (is_taken_back world sent rest kept up is) h)
-urgent-answer world Step.DestRead kept h = made-dest_read _ world (λ noted is ran. h)
-urgent-answer world Step.DestAct kept h = made-dest_act _ world (λ fault rest is ran quiet. handled_urgent (destination_act world.destination fault) world fault.page world.back h)
-urgent-answer world Step.Install kept h = made-install _ world (λ copy rest is ran quiet. installed_urgent (home world.destination.owed copy.page) world copy rest h)
-urgent-answer world (Step.Push ticket) kept h = made-push _ world ticket (λ stopped up own present remains. other_forward _ (sent_urgent world ticket.page h) h)
-urgent-answer world (Step.PushUrgent ticket) kept h = made-push_urgent _ world ticket (λ stopped up own present remains. push_urgent_kept world ticket.page kept stopped up present remains h)
-urgent-answer world (Step.DeliverUrgent n) kept h = made-deliver_urgent _ world n (λ sent rest is short. urgent_moved world n sent rest is short h) (λ sent rest is full ran up. urgent_delivered world sent rest is ran h)
-urgent-answer world Step.Serve kept h = made-serve _ world (λ page pages is stopped up. h)
-urgent-answer world Step.End kept h = made-end _ world (λ stopped other up none. end_urgent world h)
-urgent-answer world Step.Break kept h = made-break _ world (λ started unreleased up. break_urgent world h)
-urgent-answer world (Step.Notice Side.Source) kept h = made-notice _ world Side.Source (λ started unreleased down. source_notices world down h)
-urgent-answer world (Step.Notice Side.Destination) kept h = made-notice _ world Side.Destination (λ started unreleased down. destination_notices world down h)
-urgent-answer world Step.Resume kept h = made-resume _ world (λ from to down. resume_urgent world kept to down h)
+    ((λ sent rest is short. h), (λ sent rest is full started up. back_urgent sent.frame sent.epoch rest world kept up is (is_taken_back world sent rest kept up is) h))
+urgent-answer world Step.DestRead kept h = λ noted is ran. h
+urgent-answer world Step.DestAct kept h = λ fault rest is ran quiet. handled_urgent (destination_act world.destination fault) world fault.page world.back h
+urgent-answer world Step.Install kept h = λ copy rest is ran quiet. installed_urgent (home world.destination.owed copy.page) world copy rest h
+urgent-answer world (Step.Push ticket) kept h = λ stopped up own present remains. other_forward _ (sent_urgent world ticket.page h) h
+urgent-answer world (Step.PushUrgent ticket) kept h = λ stopped up own present remains. push_urgent_kept world ticket.page kept stopped up present remains h
+urgent-answer world (Step.DeliverUrgent n) kept h = ((λ sent rest is short. urgent_moved world n sent rest is short h), (λ sent rest is full ran up. urgent_delivered world sent rest is ran h))
+urgent-answer world Step.Serve kept h = λ page pages is stopped up. h
+urgent-answer world Step.End kept h = λ stopped other up none. end_urgent world h
+urgent-answer world Step.Break kept h = λ started unreleased up. break_urgent world h
+urgent-answer world (Step.Notice Side.Source) kept h = λ started unreleased down. source_notices world down h
+urgent-answer world (Step.Notice Side.Destination) kept h = λ started unreleased down. destination_notices world down h
+urgent-answer world Step.Resume kept h = λ from to down unused. resume_urgent world kept to down h
 
 pub urgent-next : (world : World) (step : Step) → IsSoundWorld world → AreSoundUrgent world → AreSoundUrgent (next world step)
-urgent-next world step kept h = leaves-next AreSoundUrgent world step h (urgent-answer world step kept h)
+urgent-next world step kept h = made-next AreSoundUrgent world step h (urgent-answer world step kept h)

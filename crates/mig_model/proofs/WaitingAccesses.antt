@@ -29,8 +29,7 @@ use Rattle.mig_model.proofs.FramesTaken.{with_first}
 use Rattle.mig_model.proofs.WaitingCommands.{woken_keeps, taken_keeps, package_told, less_same, set_same}
 use Rattle.mig_model.proofs.EveryStep.{kept-next}
 use Rattle.mig_model.proofs.FirstWorld.{kept-first}
-use Rattle.mig_model.proofs.StepLemmas.{Leaves, leaves-next}
-use Rattle.mig_model.proofs.StepCases.{made-break, made-deliver, made-deliver_back, made-dest_act, made-dest_read, made-end, made-install, made-issue, made-notice, made-push, made-resume, made-retry, made-round, made-send, made-send_run, made-serve, made-source_act, made-source_read, made-start, made-switch, made-deliver_urgent, made-push_urgent}
+use Rattle.mig_model.proofs.StepCases.{Makes, MakesWorld, holds-made, made-next, made-ok, made-effect, made-outcome}
 use Rattle.mig_model.specs.Cpus.{access_took, all_woken, call_took, idle_processors, message_less, outstanding, processor_after, processor_at, taken_over, woken_if}
 use Rattle.mig_model.specs.Owed.{home}
 use Rattle.mig_model.specs.Source.{Source, commands_of, source_act, source_acted_by, source_took}
@@ -184,44 +183,44 @@ frame_all (Zero page) epoch rest world kept up first all = destination_like worl
 frame_all Resume epoch rest world kept up first all = destination_like world _ (resumed_like (received_of world.destination) _) all
 frame_all _ epoch rest world kept up first all = unmoved world all
 
-waits_answer : (world : World) (step : Step) → IsSoundWorld world → Wait world → Leaves Wait (answer world step)
-waits_answer world (Step.Issue cpu command) kept all = made-issue _ world cpu command (λ there idle may. tried_all world cpu command all)
-waits_answer world (Step.Retry cpu) kept all = made-retry _ world cpu (λ command waits woken may. tried_all world cpu command all)
-waits_answer world Step.Start kept all = made-start _ world (λ idle. record { source = all.source; destination = all.destination; many = all.many })
-waits_answer world Step.Round kept all = made-round _ world (λ precopy quiet. record { source = all.source; destination = all.destination; many = all.many })
-waits_answer world Step.Send kept all = made-send _ world (λ page is precopy up quiet. record { source = all.source; destination = all.destination; many = all.many })
-waits_answer world (Step.SendRun count) kept all = made-send_run _ world count (λ first number is many precopy up quiet. record { source = all.source; destination = all.destination; many = all.many })
+waits_answer : (world : World) (step : Step) → IsSoundWorld world → Wait world → MakesWorld Wait world step
+waits_answer world (Step.Issue cpu command) kept all = λ there idle may. tried_all world cpu command all
+waits_answer world (Step.Retry cpu) kept all = λ command waits woken may. tried_all world cpu command all
+waits_answer world Step.Start kept all = λ idle unused. record { source = all.source; destination = all.destination; many = all.many }
+waits_answer world Step.Round kept all = λ precopy quiet. record { source = all.source; destination = all.destination; many = all.many }
+waits_answer world Step.Send kept all = λ page is precopy up quiet. record { source = all.source; destination = all.destination; many = all.many }
+waits_answer world (Step.SendRun count) kept all = λ first number is many precopy up quiet. record { source = all.source; destination = all.destination; many = all.many }
 waits_answer world Step.SourceRead kept all =
-    made-source_read _ world (λ noted is started unswitched.
-    let new = source_like world _ (read_like world.source.guest noted.cpu noted.message) all in record { source = new.0; destination = all.destination; many = new.1 })
+    λ noted is started unswitched.
+    let new = source_like world _ (read_like world.source.guest noted.cpu noted.message) all in record { source = new.0; destination = all.destination; many = new.1 }
 waits_answer world Step.SourceAct kept all =
-    made-source_act _ world (λ fault rest is started unswitched quiet.
-    let new = source_like world _ (source_act_like (source_act world.source fault) world.source fault.page) all in record { source = new.0; destination = all.destination; many = new.1 })
-waits_answer world Step.Switch kept all = made-switch _ world (λ precopy up quiet. record { source = all.source; destination = all.destination; many = all.many })
+    λ fault rest is started unswitched quiet.
+    let new = source_like world _ (source_act_like (source_act world.source fault) world.source fault.page) all in record { source = new.0; destination = all.destination; many = new.1 }
+waits_answer world Step.Switch kept all = λ precopy up quiet. record { source = all.source; destination = all.destination; many = all.many }
 waits_answer world (Step.Deliver n) kept all =
-    made-deliver _ world n (λ sent rest is short. record { source = all.source; destination = all.destination; many = all.many }) (λ sent rest is full started up free early.
-    let new = frame_all sent.frame sent.epoch rest world kept up is all in record { source = all.source; destination = new.0; many = new.1 })
+    ((λ sent rest is short. record { source = all.source; destination = all.destination; many = all.many }), (λ sent rest is full started up free early.
+    let new = frame_all sent.frame sent.epoch rest world kept up is all in record { source = all.source; destination = new.0; many = new.1 }))
 waits_answer world (Step.DeliverBack n) kept all =
-    made-deliver_back _ world n (λ sent rest is short. record { source = all.source; destination = all.destination; many = all.many }) (λ sent rest is full started up.
-    let new = source_like world _ (took_like sent.frame world.source) all in record { source = new.0; destination = all.destination; many = new.1 })
+    ((λ sent rest is short. record { source = all.source; destination = all.destination; many = all.many }), (λ sent rest is full started up.
+    let new = source_like world _ (took_like sent.frame world.source) all in record { source = new.0; destination = all.destination; many = new.1 }))
 waits_answer world Step.DestRead kept all =
-    made-dest_read _ world (λ noted is ran.
-    let new = destination_like world _ (read_like world.destination.guest noted.cpu noted.message) all in record { source = all.source; destination = new.0; many = new.1 })
+    λ noted is ran.
+    let new = destination_like world _ (read_like world.destination.guest noted.cpu noted.message) all in record { source = all.source; destination = new.0; many = new.1 }
 waits_answer world Step.DestAct kept all =
-    made-dest_act _ world (λ fault rest is ran quiet.
-    let new = destination_like world _ (destination_act_like (destination_act world.destination fault) world.destination fault.page) all in record { source = all.source; destination = new.0; many = new.1 })
+    λ fault rest is ran quiet.
+    let new = destination_like world _ (destination_act_like (destination_act world.destination fault) world.destination fault.page) all in record { source = all.source; destination = new.0; many = new.1 }
 waits_answer world Step.Install kept all =
-    made-install _ world (λ copy rest is ran quiet.
-    let new = destination_like world _ (install_like (home world.destination.owed copy.page) world.destination copy rest) all in record { source = all.source; destination = new.0; many = new.1 })
-waits_answer world (Step.Push ticket) kept all = made-push _ world ticket (λ stopped up own present remains. record { source = all.source; destination = all.destination; many = all.many })
-waits_answer world (Step.PushUrgent ticket) kept all = made-push_urgent _ world ticket (λ stopped up own present remains. record { source = all.source; destination = all.destination; many = all.many })
-waits_answer world (Step.DeliverUrgent n) kept all = made-deliver_urgent _ world n (λ sent rest is short. record { source = all.source; destination = all.destination; many = all.many }) (λ sent rest is full ran up. let new = destination_like world _ (urgent_like sent.frame world.destination) all in record { source = all.source; destination = new.0; many = new.1 })
-waits_answer world Step.Serve kept all = made-serve _ world (λ page pages is stopped up. record { source = all.source; destination = all.destination; many = all.many })
-waits_answer world Step.End kept all = made-end _ world (λ stopped other up none. record { source = all.source; destination = all.destination; many = all.many })
-waits_answer world Step.Break kept all = made-break _ world (λ started unreleased up. record { source = all.source; destination = all.destination; many = all.many })
-waits_answer world (Step.Notice Side.Source) kept all = made-notice _ world Side.Source (λ started unreleased down. record { source = all.source; destination = all.destination; many = all.many })
-waits_answer world (Step.Notice Side.Destination) kept all = made-notice _ world Side.Destination (λ started unreleased down. record { source = all.source; destination = all.destination; many = all.many })
-waits_answer world Step.Resume kept all = made-resume _ world (λ from to down. record { source = all.source; destination = all.destination; many = all.many })
+    λ copy rest is ran quiet.
+    let new = destination_like world _ (install_like (home world.destination.owed copy.page) world.destination copy rest) all in record { source = all.source; destination = new.0; many = new.1 }
+waits_answer world (Step.Push ticket) kept all = λ stopped up own present remains. record { source = all.source; destination = all.destination; many = all.many }
+waits_answer world (Step.PushUrgent ticket) kept all = λ stopped up own present remains. record { source = all.source; destination = all.destination; many = all.many }
+waits_answer world (Step.DeliverUrgent n) kept all = ((λ sent rest is short. record { source = all.source; destination = all.destination; many = all.many }), (λ sent rest is full ran up. let new = destination_like world _ (urgent_like sent.frame world.destination) all in record { source = all.source; destination = new.0; many = new.1 }))
+waits_answer world Step.Serve kept all = λ page pages is stopped up. record { source = all.source; destination = all.destination; many = all.many }
+waits_answer world Step.End kept all = λ stopped other up none. record { source = all.source; destination = all.destination; many = all.many }
+waits_answer world Step.Break kept all = λ started unreleased up. record { source = all.source; destination = all.destination; many = all.many }
+waits_answer world (Step.Notice Side.Source) kept all = λ started unreleased down. record { source = all.source; destination = all.destination; many = all.many }
+waits_answer world (Step.Notice Side.Destination) kept all = λ started unreleased down. record { source = all.source; destination = all.destination; many = all.many }
+waits_answer world Step.Resume kept all = λ from to down unused. record { source = all.source; destination = all.destination; many = all.many }
 
 idle_all : (count : ℕ) → AllAccess (idle_processors count)
 idle_all zero k command h = absurd (none-some command h)
@@ -229,7 +228,7 @@ idle_all (suc count) zero command h = absurd (none-some command h)
 idle_all (suc count) (suc k) command h = idle_all count k command h
 
 next_all : (world : World) (step : Step) → IsSoundWorld world → Wait world → Wait (next world step)
-next_all world step kept all = leaves-next Wait world step all (waits_answer world step kept all)
+next_all world step kept all = made-next Wait world step all (waits_answer world step kept all)
 
 steps_all : (world : World) (steps : List Step) → IsSoundWorld world → AreSoundUrgent world → Wait world → Wait (after_steps world steps)
 steps_all world [] kept urgent all = all

@@ -28,8 +28,7 @@ use Rattle.mig_model.specs.Invariant.{IsSoundWorld, is_package}
 use Rattle.mig_model.specs.Promises.{is_retry_of, Slept}
 use Rattle.mig_model.proofs.FirstFrame.{comes, first_in_place, delivered}
 use Rattle.mig_model.proofs.FramesTaken.{with_first, commands_in}
-use Rattle.mig_model.proofs.StepLemmas.{Leaves, leaves-next, leaves-ok}
-use Rattle.mig_model.proofs.StepCases.{made-break, made-deliver, made-deliver_back, made-dest_act, made-dest_read, made-end, made-install, made-issue, made-notice, made-push, made-resume, made-retry, made-round, made-send, made-send_run, made-serve, made-source_act, made-source_read, made-start, made-switch, made-deliver_urgent, made-push_urgent}
+use Rattle.mig_model.proofs.StepCases.{Makes, MakesWorld, holds-made, made-next, made-ok, made-effect, made-outcome}
 use Rattle.mig_model.specs.Cpus.{all_woken, is_idle, message_less, outstanding, processor_after, processor_at, taken_over, woken_if, Took}
 use Rattle.mig_model.specs.Owed.{home}
 use Rattle.mig_model.specs.Source.{Source, commands_of, source_act, source_acted_by, source_took}
@@ -266,35 +265,35 @@ is_try (Step.Issue cpu command) = true
 is_try (Step.Retry cpu) = true
 is_try step = false
 
-pub same_answer : (world : World) (step : Step) → IsSoundWorld world → is_try step ≡ false → Leaves (WaitsAs world) (answer world step)
+pub same_answer : (world : World) (step : Step) → IsSoundWorld world → is_try step ≡ false → MakesWorld (WaitsAs world) world step
 same_answer world (Step.Issue cpu tries) kept other = absurd (false≢true (sym other))
 same_answer world (Step.Retry cpu) kept other = absurd (false≢true (sym other))
-same_answer world Step.Start kept other = made-start _ world (λ idle. same_source world _ (λ i. refl))
-same_answer world Step.Round kept other = made-round _ world (λ precopy quiet. same_source world _ (λ i. refl))
-same_answer world Step.Send kept other = made-send _ world (λ page is precopy up quiet. same_source world _ (λ i. refl))
-same_answer world (Step.SendRun count) kept other = made-send_run _ world count (λ first number is many precopy up quiet. same_source world _ (λ i. refl))
-same_answer world Step.SourceRead kept other = made-source_read _ world (λ noted is started unswitched. same_source world _ (waits_read world.source.guest noted.cpu noted.message))
-same_answer world Step.SourceAct kept other = made-source_act _ world (λ fault rest is started unswitched quiet. same_source world _ (waits_source_act (source_act world.source fault) world.source fault.page))
-same_answer world Step.Switch kept other = made-switch _ world (λ precopy up quiet. same_source world _ (λ i. refl))
-same_answer world (Step.Deliver n) kept other = made-deliver _ world n (λ sent rest is short k. refl) (λ sent rest is full started up free early. delivered_first sent.epoch sent.frame rest world up is kept)
-same_answer world (Step.DeliverBack n) kept other = made-deliver_back _ world n (λ sent rest is short k. refl) (λ sent rest is full started up. same_source world _ (took_same sent.frame world.source))
+same_answer world Step.Start kept other = λ idle unused. same_source world _ (λ i. refl)
+same_answer world Step.Round kept other = λ precopy quiet. same_source world _ (λ i. refl)
+same_answer world Step.Send kept other = λ page is precopy up quiet. same_source world _ (λ i. refl)
+same_answer world (Step.SendRun count) kept other = λ first number is many precopy up quiet. same_source world _ (λ i. refl)
+same_answer world Step.SourceRead kept other = λ noted is started unswitched. same_source world _ (waits_read world.source.guest noted.cpu noted.message)
+same_answer world Step.SourceAct kept other = λ fault rest is started unswitched quiet. same_source world _ (waits_source_act (source_act world.source fault) world.source fault.page)
+same_answer world Step.Switch kept other = λ precopy up quiet. same_source world _ (λ i. refl)
+same_answer world (Step.Deliver n) kept other = ((λ sent rest is short k. refl), (λ sent rest is full started up free early. delivered_first sent.epoch sent.frame rest world up is kept))
+same_answer world (Step.DeliverBack n) kept other = ((λ sent rest is short k. refl), (λ sent rest is full started up. same_source world _ (took_same sent.frame world.source)))
 same_answer world Step.DestRead kept other =
-    made-dest_read _ world (λ noted is ran.
-    waits_destination world.destination.has_run world.source.guest world.destination.guest (destination_read world.destination noted).guest (waits_read world.destination.guest noted.cpu noted.message))
-same_answer world Step.DestAct kept other = made-dest_act _ world (λ fault rest is ran quiet. acted_same fault world)
-same_answer world Step.Install kept other = made-install _ world (λ copy rest is ran quiet. installed_same copy rest world)
-same_answer world (Step.Push ticket) kept other = made-push _ world ticket (λ stopped up own present remains. same_source world _ (λ i. refl))
-same_answer world (Step.PushUrgent ticket) kept other = made-push_urgent _ world ticket (λ stopped up own present remains. same_source world _ (λ i. refl))
-same_answer world (Step.DeliverUrgent n) kept other = made-deliver_urgent _ world n (λ sent rest is short. λ k. refl) (λ sent rest is full ran up. same_node_waits world _ (same_urgent sent.frame world.destination))
-same_answer world Step.Serve kept other = made-serve _ world (λ page pages is stopped up. same_source world _ (λ i. refl))
-same_answer world Step.End kept other = made-end _ world (λ stopped ended up none. same_source world _ (λ i. refl))
-same_answer world Step.Break kept other = made-break _ world (λ started unreleased up k. refl)
-same_answer world (Step.Notice Side.Source) kept other = made-notice _ world Side.Source (λ started unreleased down k. refl)
-same_answer world (Step.Notice Side.Destination) kept other = made-notice _ world Side.Destination (λ started unreleased down k. refl)
-same_answer world Step.Resume kept other = made-resume _ world (λ from to down. same_source world _ (λ i. refl))
+    λ noted is ran.
+    waits_destination world.destination.has_run world.source.guest world.destination.guest (destination_read world.destination noted).guest (waits_read world.destination.guest noted.cpu noted.message)
+same_answer world Step.DestAct kept other = λ fault rest is ran quiet. acted_same fault world
+same_answer world Step.Install kept other = λ copy rest is ran quiet. installed_same copy rest world
+same_answer world (Step.Push ticket) kept other = λ stopped up own present remains. same_source world _ (λ i. refl)
+same_answer world (Step.PushUrgent ticket) kept other = λ stopped up own present remains. same_source world _ (λ i. refl)
+same_answer world (Step.DeliverUrgent n) kept other = ((λ sent rest is short. λ k. refl), (λ sent rest is full ran up. same_node_waits world _ (same_urgent sent.frame world.destination)))
+same_answer world Step.Serve kept other = λ page pages is stopped up. same_source world _ (λ i. refl)
+same_answer world Step.End kept other = λ stopped ended up none. same_source world _ (λ i. refl)
+same_answer world Step.Break kept other = λ started unreleased up k. refl
+same_answer world (Step.Notice Side.Source) kept other = λ started unreleased down k. refl
+same_answer world (Step.Notice Side.Destination) kept other = λ started unreleased down k. refl
+same_answer world Step.Resume kept other = λ from to down unused. same_source world _ (λ i. refl)
 
 pub same_waits : (world : World) (step : Step) → IsSoundWorld world → is_try step ≡ false → WaitsAs world (next world step)
-same_waits world step kept other = leaves-next (WaitsAs world) world step (λ k. refl) (same_answer world step kept other)
+same_waits world step kept other = made-next (WaitsAs world) world step (λ k. refl) (same_answer world step kept other)
 
 -- a processor of a number still has to make its command
 abbrev WaitsIn : ℕ → Command → World → Type 0
@@ -303,11 +302,11 @@ WaitsIn k command world = outstanding (processor_at (guest_of world).cpus k) ≡
 pub waiting_command : (world : World) (step : Step) (k : ℕ) (command : Command) → IsSoundWorld world → is_retry_of step k ≡ false → outstanding (processor_at (guest_of world).cpus k) ≡ Some command →
     outstanding (processor_at (guest_of (next world step)).cpus k) ≡ Some command
 waiting_command world (Step.Issue cpu tries) k command kept other h =
-    leaves-next (WaitsIn k command) world (Step.Issue cpu tries) h
-    (made-issue _ world cpu tries (λ there idle may.
-    tried_other world cpu tries k (λ e. idle_none (processor_at (guest_of world).cpus cpu) command idle (ap (λ i. outstanding (processor_at (guest_of world).cpus i)) e ∙ h)) ∙ h))
+    made-next (WaitsIn k command) world (Step.Issue cpu tries) h
+    (λ there idle may.
+    tried_other world cpu tries k (λ e. idle_none (processor_at (guest_of world).cpus cpu) command idle (ap (λ i. outstanding (processor_at (guest_of world).cpus i)) e ∙ h)) ∙ h)
 waiting_command world (Step.Retry cpu) k command kept other h =
-    leaves-next (WaitsIn k command) world (Step.Retry cpu) h (made-retry _ world cpu (λ tries is woken may. tried_other world cpu tries k (λ e. false≢true (sym other ∙ eq-eqb cpu k e)) ∙ h))
+    made-next (WaitsIn k command) world (Step.Retry cpu) h (λ tries is woken may. tried_other world cpu tries k (λ e. false≢true (sym other ∙ eq-eqb cpu k e)) ∙ h)
 waiting_command world step k command kept other h = same_waits world step kept refl k ∙ h
 
 -- Who comes to wait
@@ -344,19 +343,19 @@ issue_same cpu k tries command a b = ap (λ i. Step.Issue i tries) a ∙ ap (λ 
 
 pub waits_arise : (world : World) (step : Step) (k : ℕ) (command : Command) → IsSoundWorld world → WaitsIn k command (next world step) → WaitsIn k command world ⊎ Slept world step k command
 waits_arise world (Step.Issue cpu tries) k command kept =
-    leaves-next (ArisesIn world (Step.Issue cpu tries) k command) world (Step.Issue cpu tries) (λ h. inl h)
-    (made-issue _ world cpu tries (λ there idle may h.
+    made-next (ArisesIn world (Step.Issue cpu tries) k command) world (Step.Issue cpu tries) (λ h. inl h)
+    (λ there idle may h.
     ⊎_elim
     (λ (one : (cpu ≡ k) × (tries ≡ command) × (took_by (is_access tries) (guest_of world).space tries ≡ Sleep)).
     inr (record { step_is = issue_same cpu k tries command one.0 one.1; sleeps = subst (λ c. took_by (is_access c) (guest_of world).space c ≡ Sleep) one.1 one.2 }))
-    (λ (two : WaitsIn k command world). inl two) (tried_waits world cpu tries k command h)))
+    (λ (two : WaitsIn k command world). inl two) (tried_waits world cpu tries k command h))
 waits_arise world (Step.Retry cpu) k command kept =
-    leaves-next (ArisesIn world (Step.Retry cpu) k command) world (Step.Retry cpu) (λ h. inl h)
-    (made-retry _ world cpu (λ tries is woken may h.
+    made-next (ArisesIn world (Step.Retry cpu) k command) world (Step.Retry cpu) (λ h. inl h)
+    (λ tries is woken may h.
     ⊎_elim
     (λ (one : (cpu ≡ k) × (tries ≡ command) × (took_by (is_access tries) (guest_of world).space tries ≡ Sleep)).
     inl (ap (λ i. outstanding (processor_at (guest_of world).cpus i)) (sym one.0) ∙ is ∙ ap (λ c. Some c) one.1))
-    (λ (two : WaitsIn k command world). inl two) (tried_waits world cpu tries k command h)))
+    (λ (two : WaitsIn k command world). inl two) (tried_waits world cpu tries k command h))
 waits_arise world step k command kept = λ h. inl (sym (same_waits world step kept refl k) ∙ h)
 
 -- What a try makes of its processor
@@ -369,12 +368,12 @@ set_here (p ∷ ps) (suc i) new command h = set_here ps i new command h
 pub retried_at : (world : World) (cpu : ℕ) (command : Command) → IsOk (outcome world (Step.Retry cpu)) → outstanding (processor_at (guest_of world).cpus cpu) ≡ Some command →
     processor_at (guest_of (next world (Step.Retry cpu))).cpus cpu ≡ processor_after command (took_by (is_access command) (guest_of world).space command)
 retried_at world cpu command ok waits =
-    leaves-ok (λ new. processor_at (guest_of new).cpus cpu ≡ processor_after command (took_by (is_access command) (guest_of world).space command)) world (Step.Retry cpu)
-    (made-retry _ world cpu (λ other is woken may.
+    made-ok (λ new. processor_at (guest_of new).cpus cpu ≡ processor_after command (took_by (is_access command) (guest_of world).space command)) world (Step.Retry cpu)
+    (λ other is woken may.
     let same = some_command other command (sym is ∙ waits) in
     ap (λ g. processor_at g.cpus cpu) (tried_guest world cpu other)
     ∙ set_here (guest_of world).cpus cpu (processor_after other (took_by (is_access other) (guest_of world).space other)) command waits
-    ∙ ap (λ c. processor_after c (took_by (is_access c) (guest_of world).space c)) same)) ok
+    ∙ ap (λ c. processor_after c (took_by (is_access c) (guest_of world).space c)) same) ok
 
 no_place : (i : ℕ) → not (ltb i 0) ≡ false → ⊥
 no_place i h = grind (arith, nat_tests)
@@ -390,6 +389,6 @@ set_there (p ∷ ps) (suc i) new h = set_there ps i new (fewer i (length ps) h)
 pub issued_at : (world : World) (cpu : ℕ) (command : Command) → IsOk (outcome world (Step.Issue cpu command)) →
     processor_at (guest_of (next world (Step.Issue cpu command))).cpus cpu ≡ processor_after command (took_by (is_access command) (guest_of world).space command)
 issued_at world cpu command ok =
-    leaves-ok (λ new. processor_at (guest_of new).cpus cpu ≡ processor_after command (took_by (is_access command) (guest_of world).space command)) world (Step.Issue cpu command)
-    (made-issue _ world cpu command (λ there idle may.
-    ap (λ g. processor_at g.cpus cpu) (tried_guest world cpu command) ∙ set_there (guest_of world).cpus cpu (processor_after command (took_by (is_access command) (guest_of world).space command)) there)) ok
+    made-ok (λ new. processor_at (guest_of new).cpus cpu ≡ processor_after command (took_by (is_access command) (guest_of world).space command)) world (Step.Issue cpu command)
+    (λ there idle may.
+    ap (λ g. processor_at g.cpus cpu) (tried_guest world cpu command) ∙ set_there (guest_of world).cpus cpu (processor_after command (took_by (is_access command) (guest_of world).space command)) there) ok
