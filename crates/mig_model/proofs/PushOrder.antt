@@ -98,35 +98,22 @@ pushed_answer pushed world (Step.Issue cpu command) kept h = λ there idle may. 
 pushed_answer pushed world (Step.Retry cpu) kept h = λ command is woken may. guest_alike world.destination.has_run pushed world _ h
 pushed_answer pushed world Step.Start kept h =
     λ idle unused. later pushed world.source.epoch world.source.switched world.source.phase world.up (idle_unswitched world.source.phase world.source.switched idle kept.phases.source_phase) h (λ more. inl (one_later pushed world.source.epoch more))
-pushed_answer pushed world Step.Round kept h = λ precopy quiet. h
-pushed_answer pushed world Step.Send kept h = λ page is precopy up quiet. h
-pushed_answer pushed world (Step.SendRun count) kept h = λ first number is many precopy up quiet. h
-pushed_answer pushed world Step.SourceRead kept h = λ noted is started unswitched. h
 pushed_answer pushed world Step.SourceAct kept h =
     λ fault rest is started unswitched quiet. alike pushed world.source _ world.up (act_alike (source_act world.source fault) world.source fault.page) h
 pushed_answer pushed world Step.Switch kept h =
     λ precopy up quiet.
     later pushed world.source.epoch world.source.switched world.source.phase world.up (precopy_unswitched world.source.phase world.source.switched precopy kept.phases.source_phase) h (λ more. inl more)
-pushed_answer pushed world (Step.Deliver n) kept h = ((λ sent rest is short. h), (λ sent rest is full started up free early. h))
 pushed_answer pushed world (Step.DeliverBack n) kept h =
     ((λ sent rest is short. h), (λ sent rest is full started up. taken_pushed sent.frame pushed world.source world.up up (recv_paused sent.frame world.source (is_taken_back world sent rest kept up is)) h))
-pushed_answer pushed world Step.DestRead kept h = λ noted is ran. h
-pushed_answer pushed world Step.DestAct kept h = λ fault rest is ran quiet. h
-pushed_answer pushed world Step.Install kept h = λ copy rest is ran quiet. h
-pushed_answer pushed world (Step.Push ticket) kept h = λ stopped up own present remains. h
-pushed_answer pushed world (Step.PushUrgent ticket) kept h = λ stopped up own present remains. h
-pushed_answer pushed world (Step.DeliverUrgent n) kept h = ((λ sent rest is short. h), (λ sent rest is full ran up. h))
-pushed_answer pushed world Step.Serve kept h = λ page pages is stopped up. h
-pushed_answer pushed world Step.End kept h = λ stopped other up none. h
 pushed_answer pushed world Step.Break kept h = λ started unreleased up. down_pushed pushed world.source.epoch world.source.switched world.source.phase world.source.phase world.up h
 pushed_answer pushed world (Step.Notice Side.Source) kept h =
     λ started unreleased down.
     subst (λ u. HasPushed pushed world.source.epoch world.source.switched SourcePhase.Paused u) (sym down) (down_pushed pushed world.source.epoch world.source.switched world.source.phase SourcePhase.Paused world.up h)
-pushed_answer pushed world (Step.Notice Side.Destination) kept h = λ started unreleased down. h
 pushed_answer pushed world Step.Resume kept h =
     λ from to down unused.
     ⊎_elim (λ (more : pushed < world.source.epoch). inl (one_later pushed world.source.epoch more))
     (λ (one : (world.source.epoch ≡ pushed) × (world.source.switched ≡ true) × (world.up ≡ true → is_source_paused world.source.phase ≡ false)). inl (next_later pushed world.source.epoch one.0)) h
+pushed_answer pushed world _ kept h = assumption
 
 pushed_steps : (pushed : ℕ) (world : World) (steps : List Step) → IsSoundWorld world → AreSoundUrgent world → PushedIn pushed world → PushedIn pushed (after_steps world steps)
 pushed_steps pushed world [] kept urgent h = h

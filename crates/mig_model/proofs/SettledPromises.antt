@@ -178,16 +178,7 @@ frame_settled (Package areas owed commands) epoch rest world kept up ran first p
     let old = with_first world.source.phase world.destination.phase epoch (Package areas owed commands) rest world in
     let is = first_in_place old.source old.destination (record { epoch = epoch; frame = Package areas owed commands }) rest old.back.frames old.urgent.frames (again.flight.wires up) in
     absurd (false≢true (sym (package_told world.source.phase world.destination.phase epoch areas owed commands rest world is up again).1 ∙ ran))
-frame_settled Advise epoch rest world kept up ran first page = took_settled Advise world.destination epoch page refl
-frame_settled (Page number bytes) epoch rest world kept up ran first page = took_settled (Page number bytes) world.destination epoch page refl
-frame_settled (Zero number) epoch rest world kept up ran first page = took_settled (Zero number) world.destination epoch page refl
-frame_settled (Run from pages) epoch rest world kept up ran first page = took_settled (Run from pages) world.destination epoch page refl
-frame_settled (Discard pages) epoch rest world kept up ran first page = took_settled (Discard pages) world.destination epoch page refl
-frame_settled (End count) epoch rest world kept up ran first page = took_settled (End count) world.destination epoch page refl
-frame_settled Resume epoch rest world kept up ran first page = took_settled Resume world.destination epoch page refl
-frame_settled (Request number) epoch rest world kept up ran first page = took_settled (Request number) world.destination epoch page refl
-frame_settled (Recv state owed) epoch rest world kept up ran first page = took_settled (Recv state owed) world.destination epoch page refl
-frame_settled Done epoch rest world kept up ran first page = took_settled Done world.destination epoch page refl
+frame_settled frame epoch rest world kept up ran first page = took_settled frame world.destination epoch page refl
 
 urgent_settled : (frame : Frame) (node : Destination) (page : ℕ) → settled (urgent_took node frame) page ≡ settled node page
 urgent_settled (Page number bytes) node page = refl
@@ -201,27 +192,13 @@ settled_answer world (Step.Issue cpu command) kept waits ran leaves page = λ th
 settled_answer world (Step.Retry cpu) kept waits ran leaves page =
     λ command is woken may. settled_try world cpu command ran (waits_here world cpu command waits ran is) page
 settled_answer world Step.Install kept waits ran leaves page = absurd (false≢true leaves)
-settled_answer world Step.Start kept waits ran leaves page = λ idle unused. refl
-settled_answer world Step.Round kept waits ran leaves page = λ precopy quiet. refl
-settled_answer world Step.Send kept waits ran leaves page = λ number is precopy up quiet. refl
-settled_answer world (Step.SendRun count) kept waits ran leaves page = λ first number is many precopy up quiet. refl
-settled_answer world Step.SourceRead kept waits ran leaves page = λ noted is started unswitched. refl
-settled_answer world Step.SourceAct kept waits ran leaves page = λ fault rest is started unswitched quiet. refl
-settled_answer world Step.Switch kept waits ran leaves page = λ precopy up quiet. refl
 settled_answer world (Step.Deliver n) kept waits ran leaves page = ((λ sent rest is short. refl), (λ sent rest is full started up free early. frame_settled sent.frame sent.epoch rest world kept up ran is page))
-settled_answer world (Step.DeliverBack n) kept waits ran leaves page = ((λ sent rest is short. refl), (λ sent rest is full started up. refl))
 settled_answer world Step.DestRead kept waits ran leaves page =
     λ noted is runs. read_settled world.destination.guest.space.object.faults world.destination.guest.space.object.events noted world is kept.spaces.destination_faults kept.spaces.destination_events page
 settled_answer world Step.DestAct kept waits ran leaves page = λ fault rest is runs quiet. acted_settled (destination_act world.destination fault) world.destination fault.page page
-settled_answer world (Step.Push ticket) kept waits ran leaves page = λ stopped up own present remains. refl
-settled_answer world (Step.PushUrgent ticket) kept waits ran leaves page = λ stopped up own present remains. refl
 settled_answer world (Step.DeliverUrgent n) kept waits ran leaves page = ((λ sent rest is short. refl), (λ sent rest is full runs up. urgent_settled sent.frame world.destination page))
-settled_answer world Step.Serve kept waits ran leaves page = λ number pages is stopped up. refl
-settled_answer world Step.End kept waits ran leaves page = λ stopped other up none. refl
-settled_answer world Step.Break kept waits ran leaves page = λ started unreleased up. refl
-settled_answer world (Step.Notice Side.Source) kept waits ran leaves page = λ started unreleased down. refl
-settled_answer world (Step.Notice Side.Destination) kept waits ran leaves page = λ started unreleased down. refl
-settled_answer world Step.Resume kept waits ran leaves page = λ from to down unused. refl
+settled_answer world (Step.Notice Side.Source) kept waits ran leaves page = assumption
+settled_answer world _ kept waits ran leaves page = assumption
 
 pub settled_else : (world : World) (step : Step) → IsSoundWorld world → AreAccesses world → world.destination.has_run ≡ true → leaves_settled step ≡ true → (page : ℕ) → settled (next world step).destination page ≡ settled world.destination page
 settled_else world step kept waits ran leaves page = made-next (SettledAs world page) world step refl (settled_answer world step kept waits ran leaves page)

@@ -68,23 +68,13 @@ complete-answer world Step.Start kept done = λ idle unused. absurd (not_idle wo
 complete-answer world Step.Round kept done = λ precopy quiet. absurd (not_precopy world.source.phase done precopy)
 complete-answer world Step.Send kept done = λ page is precopy up quiet. absurd (not_precopy world.source.phase done precopy)
 complete-answer world (Step.SendRun count) kept done = λ first number is many precopy up quiet. absurd (not_precopy world.source.phase done precopy)
-complete-answer world Step.SourceRead kept done = λ noted is started unswitched. done
 complete-answer world Step.SourceAct kept done = λ fault rest is started unswitched quiet. still world.source.phase _ (worked_phase (source_act world.source fault) world fault.page) done
 complete-answer world Step.Switch kept done = λ precopy up quiet. absurd (not_precopy world.source.phase done precopy)
-complete-answer world (Step.Deliver n) kept done = ((λ sent rest is short. done), (λ sent rest is full started up free early. done))
 complete-answer world (Step.DeliverBack n) kept done = ((λ sent rest is short. done), (λ sent rest is full started up. absurd (nothing_back world sent rest kept done is)))
-complete-answer world Step.DestRead kept done = λ noted is ran. done
-complete-answer world Step.DestAct kept done = λ fault rest is ran quiet. done
-complete-answer world Step.Install kept done = λ copy rest is ran quiet. done
 complete-answer world (Step.Push ticket) kept done = λ stopped up own present remains. absurd (not_stopped world.source.phase done stopped)
 complete-answer world (Step.PushUrgent ticket) kept done = λ stopped up own present remains. absurd (not_stopped world.source.phase done stopped)
-complete-answer world (Step.DeliverUrgent n) kept done = ((λ sent rest is short. done), (λ sent rest is full ran up. done))
-complete-answer world Step.Serve kept done = λ page pages is stopped up. done
-complete-answer world Step.End kept done = λ stopped other up none. done
-complete-answer world Step.Break kept done = λ started unreleased up. done
 complete-answer world (Step.Notice Side.Source) kept done = λ started unreleased down. absurd (false≢true (sym unreleased ∙ done))
-complete-answer world (Step.Notice Side.Destination) kept done = λ started unreleased down. done
-complete-answer world Step.Resume kept done = λ from to down unused. done
+complete-answer world _ kept done = assumption
 
 pub complete-next : (world : World) (step : Step) → IsSoundWorld world → IsComplete world → IsComplete (next world step)
 complete-next world step kept done = made-next IsComplete world step done (complete-answer world step kept done)

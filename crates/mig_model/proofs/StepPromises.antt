@@ -104,28 +104,14 @@ RemainedIn world q new = contains new.source.remaining q ≡ true → contains w
 remaining_answer : (world : World) (step : Step) (q : ℕ) → keeps_remaining step ≡ true → MakesWorld (RemainedIn world q) world step
 remaining_answer world (Step.Issue cpu command) q keeps = λ there idle may h. sym (tried_remaining world cpu command q) ∙ h
 remaining_answer world (Step.Retry cpu) q keeps = λ command waits woken may h. sym (tried_remaining world cpu command q) ∙ h
-remaining_answer world Step.Start q keeps = λ idle unused h. h
-remaining_answer world Step.Round q keeps = λ precopy quiet h. h
-remaining_answer world Step.Send q keeps = λ page is precopy up quiet h. h
-remaining_answer world (Step.SendRun count) q keeps = λ first number is many precopy up quiet h. h
-remaining_answer world Step.SourceRead q keeps = λ noted is started unswitched h. h
 remaining_answer world Step.SourceAct q keeps = λ fault rest is started unswitched quiet h. sym (worked_remaining (source_act world.source fault) world.source fault.page q) ∙ h
 remaining_answer world Step.Switch q keeps = absurd (false≢true keeps)
-remaining_answer world (Step.Deliver n) q keeps = ((λ sent rest is short h. h), (λ sent rest is full started up free early h. h))
 remaining_answer world (Step.DeliverBack n) q keeps = absurd (false≢true keeps)
-remaining_answer world Step.DestRead q keeps = λ noted is ran h. h
-remaining_answer world Step.DestAct q keeps = λ fault rest is ran quiet h. h
-remaining_answer world Step.Install q keeps = λ copy rest is ran quiet h. h
 remaining_answer world (Step.Push ticket) q keeps =
     λ stopped up own present remains h. and_second (not (eqb q ticket.page)) (contains world.source.remaining q) (sym (member_removed world.source.remaining ticket.page q) ∙ h)
 remaining_answer world (Step.PushUrgent ticket) q keeps = λ stopped up own present remains h. and_second (not (eqb q ticket.page)) (contains world.source.remaining q) (sym (member_removed world.source.remaining ticket.page q) ∙ h)
-remaining_answer world (Step.DeliverUrgent n) q keeps = ((λ sent rest is short h. h), (λ sent rest is full ran up h. h))
-remaining_answer world Step.Serve q keeps = λ page pages is stopped up h. h
-remaining_answer world Step.End q keeps = λ stopped other up none h. h
-remaining_answer world Step.Break q keeps = λ started unreleased up h. h
-remaining_answer world (Step.Notice Side.Source) q keeps = λ started unreleased down h. h
-remaining_answer world (Step.Notice Side.Destination) q keeps = λ started unreleased down h. h
-remaining_answer world Step.Resume q keeps = λ from to down unused h. h
+remaining_answer world (Step.Notice Side.Source) q keeps = assumption
+remaining_answer world _ q keeps = assumption
 
 pub remaining_shrinks : (world : World) (step : Step) (q : ℕ) → keeps_remaining step ≡ true → contains (next world step).source.remaining q ≡ true → contains world.source.remaining q ≡ true
 remaining_shrinks world step q keeps = made-next (RemainedIn world q) world step (λ h. h) (remaining_answer world step q keeps)

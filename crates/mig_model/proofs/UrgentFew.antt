@@ -164,21 +164,13 @@ few-answer world (Step.SendRun count) kept urgent h = λ first number is many pr
 few-answer world Step.SourceRead kept urgent h = λ noted is started unswitched. before _ _ _ unswitched h
 few-answer world Step.SourceAct kept urgent h = λ fault rest is started unswitched quiet. acted_few (source_act world.source fault) world fault.page unswitched h
 few-answer world Step.Switch kept urgent h = λ precopy up quiet. switch_few world kept precopy h
-few-answer world (Step.Deliver n) kept urgent h = ((λ sent rest is short. h), (λ sent rest is full started up free early. h))
 few-answer world (Step.DeliverBack n) kept urgent h =
     ((λ sent rest is short. h), (λ sent rest is full started up. back_few sent.frame sent.epoch rest world kept urgent up (is_taken_back world sent rest kept up is) h))
-few-answer world Step.DestRead kept urgent h = λ noted is ran. h
-few-answer world Step.DestAct kept urgent h = λ fault rest is ran quiet. h
-few-answer world Step.Install kept urgent h = λ copy rest is ran quiet. h
 few-answer world (Step.Push ticket) kept urgent h = λ stopped up own present remains. push_few world ticket.page remains h
 few-answer world (Step.PushUrgent ticket) kept urgent h = λ stopped up own present remains. push_urgent_few world ticket.page kept stopped remains h
-few-answer world (Step.DeliverUrgent n) kept urgent h = ((λ sent rest is short. h), (λ sent rest is full ran up. h))
-few-answer world Step.Serve kept urgent h = λ page pages is stopped up. h
-few-answer world Step.End kept urgent h = λ stopped other up none. h
-few-answer world Step.Break kept urgent h = λ started unreleased up. h
 few-answer world (Step.Notice Side.Source) kept urgent h = λ started unreleased down. notices_few world unreleased h
-few-answer world (Step.Notice Side.Destination) kept urgent h = λ started unreleased down. h
 few-answer world Step.Resume kept urgent h = λ from to down unused. resume_few world kept h
+few-answer world _ kept urgent h = assumption
 
 pub few-next : (world : World) (step : Step) → IsSoundWorld world → AreSoundUrgent world → AreUrgentFew world → AreUrgentFew (next world step)
 few-next world step kept urgent h = made-next AreUrgentFew world step h (few-answer world step kept urgent h)

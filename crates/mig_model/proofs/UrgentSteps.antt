@@ -391,18 +391,17 @@ urgent-answer world Step.Switch kept h = λ precopy up quiet. switch_urgent worl
 urgent-answer world (Step.Deliver n) kept h = ((λ sent rest is short. h), (λ sent rest is full started up free early. deliver_urgent_kept world sent rest kept is up early h))
 urgent-answer world (Step.DeliverBack n) kept h =
     ((λ sent rest is short. h), (λ sent rest is full started up. back_urgent sent.frame sent.epoch rest world kept up is (is_taken_back world sent rest kept up is) h))
-urgent-answer world Step.DestRead kept h = λ noted is ran. h
 urgent-answer world Step.DestAct kept h = λ fault rest is ran quiet. handled_urgent (destination_act world.destination fault) world fault.page world.back h
 urgent-answer world Step.Install kept h = λ copy rest is ran quiet. installed_urgent (home world.destination.owed copy.page) world copy rest h
 urgent-answer world (Step.Push ticket) kept h = λ stopped up own present remains. other_forward _ (sent_urgent world ticket.page h) h
 urgent-answer world (Step.PushUrgent ticket) kept h = λ stopped up own present remains. push_urgent_kept world ticket.page kept stopped up present remains h
 urgent-answer world (Step.DeliverUrgent n) kept h = ((λ sent rest is short. urgent_moved world n sent rest is short h), (λ sent rest is full ran up. urgent_delivered world sent rest is ran h))
-urgent-answer world Step.Serve kept h = λ page pages is stopped up. h
 urgent-answer world Step.End kept h = λ stopped other up none. end_urgent world h
 urgent-answer world Step.Break kept h = λ started unreleased up. break_urgent world h
 urgent-answer world (Step.Notice Side.Source) kept h = λ started unreleased down. source_notices world down h
 urgent-answer world (Step.Notice Side.Destination) kept h = λ started unreleased down. destination_notices world down h
 urgent-answer world Step.Resume kept h = λ from to down unused. resume_urgent world kept to down h
+urgent-answer world _ kept h = assumption
 
 pub urgent-next : (world : World) (step : Step) → IsSoundWorld world → AreSoundUrgent world → AreSoundUrgent (next world step)
 urgent-next world step kept h = made-next AreSoundUrgent world step h (urgent-answer world step kept h)

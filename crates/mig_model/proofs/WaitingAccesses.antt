@@ -93,9 +93,7 @@ event_like guest cpu message =
 
 pub read_like : (guest : Guest) (cpu : ℕ) (message : Message) → IsLike guest.cpus (read_guest guest cpu message).cpus
 read_like guest cpu (PageFault addr write wp tid) = unchanged guest.cpus
-read_like guest cpu (Remap from to len) = event_like guest cpu (Remap from to len)
-read_like guest cpu (Remove start end) = event_like guest cpu (Remove start end)
-read_like guest cpu (Unmap start end) = event_like guest cpu (Unmap start end)
+read_like guest cpu message = event_like guest cpu message
 
 -- what a destination takes over
 taken_many : (processors : List CpuState) → length (map taken_over (commands_of processors)) ≡ length processors
@@ -186,23 +184,22 @@ frame_all _ epoch rest world kept up first all = unmoved world all
 waits_answer : (world : World) (step : Step) → IsSoundWorld world → Wait world → MakesWorld Wait world step
 waits_answer world (Step.Issue cpu command) kept all = λ there idle may. tried_all world cpu command all
 waits_answer world (Step.Retry cpu) kept all = λ command waits woken may. tried_all world cpu command all
-waits_answer world Step.Start kept all = λ idle unused. record { source = all.source; destination = all.destination; many = all.many }
-waits_answer world Step.Round kept all = λ precopy quiet. record { source = all.source; destination = all.destination; many = all.many }
-waits_answer world Step.Send kept all = λ page is precopy up quiet. record { source = all.source; destination = all.destination; many = all.many }
-waits_answer world (Step.SendRun count) kept all = λ first number is many precopy up quiet. record { source = all.source; destination = all.destination; many = all.many }
 waits_answer world Step.SourceRead kept all =
     λ noted is started unswitched.
     let new = source_like world _ (read_like world.source.guest noted.cpu noted.message) all in record { source = new.0; destination = all.destination; many = new.1 }
 waits_answer world Step.SourceAct kept all =
     λ fault rest is started unswitched quiet.
     let new = source_like world _ (source_act_like (source_act world.source fault) world.source fault.page) all in record { source = new.0; destination = all.destination; many = new.1 }
-waits_answer world Step.Switch kept all = λ precopy up quiet. record { source = all.source; destination = all.destination; many = all.many }
-waits_answer world (Step.Deliver n) kept all =
-    ((λ sent rest is short. record { source = all.source; destination = all.destination; many = all.many }), (λ sent rest is full started up free early.
-    let new = frame_all sent.frame sent.epoch rest world kept up is all in record { source = all.source; destination = new.0; many = new.1 }))
-waits_answer world (Step.DeliverBack n) kept all =
-    ((λ sent rest is short. record { source = all.source; destination = all.destination; many = all.many }), (λ sent rest is full started up.
-    let new = source_like world _ (took_like sent.frame world.source) all in record { source = new.0; destination = all.destination; many = new.1 }))
+waits_answer world (Step.Deliver n) kept all = (
+  (λ sent rest is short. record { source = all.source; destination = all.destination; many = all.many }),
+  (λ sent rest is full started up free early.
+      let new = frame_all sent.frame sent.epoch rest world kept up is all in record { source = all.source; destination = new.0; many = new.1 }),
+)
+waits_answer world (Step.DeliverBack n) kept all = (
+  (λ sent rest is short. record { source = all.source; destination = all.destination; many = all.many }),
+  (λ sent rest is full started up.
+      let new = source_like world _ (took_like sent.frame world.source) all in record { source = new.0; destination = all.destination; many = new.1 }),
+)
 waits_answer world Step.DestRead kept all =
     λ noted is ran.
     let new = destination_like world _ (read_like world.destination.guest noted.cpu noted.message) all in record { source = all.source; destination = new.0; many = new.1 }
@@ -212,15 +209,9 @@ waits_answer world Step.DestAct kept all =
 waits_answer world Step.Install kept all =
     λ copy rest is ran quiet.
     let new = destination_like world _ (install_like (home world.destination.owed copy.page) world.destination copy rest) all in record { source = all.source; destination = new.0; many = new.1 }
-waits_answer world (Step.Push ticket) kept all = λ stopped up own present remains. record { source = all.source; destination = all.destination; many = all.many }
-waits_answer world (Step.PushUrgent ticket) kept all = λ stopped up own present remains. record { source = all.source; destination = all.destination; many = all.many }
 waits_answer world (Step.DeliverUrgent n) kept all = ((λ sent rest is short. record { source = all.source; destination = all.destination; many = all.many }), (λ sent rest is full ran up. let new = destination_like world _ (urgent_like sent.frame world.destination) all in record { source = all.source; destination = new.0; many = new.1 }))
-waits_answer world Step.Serve kept all = λ page pages is stopped up. record { source = all.source; destination = all.destination; many = all.many }
-waits_answer world Step.End kept all = λ stopped other up none. record { source = all.source; destination = all.destination; many = all.many }
-waits_answer world Step.Break kept all = λ started unreleased up. record { source = all.source; destination = all.destination; many = all.many }
-waits_answer world (Step.Notice Side.Source) kept all = λ started unreleased down. record { source = all.source; destination = all.destination; many = all.many }
-waits_answer world (Step.Notice Side.Destination) kept all = λ started unreleased down. record { source = all.source; destination = all.destination; many = all.many }
-waits_answer world Step.Resume kept all = λ from to down unused. record { source = all.source; destination = all.destination; many = all.many }
+waits_answer world (Step.Notice Side.Source) kept all = assumption
+waits_answer world _ kept all = assumption
 
 idle_all : (count : ℕ) → AllAccess (idle_processors count)
 idle_all zero k command h = absurd (none-some command h)

@@ -98,9 +98,7 @@ read_same guest cpu message k =
 
 pub waits_read : (guest : Guest) (cpu : ℕ) (message : Message) → SameWaits guest (read_guest guest cpu message)
 waits_read guest cpu (PageFault addr write wp tid) k = refl
-waits_read guest cpu (Remap from to len) k = read_same guest cpu (Remap from to len) k
-waits_read guest cpu (Remove start end) k = read_same guest cpu (Remove start end) k
-waits_read guest cpu (Unmap start end) k = read_same guest cpu (Unmap start end) k
+waits_read guest cpu message k = read_same guest cpu message k
 
 -- where the guest runs, by the node that changes
 pub waits_source : (ran : Bool) (old new to : Guest) → SameWaits old new → SameWaits (guest_by ran old to) (guest_by ran new to)
@@ -234,16 +232,7 @@ same_node_waits world new is k =
 
 delivered_first : (epoch : ℕ) (frame : Frame) (rest : List Sent) (world : World) → world.up ≡ true → world.forward.frames ≡ record { epoch = epoch; frame = frame } ∷ rest → IsSoundWorld world → SameWaits (guest_of world) (guest_of (delivered world (record { epoch = epoch; frame = frame } ∷ rest)))
 delivered_first epoch (Package areas owed commands) rest world up first kept k = package_same epoch areas owed commands rest world up first kept k
-delivered_first epoch Advise rest world up first kept k = same_node_waits world _ (same_took Advise world.destination epoch refl) k
-delivered_first epoch (Page page bytes) rest world up first kept k = same_node_waits world _ (same_took (Page page bytes) world.destination epoch refl) k
-delivered_first epoch (Zero page) rest world up first kept k = same_node_waits world _ (same_took (Zero page) world.destination epoch refl) k
-delivered_first epoch (Run from pages) rest world up first kept k = same_node_waits world _ (same_took (Run from pages) world.destination epoch refl) k
-delivered_first epoch (Discard pages) rest world up first kept k = same_node_waits world _ (same_took (Discard pages) world.destination epoch refl) k
-delivered_first epoch (End count) rest world up first kept k = same_node_waits world _ (same_took (End count) world.destination epoch refl) k
-delivered_first epoch Resume rest world up first kept k = same_node_waits world _ (same_took Resume world.destination epoch refl) k
-delivered_first epoch (Request page) rest world up first kept k = same_node_waits world _ (same_took (Request page) world.destination epoch refl) k
-delivered_first epoch (Recv state owed) rest world up first kept k = same_node_waits world _ (same_took (Recv state owed) world.destination epoch refl) k
-delivered_first epoch Done rest world up first kept k = same_node_waits world _ (same_took Done world.destination epoch refl) k
+delivered_first epoch frame rest world up first kept k = same_node_waits world _ (same_took frame world.destination epoch refl) k
 
 rebuilt_by : (switched : Bool) (a b node : Source) → SameWaits node.guest a.guest → SameWaits node.guest b.guest → SameWaits node.guest (if switched then a else b).guest
 rebuilt_by true a b node one two = one

@@ -117,77 +117,35 @@ same_wire old new same grows = record { more = grows.more; is = same ∙ grows.i
 pub forward_grows : (world : World) (step : Step) → takes_forward step ≡ false → Grows world.forward (next world step).forward
 forward_grows world (Step.Issue cpu command) h = same_wire _ _ (changes_parts world (Step.Issue cpu command)).forward (as_it_was world.forward)
 forward_grows world (Step.Retry cpu) h = same_wire _ _ (changes_parts world (Step.Retry cpu)).forward (as_it_was world.forward)
-forward_grows world Step.Start h = (changes_parts world Step.Start).forward
-forward_grows world Step.Round h = (changes_parts world Step.Round).forward
-forward_grows world Step.Send h = (changes_parts world Step.Send).forward
-forward_grows world (Step.SendRun count) h = (changes_parts world (Step.SendRun count)).forward
-forward_grows world Step.SourceRead h = (changes_parts world Step.SourceRead).forward
-forward_grows world Step.SourceAct h = (changes_parts world Step.SourceAct).forward
-forward_grows world Step.Switch h = (changes_parts world Step.Switch).forward
 forward_grows world (Step.Deliver n) h = absurd (false≢true (sym h))
-forward_grows world (Step.DeliverBack n) h = (changes_parts world (Step.DeliverBack n)).forward
 forward_grows world Step.DestRead h = same_wire _ _ (changes_parts world Step.DestRead).forward (as_it_was world.forward)
 forward_grows world Step.DestAct h = same_wire _ _ (changes_parts world Step.DestAct).forward (as_it_was world.forward)
 forward_grows world Step.Install h = same_wire _ _ (changes_parts world Step.Install).forward (as_it_was world.forward)
-forward_grows world (Step.Push ticket) h = (changes_parts world (Step.Push ticket)).forward
 forward_grows world (Step.PushUrgent ticket) h = same_wire _ _ (changes_parts world (Step.PushUrgent ticket)).forward (as_it_was world.forward)
 forward_grows world (Step.DeliverUrgent n) h = same_wire _ _ (changes_parts world (Step.DeliverUrgent n)).forward (as_it_was world.forward)
-forward_grows world Step.Serve h = (changes_parts world Step.Serve).forward
-forward_grows world Step.End h = (changes_parts world Step.End).forward
 forward_grows world Step.Break h = absurd (false≢true (sym h))
 forward_grows world (Step.Notice Side.Source) h = same_wire _ _ (ap (λ w. w.forward) (changes_parts world (Step.Notice Side.Source)).is) (as_it_was world.forward)
 forward_grows world (Step.Notice Side.Destination) h = same_wire _ _ (ap (λ w. w.forward) (changes_parts world (Step.Notice Side.Destination)).is) (as_it_was world.forward)
-forward_grows world Step.Resume h = (changes_parts world Step.Resume).forward
+forward_grows world step h = (changes_parts world step).forward
 
 pub back_grows : (world : World) (step : Step) → takes_back step ≡ false → Grows world.back (next world step).back
-back_grows world (Step.Issue cpu command) h = same_wire _ _ (changes_parts world (Step.Issue cpu command)).back (as_it_was world.back)
-back_grows world (Step.Retry cpu) h = same_wire _ _ (changes_parts world (Step.Retry cpu)).back (as_it_was world.back)
-back_grows world Step.Start h = same_wire _ _ (changes_parts world Step.Start).back (as_it_was world.back)
-back_grows world Step.Round h = same_wire _ _ (changes_parts world Step.Round).back (as_it_was world.back)
-back_grows world Step.Send h = same_wire _ _ (changes_parts world Step.Send).back (as_it_was world.back)
-back_grows world (Step.SendRun count) h = same_wire _ _ (changes_parts world (Step.SendRun count)).back (as_it_was world.back)
-back_grows world Step.SourceRead h = same_wire _ _ (changes_parts world Step.SourceRead).back (as_it_was world.back)
-back_grows world Step.SourceAct h = same_wire _ _ (changes_parts world Step.SourceAct).back (as_it_was world.back)
-back_grows world Step.Switch h = same_wire _ _ (changes_parts world Step.Switch).back (as_it_was world.back)
 back_grows world (Step.Deliver n) h = (changes_parts world (Step.Deliver n)).back
 back_grows world (Step.DeliverBack n) h = absurd (false≢true (sym h))
 back_grows world Step.DestRead h = (changes_parts world Step.DestRead).back
 back_grows world Step.DestAct h = (changes_parts world Step.DestAct).back
 back_grows world Step.Install h = (changes_parts world Step.Install).back
-back_grows world (Step.Push ticket) h = same_wire _ _ (changes_parts world (Step.Push ticket)).back (as_it_was world.back)
-back_grows world (Step.PushUrgent ticket) h = same_wire _ _ (changes_parts world (Step.PushUrgent ticket)).back (as_it_was world.back)
-back_grows world (Step.DeliverUrgent n) h = same_wire _ _ (changes_parts world (Step.DeliverUrgent n)).back (as_it_was world.back)
-back_grows world Step.Serve h = same_wire _ _ (changes_parts world Step.Serve).back (as_it_was world.back)
-back_grows world Step.End h = same_wire _ _ (changes_parts world Step.End).back (as_it_was world.back)
 back_grows world Step.Break h = absurd (false≢true (sym h))
 back_grows world (Step.Notice Side.Source) h = same_wire _ _ (ap (λ w. w.back) (changes_parts world (Step.Notice Side.Source)).is) (as_it_was world.back)
 back_grows world (Step.Notice Side.Destination) h = same_wire _ _ (ap (λ w. w.back) (changes_parts world (Step.Notice Side.Destination)).is) (as_it_was world.back)
-back_grows world Step.Resume h = same_wire _ _ (changes_parts world Step.Resume).back (as_it_was world.back)
+back_grows world step h = same_wire _ _ (changes_parts world step).back (as_it_was world.back)
 
 pub urgent_grows : (world : World) (step : Step) → takes_urgent step ≡ false → Grows world.urgent (next world step).urgent
-urgent_grows world (Step.Issue cpu command) h = same_wire _ _ (changes_parts world (Step.Issue cpu command)).urgent (as_it_was world.urgent)
-urgent_grows world (Step.Retry cpu) h = same_wire _ _ (changes_parts world (Step.Retry cpu)).urgent (as_it_was world.urgent)
-urgent_grows world Step.Start h = same_wire _ _ (changes_parts world Step.Start).urgent (as_it_was world.urgent)
-urgent_grows world Step.Round h = same_wire _ _ (changes_parts world Step.Round).urgent (as_it_was world.urgent)
-urgent_grows world Step.Send h = same_wire _ _ (changes_parts world Step.Send).urgent (as_it_was world.urgent)
-urgent_grows world (Step.SendRun count) h = same_wire _ _ (changes_parts world (Step.SendRun count)).urgent (as_it_was world.urgent)
-urgent_grows world Step.SourceRead h = same_wire _ _ (changes_parts world Step.SourceRead).urgent (as_it_was world.urgent)
-urgent_grows world Step.SourceAct h = same_wire _ _ (changes_parts world Step.SourceAct).urgent (as_it_was world.urgent)
-urgent_grows world Step.Switch h = same_wire _ _ (changes_parts world Step.Switch).urgent (as_it_was world.urgent)
-urgent_grows world (Step.Deliver n) h = same_wire _ _ (changes_parts world (Step.Deliver n)).urgent (as_it_was world.urgent)
-urgent_grows world (Step.DeliverBack n) h = same_wire _ _ (changes_parts world (Step.DeliverBack n)).urgent (as_it_was world.urgent)
-urgent_grows world Step.DestRead h = same_wire _ _ (changes_parts world Step.DestRead).urgent (as_it_was world.urgent)
-urgent_grows world Step.DestAct h = same_wire _ _ (changes_parts world Step.DestAct).urgent (as_it_was world.urgent)
-urgent_grows world Step.Install h = same_wire _ _ (changes_parts world Step.Install).urgent (as_it_was world.urgent)
-urgent_grows world (Step.Push ticket) h = same_wire _ _ (changes_parts world (Step.Push ticket)).urgent (as_it_was world.urgent)
 urgent_grows world (Step.PushUrgent ticket) h = (changes_parts world (Step.PushUrgent ticket)).urgent
 urgent_grows world (Step.DeliverUrgent n) h = absurd (false≢true (sym h))
-urgent_grows world Step.Serve h = same_wire _ _ (changes_parts world Step.Serve).urgent (as_it_was world.urgent)
-urgent_grows world Step.End h = same_wire _ _ (changes_parts world Step.End).urgent (as_it_was world.urgent)
 urgent_grows world Step.Break h = absurd (false≢true (sym h))
 urgent_grows world (Step.Notice Side.Source) h = same_wire _ _ (ap (λ w. w.urgent) (changes_parts world (Step.Notice Side.Source)).is) (as_it_was world.urgent)
 urgent_grows world (Step.Notice Side.Destination) h = same_wire _ _ (ap (λ w. w.urgent) (changes_parts world (Step.Notice Side.Destination)).is) (as_it_was world.urgent)
-urgent_grows world Step.Resume h = same_wire _ _ (changes_parts world Step.Resume).urgent (as_it_was world.urgent)
+urgent_grows world step h = same_wire _ _ (changes_parts world step).urgent (as_it_was world.urgent)
 
 -- the link is up
 abbrev IsUp : World → Type 0
@@ -196,27 +154,10 @@ IsUp world = world.up ≡ true
 up_answer : (world : World) (step : Step) → is_break step ≡ false → IsUp world → MakesWorld IsUp world step
 up_answer world (Step.Issue cpu command) h up = λ there idle may. tried_up world.destination.has_run world _ ∙ up
 up_answer world (Step.Retry cpu) h up = λ command waits woken may. tried_up world.destination.has_run world _ ∙ up
-up_answer world Step.Start h up = λ idle unused. up
-up_answer world Step.Round h up = λ precopy quiet. up
-up_answer world Step.Send h up = λ page is precopy linked quiet. up
-up_answer world (Step.SendRun count) h up = λ first number is many precopy linked quiet. up
-up_answer world Step.SourceRead h up = λ noted is started unswitched. up
-up_answer world Step.SourceAct h up = λ fault rest is started unswitched quiet. up
-up_answer world Step.Switch h up = λ precopy linked quiet. up
-up_answer world (Step.Deliver n) h up = ((λ sent rest is short. up), (λ sent rest is full started linked free early. up))
-up_answer world (Step.DeliverBack n) h up = ((λ sent rest is short. up), (λ sent rest is full started linked. up))
-up_answer world Step.DestRead h up = λ noted is ran. up
-up_answer world Step.DestAct h up = λ fault rest is ran quiet. up
-up_answer world Step.Install h up = λ copy rest is ran quiet. up
-up_answer world (Step.Push ticket) h up = λ stopped linked own present remains. up
-up_answer world (Step.PushUrgent ticket) h up = λ stopped linked own present remains. up
-up_answer world (Step.DeliverUrgent n) h up = ((λ sent rest is short. up), (λ sent rest is full ran linked. up))
-up_answer world Step.Serve h up = λ page pages is stopped linked. up
-up_answer world Step.End h up = λ stopped other linked none. up
 up_answer world Step.Break h up = absurd (false≢true (sym h))
-up_answer world (Step.Notice Side.Source) h up = λ started unreleased down. up
-up_answer world (Step.Notice Side.Destination) h up = λ started unreleased down. up
 up_answer world Step.Resume h up = λ from to down unused. refl
+up_answer world (Step.Notice Side.Source) h up = assumption
+up_answer world _ h up = assumption
 
 pub stays_up : (world : World) (step : Step) → is_break step ≡ false → world.up ≡ true → (next world step).up ≡ true
 stays_up world step h up = made-next IsUp world step up (up_answer world step h up)
@@ -269,9 +210,11 @@ taken_remains _ node q h is = is
 
 pub remaining_back : (world : World) (n : ℕ) (sent : Sent) (rest : List Sent) (q : ℕ) → world.back.frames ≡ sent ∷ rest → is_recv sent.frame ≡ false → contains (next world (Step.DeliverBack n)).source.remaining q ≡ true → contains world.source.remaining q ≡ true
 remaining_back world n sent rest q first plain =
-    made-next (λ new. contains new.source.remaining q ≡ true → contains world.source.remaining q ≡ true) world (Step.DeliverBack n) (λ h. h)
-    ((λ other more is short h. h), (λ other more is full started up h.
-    taken_remains other.frame world.source q (ap (λ (s : Sent). is_recv s.frame) (first_frame other sent more rest (sym is ∙ first)) ∙ plain) h))
+    made-next (λ new. contains new.source.remaining q ≡ true → contains world.source.remaining q ≡ true) world (Step.DeliverBack n) (λ h. h) (
+      (λ other more is short h. h),
+      (λ other more is full started up h.
+          taken_remains other.frame world.source q (ap (λ (s : Sent). is_recv s.frame) (first_frame other sent more rest (sym is ∙ first)) ∙ plain) h),
+    )
 
 -- Completion
 
@@ -310,28 +253,13 @@ completes_answer : (world : World) (step : Step) → is_released world.source.ph
 completes_answer world (Step.Issue cpu command) not = λ there idle may h. still_not world.source.phase _ (command_phase world cpu command) not h
 completes_answer world (Step.Retry cpu) not = λ command waits woken may h. still_not world.source.phase _ (command_phase world cpu command) not h
 completes_answer world Step.Start not = λ idle unused h. absurd (false≢true h)
-completes_answer world Step.Round not = λ precopy quiet h. absurd (false≢true (sym not ∙ h))
-completes_answer world Step.Send not = λ page is precopy up quiet h. absurd (false≢true (sym not ∙ h))
-completes_answer world (Step.SendRun count) not = λ first number is many precopy up quiet h. absurd (false≢true (sym not ∙ h))
-completes_answer world Step.SourceRead not = λ noted is started unswitched h. absurd (false≢true (sym not ∙ h))
 completes_answer world Step.SourceAct not =
     λ fault rest is started unswitched quiet h. still_not world.source.phase _ (worked_phase (source_act world.source fault) world fault.page) not h
 completes_answer world Step.Switch not = λ precopy up quiet h. absurd (false≢true h)
-completes_answer world (Step.Deliver n) not = ((λ sent rest is short h. absurd (false≢true (sym not ∙ h))), (λ sent rest is full started up free early h. absurd (false≢true (sym not ∙ h))))
 completes_answer world (Step.DeliverBack n) not =
     ((λ sent rest is short h. absurd (false≢true (sym not ∙ h))), (λ one more is full started up h. record { n = n; step_is = refl; sent = one; rest = more; first = is; last = released_by one.frame world.source not h }))
-completes_answer world Step.DestRead not = λ noted is ran h. absurd (false≢true (sym not ∙ h))
-completes_answer world Step.DestAct not = λ fault rest is ran quiet h. absurd (false≢true (sym not ∙ h))
-completes_answer world Step.Install not = λ copy rest is ran quiet h. absurd (false≢true (sym not ∙ h))
-completes_answer world (Step.Push ticket) not = λ stopped up own present remains h. absurd (false≢true (sym not ∙ h))
-completes_answer world (Step.PushUrgent ticket) not = λ stopped up own present remains h. absurd (false≢true (sym not ∙ h))
-completes_answer world (Step.DeliverUrgent n) not = ((λ sent rest is short h. absurd (false≢true (sym not ∙ h))), (λ sent rest is full ran up h. absurd (false≢true (sym not ∙ h))))
-completes_answer world Step.Serve not = λ page pages is stopped up h. absurd (false≢true (sym not ∙ h))
-completes_answer world Step.End not = λ stopped other up none h. absurd (false≢true (sym not ∙ h))
-completes_answer world Step.Break not = λ started unreleased up h. absurd (false≢true (sym not ∙ h))
 completes_answer world (Step.Notice Side.Source) not = λ started unreleased down h. absurd (false≢true h)
-completes_answer world (Step.Notice Side.Destination) not = λ started unreleased down h. absurd (false≢true (sym not ∙ h))
-completes_answer world Step.Resume not = λ from to down unused h. absurd (false≢true (sym not ∙ h))
+completes_answer world step not = assumption (λ (h : is_released world.source.phase ≡ true). absurd {A = Completes world step} (false≢true (sym not ∙ h)))
 
 pub completes_only : (world : World) (step : Step) → is_released world.source.phase ≡ false → IsComplete (next world step) → Completes world step
 completes_only world step not = made-next (CompletesTo world step) world step (λ h. absurd (false≢true (sym not ∙ h))) (completes_answer world step not)
