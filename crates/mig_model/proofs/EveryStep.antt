@@ -3,7 +3,7 @@ use Rattle.std.proofs.Common.{◌≡◌, ℕ, ◌||◌, Bool, true, false, not, 
 use Rattle.mig_base.specs.declared.schedule.Side.{Side}
 use Rattle.mig_base.specs.declared.schedule.Step.{Step}
 use Rattle.mig_base.specs.declared.command.Command.{Command}
-use Rattle.mig_model.specs.Migration.{World, first_world_with, next, after_steps, after_command, runs, answer, after_move, after_move_back, is_short, after_move_urgent}
+use Rattle.mig_model.specs.Migration.{World, first_world_with, next, after_steps, after_command, runs, after_move, after_move_back, is_short, after_move_urgent}
 use Rattle.mig_model.specs.Invariant.{IsSoundWorld, AreSoundUrgent}
 use Rattle.mig_model.specs.Promises.{IsReached, IsComplete}
 use Rattle.mig_model.proofs.Breaking.{kept-break, kept-notice_source, kept-notice_destination, kept-resume}
@@ -22,7 +22,7 @@ use Rattle.mig_model.proofs.DestinationRead.{kept-dest_read}
 use Rattle.mig_model.proofs.DestinationAct.{kept-dest_act}
 use Rattle.mig_model.proofs.Installing.{kept-install}
 use Rattle.mig_model.proofs.StaysComplete.{complete-next}
-use Rattle.mig_model.proofs.StepCases.{Makes, MakesWorld, holds-made, made-next, made-ok, made-effect, made-outcome}
+use Rattle.mig_model.proofs.StepCases.{MakesWorld, made-next}
 use Rattle.mig_model.specs.Wire.{Sent}
 use Rattle.mig_model.proofs.HeldLemmas.{fits-moved}
 use Rattle.mig_model.proofs.Facts.{none_absurd}

@@ -22,7 +22,7 @@ use Rattle.mig_model.specs.Invariant.Flow.{BeforeAdvise, Copies, BeforePackage, 
 use Rattle.mig_model.specs.Promises.{has_recv, is_running_recv}
 use Rattle.mig_model.proofs.FirstFrame.{stays_late}
 use Rattle.mig_model.proofs.Stopping.{in_phases}
-use Rattle.mig_model.proofs.StepCases.{Makes, MakesWorld, holds-made, made-next, made-ok, made-effect, made-outcome}
+use Rattle.mig_model.proofs.StepCases.{made-ok}
 use Rattle.mig_model.proofs.SwitchMade.{member_not_clean}
 use Rattle.mig_model.proofs.Facts.{either, and_false}
 

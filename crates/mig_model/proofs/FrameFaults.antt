@@ -25,7 +25,7 @@ use Rattle.mig_model.specs.Migration.{World, Made, Answer, after_deliver, after_
 use Rattle.mig_model.specs.Invariant.{IsSoundWorld}
 use Rattle.mig_model.proofs.SourceRounds.{idle_forward}
 use Rattle.mig_model.specs.Wire.{Frame, Sent, Copy, is_copy}
-use Rattle.mig_model.specs.Wire.Frame.{Advise, Page, Zero, Run, Discard, Package, End, Resume, Request, Recv, Done}
+use Rattle.mig_model.specs.Wire.Frame.{Advise, Package, End, Resume, Request, Recv, Done}
 use Rattle.mig_model.specs.Guest.{is_present}
 use Rattle.mig_model.specs.Log.{less, no_pages, present}
 use Rattle.mig_model.specs.Source.{Source, is_source_idle, is_stopped, space_of}

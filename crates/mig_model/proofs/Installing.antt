@@ -27,7 +27,7 @@ use Rattle.mig_model.specs.Promises.{IsPut}
 use Rattle.mig_model.proofs.IoctlLemmas.{IsSoundSpace-installed, get-put_pages}
 use Rattle.mig_model.proofs.SettledLemmas.{home_tells, home-none}
 use Rattle.mig_model.proofs.DestinationRead.{kept-handled}
-use Rattle.mig_model.proofs.StepCases.{Makes, MakesWorld, holds-made, made-next, made-ok, made-effect, made-outcome}
+use Rattle.mig_model.proofs.StepCases.{made-effect}
 use Rattle.mig_model.specs.Cpus.{all_woken}
 use Rattle.mig_model.specs.Owed.{home, without_request}
 use Rattle.mig_model.specs.Source.{space_of}

@@ -11,10 +11,10 @@ use Rattle.mig_base.specs.Commands.{is_access}
 use Rattle.mig_model.specs.Guest.{Guest, Fault, tried}
 use Rattle.mig_model.specs.Wire.{Frame, Sent, page_frame, sending, Wire, wire_if, wire_with}
 use Rattle.mig_model.specs.Wire.Frame.{Advise, Run, End, Resume}
-use Rattle.mig_model.specs.Migration.{World, next, guest_of, with_guest_by, after_command, source_sends, after_deliver, after_deliver_back, after_dest_act, answer, after_move, after_move_back}
+use Rattle.mig_model.specs.Migration.{World, next, guest_of, with_guest_by, after_command, source_sends, after_deliver, after_deliver_back, after_dest_act, after_move, after_move_back}
 use Rattle.mig_model.specs.Parts.{Grows, Shrinks, GuestAlone, SourceAlone, DestinationAlone, Delivers, DeliversBack, ChangesParts}
 use Rattle.mig_model.proofs.Stopping.{append-nil}
-use Rattle.mig_model.proofs.StepCases.{Makes, MakesWorld, holds-made, made-next, made-ok, made-effect, made-outcome}
+use Rattle.mig_model.proofs.StepCases.{MakesWorld, made-next}
 use Rattle.mig_model.specs.Source.{Source, bytes_of, page_pushed, page_sent, run_of, run_sent, source_answers, source_started, source_took, switch_frames, switch_made}
 use Rattle.mig_model.specs.Destination.{Destination}
 use Rattle.mig_model.proofs.Facts.{as_it_was, tried_up}

@@ -7,19 +7,19 @@ use Rattle.mig_base.specs.declared.schedule.Side.{Side}
 use Rattle.mig_base.specs.declared.schedule.Step.{Step}
 use Rattle.mig_base.specs.declared.schedule.Ticket.{Ticket}
 use Rattle.mig_model.specs.Wire.{Frame, Sent}
-use Rattle.mig_model.specs.Wire.Frame.{Advise, Page, Zero, Run, Discard, Package, End, Resume, Request, Recv, Done}
+use Rattle.mig_model.specs.Wire.Frame.{Request, Recv, Done}
 use Rattle.mig_model.specs.Guest.{Act, Guest}
-use Rattle.mig_model.specs.Guest.Act.{Unprotected, Zeroed, Woke, Forgot, Requested}
+use Rattle.mig_model.specs.Guest.Act.{Unprotected}
 use Rattle.mig_model.specs.Invariant.{IsSoundWorld, SwitchedAt, AreSoundUrgent}
 use Rattle.mig_model.proofs.EveryStep.{kept-next}
 use Rattle.mig_model.proofs.FramesTaken.{is_taken_back}
 use Rattle.mig_model.proofs.SourceRounds.{precopy_unswitched}
-use Rattle.mig_model.proofs.Calls.{stopped_switched}
+use Rattle.mig_model.proofs.WokenSteps.{stopped_switched}
 use Rattle.mig_model.specs.Source.{Source, is_source_idle, is_source_paused, is_stopped, source_act, source_acted_by, source_took}
-use Rattle.mig_model.specs.Migration.{World, after_steps, answer, next, outcome, with_guest_by}
+use Rattle.mig_model.specs.Migration.{World, after_steps, next, outcome, with_guest_by}
 use Rattle.mig_model.specs.Promises.{is_recv}
 use Rattle.mig_model.proofs.Taken.{IsInPlaceBack}
-use Rattle.mig_model.proofs.StepCases.{Makes, MakesWorld, holds-made, made-next, made-ok, made-effect, made-outcome}
+use Rattle.mig_model.proofs.StepCases.{MakesWorld, made-next, made-ok}
 use Rattle.mig_model.proofs.UrgentSteps.{urgent-next}
 
 -- what tells that the source has switched in an epoch, and is not to be told again what the destination needs: its epoch, whether it

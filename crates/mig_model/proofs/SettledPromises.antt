@@ -23,18 +23,16 @@ use Rattle.mig_model.specs.Userfault.{Noted, Object, waits_fault, next_of}
 use Rattle.mig_model.specs.Space.{Space, access_of, accessed_by}
 use Rattle.mig_model.specs.Guest.{tried, Act}
 use Rattle.mig_model.specs.Wire.{Frame, Sent, Copy}
-use Rattle.mig_model.specs.Wire.Frame.{Advise, Page, Zero, Run, Discard, Package, End, Resume, Request, Recv, Done}
-use Rattle.mig_model.specs.Guest.Act.{Unprotected, Zeroed, Woke, Forgot, Requested}
-use Rattle.mig_model.specs.Migration.{World, with_guest_by, guest_by, next, outcome, install_effect, after_command, after_dest_read, answer, guest_of, runs, start}
+use Rattle.mig_model.specs.Wire.Frame.{Page, Zero, Package, Resume}
+use Rattle.mig_model.specs.Guest.Act.{Unprotected}
+use Rattle.mig_model.specs.Migration.{World, with_guest_by, guest_by, next, outcome, install_effect, after_command, after_dest_read, guest_of, runs, start}
 use Rattle.mig_model.specs.Invariant.{IsSoundWorld, AreFaults, AreRight, is_package}
 use Rattle.mig_model.specs.Promises.{owed_changed, leaves_settled, AreAccesses}
 use Rattle.mig_model.proofs.SettledLemmas.{settled_by-applied}
 use Rattle.mig_model.proofs.TriedLemmas.{settled_then}
 use Rattle.mig_model.proofs.DestinationCommands.{ready_of}
-use Rattle.mig_model.proofs.FirstFrame.{first_in_place}
-use Rattle.mig_model.proofs.FramesTaken.{with_first}
-use Rattle.mig_model.proofs.WaitingCommands.{package_told}
-use Rattle.mig_model.proofs.StepCases.{Makes, MakesWorld, holds-made, made-next, made-ok, made-effect, made-outcome}
+use Rattle.mig_model.proofs.WaitingCommands.{package_next}
+use Rattle.mig_model.proofs.StepCases.{MakesWorld, made-next, made-ok, made-effect}
 use Rattle.mig_model.proofs.DestinationRead.{none_is}
 use Rattle.mig_model.specs.Cpus.{outstanding, processor_at}
 use Rattle.mig_model.specs.Owed.{home, settled_by}
@@ -174,10 +172,7 @@ acted_settled _ node fault page = refl
 frame_settled : (frame : Frame) (epoch : ℕ) (rest : List Sent) (world : World) → IsSoundWorld world → world.up ≡ true → world.destination.has_run ≡ true → world.forward.frames ≡ record { epoch = epoch; frame = frame } ∷ rest → (page : ℕ) →
     settled (destination_took world.destination epoch frame) page ≡ settled world.destination page
 frame_settled (Package areas owed commands) epoch rest world kept up ran first page =
-    let again = subst (λ w. IsSoundWorld (record world { forward = record world.forward { frames = w } })) first kept in
-    let old = with_first world.source.phase world.destination.phase epoch (Package areas owed commands) rest world in
-    let is = first_in_place old.source old.destination (record { epoch = epoch; frame = Package areas owed commands }) rest old.back.frames old.urgent.frames (again.flight.wires up) in
-    absurd (false≢true (sym (package_told world.source.phase world.destination.phase epoch areas owed commands rest world is up again).1 ∙ ran))
+    absurd (false≢true (sym (package_next epoch areas owed commands rest world up first kept).1 ∙ ran))
 frame_settled frame epoch rest world kept up ran first page = took_settled frame world.destination epoch page refl
 
 urgent_settled : (frame : Frame) (node : Destination) (page : ℕ) → settled (urgent_took node frame) page ≡ settled node page

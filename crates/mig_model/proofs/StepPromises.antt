@@ -16,12 +16,12 @@ use Rattle.mig_base.proofs.SetLemmas.{member_removed}
 use Rattle.mig_base.specs.Commands.{is_access}
 use Rattle.mig_model.specs.Space.{Space}
 use Rattle.mig_model.specs.Guest.{Guest, took_by, tried, zero_installed, Act}
-use Rattle.mig_model.specs.Guest.Act.{Unprotected, Zeroed, Woke, Forgot, Requested}
-use Rattle.mig_model.specs.Migration.{World, next, outcome, act_effect, act_effect, guest_of, with_guest_by, after_command, after_dest_act, after_source_act, answer}
+use Rattle.mig_model.specs.Guest.Act.{Unprotected, Zeroed}
+use Rattle.mig_model.specs.Migration.{World, next, outcome, act_effect, act_effect, guest_of, with_guest_by, after_command, after_dest_act, after_source_act}
 use Rattle.mig_model.specs.Promises.{IsZeroed, keeps_remaining}
 use Rattle.mig_model.proofs.IoctlLemmas.{get-put_pages}
 use Rattle.mig_model.proofs.PromiseLemmas.{source_zero, destination_zero}
-use Rattle.mig_model.proofs.StepCases.{Makes, MakesWorld, holds-made, made-next, made-ok, made-effect, made-outcome}
+use Rattle.mig_model.proofs.StepCases.{MakesWorld, made-next, made-ok, made-effect}
 use Rattle.mig_model.specs.Cpus.{entries_of, outstanding, processor_at}
 use Rattle.mig_model.specs.Source.{Source, source_act, source_acted_by, space_of}
 use Rattle.mig_model.specs.Destination.{destination_act, destination_acted_by}

@@ -1,8 +1,8 @@
 -- Without a break the Package that is taken is that of the Switch, and what is kept then is what was clean at the source.
-use Rattle.std.proofs.Common.{◌≡◌, ◌&&◌, Bool, true, false, cond, not, ltb, ℕ, Option, Some, None, is_some, List, [], ◌∷◌, ◌++◌, refl, sym, ap, ◌∙◌, subst, IsOk, if◌then◌else◌}
+use Rattle.std.proofs.Common.{◌≡◌, ◌&&◌, Bool, true, false, cond, not, ℕ, Option, Some, None, is_some, List, [], ◌∷◌, ◌++◌, refl, sym, ap, ◌∙◌, IsOk, if◌then◌else◌}
 use Rattle.std.specs.Prelude.{Ok}
 use Rattle.std.specs.Ordering.{nat_cmp}
-use Rattle.std.specs.FinMap.{FinMap, get, contains_key}
+use Rattle.std.specs.FinMap.{FinMap, get}
 use Rattle.std.specs.FinSet.{FinSet, contains}
 use Rattle.std.proofs.lemmas.Bool.{false≢true}
 use Rattle.mig_base.specs.declared.Prot.{Prot}
@@ -20,25 +20,26 @@ use Rattle.mig_model.specs.Guest.{is_present, tried}
 use Rattle.mig_model.specs.Source.{Source, commands_of, is_precopy, is_stopped, not_clean, space_of}
 use Rattle.mig_model.specs.Destination.{Destination, destination_act, destination_took}
 use Rattle.mig_model.specs.Owed.{home}
-use Rattle.mig_model.specs.Migration.{World, after_command, after_deliver, after_steps, answer, frame_effect, guest_of, is_changing, next, outcome, runs}
-use Rattle.mig_model.specs.Invariant.{IsSoundWorld, IsSwitching, Flow, flow_after, is_package, is_unread, kept_by, package_in}
+use Rattle.mig_model.specs.Migration.{World, after_command, after_deliver, after_steps, frame_effect, guest_of, is_changing, next, outcome, runs}
+use Rattle.mig_model.specs.Invariant.{IsSoundWorld, is_package, is_unread, kept_by, package_in}
 use Rattle.mig_model.specs.Invariant.Flow.{BeforeAdvise, Copies}
 use Rattle.mig_model.specs.Promises.{IsReached}
 use Rattle.mig_model.specs.Unbroken.{StaysUp, KeepsClean}
 use Rattle.mig_model.proofs.EveryStep.{kept-reached}
 use Rattle.mig_model.proofs.Facts.{by_test, no_event, none_absurd}
-use Rattle.mig_model.proofs.FirstFrame.{empty_not, first_in_place}
+use Rattle.mig_model.proofs.FirstFrame.{empty_not}
 use Rattle.mig_model.proofs.FlightPromises.{none_precopy, owed_at}
-use Rattle.mig_model.proofs.FramesTaken.{owed_in, with_first}
+use Rattle.mig_model.proofs.FramesTaken.{owed_in}
 use Rattle.mig_model.proofs.PromiseLemmas.{is_switching}
 use Rattle.mig_model.proofs.ReachedLemmas.{reached-after_steps, reached-next}
 use Rattle.mig_model.proofs.SendingLemmas.{has_package}
 use Rattle.mig_model.proofs.SourceRounds.{precopy_unswitched}
-use Rattle.mig_model.proofs.StepCases.{Makes, MakesWorld, holds-made, made-next, made-ok, made-effect, made-outcome}
+use Rattle.mig_model.proofs.StepCases.{MakesWorld, made-next, made-ok, made-effect}
 use Rattle.mig_model.proofs.Stopping.{in_phases}
 use Rattle.mig_model.proofs.UrgentSteps.{runs_unstopped}
 use Rattle.mig_model.proofs.UrgentWire.{idle_unstopped, not_stopped, precopy_unstopped}
-use Rattle.mig_model.proofs.WaitingCommands.{acted_ran, installed_ran, package_told, same_ran, same_took, same_urgent}
+use Rattle.mig_model.proofs.WaitingCommands.{package_next, same_ran}
+use Rattle.mig_model.proofs.WokenSteps.{handles, installs, takes, takes_urgent}
 use Rattle.mig_model.proofs.WireLemmas.{package_in-append}
 
 -- From the Switch until the destination runs
@@ -75,7 +76,7 @@ taken_awaits : (host : Host) (frame_sent : Frame) (epoch : ℕ) (frame : Frame) 
 taken_awaits host frame_sent epoch frame rest world first h ran =
     by_test (is_package frame) (λ is. absurd (false≢true (sym ran ∙ package_runs frame world.destination epoch is)))
     (λ other.
-    let now = h (sym (same_took frame world.destination epoch other).ran ∙ ran) in
+    let now = h (sym (takes frame world.destination epoch other).ran ∙ ran) in
     record { stopped = now.stopped; host_is = now.host_is; package_is = sym (ap (λ b. cond b (Some frame) (package_in rest)) other) ∙ ap package_in (sym first) ∙ now.package_is })
 
 -- nothing comes back
@@ -111,15 +112,15 @@ awaits_answer host frame_sent world (Step.DeliverBack n) kept linked h =
     ((λ sent rest is short up ran. let now = h ran in record { stopped = now.stopped; host_is = now.host_is; package_is = now.package_is }), (λ sent rest is full started link up ran. absurd (empty_not sent rest (sym is ∙ no_back world.source.phase world.destination.phase world (h ran).stopped linked ran kept))))
 awaits_answer host frame_sent world Step.DestRead kept linked h = λ noted is runs up ran. absurd (false≢true (sym ran ∙ runs))
 awaits_answer host frame_sent world Step.DestAct kept linked h =
-    λ fault rest is runs quiet up ran. absurd (false≢true (sym ran ∙ acted_ran (destination_act world.destination fault) world.destination fault.page ∙ runs))
+    λ fault rest is runs quiet up ran. absurd (false≢true (sym ran ∙ (handles (destination_act world.destination fault) world.destination fault.page).ran ∙ runs))
 awaits_answer host frame_sent world Step.Install kept linked h =
-    λ copy rest is runs quiet up ran. absurd (false≢true (sym ran ∙ installed_ran (home world.destination.owed copy.page) world.destination copy rest ∙ runs))
+    λ copy rest is runs quiet up ran. absurd (false≢true (sym ran ∙ (installs (home world.destination.owed copy.page) world.destination copy rest).ran ∙ runs))
 awaits_answer host frame_sent world (Step.Push ticket) kept linked h =
     λ stopped link own present remains up ran. let now = h ran in record { stopped = now.stopped; host_is = now.host_is; package_is = sent_more host frame_sent world _ now }
 awaits_answer host frame_sent world (Step.PushUrgent ticket) kept linked h =
     λ stopped link own present remains up ran. let now = h ran in record { stopped = now.stopped; host_is = now.host_is; package_is = now.package_is }
 awaits_answer host frame_sent world (Step.DeliverUrgent n) kept linked h =
-    ((λ sent rest is short up ran. let now = h ran in record { stopped = now.stopped; host_is = now.host_is; package_is = now.package_is }), (λ sent rest is full runs link up ran. absurd (false≢true (sym ran ∙ (same_urgent sent.frame world.destination).ran ∙ runs))))
+    ((λ sent rest is short up ran. let now = h ran in record { stopped = now.stopped; host_is = now.host_is; package_is = now.package_is }), (λ sent rest is full runs link up ran. absurd (false≢true (sym ran ∙ (takes_urgent sent.frame world.destination).ran ∙ runs))))
 awaits_answer host frame_sent world Step.Serve kept linked h =
     λ page pages is stopped link up ran. let now = h ran in record { stopped = now.stopped; host_is = now.host_is; package_is = now.package_is }
 awaits_answer host frame_sent world Step.End kept linked h =
@@ -189,11 +190,7 @@ package_first world n owed answered =
     ((λ sent rest is short h. absurd (cc)), (λ sent rest is full started up free early h. record { sent = sent; rest = rest; first = is; is = takes_package sent.frame owed h })) answered refl
 
 not_run_yet : (epoch : ℕ) (frame : Frame) (rest : List Sent) (world : World) → world.up ≡ true → world.forward.frames ≡ record { epoch = epoch; frame = frame } ∷ rest → IsSoundWorld world → is_package frame ≡ true → world.destination.has_run ≡ false
-not_run_yet epoch (Package areas owed commands) rest world up first kept is =
-    let again = subst (λ w. IsSoundWorld (record world { forward = record world.forward { frames = w } })) first kept in
-    let old = with_first world.source.phase world.destination.phase epoch (Package areas owed commands) rest world in
-    let place = first_in_place old.source old.destination (record { epoch = epoch; frame = Package areas owed commands }) rest old.back.frames old.urgent.frames (again.flight.wires up) in
-    (package_told world.source.phase world.destination.phase epoch areas owed commands rest world place up again).1
+not_run_yet epoch (Package areas owed commands) rest world up first kept is = (package_next epoch areas owed commands rest world up first kept).1
 not_run_yet epoch _ rest world up first kept is = absurd (false≢true is)
 
 -- one page: it is kept exactly where it was clean

@@ -16,17 +16,17 @@ use Rattle.mig_base.proofs.SetLemmas.{member_below}
 use Rattle.mig_model.specs.Host.{IsSound}
 use Rattle.mig_model.specs.Space.{Space}
 use Rattle.mig_model.specs.Guest.{Guest, Act, is_present, tried}
-use Rattle.mig_model.specs.Guest.Act.{Unprotected, Zeroed, Woke, Forgot, Requested}
+use Rattle.mig_model.specs.Guest.Act.{Unprotected}
 use Rattle.mig_model.specs.Log.{present}
 use Rattle.mig_model.specs.Wire.{Frame, Sent}
 use Rattle.mig_model.specs.Wire.Frame.{Request, Recv, Done}
-use Rattle.mig_model.specs.Migration.{World, after_command, after_deliver_back, after_steps, after_switch, answer, first_world_with, guest_of, next, runs, with_guest_by}
+use Rattle.mig_model.specs.Migration.{World, after_command, after_deliver_back, after_steps, after_switch, first_world_with, guest_of, next, runs, with_guest_by}
 use Rattle.mig_model.specs.Source.{Source, is_precopy, is_released, is_stopped, not_clean, source_act, source_acted_by, source_rebuilt, space_of}
 use Rattle.mig_model.specs.Invariant.{AreSoundUrgent, IsSoundWorld}
 use Rattle.mig_model.specs.Promises.{IsReached}
 use Rattle.mig_model.proofs.Taken.{IsInPlaceBack}
 use Rattle.mig_model.specs.Bounds.{AreUrgentFew, IsUrgentFew}
-use Rattle.mig_model.proofs.Calls.{stopped_switched}
+use Rattle.mig_model.proofs.WokenSteps.{stopped_switched}
 use Rattle.mig_model.proofs.EveryStep.{kept-next}
 use Rattle.mig_model.proofs.Facts.{member_not_clean}
 use Rattle.mig_model.proofs.FirstWorld.{kept-first}
@@ -34,7 +34,7 @@ use Rattle.mig_model.proofs.FramesTaken.{is_taken_back}
 use Rattle.mig_model.proofs.PushOrder.{idle_unswitched}
 use Rattle.mig_model.proofs.SetSizes.{len-part, len-removed, len-some}
 use Rattle.mig_model.proofs.SourceRounds.{precopy_unswitched}
-use Rattle.mig_model.proofs.StepCases.{Makes, MakesWorld, holds-made, made-next, made-ok, made-effect, made-outcome}
+use Rattle.mig_model.proofs.StepCases.{MakesWorld, made-next}
 use Rattle.mig_model.proofs.Stopping.{present_below}
 use Rattle.mig_model.proofs.UrgentSteps.{urgent-first, urgent-next}
 use Rattle.mig_model.proofs.UrgentWire.{is_paused}

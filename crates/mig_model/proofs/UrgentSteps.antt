@@ -13,9 +13,9 @@ use Rattle.mig_base.specs.Commands.{is_access}
 use Rattle.mig_base.specs.Bytes.{zero_page}
 use Rattle.mig_model.specs.Wire.{Frame, Sent, Wire, Copy, is_copy, page_frame, sending, wire_behind}
 use Rattle.mig_model.specs.Wire.Frame.{Advise, Page, Zero, Run, Discard, Package, End, Resume, Request, Recv, Done}
-use Rattle.mig_model.specs.Migration.{World, after_break, after_command, after_deliver, after_deliver_back, after_deliver_urgent, after_end, after_move_urgent, after_notice, after_push_urgent, after_resume, after_start, after_switch, answer, first_world_with, guest_of, is_early, is_short, next, runs, source_sends, with_guest_by}
+use Rattle.mig_model.specs.Migration.{World, after_break, after_command, after_deliver, after_deliver_back, after_deliver_urgent, after_end, after_move_urgent, after_notice, after_push_urgent, after_resume, after_start, after_switch, first_world_with, guest_of, is_early, is_short, next, runs, source_sends, with_guest_by}
 use Rattle.mig_model.specs.Guest.{Guest, Act, is_present, tried}
-use Rattle.mig_model.specs.Guest.Act.{Unprotected, Zeroed, Woke, Forgot, Requested}
+use Rattle.mig_model.specs.Guest.Act.{Unprotected}
 use Rattle.mig_model.specs.Source.{Source, is_stopped, bytes_of, is_precopy, is_source_idle, package_frames, rebuild_frames, released, source_act, source_acted_by, source_rebuilt, space_of, switch_frames, run_of}
 use Rattle.mig_model.specs.Destination.{Destination, copy_came, destination_act, destination_acted_by, destination_took, install_by, is_dest_paused, received_of, resumed_by, urgent_came}
 use Rattle.mig_model.specs.Invariant.{AreFaithful, AreSoundUrgent, AreTold, IsSoundWorld, RanAt, SwitchedAt, Wires, are_copies, copies_of}
@@ -23,7 +23,7 @@ use Rattle.mig_model.proofs.Taken.{IsInPlaceBack}
 use Rattle.mig_model.specs.Log.{no_pages, present}
 use Rattle.mig_model.specs.Owed.{home}
 use Rattle.mig_model.proofs.Facts.{AreFaithful-append, AreOf-one, and_second, copies_of-append}
-use Rattle.mig_model.proofs.StepCases.{Makes, MakesWorld, holds-made, made-next, made-ok, made-effect, made-outcome}
+use Rattle.mig_model.proofs.StepCases.{MakesWorld, made-next}
 use Rattle.mig_model.proofs.HeldLemmas.{fits-more, fits-moved, fits-none}
 use Rattle.mig_model.proofs.SendingLemmas.{copies_of-page}
 use Rattle.mig_model.proofs.Stopping.{not_ended, present_bytes}

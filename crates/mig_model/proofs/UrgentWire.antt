@@ -7,7 +7,7 @@ use Rattle.std.proofs.lemmas.Bool.Decides.{nat_tests}
 use Rattle.mig_base.specs.declared.phase.DestPhase.{DestPhase}
 use Rattle.mig_base.specs.declared.phase.SourcePhase.{SourcePhase}
 use Rattle.mig_model.specs.Wire.{Frame, Sent, Wire, is_copy, is_zeros, page_frame, sending}
-use Rattle.mig_model.specs.Wire.Frame.{Advise, Page, Zero, Run, Discard, Package, End, Resume, Request, Recv, Done}
+use Rattle.mig_model.specs.Wire.Frame.{Advise, Page, Zero, End, Resume}
 use Rattle.mig_model.specs.Migration.{World, is_early}
 use Rattle.mig_model.specs.Source.{is_stopped, is_precopy, is_source_idle, is_source_paused}
 use Rattle.mig_model.specs.Invariant.{AreFaithful, AreOf, AreTold, IsSoundUrgent, IsSoundWorld, IsTold, SwitchedAt, Wires, are_copies, copies_of, AreSoundUrgent}

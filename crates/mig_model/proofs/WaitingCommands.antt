@@ -1,5 +1,5 @@
 -- A command that waits is changed by no step but the Retry that answers it.
-use Rattle.std.proofs.Common.{◌≡◌, ℕ, zero, suc, Bool, true, false, eqb, Option, Some, None, List, [], ◌∷◌, refl, sym, ap, ◌∙◌, subst, arith, if◌then◌else◌, IsOk, ◌⊎◌, inl, inr, ⊎_elim, not, ltb, length}
+use Rattle.std.proofs.Common.{◌≡◌, ℕ, zero, suc, Bool, true, false, Option, Some, None, List, [], ◌∷◌, refl, sym, ap, ◌∙◌, subst, arith, if◌then◌else◌, IsOk, ◌⊎◌, inl, inr, ⊎_elim, not, ltb, length}
 use Rattle.std.specs.Prelude.{map, set}
 use Rattle.std.specs.Ordering.{nat_cmp}
 use Rattle.std.specs.FinMap.{FinMap}
@@ -9,30 +9,26 @@ use Rattle.std.proofs.lemmas.Bool.{false≢true, eq-eqb}
 use Rattle.std.proofs.lemmas.Option.{none-some}
 use Rattle.mig_base.specs.declared.cpu_state.CpuState.{CpuState}
 use Rattle.mig_base.specs.declared.phase.DestPhase.{DestPhase}
-use Rattle.mig_base.specs.declared.phase.Received.{Received}
 use Rattle.mig_base.specs.declared.phase.SourcePhase.{SourcePhase}
-use Rattle.mig_base.specs.declared.schedule.Side.{Side}
 use Rattle.mig_base.specs.declared.schedule.Step.{Step}
 use Rattle.mig_base.specs.declared.Prot.{Prot}
 use Rattle.mig_base.specs.declared.command.Command.{Command}
 use Rattle.mig_base.specs.declared.message.Message.{Message}
-use Rattle.mig_base.specs.declared.message.Message.TheVariants.{PageFault, Remap, Remove, Unmap}
+use Rattle.mig_base.specs.declared.message.Message.TheVariants.{PageFault}
 use Rattle.mig_base.specs.Commands.{is_access, page_of}
-use Rattle.mig_model.specs.Guest.{Guest, Fault, is_left_by, read_guest, took_by, tried, Act}
+use Rattle.mig_model.specs.Guest.{Guest, is_left_by, read_guest, took_by, tried}
 use Rattle.mig_model.specs.Cpus.Took.{Sleep, Call}
-use Rattle.mig_model.specs.Wire.{Frame, Sent, Copy}
-use Rattle.mig_model.specs.Wire.Frame.{Advise, Page, Zero, Run, Discard, Package, End, Resume, Request, Recv, Done}
-use Rattle.mig_model.specs.Guest.Act.{Unprotected, Zeroed, Woke, Forgot, Requested}
-use Rattle.mig_model.specs.Migration.{World, next, guest_by, guest_of, with_guest_by, after_command, after_dest_act, after_install, answer, outcome, start}
-use Rattle.mig_model.specs.Invariant.{IsSoundWorld, is_package}
+use Rattle.mig_model.specs.Wire.{Frame, Sent}
+use Rattle.mig_model.specs.Wire.Frame.{Package}
+use Rattle.mig_model.specs.Migration.{World, next, guest_by, guest_of, with_guest_by, after_command, after_deliver, outcome}
+use Rattle.mig_model.specs.Invariant.{IsSoundWorld}
 use Rattle.mig_model.specs.Promises.{is_retry_of, Slept}
 use Rattle.mig_model.proofs.FirstFrame.{comes, first_in_place, delivered}
 use Rattle.mig_model.proofs.FramesTaken.{with_first, commands_in}
-use Rattle.mig_model.proofs.StepCases.{Makes, MakesWorld, holds-made, made-next, made-ok, made-effect, made-outcome}
+use Rattle.mig_model.proofs.StepCases.{made-next, made-ok}
+use Rattle.mig_model.proofs.WokenSteps.{IsWoken, guest_woken, wakes-next, wakes-taken}
 use Rattle.mig_model.specs.Cpus.{all_woken, is_idle, message_less, outstanding, processor_after, processor_at, taken_over, woken_if, Took}
-use Rattle.mig_model.specs.Owed.{home}
-use Rattle.mig_model.specs.Source.{Source, commands_of, source_act, source_acted_by, source_took}
-use Rattle.mig_model.specs.Destination.{Destination, copy_came, destination_act, destination_acted, destination_acted_by, destination_read, destination_took, install_by, received_of, resumed_by, urgent_took}
+use Rattle.mig_model.specs.Source.{is_stopped, commands_of}
 use Rattle.mig_model.proofs.Facts.{some_command}
 
 -- Processors
@@ -109,20 +105,6 @@ pub waits_destination : (ran : Bool) (from old new : Guest) → SameWaits old ne
 waits_destination true from old new same k = same k
 waits_destination false from old new same k = refl
 
--- the steps of the nodes
-
-pub waits_source_act : (act : Act) (node : Source) (page : ℕ) → SameWaits node.guest (source_acted_by act node page).guest
-waits_source_act Unprotected node page k = woken_keeps (λ q. eqb q page) node.guest.cpus k
-waits_source_act _ node page k = woken_keeps (λ q. eqb q page) node.guest.cpus k
-
-pub waits_destination_act : (act : Act) (node : Destination) (page : ℕ) → SameWaits node.guest (destination_acted_by act node page).guest
-waits_destination_act (Requested source) node page k = refl
-waits_destination_act _ node page k = woken_keeps (λ q. eqb q page) node.guest.cpus k
-
-install_waits : (o : Option ℕ) (node : Destination) (copy : Copy) (rest : List Copy) → SameWaits node.guest (install_by o node copy rest).guest
-install_waits None node copy rest k = refl
-install_waits (Some page) node copy rest k = woken_keeps (λ q. eqb q page) node.guest.cpus k
-
 -- Steps
 
 pub same_guest : (ran : Bool) (world : World) (guest : Guest) → guest_by ran (with_guest_by ran world guest).source.guest (with_guest_by ran world guest).destination.guest ≡ guest
@@ -157,93 +139,35 @@ idle_none : (p : CpuState) (command : Command) → is_idle p ≡ true → outsta
 idle_none CpuState.Idle command h e = none-some command e
 idle_none _ command h e = false≢true h
 
-pub acted_ran : (act : Act) (node : Destination) (page : ℕ) → (destination_acted_by act node page).has_run ≡ node.has_run
-acted_ran Unprotected node page = refl
-acted_ran _ node page = refl
-
-pub installed_ran : (o : Option ℕ) (node : Destination) (copy : Copy) (rest : List Copy) → (install_by o node copy rest).has_run ≡ node.has_run
-installed_ran None node copy rest = refl
-installed_ran (Some page) node copy rest = refl
-
-installed_same : (copy : Copy) (rest : List Copy) (world : World) → SameWaits (guest_of world) (guest_of (after_install world copy rest))
-installed_same copy rest world k =
-    let o = home world.destination.owed copy.page in
-    ap (λ b. outstanding (processor_at (guest_by b world.source.guest (install_by o world.destination copy rest).guest).cpus k)) (installed_ran o world.destination copy rest)
-    ∙ waits_destination world.destination.has_run world.source.guest world.destination.guest (install_by o world.destination copy rest).guest (install_waits o world.destination copy rest) k
-
-acted_same : (fault : Fault) (world : World) → SameWaits (guest_of world) (guest_of (after_dest_act world fault))
-acted_same fault world k =
-    ap (λ b. outstanding (processor_at (guest_by b world.source.guest (destination_acted world.destination fault).guest).cpus k)) (acted_ran (destination_act world.destination fault) world.destination fault.page)
-    ∙ waits_destination world.destination.has_run world.source.guest world.destination.guest (destination_acted world.destination fault).guest (waits_destination_act (destination_act world.destination fault) world.destination fault.page) k
-
 -- Deliveries
 
--- a destination with the same guest, which runs if it ran
-pub record IsSame (old new : Destination) : Type 0 where
-  pub guest : new.guest ≡ old.guest
-  pub ran : new.has_run ≡ old.has_run
-
-same_came : (ran : Bool) (node : Destination) (copy : Copy) → IsSame node (copy_came ran node copy)
-same_came true node copy = record { guest = refl; ran = refl }
-same_came false node copy = record { guest = refl; ran = refl }
-
-same_resumed : (state : Received) (node new : Destination) → IsSame node new → IsSame node (resumed_by state new)
-same_resumed Received.NotRun node new is = record { guest = is.guest; ran = is.ran }
-same_resumed _ node new is = record { guest = is.guest; ran = is.ran }
-
-pub same_took : (frame : Frame) (node : Destination) (epoch : ℕ) → is_package frame ≡ false → IsSame node (destination_took node epoch frame)
-same_took (Page page bytes) node epoch h = same_came node.has_run node _
-same_took (Zero page) node epoch h = same_came node.has_run node _
-same_took (Package areas owed commands) node epoch h = absurd (false≢true (sym h))
-same_took Resume node epoch h = same_resumed (received_of node) node _ (record { guest = refl; ran = refl })
-same_took _ node epoch h = record { guest = refl; ran = refl }
-
-pub same_urgent : (frame : Frame) (node : Destination) → IsSame node (urgent_took node frame)
-same_urgent (Page page bytes) node = record { guest = refl; ran = refl }
-same_urgent _ node = record { guest = refl; ran = refl }
-
--- a Package that comes next has the outstanding commands of the source, and the destination has not run
-pub package_told : (from : SourcePhase) (to : DestPhase) (epoch : ℕ) (areas : FinMap nat_cmp Prot) (owed : FinSet nat_cmp) (commands : List (Option Command)) (rest : List Sent) (world : World) →
+-- a Package that comes next has the outstanding commands of the source, which has stopped, and the destination has not run
+package_told : (from : SourcePhase) (to : DestPhase) (epoch : ℕ) (areas : FinMap nat_cmp Prot) (owed : FinSet nat_cmp) (commands : List (Option Command)) (rest : List Sent) (world : World) →
     comes from to (Package areas owed commands) ≡ true → world.up ≡ true → IsSoundWorld (with_first from to epoch (Package areas owed commands) rest world) →
-    (commands ≡ commands_of world.source.guest.cpus) × (world.destination.has_run ≡ false)
+    (commands ≡ commands_of world.source.guest.cpus) × (world.destination.has_run ≡ false) × (is_stopped from ≡ true)
 unfolding commands_in
 package_told SourcePhase.Stopped DestPhase.Discarding epoch areas owed commands rest world is up kept =
     let told = (kept.flight.wires up).2 in
-    (ap (λ o. elim o [ None ↦ commands | Some frame ↦ commands_in frame commands ]) told.plan, kept.phases.destination_phase)
+    (ap (λ o. elim o [ None ↦ commands | Some frame ↦ commands_in frame commands ]) told.plan, kept.phases.destination_phase, refl)
 package_told SourcePhase.Precopy DestPhase.Idle epoch areas owed commands rest world is up kept = absurd (false≢true is)
 package_told SourcePhase.Paused DestPhase.Paused epoch areas owed commands rest world is up kept = absurd (false≢true is)
 package_told _ _ epoch areas owed commands rest world is up kept = absurd (false≢true is)
 
-package_same : (epoch : ℕ) (areas : FinMap nat_cmp Prot) (owed : FinSet nat_cmp) (commands : List (Option Command)) (rest : List Sent) (world : World) → world.up ≡ true → world.forward.frames ≡ record { epoch = epoch; frame = Package areas owed commands } ∷ rest → IsSoundWorld world →
-    SameWaits (guest_of world) (guest_of (delivered world (record { epoch = epoch; frame = Package areas owed commands } ∷ rest)))
-package_same epoch areas owed commands rest world up first kept k =
+pub package_next : (epoch : ℕ) (areas : FinMap nat_cmp Prot) (owed : FinSet nat_cmp) (commands : List (Option Command)) (rest : List Sent) (world : World) → world.up ≡ true → world.forward.frames ≡ record { epoch = epoch; frame = Package areas owed commands } ∷ rest → IsSoundWorld world →
+    (commands ≡ commands_of world.source.guest.cpus) × (world.destination.has_run ≡ false) × (is_stopped world.source.phase ≡ true)
+package_next epoch areas owed commands rest world up first kept =
     let again = subst (λ w. IsSoundWorld (record world { forward = record world.forward { frames = w } })) first kept in
     let old = with_first world.source.phase world.destination.phase epoch (Package areas owed commands) rest world in
     let is = first_in_place old.source old.destination (record { epoch = epoch; frame = Package areas owed commands }) rest old.back.frames old.urgent.frames (again.flight.wires up) in
-    let told = package_told world.source.phase world.destination.phase epoch areas owed commands rest world is up again in
+    package_told world.source.phase world.destination.phase epoch areas owed commands rest world is up again
+
+package_same : (epoch : ℕ) (areas : FinMap nat_cmp Prot) (owed : FinSet nat_cmp) (commands : List (Option Command)) (rest : List Sent) (world : World) → world.up ≡ true → world.forward.frames ≡ record { epoch = epoch; frame = Package areas owed commands } ∷ rest → IsSoundWorld world →
+    SameWaits (guest_of world) (guest_of (delivered world (record { epoch = epoch; frame = Package areas owed commands } ∷ rest)))
+package_same epoch areas owed commands rest world up first kept k =
+    let told = package_next epoch areas owed commands rest world up first kept in
     ap (λ cs. outstanding (processor_at (map taken_over cs) k)) told.0
     ∙ taken_keeps world.source.guest.cpus k
     ∙ ap (λ b. outstanding (processor_at (guest_by b world.source.guest world.destination.guest).cpus k)) (sym told.1)
-
-same_node_waits : (world : World) (new : Destination) → IsSame world.destination new → SameWaits (guest_of world) (guest_by new.has_run world.source.guest new.guest)
-same_node_waits world new is k =
-    ap (λ b. outstanding (processor_at (guest_by b world.source.guest new.guest).cpus k)) is.ran
-    ∙ ap (λ g. outstanding (processor_at (guest_by world.destination.has_run world.source.guest g).cpus k)) is.guest
-
-delivered_first : (epoch : ℕ) (frame : Frame) (rest : List Sent) (world : World) → world.up ≡ true → world.forward.frames ≡ record { epoch = epoch; frame = frame } ∷ rest → IsSoundWorld world → SameWaits (guest_of world) (guest_of (delivered world (record { epoch = epoch; frame = frame } ∷ rest)))
-delivered_first epoch (Package areas owed commands) rest world up first kept k = package_same epoch areas owed commands rest world up first kept k
-delivered_first epoch frame rest world up first kept k = same_node_waits world _ (same_took frame world.destination epoch refl) k
-
-rebuilt_by : (switched : Bool) (a b node : Source) → SameWaits node.guest a.guest → SameWaits node.guest b.guest → SameWaits node.guest (if switched then a else b).guest
-rebuilt_by true a b node one two = one
-rebuilt_by false a b node one two = two
-
-took_same : (frame : Frame) (node : Source) → SameWaits node.guest (source_took node frame).guest
-took_same (Recv Received.NotRun owed) node k = rebuilt_by node.switched _ _ node (λ i. refl) (λ i. refl) k
-took_same _ node k = refl
-
-same_source : (world : World) (new : Guest) → SameWaits world.source.guest new → SameWaits (guest_of world) (guest_by world.destination.has_run new world.destination.guest)
-same_source world new same k = waits_source world.destination.has_run world.source.guest new world.destination.guest same k
 
 -- every step but an Issue and a Retry leaves what each processor has to make
 abbrev pub WaitsAs : World → World → Type 0
@@ -254,35 +178,26 @@ is_try (Step.Issue cpu command) = true
 is_try (Step.Retry cpu) = true
 is_try step = false
 
-pub same_answer : (world : World) (step : Step) → IsSoundWorld world → is_try step ≡ false → MakesWorld (WaitsAs world) world step
-same_answer world (Step.Issue cpu tries) kept other = absurd (false≢true (sym other))
-same_answer world (Step.Retry cpu) kept other = absurd (false≢true (sym other))
-same_answer world Step.Start kept other = λ idle unused. same_source world _ (λ i. refl)
-same_answer world Step.Round kept other = λ precopy quiet. same_source world _ (λ i. refl)
-same_answer world Step.Send kept other = λ page is precopy up quiet. same_source world _ (λ i. refl)
-same_answer world (Step.SendRun count) kept other = λ first number is many precopy up quiet. same_source world _ (λ i. refl)
-same_answer world Step.SourceRead kept other = λ noted is started unswitched. same_source world _ (waits_read world.source.guest noted.cpu noted.message)
-same_answer world Step.SourceAct kept other = λ fault rest is started unswitched quiet. same_source world _ (waits_source_act (source_act world.source fault) world.source fault.page)
-same_answer world Step.Switch kept other = λ precopy up quiet. same_source world _ (λ i. refl)
-same_answer world (Step.Deliver n) kept other = ((λ sent rest is short k. refl), (λ sent rest is full started up free early. delivered_first sent.epoch sent.frame rest world up is kept))
-same_answer world (Step.DeliverBack n) kept other = ((λ sent rest is short k. refl), (λ sent rest is full started up. same_source world _ (took_same sent.frame world.source)))
-same_answer world Step.DestRead kept other =
-    λ noted is ran.
-    waits_destination world.destination.has_run world.source.guest world.destination.guest (destination_read world.destination noted).guest (waits_read world.destination.guest noted.cpu noted.message)
-same_answer world Step.DestAct kept other = λ fault rest is ran quiet. acted_same fault world
-same_answer world Step.Install kept other = λ copy rest is ran quiet. installed_same copy rest world
-same_answer world (Step.Push ticket) kept other = λ stopped up own present remains. same_source world _ (λ i. refl)
-same_answer world (Step.PushUrgent ticket) kept other = λ stopped up own present remains. same_source world _ (λ i. refl)
-same_answer world (Step.DeliverUrgent n) kept other = ((λ sent rest is short. λ k. refl), (λ sent rest is full ran up. same_node_waits world _ (same_urgent sent.frame world.destination)))
-same_answer world Step.Serve kept other = λ page pages is stopped up. same_source world _ (λ i. refl)
-same_answer world Step.End kept other = λ stopped ended up none. same_source world _ (λ i. refl)
-same_answer world Step.Break kept other = λ started unreleased up k. refl
-same_answer world (Step.Notice Side.Source) kept other = λ started unreleased down k. refl
-same_answer world (Step.Notice Side.Destination) kept other = λ started unreleased down k. refl
-same_answer world Step.Resume kept other = λ from to down unused. same_source world _ (λ i. refl)
+-- waking leaves what waits
+pub woken_waits : (old new : List CpuState) → IsWoken old new → (k : ℕ) → outstanding (processor_at new k) ≡ outstanding (processor_at old k)
+woken_waits old new w k = ap (λ ps. outstanding (processor_at ps k)) w.is ∙ woken_keeps w.test old k
+
+taken_same : (frame : Frame) (epoch : ℕ) (rest : List Sent) (world : World) → world.up ≡ true → world.forward.frames ≡ record { epoch = epoch; frame = frame } ∷ rest → IsSoundWorld world → WaitsAs world (after_deliver world (record { epoch = epoch; frame = frame }) rest)
+taken_same (Package areas owed commands) epoch rest world up first kept k = package_same epoch areas owed commands rest world up first kept k
+taken_same frame epoch rest world up first kept k = woken_waits _ _ (guest_woken world _ (wakes-taken world (record { epoch = epoch; frame = frame }) rest refl)) k
 
 pub same_waits : (world : World) (step : Step) → IsSoundWorld world → is_try step ≡ false → WaitsAs world (next world step)
-same_waits world step kept other = made-next (WaitsAs world) world step (λ k. refl) (same_answer world step kept other)
+same_waits world (Step.Issue cpu tries) kept other = absurd (false≢true (sym other))
+same_waits world (Step.Retry cpu) kept other = absurd (false≢true (sym other))
+same_waits world Step.SourceRead kept other =
+    made-next (WaitsAs world) world Step.SourceRead (λ k. refl)
+    (λ noted is started unswitched. waits_source world.destination.has_run world.source.guest _ world.destination.guest (waits_read world.source.guest noted.cpu noted.message))
+same_waits world Step.DestRead kept other =
+    made-next (WaitsAs world) world Step.DestRead (λ k. refl)
+    (λ noted is ran. waits_destination world.destination.has_run world.source.guest world.destination.guest _ (waits_read world.destination.guest noted.cpu noted.message))
+same_waits world (Step.Deliver n) kept other =
+    made-next (WaitsAs world) world (Step.Deliver n) (λ k. refl) ((λ sent rest is short k. refl), (λ sent rest is full started up free early. taken_same sent.frame sent.epoch rest world up is kept))
+same_waits world step kept other = woken_waits _ _ (guest_woken world _ (wakes-next world step kept refl))
 
 -- a processor of a number still has to make its command
 abbrev WaitsIn : ℕ → Command → World → Type 0

@@ -10,16 +10,16 @@ use Rattle.mig_base.specs.declared.phase.SourcePhase.{SourcePhase}
 use Rattle.mig_base.specs.declared.schedule.Side.{Side}
 use Rattle.mig_base.specs.declared.schedule.Step.{Step}
 use Rattle.mig_model.specs.Wire.{Frame, Sent, Copy, Wire, empty_wire, wire_if}
-use Rattle.mig_model.specs.Wire.Frame.{Advise, Page, Zero, Run, Discard, Package, End, Resume, Request, Recv, Done}
+use Rattle.mig_model.specs.Wire.Frame.{Recv, Done}
 use Rattle.mig_model.specs.Owed.{home, Owed}
 use Rattle.mig_model.specs.Source.{Source, is_released, source_act, source_took}
 use Rattle.mig_model.specs.Destination.{Destination, destination_took, destination_answers, install_by}
-use Rattle.mig_model.specs.Migration.{World, answer, outcome, next, install_effect, after_deliver, after_deliver_back, after_move, after_move_back, is_short, after_deliver_urgent, after_move_urgent}
+use Rattle.mig_model.specs.Migration.{World, outcome, next, install_effect, after_deliver, after_deliver_back, after_move, after_move_back, is_short, after_deliver_urgent, after_move_urgent}
 use Rattle.mig_model.specs.Invariant.{IsSoundWorld}
 use Rattle.mig_model.specs.Parts.{Grows}
 use Rattle.mig_model.specs.Promises.{IsComplete, IsDelivered, IsDeliveredBack, Completes, takes_forward, takes_back, is_break, is_recv, is_last, IsDeliveredUrgent, takes_urgent}
 use Rattle.mig_model.proofs.SettledLemmas.{home-is, home_tells}
-use Rattle.mig_model.proofs.StepCases.{Makes, MakesWorld, holds-made, made-next, made-ok, made-effect, made-outcome}
+use Rattle.mig_model.proofs.StepCases.{MakesWorld, made-next, made-ok, made-outcome}
 use Rattle.mig_model.proofs.StaysComplete.{worked_phase, command_phase}
 use Rattle.mig_model.proofs.PartsChanged.{changes_parts}
 use Rattle.mig_model.proofs.Facts.{no_page, as_it_was, tried_up}
