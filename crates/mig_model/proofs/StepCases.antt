@@ -14,7 +14,7 @@ use Rattle.mig_base.specs.Commands.{is_access}
 use Rattle.mig_model.specs.Userfault.{Noted, next_message}
 use Rattle.mig_model.specs.Guest.{Fault, is_present, took_by}
 use Rattle.mig_model.specs.Wire.{Sent, Copy}
-use Rattle.mig_model.specs.Migration.{World, Made, answer, next, outcome, is_used, guest_of, runs, has_started, is_changing, is_end, is_paused_at, try_effect, page_effect, read_effect, act_effect, frame_effect, install_effect, retry_command, send_page, send_run_from, run_bound, after_run, source_read_next, source_act_first, deliver_first, deliver_back_first, destination_read_next, destination_act_first, install_first, serve_first, after_command, after_start, after_round, after_send, after_source_read, after_source_act, after_switch, after_deliver, after_deliver_back, after_dest_read, after_dest_act, after_install, after_push, after_serve, after_end, after_break, after_notice, after_resume, after_move, after_move_back, is_short, has_no_cpu, after_deliver_urgent, after_move_urgent, after_push_urgent, deliver_urgent_first, is_early}
+use Rattle.mig_model.specs.Migration.{Answer, World, Made, answer, next, outcome, is_used, guest_of, runs, has_started, is_changing, is_end, is_paused_at, try_effect, page_effect, read_effect, act_effect, frame_effect, install_effect, retry_command, send_page, send_run_from, run_bound, after_run, source_read_next, source_act_first, deliver_first, deliver_back_first, destination_read_next, destination_act_first, install_first, serve_first, after_command, after_start, after_round, after_send, after_source_read, after_source_act, after_switch, after_deliver, after_deliver_back, after_dest_read, after_dest_act, after_install, after_push, after_serve, after_end, after_break, after_notice, after_resume, after_move, after_move_back, is_short, has_no_cpu, after_deliver_urgent, after_move_urgent, after_push_urgent, deliver_urgent_first, is_early}
 use Rattle.mig_model.proofs.StepLemmas.{Holds, holds-unless, holds-either, holds-effect, leaves-next, leaves-ok, outcome-ok}
 use Rattle.mig_model.specs.Cpus.{is_idle, is_woken, outstanding, processor_at}
 use Rattle.mig_model.specs.Log.{least_of, less}
@@ -84,119 +84,60 @@ unswitched false false h = (refl, refl)
 unswitched true b h = absurd (false≢true (sym h))
 unswitched false true h = absurd (false≢true (sym h))
 
--- Commands
+-- what a step finds
+holds-some : {A : Type 0} (Q : Made → Type 0) (f : Option A → Answer) (o : Option A) → Holds Q (f None) → ((x : A) → o ≡ Some x → Holds Q (f (Some x))) → Holds Q (f o)
+holds-some Q f None none some = none
+holds-some Q f (Some x) none some = some x refl
 
-retry_by : (Q : Made → Type 0) (world : World) (cpu : ℕ) (o : Option Command) →
-    ((command : Command) → o ≡ Some command → is_woken (processor_at (guest_of world).cpus cpu) ≡ true → runs world ≡ true →
-    Q (record { effect = try_effect cpu (took_by (is_access command) (guest_of world).space command); world = after_command world cpu command })) → Holds Q (retry_command world cpu o)
-retry_by Q world cpu None h = tt
-retry_by Q world cpu (Some command) h = holds-unless Q _ _ (λ t. h command refl (not-false _ t.0) (not-false _ t.1.0))
-
--- The source
-
-send_by : (Q : Made → Type 0) (world : World) (o : Option ℕ) →
-    ((page : ℕ) → o ≡ Some page → is_changing world.source.guest ≡ false → Q (record { effect = page_effect page (bytes_of world.source page); world = after_send world page })) → Holds Q (send_page world o)
-send_by Q world None h = tt
-send_by Q world (Some page) h = holds-unless Q _ _ (λ t. h page refl t.0)
-
-run_by : (Q : Made → Type 0) (world : World) (count : ℕ) (o : Option ℕ) →
-    ((first number : ℕ) → o ≡ Some first → number ≡ run_length world.source.log.todo first (run_bound count) → is_changing world.source.guest ≡ false → Q (record { effect = Effect.SentRun (PAGE_SIZE * first) number; world = after_run world first number })) →
-    Holds Q (send_run_from world count o)
-run_by Q world count None h = tt
-run_by Q world count (Some first) h = holds-unless Q _ _ (λ t. h first (run_length world.source.log.todo first (run_bound count)) refl refl t.0)
-
-source_read_by : (Q : Made → Type 0) (world : World) (o : Option Noted) →
-    ((noted : Noted) → o ≡ Some noted → Q (record { effect = read_effect world.source.guest noted.cpu noted.message; world = after_source_read world noted })) → Holds Q (source_read_next world o)
-source_read_by Q world None h = tt
-source_read_by Q world (Some noted) h = h noted refl
-
-source_act_by : (Q : Made → Type 0) (world : World) (held : List Fault) →
-    ((fault : Fault) (rest : List Fault) → held ≡ fault ∷ rest → is_changing world.source.guest ≡ false →
-    Q (record { effect = act_effect (source_act world.source fault) (PAGE_SIZE * fault.page); world = after_source_act world fault })) → Holds Q (source_act_first world held)
-source_act_by Q world [] h = tt
-source_act_by Q world (fault ∷ rest) h = holds-unless Q _ _ (λ t. h fault rest refl t.0)
-
-serve_by : (Q : Made → Type 0) (world : World) (asked : List ℕ) →
-    ((page : ℕ) (pages : List ℕ) → asked ≡ page ∷ pages → Q (record { effect = Effect.Asked (PAGE_SIZE * page); world = after_serve world pages })) → Holds Q (serve_first world asked)
-serve_by Q world [] h = tt
-serve_by Q world (page ∷ pages) h = h page pages refl
-
--- Deliveries
-
-deliver_by : (Q : Made → Type 0) (world : World) (n : ℕ) (wire : List Sent) →
-    ((sent : Sent) (rest : List Sent) → wire ≡ sent ∷ rest → is_short world.forward sent.frame n ≡ true → Q (record { effect = Effect.Moved n; world = after_move world n })) →
-    ((sent : Sent) (rest : List Sent) → wire ≡ sent ∷ rest → is_short world.forward sent.frame n ≡ false → (is_end sent.frame && not (is_empty world.destination.arrivals)) ≡ false → is_early world.destination sent.frame ≡ false →
-    Q (record { effect = frame_effect sent.frame; world = after_deliver world sent rest })) → Holds Q (deliver_first world n wire)
-deliver_by Q world n [] moved taken = tt
-deliver_by Q world n (sent ∷ rest) moved taken =
-    holds-either Q (is_short world.forward sent.frame n) _ _ (λ short. moved sent rest refl short) (λ full. holds-unless Q _ _ (λ t. taken sent rest refl full t.0 t.1.0))
-
-deliver_back_by : (Q : Made → Type 0) (world : World) (n : ℕ) (wire : List Sent) →
-    ((sent : Sent) (rest : List Sent) → wire ≡ sent ∷ rest → is_short world.back sent.frame n ≡ true → Q (record { effect = Effect.Moved n; world = after_move_back world n })) →
-    ((sent : Sent) (rest : List Sent) → wire ≡ sent ∷ rest → is_short world.back sent.frame n ≡ false → Q (record { effect = frame_effect sent.frame; world = after_deliver_back world sent rest })) →
-    Holds Q (deliver_back_first world n wire)
-deliver_back_by Q world n [] moved taken = tt
-deliver_back_by Q world n (sent ∷ rest) moved taken = holds-either Q (is_short world.back sent.frame n) _ _ (λ short. moved sent rest refl short) (λ full. taken sent rest refl full)
-
-deliver_urgent_by : (Q : Made → Type 0) (world : World) (n : ℕ) (wire : List Sent) →
-    ((sent : Sent) (rest : List Sent) → wire ≡ sent ∷ rest → is_short world.urgent sent.frame n ≡ true → Q (record { effect = Effect.Moved n; world = after_move_urgent world n })) →
-    ((sent : Sent) (rest : List Sent) → wire ≡ sent ∷ rest → is_short world.urgent sent.frame n ≡ false → Q (record { effect = frame_effect sent.frame; world = after_deliver_urgent world sent rest })) →
-    Holds Q (deliver_urgent_first world n wire)
-deliver_urgent_by Q world n [] moved taken = tt
-deliver_urgent_by Q world n (sent ∷ rest) moved taken = holds-either Q (is_short world.urgent sent.frame n) _ _ (λ short. moved sent rest refl short) (λ full. taken sent rest refl full)
-
--- The destination
-
-dest_read_by : (Q : Made → Type 0) (world : World) (o : Option Noted) →
-    ((noted : Noted) → o ≡ Some noted → Q (record { effect = read_effect world.destination.guest noted.cpu noted.message; world = after_dest_read world noted })) → Holds Q (destination_read_next world o)
-dest_read_by Q world None h = tt
-dest_read_by Q world (Some noted) h = h noted refl
-
-dest_act_by : (Q : Made → Type 0) (world : World) (held : List Fault) →
-    ((fault : Fault) (rest : List Fault) → held ≡ fault ∷ rest → is_changing world.destination.guest ≡ false →
-    Q (record { effect = act_effect (destination_act world.destination fault) (PAGE_SIZE * fault.page); world = after_dest_act world fault })) → Holds Q (destination_act_first world held)
-dest_act_by Q world [] h = tt
-dest_act_by Q world (fault ∷ rest) h = holds-unless Q _ _ (λ t. h fault rest refl t.0)
-
-install_by_first : (Q : Made → Type 0) (world : World) (arrivals : List Copy) →
-    ((copy : Copy) (rest : List Copy) → arrivals ≡ copy ∷ rest → is_changing world.destination.guest ≡ false →
-    Q (record { effect = install_effect (home world.destination.owed copy.page) copy.page; world = after_install world copy rest })) → Holds Q (install_first world arrivals)
-install_by_first Q world [] h = tt
-install_by_first Q world (copy ∷ rest) h = holds-unless Q _ _ (λ t. h copy rest refl t.0)
-
--- The channel
+holds-first : {A : Type 0} (Q : Made → Type 0) (f : List A → Answer) (l : List A) → Holds Q (f []) → ((x : A) (xs : List A) → l ≡ x ∷ xs → Holds Q (f (x ∷ xs))) → Holds Q (f l)
+holds-first Q f [] none some = none
+holds-first Q f (x ∷ xs) none some = some x xs refl
 
 -- Every step
 
 pub holds-made : (Q : Made → Type 0) (world : World) (step : Step) → Makes Q world step → Holds Q (answer world step)
 holds-made Q world (Step.Issue cpu command) h = holds-unless Q _ _ (λ t. h t.0 (not-false _ t.1.0) (not-false _ t.1.1.0))
-holds-made Q world (Step.Retry cpu) h = holds-unless Q _ _ (λ t. retry_by Q world cpu (outstanding (processor_at (guest_of world).cpus cpu)) h)
+holds-made Q world (Step.Retry cpu) h =
+    holds-unless Q _ _ (λ t. holds-some Q (retry_command world cpu) (outstanding (processor_at (guest_of world).cpus cpu)) tt (λ command is. holds-unless Q _ _ (λ u. h command is (not-false _ u.0) (not-false _ u.1.0))))
 holds-made Q world Step.Start h = holds-unless Q _ _ (λ t. h (not-false _ t.0) t.1.0)
 holds-made Q world Step.Round h = holds-unless Q _ _ (λ t. h (not-false _ t.0) t.1.0)
-holds-made Q world Step.Send h = holds-unless Q _ _ (λ t. send_by Q world (least_of world.source.log.todo) (λ page is quiet. h page is (not-false _ t.0) (not-false _ t.1.0) quiet))
+holds-made Q world Step.Send h =
+    holds-unless Q _ _ (λ t. holds-some Q (send_page world) (least_of world.source.log.todo) tt (λ page is. holds-unless Q _ _ (λ u. h page is (not-false _ t.0) (not-false _ t.1.0) u.0)))
 holds-made Q world (Step.SendRun count) h =
-    holds-unless Q _ _ (λ t. run_by Q world count (least_of world.source.log.todo) (λ first number is many quiet. h first number is many (not-false _ t.0) (not-false _ t.1.0) quiet))
+    holds-unless Q _ _ (λ t.
+    holds-some Q (send_run_from world count) (least_of world.source.log.todo) tt (λ first is.
+    holds-unless Q _ _ (λ u. h first (run_length world.source.log.todo first (run_bound count)) is refl (not-false _ t.0) (not-false _ t.1.0) u.0)))
 holds-made Q world Step.SourceRead h =
     holds-unless Q _ _ (λ t.
     let runs = unswitched (is_source_idle world.source.phase) world.source.switched t.0 in
-    source_read_by Q world (next_message (space_of world.source).object) (λ noted is. h noted is runs.0 runs.1))
+    holds-some Q (source_read_next world) (next_message (space_of world.source).object) tt (λ noted is. h noted is runs.0 runs.1))
 holds-made Q world Step.SourceAct h =
     holds-unless Q _ _ (λ t.
     let runs = unswitched (is_source_idle world.source.phase) world.source.switched t.0 in
-    source_act_by Q world world.source.log.held (λ fault rest is quiet. h fault rest is runs.0 runs.1 quiet))
+    holds-first Q (source_act_first world) world.source.log.held tt (λ fault rest is. holds-unless Q _ _ (λ u. h fault rest is runs.0 runs.1 u.0)))
 holds-made Q world Step.Switch h = holds-unless Q _ _ (λ t. h (not-false _ t.0) (not-false _ t.1.0) t.1.1.0)
 holds-made Q world (Step.Deliver n) (moved, taken) =
-    holds-unless Q _ _ (λ t. deliver_by Q world n world.forward.frames moved (λ sent rest is full free came. taken sent rest is full (not-false _ t.0) (not-false _ t.1.0) free came))
+    holds-unless Q _ _ (λ t.
+    holds-first Q (deliver_first world n) world.forward.frames tt (λ sent rest is.
+    holds-either Q (is_short world.forward sent.frame n) _ _ (moved sent rest is) (λ full. holds-unless Q _ _ (λ u. taken sent rest is full (not-false _ t.0) (not-false _ t.1.0) u.0 u.1.0))))
 holds-made Q world (Step.DeliverBack n) (moved, taken) =
-    holds-unless Q _ _ (λ t. deliver_back_by Q world n world.back.frames moved (λ sent rest is full. taken sent rest is full (not-false _ t.0) (not-false _ t.1.0)))
-holds-made Q world Step.DestRead h = holds-unless Q _ _ (λ t. dest_read_by Q world (next_message world.destination.guest.space.object) (λ noted is. h noted is (not-false _ t.0)))
-holds-made Q world Step.DestAct h = holds-unless Q _ _ (λ t. dest_act_by Q world world.destination.held (λ fault rest is quiet. h fault rest is (not-false _ t.0) quiet))
-holds-made Q world Step.Install h = holds-unless Q _ _ (λ t. install_by_first Q world world.destination.arrivals (λ copy rest is quiet. h copy rest is (not-false _ t.0) quiet))
+    holds-unless Q _ _ (λ t.
+    holds-first Q (deliver_back_first world n) world.back.frames tt (λ sent rest is.
+    holds-either Q (is_short world.back sent.frame n) _ _ (moved sent rest is) (λ full. taken sent rest is full (not-false _ t.0) (not-false _ t.1.0))))
+holds-made Q world Step.DestRead h =
+    holds-unless Q _ _ (λ t. holds-some Q (destination_read_next world) (next_message world.destination.guest.space.object) tt (λ noted is. h noted is (not-false _ t.0)))
+holds-made Q world Step.DestAct h =
+    holds-unless Q _ _ (λ t. holds-first Q (destination_act_first world) world.destination.held tt (λ fault rest is. holds-unless Q _ _ (λ u. h fault rest is (not-false _ t.0) u.0)))
+holds-made Q world Step.Install h =
+    holds-unless Q _ _ (λ t. holds-first Q (install_first world) world.destination.arrivals tt (λ copy rest is. holds-unless Q _ _ (λ u. h copy rest is (not-false _ t.0) u.0)))
 holds-made Q world (Step.Push ticket) h = holds-unless Q _ _ (λ t. h (not-false _ t.0) (not-false _ t.1.0) (not-false _ t.1.1.0) (not-false _ t.1.1.1.0) (not-false _ t.1.1.1.1.0))
 holds-made Q world (Step.PushUrgent ticket) h = holds-unless Q _ _ (λ t. h (not-false _ t.0) (not-false _ t.1.0) (not-false _ t.1.1.0) (not-false _ t.1.1.1.0) (not-false _ t.1.1.1.1.0))
 holds-made Q world (Step.DeliverUrgent n) (moved, taken) =
-    holds-unless Q _ _ (λ t. deliver_urgent_by Q world n world.urgent.frames moved (λ sent rest is full. taken sent rest is full (not-false _ t.0) (not-false _ t.1.0)))
-holds-made Q world Step.Serve h = holds-unless Q _ _ (λ t. serve_by Q world world.source.asked (λ page pages is. h page pages is (not-false _ t.0) (not-false _ t.1.0)))
+    holds-unless Q _ _ (λ t.
+    holds-first Q (deliver_urgent_first world n) world.urgent.frames tt (λ sent rest is.
+    holds-either Q (is_short world.urgent sent.frame n) _ _ (moved sent rest is) (λ full. taken sent rest is full (not-false _ t.0) (not-false _ t.1.0))))
+holds-made Q world Step.Serve h =
+    holds-unless Q _ _ (λ t. holds-first Q (serve_first world) world.source.asked tt (λ page pages is. h page pages is (not-false _ t.0) (not-false _ t.1.0)))
 holds-made Q world Step.End h =
     holds-unless Q _ _ (λ t.
     let told = or_parts (not (is_stopped world.source.phase)) (eqb world.source.end_epoch world.source.epoch) t.0 in
