@@ -275,7 +275,6 @@ waiting_flow phase = BeforePackage
 
 waiting-not_ended : (to : DestPhase) → waiting_flow to ≢ AfterEnd
 unfolding waiting_flow
-waiting-not_ended DestPhase.Idle h = cc
 waiting-not_ended DestPhase.Advised h = cc
 waiting-not_ended _ h = cc
 

@@ -209,23 +209,17 @@ fault_by install early = first_holding ((install, TakeFault.InstallFirst) ∷ (e
 abbrev answer_by : (install early : Bool) → Made → Result Effect Refusal
 answer_by install early new = outcome_by (unless ((install, Refusal.InstallFirst) ∷ (early, Refusal.UrgentFirst) ∷ []) (Ok new))
 
-taken_by : (install early : Bool) (new : Made) → fault_by install early ≡ None → answer_by install early new ≡ Ok new.effect
-unfolding unless
-taken_by true early new h = absurd (cc)
-taken_by false true new h = absurd (cc)
-taken_by false false new h = refl
+-- what a step whose frame has such a fault answers
+abbrev answer_to : Option TakeFault → Made → Result Effect Refusal
+answer_to (Some TakeFault.InstallFirst) new = Err Refusal.InstallFirst
+answer_to (Some fault) new = Err Refusal.UrgentFirst
+answer_to None new = Ok new.effect
 
-install_by : (install early : Bool) (new : Made) → fault_by install early ≡ Some TakeFault.InstallFirst → answer_by install early new ≡ Err Refusal.InstallFirst
+told_by : (install early : Bool) (new : Made) → answer_by install early new ≡ answer_to (fault_by install early) new
 unfolding unless
-install_by true early new h = refl
-install_by false true new h = absurd (cc)
-install_by false false new h = absurd (cc)
-
-urgent_by : (install early : Bool) (new : Made) → fault_by install early ≡ Some TakeFault.UrgentFirst → answer_by install early new ≡ Err Refusal.UrgentFirst
-unfolding unless
-urgent_by true early new h = absurd (cc)
-urgent_by false true new h = refl
-urgent_by false false new h = absurd (cc)
+told_by true early new = refl
+told_by false true new = refl
+told_by false false new = refl
 
 -- a frame that is not wrong has no fault but for having to wait
 only_waits : (node : Destination) (sent : Sent) (fault : Option TakeFault) → frame_fault node sent.epoch sent.frame ≡ None → take_fault node sent.epoch sent.frame ≡ fault → wait_fault node sent.frame ≡ fault
@@ -239,20 +233,22 @@ pub record IsFull (world : World) (n : ℕ) (sent : Sent) (rest : List Sent) : T
   pub full : is_short world.forward sent.frame n ≡ false
   pub right : frame_fault world.destination sent.epoch sent.frame ≡ None
 
-pub full_taken : (world : World) (n : ℕ) (sent : Sent) (rest : List Sent) → IsFull world n sent rest → take_fault world.destination sent.epoch sent.frame ≡ None → outcome world (Step.Deliver n) ≡ Ok (frame_effect sent.frame)
-full_taken world n sent rest is h =
+full_by : (world : World) (n : ℕ) (sent : Sent) (rest : List Sent) (fault : Option TakeFault) → IsFull world n sent rest → take_fault world.destination sent.epoch sent.frame ≡ fault →
+    outcome world (Step.Deliver n) ≡ answer_to fault (record { effect = frame_effect sent.frame; world = after_deliver world sent rest })
+full_by world n sent rest fault is h =
+    let new : Made = record { effect = frame_effect sent.frame; world = after_deliver world sent rest } in
     completed world n sent rest is.started is.up is.first is.full
-    ∙ taken_by (is_end sent.frame && not (is_empty world.destination.arrivals)) (is_early world.destination sent.frame) (record { effect = frame_effect sent.frame; world = after_deliver world sent rest }) (only_waits world.destination sent None is.right h)
+    ∙ told_by (is_end sent.frame && not (is_empty world.destination.arrivals)) (is_early world.destination sent.frame) new
+    ∙ ap (λ f. answer_to f new) (only_waits world.destination sent fault is.right h)
+
+pub full_taken : (world : World) (n : ℕ) (sent : Sent) (rest : List Sent) → IsFull world n sent rest → take_fault world.destination sent.epoch sent.frame ≡ None → outcome world (Step.Deliver n) ≡ Ok (frame_effect sent.frame)
+full_taken world n sent rest is h = full_by world n sent rest None is h
 
 pub full_install : (world : World) (n : ℕ) (sent : Sent) (rest : List Sent) → IsFull world n sent rest → take_fault world.destination sent.epoch sent.frame ≡ Some TakeFault.InstallFirst → outcome world (Step.Deliver n) ≡ Err Refusal.InstallFirst
-full_install world n sent rest is h =
-    completed world n sent rest is.started is.up is.first is.full
-    ∙ install_by (is_end sent.frame && not (is_empty world.destination.arrivals)) (is_early world.destination sent.frame) (record { effect = frame_effect sent.frame; world = after_deliver world sent rest }) (only_waits world.destination sent (Some TakeFault.InstallFirst) is.right h)
+full_install world n sent rest is h = full_by world n sent rest (Some TakeFault.InstallFirst) is h
 
 pub full_urgent : (world : World) (n : ℕ) (sent : Sent) (rest : List Sent) → IsFull world n sent rest → take_fault world.destination sent.epoch sent.frame ≡ Some TakeFault.UrgentFirst → outcome world (Step.Deliver n) ≡ Err Refusal.UrgentFirst
-full_urgent world n sent rest is h =
-    completed world n sent rest is.started is.up is.first is.full
-    ∙ urgent_by (is_end sent.frame && not (is_empty world.destination.arrivals)) (is_early world.destination sent.frame) (record { effect = frame_effect sent.frame; world = after_deliver world sent rest }) (only_waits world.destination sent (Some TakeFault.UrgentFirst) is.right h)
+full_urgent world n sent rest is h = full_by world n sent rest (Some TakeFault.UrgentFirst) is h
 
 -- nothing is in flight before Start
 unstarted : (idle : Bool) (frames : List Sent) (sent : Sent) (rest : List Sent) → (idle ≡ true → frames ≡ []) → frames ≡ sent ∷ rest → not idle ≡ true

@@ -81,7 +81,6 @@ taken_pushed (Recv Received.Running owed) pushed node up linked paused h = resum
 taken_pushed (Recv Received.Ended owed) pushed node up linked paused h = resumed_later pushed node.epoch node.switched node.phase up linked (paused refl) h (λ more. inl more)
 taken_pushed Done pushed node up linked paused h =
     ⊎_elim (λ (more : pushed < node.epoch). inl more) (λ (one : (node.epoch ≡ pushed) × (node.switched ≡ true) × (up ≡ true → is_source_paused node.phase ≡ false)). inr (one.0, one.1, λ u. refl)) h
-taken_pushed (Request page) pushed node up linked paused h = h
 taken_pushed _ pushed node up linked paused h = h
 
 recv_paused : (frame : Frame) (node : Source) → IsInPlaceBack node frame → is_recv frame ≡ true → is_source_paused node.phase ≡ true

@@ -55,7 +55,6 @@ right_by space (Store addr width value) mapping is h =
     let form = access_form (is_aligned addr width && ltb value (256 ^ width)) (memory space.host addr) _ _ h in
     let both = and_parts (is_aligned addr width) (ltb value (256 ^ width)) form.0 in
     (both.0, below value (256 ^ width) both.1, page_of_access space addr mapping form.1)
-right_by space (Mmap len prot place) mapping is h = absurd (false≢true is)
 right_by space _ mapping is h = absurd (false≢true is)
 
 right_slept : (access : Bool) (space : Space) (command : Command) → access ≡ is_access command → IsMapping space.host.areas → took_by access space command ≡ Sleep → IsRightAccess command

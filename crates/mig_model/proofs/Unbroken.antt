@@ -87,7 +87,6 @@ no_back SourcePhase.Stopped DestPhase.Discarding world stopped up ran kept = (ke
 no_back SourcePhase.Stopped DestPhase.Running world stopped up ran kept = absurd (false≢true (sym ran ∙ kept.phases.destination_phase.0))
 no_back SourcePhase.Stopped DestPhase.Paused world stopped up ran kept = absurd (kept.flight.wires up)
 no_back SourcePhase.Stopped DestPhase.Ended world stopped up ran kept = absurd (false≢true (sym ran ∙ kept.phases.ended_after_run kept.phases.destination_phase))
-no_back SourcePhase.Idle to world stopped up ran kept = none_absurd stopped
 no_back _ to world stopped up ran kept = none_absurd stopped
 
 -- more frames behind the Package

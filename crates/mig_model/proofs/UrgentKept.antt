@@ -134,7 +134,6 @@ both_run SourcePhase.Stopped DestPhase.Advised world stopped ran up other kept =
 both_run SourcePhase.Stopped DestPhase.Discarding world stopped ran up other kept = none_absurd (sym kept.phases.destination_phase ∙ ran)
 both_run SourcePhase.Stopped DestPhase.Paused world stopped ran up other kept = absurd (kept.flight.wires up)
 both_run SourcePhase.Stopped DestPhase.Ended world stopped ran up other kept = absurd (other refl)
-both_run SourcePhase.Idle to world stopped ran up other kept = none_absurd stopped
 both_run _ to world stopped ran up other kept = none_absurd stopped
 
 abbrev at_urgent : World → List Sent → World

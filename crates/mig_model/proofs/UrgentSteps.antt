@@ -236,7 +236,6 @@ taken_urgent Resume epoch rest world kept up comes came told h =
       none_taken = λ r. zero_taken;
       fits = h.fits;
     }
-taken_urgent (Request page) epoch rest world kept up comes came told h = stays_on world world.destination rest world.back refl refl refl told h
 taken_urgent _ epoch rest world kept up comes came told h = stays_on world world.destination rest world.back refl refl refl told h
 
 deliver_urgent_kept : (world : World) (sent : Sent) (rest : List Sent) → IsSoundWorld world → world.forward.frames ≡ sent ∷ rest → world.up ≡ true → is_early world.destination sent.frame ≡ false → AreSoundUrgent world → AreSoundUrgent (after_deliver world sent rest)
@@ -303,7 +302,6 @@ done_ended SourcePhase.Stopped DestPhase.Discarding source node epoch forward re
 done_ended SourcePhase.Stopped DestPhase.Running source node epoch forward rest urgent stopped w = absurd (false≢true w.1)
 done_ended SourcePhase.Stopped DestPhase.Paused source node epoch forward rest urgent stopped w = absurd w
 done_ended SourcePhase.Stopped DestPhase.Ended source node epoch forward rest urgent stopped w = refl
-done_ended SourcePhase.Idle to source node epoch forward rest urgent stopped w = absurd (false≢true stopped)
 done_ended _ to source node epoch forward rest urgent stopped w = absurd (false≢true stopped)
 
 rebuilt_urgent : (switched : Bool) (world : World) (back : Wire) → world.urgent.frames ≡ [] → AreSoundUrgent world →

@@ -130,20 +130,12 @@ placed world sent rest kept first up =
 pub comes_resume : (from : SourcePhase) (to : DestPhase) → comes from to Resume ≡ true → from ≡ SourcePhase.Paused
 comes_resume SourcePhase.Paused to h = refl
 comes_resume SourcePhase.Precopy DestPhase.Idle h = absurd (false≢true h)
-comes_resume SourcePhase.Precopy DestPhase.Advised h = absurd (false≢true h)
 comes_resume SourcePhase.Stopped DestPhase.Idle h = absurd (false≢true h)
-comes_resume SourcePhase.Stopped DestPhase.Advised h = absurd (false≢true h)
-comes_resume SourcePhase.Stopped DestPhase.Discarding h = absurd (false≢true h)
-comes_resume SourcePhase.Stopped DestPhase.Running h = absurd (false≢true h)
 comes_resume _ _ h = absurd (false≢true h)
 
 pub comes_advise : (from : SourcePhase) (to : DestPhase) → comes from to Advise ≡ true → to ≡ DestPhase.Idle
 comes_advise SourcePhase.Precopy DestPhase.Idle h = refl
-comes_advise SourcePhase.Precopy DestPhase.Advised h = absurd (false≢true h)
 comes_advise SourcePhase.Stopped DestPhase.Idle h = refl
-comes_advise SourcePhase.Stopped DestPhase.Advised h = absurd (false≢true h)
-comes_advise SourcePhase.Stopped DestPhase.Discarding h = absurd (false≢true h)
-comes_advise SourcePhase.Stopped DestPhase.Running h = absurd (false≢true h)
 comes_advise SourcePhase.Paused DestPhase.Paused h = absurd (false≢true h)
 comes_advise _ _ h = absurd (false≢true h)
 
@@ -154,7 +146,6 @@ is_resume frame = false
 
 paused_takes : (from : SourcePhase) (frame : Frame) → comes from DestPhase.Paused frame ≡ true → is_resume frame ≡ true
 paused_takes SourcePhase.Paused Resume h = refl
-paused_takes SourcePhase.Paused _ h = absurd (false≢true h)
 paused_takes _ frame h = absurd (false≢true h)
 
 pub comes_unpaused : (from : SourcePhase) (to : DestPhase) (frame : Frame) → comes from to frame ≡ true → is_resume frame ≡ false → to ≢ DestPhase.Paused

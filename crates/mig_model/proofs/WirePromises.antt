@@ -221,8 +221,6 @@ remaining_back world n sent rest q first plain =
 last_releases : (frame : Frame) (node : Source) → is_last frame ≡ true → is_released (source_took node frame).phase ≡ true
 last_releases Done node h = refl
 last_releases (Recv Received.Ended owed) node h = refl
-last_releases (Recv Received.NotRun owed) node h = absurd (false≢true h)
-last_releases (Recv Received.Running owed) node h = absurd (false≢true h)
 last_releases _ node h = absurd (false≢true h)
 
 pub completes_by : (world : World) (n : ℕ) (sent : Sent) (rest : List Sent) → IsOk (outcome world (Step.DeliverBack n)) → world.back.frames ≡ sent ∷ rest → is_short world.back sent.frame n ≡ false → is_last sent.frame ≡ true →
