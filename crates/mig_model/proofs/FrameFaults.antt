@@ -210,7 +210,7 @@ abbrev answer_by : (install early : Bool) → Made → Result Effect Refusal
 answer_by install early new = outcome_by (unless ((install, Refusal.InstallFirst) ∷ (early, Refusal.UrgentFirst) ∷ []) (Ok new))
 
 -- what a step whose frame has such a fault answers
-abbrev answer_to : Option TakeFault → Made → Result Effect Refusal
+abbrev pub answer_to : Option TakeFault → Made → Result Effect Refusal
 answer_to (Some TakeFault.InstallFirst) new = Err Refusal.InstallFirst
 answer_to (Some fault) new = Err Refusal.UrgentFirst
 answer_to None new = Ok new.effect
@@ -233,22 +233,13 @@ pub record IsFull (world : World) (n : ℕ) (sent : Sent) (rest : List Sent) : T
   pub full : is_short world.forward sent.frame n ≡ false
   pub right : frame_fault world.destination sent.epoch sent.frame ≡ None
 
-full_by : (world : World) (n : ℕ) (sent : Sent) (rest : List Sent) (fault : Option TakeFault) → IsFull world n sent rest → take_fault world.destination sent.epoch sent.frame ≡ fault →
+pub full_by : (world : World) (n : ℕ) (sent : Sent) (rest : List Sent) (fault : Option TakeFault) → IsFull world n sent rest → take_fault world.destination sent.epoch sent.frame ≡ fault →
     outcome world (Step.Deliver n) ≡ answer_to fault (record { effect = frame_effect sent.frame; world = after_deliver world sent rest })
 full_by world n sent rest fault is h =
     let new : Made = record { effect = frame_effect sent.frame; world = after_deliver world sent rest } in
     completed world n sent rest is.started is.up is.first is.full
     ∙ told_by (is_end sent.frame && not (is_empty world.destination.arrivals)) (is_early world.destination sent.frame) new
     ∙ ap (λ f. answer_to f new) (only_waits world.destination sent fault is.right h)
-
-pub full_taken : (world : World) (n : ℕ) (sent : Sent) (rest : List Sent) → IsFull world n sent rest → take_fault world.destination sent.epoch sent.frame ≡ None → outcome world (Step.Deliver n) ≡ Ok (frame_effect sent.frame)
-full_taken world n sent rest is h = full_by world n sent rest None is h
-
-pub full_install : (world : World) (n : ℕ) (sent : Sent) (rest : List Sent) → IsFull world n sent rest → take_fault world.destination sent.epoch sent.frame ≡ Some TakeFault.InstallFirst → outcome world (Step.Deliver n) ≡ Err Refusal.InstallFirst
-full_install world n sent rest is h = full_by world n sent rest (Some TakeFault.InstallFirst) is h
-
-pub full_urgent : (world : World) (n : ℕ) (sent : Sent) (rest : List Sent) → IsFull world n sent rest → take_fault world.destination sent.epoch sent.frame ≡ Some TakeFault.UrgentFirst → outcome world (Step.Deliver n) ≡ Err Refusal.UrgentFirst
-full_urgent world n sent rest is h = full_by world n sent rest (Some TakeFault.UrgentFirst) is h
 
 -- nothing is in flight before Start
 unstarted : (idle : Bool) (frames : List Sent) (sent : Sent) (rest : List Sent) → (idle ≡ true → frames ≡ []) → frames ≡ sent ∷ rest → not idle ≡ true
