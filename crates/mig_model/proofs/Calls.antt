@@ -76,12 +76,6 @@ woken_unread : (p : CpuState) (unread : ℕ) → is_woken p ≡ true → CallFit
 woken_unread (CpuState.Woken command) unread is h = h
 woken_unread _ unread is h = absurd (false≢true is)
 
-zero_suc : (n : ℕ) → 0 ≡ suc n → ⊥
-zero_suc n h = omega (arith, h)
-
-less_one : (a b : ℕ) → suc a ≡ suc b → a ≡ b
-less_one a b h = omega (arith, h)
-
 -- a processor that is there changes, and the others stay
 fits_set : (cpus : List CpuState) (i : ℕ) (new : CpuState) (before now : ℕ → ℕ) → not (ltb i (length cpus)) ≡ false → ((k : ℕ) → CallFits (processor_at cpus k) (before k)) → ((k : ℕ) → (i ≡ k → ⊥) → now k ≡ before k) → CallFits new (now i) → (k : ℕ) →
     CallFits (processor_at (set cpus i new) k) (now k)
@@ -100,10 +94,6 @@ answered_fits _ command unread h = h
 called_fits : (reply : Reply) (count : ℕ) (command : Command) (unread : ℕ) → unread ≡ count → CallFits (processor_after command (call_took reply count)) unread
 called_fits reply zero command unread h = h
 called_fits reply (suc left) command unread h = (sym h, omega arith)
-
-eqb_by : (here : Bool) (a b : ℕ) → eqb a b ≡ here → (a ≡ b → ⊥) → here ≡ false
-eqb_by true a b is h = absurd (h (grind (arith, nat_tests)))
-eqb_by false a b is h = refl
 
 plus_none : (n : ℕ) → n + 0 ≡ n
 plus_none n = omega arith
@@ -228,7 +218,7 @@ command_calls world cpu command there none all = let new = by_guest world.destin
 
 taken_calls : (frame : Frame) (node : Destination) (epoch : ℕ) → HasSoundCalls node.guest → HasSoundCalls (destination_took node epoch frame).guest
 taken_calls (Package areas owed commands) node epoch calls = record { fits = λ k. taken_fits commands k; faults = tt }
-taken_calls frame node epoch calls = woken_calls _ _ (takes frame node epoch refl).guest calls
+taken_calls frame node epoch calls = woken_calls _ _ (takes frame node epoch refl).node.guest calls
 
 calls_next : (world : World) (step : Step) → IsSoundWorld world → AreSoundCalls world → AreSoundCalls (next world step)
 calls_next world (Step.Issue cpu command) kept all =

@@ -100,9 +100,6 @@ outside_none : (here mapped : Bool) → (here ≡ true → mapped ≡ true) → 
 outside_none true mapped h none = sym (h refl) ∙ none
 outside_none false mapped h none = refl
 
-few_of : (part all limit : ℕ) → part ≤ all → all ≤ limit → part ≤ limit
-few_of part all limit h k = omega (arith, h, k)
-
 -- a set of present pages
 pub present_pages : (host : Host) (set : FinSet nat_cmp) → IsSound host → IsMapping host.areas → ((page : ℕ) → contains set page ≡ true → contains_key host.bytes page ≡ true) → AreFewPages set
 present_pages host set sound mapping h =

@@ -29,7 +29,7 @@ use Rattle.mig_model.specs.Userfault.{Noted}
 use Rattle.mig_model.specs.Log.{least_of, no_pages}
 use Rattle.mig_model.specs.Owed.{home}
 use Rattle.mig_model.specs.Wire.{Copy, Frame, Sent, page_frame, wire_behind}
-use Rattle.mig_model.specs.Wire.Frame.{Advise, Page, Zero, Run, End, Resume, Request, Recv, Done}
+use Rattle.mig_model.specs.Wire.Frame.{Package, Advise, Page, Zero, Run, End, Resume, Request, Recv, Done}
 use Rattle.mig_model.specs.Source.{Source, bytes_of, is_precopy, is_released, is_source_idle, is_source_paused, is_stopped, rebuild_frames, run_of, source_act, source_acted_by, source_rebuilt, space_of, switch_frames}
 use Rattle.mig_model.specs.Destination.{Destination, act_frames, copy_came, destination_act, destination_acted_by, destination_answers, destination_took, install_by, received_of, resumed_by, urgent_took}
 use Rattle.mig_model.specs.Migration.{World, after_break, after_command, after_deliver, after_deliver_back, after_deliver_urgent, after_dest_act, after_end, after_notice, after_push, after_push_urgent, after_resume, after_run, after_send, after_source_read, after_start, after_switch, first_world_with, guest_by, guest_of, has_started, is_changing, is_used, next, run_bound, source_sends, with_guest_by}
@@ -37,7 +37,7 @@ use Rattle.mig_model.specs.Invariant.{IsSoundWorld, PausedWires, Wires, is_unrea
 use Rattle.mig_model.proofs.Taken.{IsInPlaceBack}
 use Rattle.mig_model.specs.Bounds.{ArePages, AreUrgentFew, IsCpuCount, IsMapping, IsPage}
 use Rattle.mig_model.proofs.ByteLemmas.{HasBytes, changed_bytes, zeroed_bytes}
-use Rattle.mig_model.proofs.WokenSteps.{stopped_switched}
+use Rattle.mig_model.proofs.WokenSteps.{stopped_switched, takes, takes_urgent}
 use Rattle.mig_model.proofs.Facts.{no_event, no_page}
 use Rattle.mig_model.proofs.FirstFrame.{empty_not}
 use Rattle.mig_model.proofs.FrameBounds.{AreBodies, AreListed, act_good, act_listed, answers_good, bodies-sending, bodies-sending_if, end_good, listed-without, page_good, present_page, rebuilt_good, run_good, requested_owed, switch_good}
@@ -266,19 +266,9 @@ end_limited world ready stopped h =
 
 -- Frames that the destination takes
 
-came_requests : (ran : Bool) (node : Destination) (copy : Copy) → (copy_came ran node copy).requests ≡ node.requests
-came_requests true node copy = refl
-came_requests false node copy = refl
-
-resumed_requests : (state : Received) (node : Destination) → (resumed_by state node).requests ≡ node.requests
-resumed_requests Received.NotRun node = refl
-resumed_requests _ node = refl
-
 took_requests : (frame : Frame) (epoch : ℕ) (node : Destination) → (destination_took node epoch frame).requests ≡ node.requests
-took_requests (Page page bytes) epoch node = came_requests node.has_run node _
-took_requests (Zero page) epoch node = came_requests node.has_run node _
-took_requests Resume epoch node = resumed_requests (received_of node) _
-took_requests _ epoch node = refl
+took_requests (Package areas owed commands) epoch node = refl
+took_requests frame epoch node = (takes frame node epoch refl).requests
 
 deliver_limited : {cpus : ℕ} → (world : World) (sent : Sent) (rest : List Sent) → IsSoundWorld world → world.forward.frames ≡ sent ∷ rest → AreLimited cpus world → AreLimited cpus (after_deliver world sent rest)
 deliver_limited {cpus = cpus} world sent rest kept first h =
@@ -288,14 +278,10 @@ deliver_limited {cpus = cpus} world sent rest kept first h =
     (with_requests node.requests _ (subst AreListed (sym (took_requests sent.frame sent.epoch world.destination)) h.requested)
     (λ c. bodies-sending_if world.up world.back.frames node.epoch (destination_answers world.destination sent.frame) (h.to_source c) (answers_good sent.frame world kept.spaces.source_space.host h.areas kept.owing.origins_present h.requested)) h)
 
-urgent_requests : (frame : Frame) (node : Destination) → (urgent_took node frame).requests ≡ node.requests
-urgent_requests (Page page bytes) node = refl
-urgent_requests _ node = refl
-
 urgent_limited : {cpus : ℕ} → (world : World) (sent : Sent) (rest : List Sent) → world.urgent.frames ≡ sent ∷ rest → AreLimited cpus world → AreLimited cpus (after_deliver_urgent world sent rest)
 urgent_limited {cpus = cpus} world sent rest first h =
     let bodies = λ (c : IsCpuCount cpus). subst AreBodies first (h.on_urgent c) in
-    with_urgent rest (λ c. (bodies c).1) (with_requests (urgent_took world.destination sent.frame).requests world.back.frames (subst AreListed (sym (urgent_requests sent.frame world.destination)) h.requested) h.to_source h)
+    with_urgent rest (λ c. (bodies c).1) (with_requests (urgent_took world.destination sent.frame).requests world.back.frames (subst AreListed (sym (takes_urgent sent.frame world.destination).requests) h.requested) h.to_source h)
 
 -- Its handler, and Install
 

@@ -32,6 +32,7 @@ use Rattle.mig_model.proofs.SettledLemmas.{settled_by-applied}
 use Rattle.mig_model.proofs.TriedLemmas.{settled_then}
 use Rattle.mig_model.proofs.DestinationCommands.{ready_of}
 use Rattle.mig_model.proofs.WaitingCommands.{package_next}
+use Rattle.mig_model.proofs.WokenSteps.{TakesFrame, takes, takes_urgent}
 use Rattle.mig_model.proofs.StepCases.{MakesWorld, made-next, made-ok, made-effect}
 use Rattle.mig_model.proofs.DestinationRead.{none_is}
 use Rattle.mig_model.specs.Cpus.{outstanding, processor_at}
@@ -149,38 +150,19 @@ waits_by false world cpu command waits ran is = absurd (false≢true ran)
 waits_here : (world : World) (cpu : ℕ) (command : Command) → AreAccesses world → world.destination.has_run ≡ true → outstanding (processor_at (guest_of world).cpus cpu) ≡ Some command → is_access command ≡ true
 waits_here world cpu command waits ran is = waits_by world.destination.has_run world cpu command waits ran is
 
-came_settled : (ran : Bool) (node : Destination) (copy : Copy) (page : ℕ) → settled (copy_came ran node copy) page ≡ settled node page
-came_settled true node copy page = refl
-came_settled false node copy page = refl
-
-resumed_settled : (state : Received) (node : Destination) (page : ℕ) → settled (resumed_by state node) page ≡ settled node page
-resumed_settled Received.NotRun node page = refl
-resumed_settled _ node page = refl
-
-took_settled : (frame : Frame) (node : Destination) (epoch page : ℕ) → is_package frame ≡ false → settled (destination_took node epoch frame) page ≡ settled node page
-took_settled (Page number bytes) node epoch page h = came_settled node.has_run node _ page
-took_settled (Zero number) node epoch page h = came_settled node.has_run node _ page
-took_settled (Package areas owed commands) node epoch page h = absurd (false≢true (sym h))
-took_settled Resume node epoch page h = resumed_settled (received_of node) _ page
-took_settled _ node epoch page h = refl
-
 acted_settled : (act : Act) (node : Destination) (fault page : ℕ) → settled (destination_acted_by act node fault) page ≡ settled node page
 acted_settled Unprotected node fault page = refl
 acted_settled _ node fault page = refl
+
+taken_settled : (old new : Destination) (page : ℕ) → TakesFrame old new → settled new page ≡ settled old page
+taken_settled old new page is = ap (λ events. settled_by events (get new.owed) page) is.node.guest.events ∙ ap (λ owed. settled_by old.guest.space.object.events (get owed) page) is.owed
 
 -- a destination that has run takes no Package
 frame_settled : (frame : Frame) (epoch : ℕ) (rest : List Sent) (world : World) → IsSoundWorld world → world.up ≡ true → world.destination.has_run ≡ true → world.forward.frames ≡ record { epoch = epoch; frame = frame } ∷ rest → (page : ℕ) →
     settled (destination_took world.destination epoch frame) page ≡ settled world.destination page
 frame_settled (Package areas owed commands) epoch rest world kept up ran first page =
     absurd (false≢true (sym (package_next epoch areas owed commands rest world up first kept).1 ∙ ran))
-frame_settled frame epoch rest world kept up ran first page = took_settled frame world.destination epoch page refl
-
-urgent_settled : (frame : Frame) (node : Destination) (page : ℕ) → settled (urgent_took node frame) page ≡ settled node page
-urgent_settled (Page number bytes) node page = refl
-urgent_settled _ node page = refl
-
-same_node : (old new : World) (page : ℕ) → new.destination ≡ old.destination → settled new.destination page ≡ settled old.destination page
-same_node old new page h = ap (λ node. settled node page) h
+frame_settled frame epoch rest world kept up ran first page = taken_settled _ _ page (takes frame world.destination epoch refl)
 
 settled_answer : (world : World) (step : Step) → IsSoundWorld world → AreAccesses world → world.destination.has_run ≡ true → leaves_settled step ≡ true → (page : ℕ) → MakesWorld (SettledAs world page) world step
 settled_answer world (Step.Issue cpu command) kept waits ran leaves page = λ there idle may. settled_try world cpu command ran leaves page
@@ -191,7 +173,7 @@ settled_answer world (Step.Deliver n) kept waits ran leaves page = ((λ sent res
 settled_answer world Step.DestRead kept waits ran leaves page =
     λ noted is runs. read_settled world.destination.guest.space.object.faults world.destination.guest.space.object.events noted world is kept.spaces.destination_faults kept.spaces.destination_events page
 settled_answer world Step.DestAct kept waits ran leaves page = λ fault rest is runs quiet. acted_settled (destination_act world.destination fault) world.destination fault.page page
-settled_answer world (Step.DeliverUrgent n) kept waits ran leaves page = ((λ sent rest is short. refl), (λ sent rest is full runs up. urgent_settled sent.frame world.destination page))
+settled_answer world (Step.DeliverUrgent n) kept waits ran leaves page = ((λ sent rest is short. refl), (λ sent rest is full runs up. taken_settled _ _ page (takes_urgent sent.frame world.destination)))
 settled_answer world (Step.Notice Side.Source) kept waits ran leaves page = assumption
 settled_answer world _ kept waits ran leaves page = assumption
 

@@ -32,10 +32,6 @@ not_stopped : (phase : SourcePhase) → is_released phase ≡ true → is_stoppe
 not_stopped SourcePhase.Released h is = false≢true is
 not_stopped _ h is = false≢true h
 
-not_paused : (phase : SourcePhase) → is_released phase ≡ true → is_source_paused phase ≡ true → ⊥
-not_paused SourcePhase.Released h is = false≢true is
-not_paused _ h is = false≢true h
-
 -- Steps that leave the phase of the source
 
 guest_phase : (ran : Bool) (world : World) (guest : Guest) → (with_guest_by ran world guest).source.phase ≡ world.source.phase

@@ -76,7 +76,7 @@ taken_awaits : (host : Host) (frame_sent : Frame) (epoch : ℕ) (frame : Frame) 
 taken_awaits host frame_sent epoch frame rest world first h ran =
     by_test (is_package frame) (λ is. absurd (false≢true (sym ran ∙ package_runs frame world.destination epoch is)))
     (λ other.
-    let now = h (sym (takes frame world.destination epoch other).ran ∙ ran) in
+    let now = h (sym (takes frame world.destination epoch other).node.ran ∙ ran) in
     record { stopped = now.stopped; host_is = now.host_is; package_is = sym (ap (λ b. cond b (Some frame) (package_in rest)) other) ∙ ap package_in (sym first) ∙ now.package_is })
 
 -- nothing comes back
@@ -119,7 +119,7 @@ awaits_answer host frame_sent world (Step.Push ticket) kept linked h =
 awaits_answer host frame_sent world (Step.PushUrgent ticket) kept linked h =
     λ stopped link own present remains up ran. let now = h ran in record { stopped = now.stopped; host_is = now.host_is; package_is = now.package_is }
 awaits_answer host frame_sent world (Step.DeliverUrgent n) kept linked h =
-    ((λ sent rest is short up ran. let now = h ran in record { stopped = now.stopped; host_is = now.host_is; package_is = now.package_is }), (λ sent rest is full runs link up ran. absurd (false≢true (sym ran ∙ (takes_urgent sent.frame world.destination).ran ∙ runs))))
+    ((λ sent rest is short up ran. let now = h ran in record { stopped = now.stopped; host_is = now.host_is; package_is = now.package_is }), (λ sent rest is full runs link up ran. absurd (false≢true (sym ran ∙ (takes_urgent sent.frame world.destination).node.ran ∙ runs))))
 awaits_answer host frame_sent world Step.Serve kept linked h =
     λ page pages is stopped link up ran. let now = h ran in record { stopped = now.stopped; host_is = now.host_is; package_is = now.package_is }
 awaits_answer host frame_sent world Step.End kept linked h =

@@ -89,7 +89,7 @@ taken_all (Package areas owed commands) epoch rest world kept up first all =
       many = ap (λ cs. length (map taken_over cs)) told ∙ length-map (commands_of processors) taken_over ∙ length-map processors outstanding;
     }
 taken_all frame epoch rest world kept up first all =
-    let w = (takes frame world.destination epoch refl).guest.woken in
+    let w = (takes frame world.destination epoch refl).node.guest.woken in
     record { source = all.source; destination = all_like _ _ (woken_waits _ _ w) all.destination; many = woken_many _ _ w ∙ all.many }
 
 next_all : (world : World) (step : Step) → IsSoundWorld world → Wait world → Wait (next world step)

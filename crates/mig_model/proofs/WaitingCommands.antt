@@ -33,10 +33,6 @@ use Rattle.mig_model.proofs.Facts.{some_command}
 
 -- Processors
 
--- what the processor of a number still has to make
-pub waits_at : List CpuState → ℕ → Option Command
-waits_at processors k = outstanding (processor_at processors k)
-
 pub set_same : (processors : List CpuState) (i : ℕ) (new : CpuState) → outstanding new ≡ outstanding (processor_at processors i) → (k : ℕ) →
     outstanding (processor_at (set processors i new) k) ≡ outstanding (processor_at processors k)
 set_same [] i new same k = refl

@@ -199,10 +199,6 @@ given_up_where world copy rest ok first none =
 
 -- What remains
 
-rebuilt_remains : (switched : Bool) (a b : Source) (P : Source → Type 0) → P a → P b → P (if switched then a else b)
-rebuilt_remains true a b P one two = one
-rebuilt_remains false a b P one two = two
-
 taken_remains : (frame : Frame) (node : Source) (q : ℕ) → is_recv frame ≡ false → contains (source_took node frame).remaining q ≡ true → contains node.remaining q ≡ true
 taken_remains (Recv state owed) node q h is = absurd (false≢true (sym h))
 taken_remains Done node q h is = no_page q is

@@ -41,6 +41,12 @@ pub record WakesNode (old new : Destination) : Type 0 where
   pub guest : Wakes old.guest new.guest
   pub ran : new.has_run ≡ old.has_run
 
+-- so with a destination that takes a frame, which owes and has asked for the same pages
+pub record TakesFrame (old new : Destination) : Type 0 where
+  pub node : WakesNode old new
+  pub owed : new.owed ≡ old.owed
+  pub requests : new.requests ≡ old.requests
+
 pub record WakesBoth (old new : World) : Type 0 where
   pub source : Wakes old.source.guest new.source.guest
   pub node : WakesNode old.destination new.destination
@@ -90,22 +96,22 @@ pub installs : (o : Option ℕ) (node : Destination) (copy : Copy) (rest : List 
 installs None node copy rest = assumption (still node.guest.cpus)
 installs (Some page) node copy rest = assumption (some_woken (λ q. eqb q page) node.guest.cpus)
 
-comes_to : (ran : Bool) (node : Destination) (copy : Copy) → WakesNode node (copy_came ran node copy)
+comes_to : (ran : Bool) (node : Destination) (copy : Copy) → TakesFrame node (copy_came ran node copy)
 comes_to true node copy = assumption (still node.guest.cpus)
 comes_to false node copy = assumption (still node.guest.cpus)
 
-resumes_as : (state : Received) (node new : Destination) → WakesNode node new → WakesNode node (resumed_by state new)
+resumes_as : (state : Received) (node new : Destination) → TakesFrame node new → TakesFrame node (resumed_by state new)
 resumes_as Received.NotRun node new w = assumption
 resumes_as _ node new w = assumption
 
-pub takes : (frame : Frame) (node : Destination) (epoch : ℕ) → is_package frame ≡ false → WakesNode node (destination_took node epoch frame)
+pub takes : (frame : Frame) (node : Destination) (epoch : ℕ) → is_package frame ≡ false → TakesFrame node (destination_took node epoch frame)
 takes (Page page bytes) node epoch h = comes_to node.has_run node _
 takes (Zero page) node epoch h = comes_to node.has_run node _
 takes (Package areas owed commands) node epoch h = none_absurd (sym h)
 takes Resume node epoch h = resumes_as (received_of node) node _ (assumption (still node.guest.cpus))
 takes _ node epoch h = assumption (still node.guest.cpus)
 
-pub takes_urgent : (frame : Frame) (node : Destination) → WakesNode node (urgent_took node frame)
+pub takes_urgent : (frame : Frame) (node : Destination) → TakesFrame node (urgent_took node frame)
 takes_urgent (Page page bytes) node = assumption (still node.guest.cpus)
 takes_urgent _ node = assumption (still node.guest.cpus)
 
@@ -192,7 +198,7 @@ quiet_by world Step.Install kept h here there =
     assumption (installs found world.destination copy rest, install_not_last found copy.page)
 quiet_by world (Step.Push ticket) kept h here there = λ stopped up own present remains. assumption (page_not_last (is_zeros (bytes_of world.source ticket.page)) (PAGE_SIZE * ticket.page))
 quiet_by world (Step.PushUrgent ticket) kept h here there = λ stopped up own present remains. assumption (page_not_last (is_zeros (bytes_of world.source ticket.page)) (PAGE_SIZE * ticket.page))
-quiet_by world (Step.DeliverUrgent n) kept h here there = ((assumption), (λ sent rest is full ran up. assumption (takes_urgent sent.frame world.destination, frame_not_last sent.frame)))
+quiet_by world (Step.DeliverUrgent n) kept h here there = ((assumption), (λ sent rest is full ran up. assumption ((takes_urgent sent.frame world.destination).node, frame_not_last sent.frame)))
 quiet_by world (Step.Notice Side.Source) kept h here there = assumption
 quiet_by world _ kept h here there = assumption
 
@@ -205,4 +211,4 @@ wakes-next world step kept h =
 
 -- a frame that the destination takes
 pub wakes-taken : (world : World) (sent : Sent) (rest : List Sent) → is_package sent.frame ≡ false → WakesBoth world (after_deliver world sent rest)
-wakes-taken world sent rest h = assumption (still world.source.guest.cpus, takes sent.frame world.destination sent.epoch h)
+wakes-taken world sent rest h = assumption (still world.source.guest.cpus, (takes sent.frame world.destination sent.epoch h).node)
