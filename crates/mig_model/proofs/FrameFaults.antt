@@ -160,29 +160,17 @@ no_back_fault node sent place own =
 none_listed : (owed : FinSet nat_cmp) → owed ≡ no_pages → not (eqb (finset.len owed) 0) ≡ false
 none_listed owed none = ap (λ s. not (eqb (finset.len s) 0)) none ∙ ap (λ n. not (eqb n 0)) (len-empty nat_cmp)
 
-not_run_other : Received.NotRun ≢ Received.Running
-not_run_other h = cc
-
-ended_other : Received.Ended ≢ Received.Running
-ended_other h = cc
-
-running_run : Received.Running ≢ Received.NotRun
-running_run h = cc
-
-ended_run : Received.Ended ≢ Received.NotRun
-ended_run h = cc
-
 -- a Recv that is taken lists what the source has
 pub no_rebuild_fault : (node : Source) (state : Received) (owed : FinSet nat_cmp) → ((page : ℕ) → is_present (space_of node) page ≡ true → contains (present (space_of node)) page ≡ true) → IsInPlaceBack node (Recv state owed) →
     rebuild_fault node state owed ≡ None
-no_rebuild_fault node Received.NotRun owed below place = none_first (is_bad_owed node Received.NotRun owed) RebuildFault.BadOwed None (none_listed owed (place.2 not_run_other)) refl
+no_rebuild_fault node Received.NotRun owed below place = none_first (is_bad_owed node Received.NotRun owed) RebuildFault.BadOwed None (none_listed owed (place.2 (λ h. cc))) refl
 no_rebuild_fault node Received.Running owed below place =
     none_first (is_bad_owed node Received.Running owed) RebuildFault.BadOwed None
-    (neither (not node.switched) (not (eqb (finset.len (less owed (present (space_of node)))) 0)) (not_true node.switched (place.3 running_run))
+    (neither (not node.switched) (not (eqb (finset.len (less owed (present (space_of node)))) 0)) (not_true node.switched (place.3 (λ h. cc)))
     (none_empty (less owed (present (space_of node))) (no_member owed (λ page. not (contains (present (space_of node)) page)) (λ page h. not_true (contains (present (space_of node)) page) (below page (place.1 page h)))))) refl
 no_rebuild_fault node Received.Ended owed below place =
     none_first (is_bad_owed node Received.Ended owed) RebuildFault.BadOwed None
-    (neither (not node.switched) (not (eqb (finset.len owed) 0)) (not_true node.switched (place.3 ended_run)) (none_listed owed (place.2 ended_other))) refl
+    (neither (not node.switched) (not (eqb (finset.len owed) 0)) (not_true node.switched (place.3 (λ h. cc))) (none_listed owed (place.2 (λ h. cc)))) refl
 
 -- A Deliver that completes a frame
 

@@ -79,22 +79,13 @@ installed_urgent (Some page) world copy rest h = h
 
 -- The source
 
-precopy_not_paused : SourcePhase.Precopy ≢ SourcePhase.Paused
-precopy_not_paused h = cc
-
-stopped_not_paused : SourcePhase.Stopped ≢ SourcePhase.Paused
-stopped_not_paused h = cc
-
-released_not_paused : SourcePhase.Released ≢ SourcePhase.Paused
-released_not_paused h = cc
-
 start_urgent : (world : World) → IsSoundWorld world → is_source_idle world.source.phase ≡ true → AreSoundUrgent world → AreSoundUrgent (after_start world)
 start_urgent world kept idle h =
     let none = h.stopped (idle_unstopped world.source.phase idle) in
     assumption (
       none_of_epoch (world.source.epoch + 1) world.urgent.frames none,
       subst (λ w. AreTold (world.source.epoch + 1) world.source.end_epoch world.source.urgent_sent (w ++ record { epoch = world.source.epoch + 1; frame = Advise } ∷ [])) (sym (idle_forward world kept idle)) (tt, tt),
-      λ (paused : SourcePhase.Precopy ≡ SourcePhase.Paused). absurd {A = world.source.urgent_sent ≡ 0} (precopy_not_paused paused),
+      λ (paused : SourcePhase.Precopy ≡ SourcePhase.Paused). absurd {A = world.source.urgent_sent ≡ 0} (cc),
     )
 
 switch_urgent : (world : World) → is_precopy world.source.phase ≡ true → AreSoundUrgent world → AreSoundUrgent (after_switch world)
@@ -102,7 +93,7 @@ switch_urgent world precopy h =
     let none = h.stopped (precopy_unstopped world.source.phase precopy) in
     assumption (
       told-sending world.source.epoch world.source.end_epoch world.source.urgent_sent world.forward.frames world.source.epoch (switch_frames world.source) h.told (tt, (tt, tt)),
-      λ (paused : SourcePhase.Stopped ≡ SourcePhase.Paused). absurd {A = world.source.urgent_sent ≡ 0} (stopped_not_paused paused),
+      λ (paused : SourcePhase.Stopped ≡ SourcePhase.Paused). absurd {A = world.source.urgent_sent ≡ 0} (cc),
     )
 
 sent_urgent : (world : World) (page : ℕ) → AreSoundUrgent world → AreTold world.source.epoch world.source.end_epoch world.source.urgent_sent (sending world.forward.frames world.source.epoch (page_frame page (bytes_of world.source page) ∷ []))
@@ -185,15 +176,6 @@ resumed_on : (state : Received) (node : Destination) → ((resumed_by state node
 resumed_on Received.NotRun node = refl
 resumed_on _ node = refl
 
-advised_not_ended : DestPhase.Advised ≢ DestPhase.Ended
-advised_not_ended h = cc
-
-discarding_not_ended : DestPhase.Discarding ≢ DestPhase.Ended
-discarding_not_ended h = cc
-
-running_not_ended : DestPhase.Running ≢ DestPhase.Ended
-running_not_ended h = cc
-
 -- an idle destination has not run
 idle_bare : (to : DestPhase) (ran ended : Bool) → to ≡ DestPhase.Idle → RanAt to ran ended → ran ≡ false
 idle_bare to ran ended is at = subst (λ p. RanAt p ran ended) is at
@@ -207,16 +189,16 @@ taken_urgent Advise epoch rest world kept up comes came told h =
     let idle = comes_advise world.source.phase world.destination.phase comes in
     let bare = idle_bare world.destination.phase world.destination.has_run world.destination.ended idle kept.phases.destination_phase in
     let none : world.destination.urgent_taken ≡ 0 = h.none_taken bare in
-    moved_on world (destination_took world.destination epoch Advise) rest world.back (λ p. idle_not_paused (sym idle ∙ p)) (sym none) (λ r. r) (λ e. absurd (advised_not_ended e)) told h
+    moved_on world (destination_took world.destination epoch Advise) rest world.back (λ p. idle_not_paused (sym idle ∙ p)) (sym none) (λ r. r) (λ e. absurd (cc)) told h
 taken_urgent (Page page bytes) epoch rest world kept up comes came told h =
     let on = came_on world.destination.has_run world.destination (record { page = page; bytes = bytes }) in stays_on world (destination_took world.destination epoch (Page page bytes)) rest world.back on.0 on.1 on.2 told h
 taken_urgent (Zero page) epoch rest world kept up comes came told h =
     let on = came_on world.destination.has_run world.destination (record { page = page; bytes = zero_page }) in stays_on world (destination_took world.destination epoch (Zero page)) rest world.back on.0 on.1 on.2 told h
 taken_urgent (Run first pages) epoch rest world kept up comes came told h = stays_on world (destination_took world.destination epoch (Run first pages)) rest world.back refl refl refl told h
 taken_urgent (Discard pages) epoch rest world kept up comes came told h =
-    moved_on world (destination_took world.destination epoch (Discard pages)) rest world.back (comes_unpaused world.source.phase world.destination.phase (Discard pages) comes refl) refl (λ r. r) (λ e. absurd (discarding_not_ended e)) told h
+    moved_on world (destination_took world.destination epoch (Discard pages)) rest world.back (comes_unpaused world.source.phase world.destination.phase (Discard pages) comes refl) refl (λ r. r) (λ e. absurd (cc)) told h
 taken_urgent (Package areas owed commands) epoch rest world kept up comes came told h =
-    moved_on world (destination_took world.destination epoch (Package areas owed commands)) rest world.back (comes_unpaused world.source.phase world.destination.phase (Package areas owed commands) comes refl) refl (λ r. absurd (false≢true (sym r))) (λ e. absurd (running_not_ended e)) told h
+    moved_on world (destination_took world.destination epoch (Package areas owed commands)) rest world.back (comes_unpaused world.source.phase world.destination.phase (Package areas owed commands) comes refl) refl (λ r. absurd (false≢true (sym r))) (λ e. absurd (cc)) told h
 taken_urgent (End count) epoch rest world kept up comes came told h =
     moved_on world (destination_took world.destination epoch (End count)) rest world.back (comes_unpaused world.source.phase world.destination.phase (End count) comes refl) refl (λ r. r) (λ e. came count refl) told h
 taken_urgent Resume epoch rest world kept up comes came told h =
@@ -307,21 +289,21 @@ done_ended _ to source node epoch forward rest urgent stopped w = absurd (false�
 rebuilt_urgent : (switched : Bool) (world : World) (back : Wire) → world.urgent.frames ≡ [] → AreSoundUrgent world →
     AreSoundUrgent (source_sends (record world { back = back }) (source_rebuilt Received.NotRun no_pages (record world.source { switched = switched })) (rebuild_frames Received.NotRun (record world.source { switched = switched })))
 rebuilt_urgent true world back none h =
-    resumes world (source_rebuilt Received.NotRun no_pages (record world.source { switched = true })) _ back none stopped_not_paused refl refl refl
+    resumes world (source_rebuilt Received.NotRun no_pages (record world.source { switched = true })) _ back none (λ h. cc) refl refl refl
     (told-sending world.source.epoch world.source.end_epoch world.source.urgent_sent world.forward.frames world.source.epoch (package_frames world.source no_pages (present (space_of world.source))) h.told (tt, (tt, tt))) h
-rebuilt_urgent false world back none h = resumes world (source_rebuilt Received.NotRun no_pages (record world.source { switched = false })) world.forward.frames back none precopy_not_paused refl refl refl h.told h
+rebuilt_urgent false world back none h = resumes world (source_rebuilt Received.NotRun no_pages (record world.source { switched = false })) world.forward.frames back none (λ h. cc) refl refl refl h.told h
 
 back_urgent : (frame : Frame) (epoch : ℕ) (rest : List Sent) (world : World) → IsSoundWorld world → world.up ≡ true → world.back.frames ≡ record { epoch = epoch; frame = frame } ∷ rest → IsInPlaceBack world.source frame → AreSoundUrgent world →
     AreSoundUrgent (after_deliver_back world (record { epoch = epoch; frame = frame }) rest)
 back_urgent (Recv Received.NotRun owed) epoch rest world kept up first place h = rebuilt_urgent world.source.switched world (wire_behind rest) (h.stopped (paused_unstopped world.source.phase place.0)) h
 back_urgent (Recv Received.Running owed) epoch rest world kept up first place h =
-    resumes world (source_rebuilt Received.Running owed world.source) world.forward.frames (wire_behind rest) (h.stopped (paused_unstopped world.source.phase place.0)) stopped_not_paused refl refl refl h.told h
+    resumes world (source_rebuilt Received.Running owed world.source) world.forward.frames (wire_behind rest) (h.stopped (paused_unstopped world.source.phase place.0)) (λ h. cc) refl refl refl h.told h
 back_urgent (Recv Received.Ended owed) epoch rest world kept up first place h =
-    resumes world (released world.source) world.forward.frames (wire_behind rest) (h.stopped (paused_unstopped world.source.phase place.0)) released_not_paused refl refl refl h.told h
+    resumes world (released world.source) world.forward.frames (wire_behind rest) (h.stopped (paused_unstopped world.source.phase place.0)) (λ h. cc) refl refl refl h.told h
 back_urgent Done epoch rest world kept up first place h =
     let w = subst (λ b. Wires world.source world.destination world.forward.frames b world.urgent.frames) first (kept.flight.wires up) in
     resumes world (released world.source) world.forward.frames (wire_behind rest)
-    (h.ended (done_ended world.source.phase world.destination.phase world.source world.destination epoch world.forward.frames rest world.urgent.frames place.0 w)) released_not_paused refl refl refl h.told h
+    (h.ended (done_ended world.source.phase world.destination.phase world.source world.destination epoch world.forward.frames rest world.urgent.frames place.0 w)) (λ h. cc) refl refl refl h.told h
 back_urgent (Request page) epoch rest world kept up first place h = h
 back_urgent _ epoch rest world kept up first place h = absurd place
 

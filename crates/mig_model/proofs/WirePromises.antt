@@ -26,84 +26,55 @@ use Rattle.mig_model.proofs.Facts.{no_page, as_it_was, tried_up}
 
 -- Deliveries
 
--- the first frame of a wire was delivered, whatever it is called
-abbrev FirstDelivered : World → World → List Sent → Type 0
-FirstDelivered old new [] = ⊥
-FirstDelivered old new (sent ∷ rest) = IsDelivered old new sent rest
+-- the first frame of a wire, whatever it is called
+the_first : {A : Type 0} {wire : List A} {other sent : A} {more rest : List A} → wire ≡ other ∷ more → wire ≡ sent ∷ rest → (other ≡ sent) × (more ≡ rest)
+the_first is first = (cc, cc)
 
-first_is : (world : World) (sent : Sent) (rest wire : List Sent) → sent ∷ rest ≡ wire → world.up ≡ true → FirstDelivered world (after_deliver world sent rest) wire
-first_is world sent rest wire same up =
-    subst (FirstDelivered world (after_deliver world sent rest)) same
-    (record {
-      destination = refl;
-      forward = refl;
-      back = ap (λ u. wire_if u world.back (destination_took world.destination sent.epoch sent.frame).epoch (destination_answers world.destination sent.frame)) up;
-    })
-
-first_frame : (sent other : Sent) (rest more : List Sent) → sent ∷ rest ≡ other ∷ more → sent ≡ other
-first_frame sent other rest more same = ap (λ (l : List Sent). elim l [ [] ↦ sent | first ∷ _ ↦ first ]) same
+as_first : {other sent : Sent} {more rest : List Sent} (P : Sent → List Sent → Type 0) → (other ≡ sent) × (more ≡ rest) → P sent rest → P other more
+as_first {other} {sent} {more} {rest} P same h = subst (λ s. P s more) (sym same.0) (subst (P sent) (sym same.1) h)
 
 -- what is short for one frame is not full for it
-short_not : {A : Type 0} (wire : Wire) (n : ℕ) (sent other : Sent) → sent ≡ other → is_short wire sent.frame n ≡ true → is_short wire other.frame n ≡ false → A
-short_not wire n sent other same short full = absurd (false≢true (sym full ∙ sym (ap (λ (s : Sent). is_short wire s.frame n) same) ∙ short))
+short_not : {A : Type 0} (wire : Wire) (n : ℕ) {sent other : Sent} → sent ≡ other → is_short wire sent.frame n ≡ true → is_short wire other.frame n ≡ false → A
+short_not wire n same short full = absurd (false≢true (sym full ∙ sym (ap (λ (s : Sent). is_short wire s.frame n) same) ∙ short))
 
 pub delivered_first : (world : World) (n : ℕ) (sent : Sent) (rest : List Sent) → IsOk (outcome world (Step.Deliver n)) → world.forward.frames ≡ sent ∷ rest → is_short world.forward sent.frame n ≡ false →
     IsDelivered world (next world (Step.Deliver n)) sent rest
 delivered_first world n sent rest ok first full =
     made-ok (λ new. IsDelivered world new sent rest) world (Step.Deliver n)
-    ((λ other more is short. short_not world.forward n other sent (first_frame other sent more rest (sym is ∙ first)) short full), (λ other more is whole started up free early. first_is world other more (sent ∷ rest) (sym is ∙ first) up)) ok
+    ((λ other more is short. short_not world.forward n (the_first is first).0 short full), (λ other more is whole started up free early. as_first (λ s r. IsDelivered world (after_deliver world s r) sent rest) (the_first is first) 
+    (record { destination = refl; forward = refl; back = ap (λ u. wire_if u world.back (destination_took world.destination sent.epoch sent.frame).epoch (destination_answers world.destination sent.frame)) up }))) ok
 
 pub moved_short : (world : World) (n : ℕ) (sent : Sent) (rest : List Sent) → IsOk (outcome world (Step.Deliver n)) → world.forward.frames ≡ sent ∷ rest → is_short world.forward sent.frame n ≡ true →
     (outcome world (Step.Deliver n) ≡ Ok (Effect.Moved n)) × (next world (Step.Deliver n) ≡ after_move world n)
 moved_short world n sent rest ok first short = (
-  made-outcome (Effect.Moved n) world (Step.Deliver n)
-      ((λ other more is one. refl), (λ other more is whole started up free early. short_not world.forward n sent other (sym (first_frame other sent more rest (sym is ∙ first))) short whole)) ok,
-  made-ok (λ new. new ≡ after_move world n) world (Step.Deliver n)
-      ((λ other more is one. refl), (λ other more is whole started up free early. short_not world.forward n sent other (sym (first_frame other sent more rest (sym is ∙ first))) short whole)) ok,
+  made-outcome (Effect.Moved n) world (Step.Deliver n) ((λ other more is one. refl), (λ other more is whole started up free early. short_not world.forward n (sym (the_first is first).0) short whole)) ok,
+  made-ok (λ new. new ≡ after_move world n) world (Step.Deliver n) ((λ other more is one. refl), (λ other more is whole started up free early. short_not world.forward n (sym (the_first is first).0) short whole)) ok,
 )
-
-abbrev FirstDeliveredBack : World → World → List Sent → Type 0
-FirstDeliveredBack old new [] = ⊥
-FirstDeliveredBack old new (sent ∷ rest) = IsDeliveredBack old new sent rest
-
-first_back_is : (world : World) (sent : Sent) (rest wire : List Sent) → sent ∷ rest ≡ wire → FirstDeliveredBack world (after_deliver_back world sent rest) wire
-first_back_is world sent rest wire same = subst (FirstDeliveredBack world (after_deliver_back world sent rest)) same (record { source = refl; back = refl; forward = refl })
 
 pub delivered_back_first : (world : World) (n : ℕ) (sent : Sent) (rest : List Sent) → IsOk (outcome world (Step.DeliverBack n)) → world.back.frames ≡ sent ∷ rest → is_short world.back sent.frame n ≡ false →
     IsDeliveredBack world (next world (Step.DeliverBack n)) sent rest
 delivered_back_first world n sent rest ok first full =
     made-ok (λ new. IsDeliveredBack world new sent rest) world (Step.DeliverBack n)
-    ((λ other more is short. short_not world.back n other sent (first_frame other sent more rest (sym is ∙ first)) short full), (λ other more is whole started up. first_back_is world other more (sent ∷ rest) (sym is ∙ first))) ok
+    ((λ other more is short. short_not world.back n (the_first is first).0 short full), (λ other more is whole started up. as_first (λ s r. IsDeliveredBack world (after_deliver_back world s r) sent rest) (the_first is first) (record { source = refl; back = refl; forward = refl }))) ok
 
 pub moved_back_short : (world : World) (n : ℕ) (sent : Sent) (rest : List Sent) → IsOk (outcome world (Step.DeliverBack n)) → world.back.frames ≡ sent ∷ rest → is_short world.back sent.frame n ≡ true →
     (outcome world (Step.DeliverBack n) ≡ Ok (Effect.Moved n)) × (next world (Step.DeliverBack n) ≡ after_move_back world n)
 moved_back_short world n sent rest ok first short = (
-  made-outcome (Effect.Moved n) world (Step.DeliverBack n)
-      ((λ other more is one. refl), (λ other more is whole started up. short_not world.back n sent other (sym (first_frame other sent more rest (sym is ∙ first))) short whole)) ok,
-  made-ok (λ new. new ≡ after_move_back world n) world (Step.DeliverBack n)
-      ((λ other more is one. refl), (λ other more is whole started up. short_not world.back n sent other (sym (first_frame other sent more rest (sym is ∙ first))) short whole)) ok,
+  made-outcome (Effect.Moved n) world (Step.DeliverBack n) ((λ other more is one. refl), (λ other more is whole started up. short_not world.back n (sym (the_first is first).0) short whole)) ok,
+  made-ok (λ new. new ≡ after_move_back world n) world (Step.DeliverBack n) ((λ other more is one. refl), (λ other more is whole started up. short_not world.back n (sym (the_first is first).0) short whole)) ok,
 )
-
-abbrev FirstDeliveredUrgent : World → World → List Sent → Type 0
-FirstDeliveredUrgent old new [] = ⊥
-FirstDeliveredUrgent old new (sent ∷ rest) = IsDeliveredUrgent old new sent rest
-
-first_urgent_is : (world : World) (sent : Sent) (rest wire : List Sent) → sent ∷ rest ≡ wire → FirstDeliveredUrgent world (after_deliver_urgent world sent rest) wire
-first_urgent_is world sent rest wire same = subst (FirstDeliveredUrgent world (after_deliver_urgent world sent rest)) same (record { destination = refl; urgent = refl })
 
 pub delivered_urgent_first : (world : World) (n : ℕ) (sent : Sent) (rest : List Sent) → IsOk (outcome world (Step.DeliverUrgent n)) → world.urgent.frames ≡ sent ∷ rest → is_short world.urgent sent.frame n ≡ false →
     IsDeliveredUrgent world (next world (Step.DeliverUrgent n)) sent rest
 delivered_urgent_first world n sent rest ok first full =
     made-ok (λ new. IsDeliveredUrgent world new sent rest) world (Step.DeliverUrgent n)
-    ((λ other more is short. short_not world.urgent n other sent (first_frame other sent more rest (sym is ∙ first)) short full), (λ other more is whole ran up. first_urgent_is world other more (sent ∷ rest) (sym is ∙ first))) ok
+    ((λ other more is short. short_not world.urgent n (the_first is first).0 short full), (λ other more is whole ran up. as_first (λ s r. IsDeliveredUrgent world (after_deliver_urgent world s r) sent rest) (the_first is first) (record { destination = refl; urgent = refl }))) ok
 
 pub moved_urgent_short : (world : World) (n : ℕ) (sent : Sent) (rest : List Sent) → IsOk (outcome world (Step.DeliverUrgent n)) → world.urgent.frames ≡ sent ∷ rest → is_short world.urgent sent.frame n ≡ true →
     (outcome world (Step.DeliverUrgent n) ≡ Ok (Effect.Moved n)) × (next world (Step.DeliverUrgent n) ≡ after_move_urgent world n)
 moved_urgent_short world n sent rest ok first short = (
-  made-outcome (Effect.Moved n) world (Step.DeliverUrgent n)
-      ((λ other more is one. refl), (λ other more is whole ran up. short_not world.urgent n sent other (sym (first_frame other sent more rest (sym is ∙ first))) short whole)) ok,
-  made-ok (λ new. new ≡ after_move_urgent world n) world (Step.DeliverUrgent n)
-      ((λ other more is one. refl), (λ other more is whole ran up. short_not world.urgent n sent other (sym (first_frame other sent more rest (sym is ∙ first))) short whole)) ok,
+  made-outcome (Effect.Moved n) world (Step.DeliverUrgent n) ((λ other more is one. refl), (λ other more is whole ran up. short_not world.urgent n (sym (the_first is first).0) short whole)) ok,
+  made-ok (λ new. new ≡ after_move_urgent world n) world (Step.DeliverUrgent n) ((λ other more is one. refl), (λ other more is whole ran up. short_not world.urgent n (sym (the_first is first).0) short whole)) ok,
 )
 
 -- The wires
@@ -168,14 +139,10 @@ arrivals_by : (o : Option ℕ) (node : Destination) (copy : Copy) (rest : List C
 arrivals_by None node copy rest = refl
 arrivals_by (Some page) node copy rest = refl
 
-first_copy : (copy other : Copy) (rest more : List Copy) → copy ∷ rest ≡ other ∷ more → (copy ≡ other) × (rest ≡ more)
-first_copy copy other rest more same =
-    (ap (λ (l : List Copy). elim l [ [] ↦ copy | first ∷ _ ↦ first ]) same, ap (λ (l : List Copy). elim l [ [] ↦ rest | _ ∷ tail ↦ tail ]) same)
-
 pub arrivals_after : (world : World) (copy : Copy) (rest : List Copy) → IsOk (outcome world Step.Install) → world.destination.arrivals ≡ copy ∷ rest → (next world Step.Install).destination.arrivals ≡ rest
 arrivals_after world copy rest ok first =
     made-ok (λ new. new.destination.arrivals ≡ rest) world Step.Install
-    (λ other more is ran quiet. arrivals_by (home world.destination.owed other.page) world.destination other more ∙ (first_copy other copy more rest (sym is ∙ first)).1) ok
+    (λ other more is ran quiet. arrivals_by (home world.destination.owed other.page) world.destination other more ∙ (the_first is first).1) ok
 
 pub installed_where : (world : World) (copy : Copy) (rest : List Copy) (page : ℕ) → IsSoundWorld world → IsOk (outcome world Step.Install) → world.destination.arrivals ≡ copy ∷ rest → get world.destination.owed page ≡ Some copy.page →
     outcome world Step.Install ≡ Ok (Effect.Installed (4096 * page) (4096 * copy.page))
@@ -183,7 +150,7 @@ installed_where world copy rest page kept ok first owes =
     let found = home-is world.destination.owed copy.page page kept.owing.one_to_one (kept.owing.owed_below page copy.page owes) owes in
     made-outcome (Effect.Installed (4096 * page) (4096 * copy.page)) world Step.Install
     (λ other more is ran quiet.
-    ap (λ (c : Copy). install_effect (home world.destination.owed c.page) c.page) (first_copy other copy more rest (sym is ∙ first)).0 ∙ ap (λ o. install_effect o copy.page) found) ok
+    ap (λ (c : Copy). install_effect (home world.destination.owed c.page) c.page) (the_first is first).0 ∙ ap (λ o. install_effect o copy.page) found) ok
 
 no_home : (o : Option ℕ) (owed : Owed) (origin : ℕ) → home owed origin ≡ o → ((page : ℕ) → get owed page ≢ Some origin) → o ≡ None
 no_home None owed origin found none = refl
@@ -195,7 +162,7 @@ given_up_where world copy rest ok first none =
     let lost = no_home (home world.destination.owed copy.page) world.destination.owed copy.page refl none in
     made-outcome (Effect.Dropped (4096 * copy.page)) world Step.Install
     (λ other more is ran quiet.
-    ap (λ (c : Copy). install_effect (home world.destination.owed c.page) c.page) (first_copy other copy more rest (sym is ∙ first)).0 ∙ ap (λ o. install_effect o copy.page) lost) ok
+    ap (λ (c : Copy). install_effect (home world.destination.owed c.page) c.page) (the_first is first).0 ∙ ap (λ o. install_effect o copy.page) lost) ok
 
 -- What remains
 
@@ -209,7 +176,7 @@ remaining_back world n sent rest q first plain =
     made-next (λ new. contains new.source.remaining q ≡ true → contains world.source.remaining q ≡ true) world (Step.DeliverBack n) (λ h. h) (
       (λ other more is short h. h),
       (λ other more is full started up h.
-          taken_remains other.frame world.source q (ap (λ (s : Sent). is_recv s.frame) (first_frame other sent more rest (sym is ∙ first)) ∙ plain) h),
+          taken_remains other.frame world.source q (ap (λ (s : Sent). is_recv s.frame) (the_first is first).0 ∙ plain) h),
     )
 
 -- Completion
@@ -223,7 +190,7 @@ pub completes_by : (world : World) (n : ℕ) (sent : Sent) (rest : List Sent) �
     IsComplete (next world (Step.DeliverBack n))
 completes_by world n sent rest ok first full last =
     made-ok IsComplete world (Step.DeliverBack n)
-    ((λ other more is short. short_not world.back n other sent (first_frame other sent more rest (sym is ∙ first)) short full), (λ other more is whole started up. last_releases other.frame world.source (ap (λ (s : Sent). is_last s.frame) (first_frame other sent more rest (sym is ∙ first)) ∙ last))) ok
+    ((λ other more is short. short_not world.back n (the_first is first).0 short full), (λ other more is whole started up. last_releases other.frame world.source (ap (λ (s : Sent). is_last s.frame) (the_first is first).0 ∙ last))) ok
 
 rebuilt_phase : (switched : Bool) (a b : Source) → is_released a.phase ≡ false → is_released b.phase ≡ false → is_released (if switched then a else b).phase ≡ true → false ≡ true
 rebuilt_phase true a b one two h = sym one ∙ h

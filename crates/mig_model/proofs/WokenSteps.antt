@@ -130,12 +130,9 @@ pub stopped_switched : (phase : SourcePhase) (switched : Bool) → is_stopped ph
 stopped_switched SourcePhase.Stopped switched h at = at
 stopped_switched _ switched h at = none_absurd h
 
-ended_ran : Received.Ended ≢ Received.NotRun
-ended_ran h = cc
-
 last_switched : (frame : Frame) (world : World) → IsSoundWorld world → IsInPlaceBack world.source frame → is_last frame ≡ true → world.source.switched ≡ true
 last_switched Done world kept place h = stopped_switched world.source.phase world.source.switched place.0 kept.phases.source_phase
-last_switched (Recv Received.Ended owed) world kept place h = place.3 ended_ran
+last_switched (Recv Received.Ended owed) world kept place h = place.3 (λ h. cc)
 last_switched (Recv Received.NotRun owed) world kept place h = none_absurd h
 last_switched (Recv Received.Running owed) world kept place h = none_absurd h
 last_switched _ world kept place h = none_absurd h
