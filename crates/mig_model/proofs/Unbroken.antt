@@ -81,12 +81,10 @@ taken_awaits host frame_sent epoch frame rest world first h ran =
 
 -- nothing comes back
 no_back : (from : SourcePhase) (to : DestPhase) (world : World) → is_stopped from ≡ true → world.up ≡ true → world.destination.has_run ≡ false → IsSoundWorld (in_phases from to world) → world.back.frames ≡ []
-no_back SourcePhase.Stopped DestPhase.Idle world stopped up ran kept = (kept.flight.wires up).1
-no_back SourcePhase.Stopped DestPhase.Advised world stopped up ran kept = (kept.flight.wires up).1
-no_back SourcePhase.Stopped DestPhase.Discarding world stopped up ran kept = (kept.flight.wires up).1
 no_back SourcePhase.Stopped DestPhase.Running world stopped up ran kept = absurd (false≢true (sym ran ∙ kept.phases.destination_phase.0))
 no_back SourcePhase.Stopped DestPhase.Paused world stopped up ran kept = absurd (kept.flight.wires up)
 no_back SourcePhase.Stopped DestPhase.Ended world stopped up ran kept = absurd (false≢true (sym ran ∙ kept.phases.ended_after_run kept.phases.destination_phase))
+no_back SourcePhase.Stopped _ world stopped up ran kept = (kept.flight.wires up).1
 no_back _ to world stopped up ran kept = none_absurd stopped
 
 -- more frames behind the Package

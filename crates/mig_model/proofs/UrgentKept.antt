@@ -20,7 +20,7 @@ use Rattle.mig_model.specs.Destination.{urgent_came, is_running}
 use Rattle.mig_model.specs.Log.{present, no_pages}
 use Rattle.mig_model.specs.Guest.{is_present}
 use Rattle.mig_model.specs.Space.{fresh_space}
-use Rattle.mig_model.proofs.Facts.{AreFaithful-append, copies_of-append, eqb-self, none_absurd, not_up, same_or_other, and_left}
+use Rattle.mig_model.proofs.Facts.{by_test, AreFaithful-append, copies_of-append, eqb-self, none_absurd, not_up, same_or_other, and_left}
 use Rattle.mig_model.proofs.SendingLemmas.{copies_of-page, has_copy-append}
 use Rattle.mig_model.proofs.Stopping.{in_phases, not_ended, or_true, present_bytes, stopped_at, stopped_not_released, was_there}
 use Rattle.mig_model.proofs.Taken.{IsTakenUrgent}
@@ -129,11 +129,9 @@ came_urgent false false false false false h = none_absurd h
 -- where a frame of the urgent wire is taken the source is stopped and the destination runs
 pub both_run : (from : SourcePhase) (to : DestPhase) (world : World) → is_stopped from ≡ true → world.destination.has_run ≡ true → world.up ≡ true → (to ≢ DestPhase.Ended) → IsSoundWorld (in_phases from to world) → (from ≡ SourcePhase.Stopped) × (to ≡ DestPhase.Running)
 both_run SourcePhase.Stopped DestPhase.Running world stopped ran up other kept = (refl, refl)
-both_run SourcePhase.Stopped DestPhase.Idle world stopped ran up other kept = none_absurd (sym kept.phases.destination_phase ∙ ran)
-both_run SourcePhase.Stopped DestPhase.Advised world stopped ran up other kept = none_absurd (sym kept.phases.destination_phase ∙ ran)
-both_run SourcePhase.Stopped DestPhase.Discarding world stopped ran up other kept = none_absurd (sym kept.phases.destination_phase ∙ ran)
 both_run SourcePhase.Stopped DestPhase.Paused world stopped ran up other kept = absurd (kept.flight.wires up)
 both_run SourcePhase.Stopped DestPhase.Ended world stopped ran up other kept = absurd (other refl)
+both_run SourcePhase.Stopped _ world stopped ran up other kept = none_absurd (sym kept.phases.destination_phase ∙ ran)
 both_run _ to world stopped ran up other kept = none_absurd stopped
 
 abbrev at_urgent : World → List Sent → World
@@ -174,36 +172,28 @@ arrives_by (Page page bytes) epoch rest world are faithful kept = urgent_arrives
 arrives_by (Zero page) epoch rest world are faithful kept = urgent_arrives (record { page = page; bytes = zero_page }) (record { epoch = epoch; frame = Zero page }) rest world refl faithful.0 kept
 arrives_by _ epoch rest world are faithful kept = none_absurd are
 
-in_place_urgent : (from : SourcePhase) (to : DestPhase) (ran up : Bool) (sent : Sent) (rest : List Sent) (world : World) → from ≡ SourcePhase.Stopped → to ≡ DestPhase.Running → ran ≡ true → up ≡ true →
-    are_copies (sent ∷ rest) ≡ true → AreFaithful (space_of world.source).host.bytes (copies_of (sent ∷ rest)) →
-    IsSoundWorld (record world { source = record world.source { phase = from }; destination = record world.destination { phase = to; has_run = ran }; urgent = record world.urgent { frames = sent ∷ rest }; up = up }) →
-    IsSoundWorld (after_deliver_urgent (record world { source = record world.source { phase = from }; destination = record world.destination { phase = to; has_run = ran }; urgent = record world.urgent { frames = sent ∷ rest }; up = up }) sent rest)
-in_place_urgent from to false up sent rest world f t r u are faithful kept = absurd (false≢true r)
-in_place_urgent from to true false sent rest world f t r u are faithful kept = absurd (false≢true u)
-in_place_urgent from to true true sent rest world f t r u are faithful kept =
-    subst (λ p. IsSoundWorld (record world { source = record world.source { phase = p }; destination = record world.destination { phase = to; has_run = true }; urgent = record world.urgent { frames = sent ∷ rest }; up = true }) →
-    IsSoundWorld (after_deliver_urgent (record world { source = record world.source { phase = p }; destination = record world.destination { phase = to; has_run = true }; urgent = record world.urgent { frames = sent ∷ rest }; up = true }) sent rest))
-    (sym f)
-    (subst (λ p. IsSoundWorld (record world { source = record world.source { phase = SourcePhase.Stopped }; destination = record world.destination { phase = p; has_run = true }; urgent = record world.urgent { frames = sent ∷ rest }; up = true }) →
-    IsSoundWorld (after_deliver_urgent (record world { source = record world.source { phase = SourcePhase.Stopped }; destination = record world.destination { phase = p; has_run = true }; urgent = record world.urgent { frames = sent ∷ rest }; up = true }) sent rest))
-    (sym t) (λ k. arrives_by sent.frame sent.epoch rest world are faithful k)) kept
-
-stopped_by : {A : Type 0} (stopped : Bool) → (stopped ≡ false → A) → (stopped ≡ true → A) → A
-stopped_by true other stopped = stopped refl
-stopped_by false other stopped = other refl
+urgent_at : (world : World) (sent : Sent) (rest : List Sent) → world.source.phase ≡ SourcePhase.Stopped → world.destination.phase ≡ DestPhase.Running → world.destination.has_run ≡ true → world.up ≡ true → world.urgent.frames ≡ sent ∷ rest → world ≡ at_urgent world (sent ∷ rest)
+urgent_at world sent rest from to ran up first =
+    ap (λ p. record world { source = record world.source { phase = p } }) from
+    ∙ ap (λ p. record world { source = record world.source { phase = SourcePhase.Stopped }; destination = record world.destination { phase = p } }) to
+    ∙ ap (λ r. record world { source = record world.source { phase = SourcePhase.Stopped }; destination = record world.destination { phase = DestPhase.Running; has_run = r } }) ran
+    ∙ ap (λ f. record (at_urgent world f) { up = world.up }) first
+    ∙ ap (λ u. record (at_urgent world (sent ∷ rest)) { up = u }) up
 
 pub running_urgent : (world : World) (sent : Sent) (rest : List Sent) → IsSoundWorld world → AreSoundUrgent world → world.urgent.frames ≡ sent ∷ rest → world.destination.has_run ≡ true → world.up ≡ true →
     (world.source.phase ≡ SourcePhase.Stopped) × (world.destination.phase ≡ DestPhase.Running)
 running_urgent world sent rest kept h first ran up =
-    stopped_by (is_stopped world.source.phase) (λ not. not_none world.urgent.frames sent rest first (h.stopped not))
+    by_test (is_stopped world.source.phase)
     (λ stopped. both_run world.source.phase world.destination.phase world stopped ran up (λ e. not_none world.urgent.frames sent rest first (h.ended e)) kept)
+    (λ not. not_none world.urgent.frames sent rest first (h.stopped not))
 
 pub kept-deliver_urgent : (world : World) (sent : Sent) (rest : List Sent) → IsSoundWorld world → AreSoundUrgent world → world.urgent.frames ≡ sent ∷ rest → world.destination.has_run ≡ true → world.up ≡ true → IsSoundWorld (after_deliver_urgent world sent rest)
 kept-deliver_urgent world sent rest kept h first ran up =
     let both = running_urgent world sent rest kept h first ran up in
-    in_place_urgent world.source.phase world.destination.phase world.destination.has_run world.up sent rest world both.0 both.1 ran up
-    (subst (λ f. are_copies f ≡ true) first h.copies) (subst (λ f. AreFaithful (space_of world.source).host.bytes (copies_of f)) first h.faithful)
-    (subst (λ f. IsSoundWorld (record world { urgent = record world.urgent { frames = f } })) first kept)
+    let same = urgent_at world sent rest both.0 both.1 ran up first in
+    subst (λ w. IsSoundWorld (after_deliver_urgent w sent rest)) (sym same)
+    (arrives_by sent.frame sent.epoch rest world (subst (λ f. are_copies f ≡ true) first h.copies)
+    (subst (λ f. AreFaithful (space_of world.source).host.bytes (copies_of f)) first h.faithful) (subst IsSoundWorld same kept))
 
 running_epoch : (to : DestPhase) (epoch source_epoch : ℕ) → to ≡ DestPhase.Running → EpochAt to epoch source_epoch → epoch ≡ source_epoch
 running_epoch to epoch source_epoch is at = subst (λ p. EpochAt p epoch source_epoch) is at

@@ -278,12 +278,10 @@ resumes world node frames back none other epoch end_epoch count told h =
 -- a destination that sends Done has ended
 done_ended : (from : SourcePhase) (to : DestPhase) (source : Source) (node : Destination) (epoch : ℕ) (forward rest urgent : List Sent) → is_stopped from ≡ true →
     Wires (record source { phase = from }) (record node { phase = to }) forward (record { epoch = epoch; frame = Done } ∷ rest) urgent → to ≡ DestPhase.Ended
-done_ended SourcePhase.Stopped DestPhase.Idle source node epoch forward rest urgent stopped w = absurd (empty_not (record { epoch = epoch; frame = Done }) rest w.1)
-done_ended SourcePhase.Stopped DestPhase.Advised source node epoch forward rest urgent stopped w = absurd (empty_not (record { epoch = epoch; frame = Done }) rest w.1)
-done_ended SourcePhase.Stopped DestPhase.Discarding source node epoch forward rest urgent stopped w = absurd (empty_not (record { epoch = epoch; frame = Done }) rest w.1)
 done_ended SourcePhase.Stopped DestPhase.Running source node epoch forward rest urgent stopped w = absurd (false≢true w.1)
 done_ended SourcePhase.Stopped DestPhase.Paused source node epoch forward rest urgent stopped w = absurd w
 done_ended SourcePhase.Stopped DestPhase.Ended source node epoch forward rest urgent stopped w = refl
+done_ended SourcePhase.Stopped _ source node epoch forward rest urgent stopped w = absurd (empty_not (record { epoch = epoch; frame = Done }) rest w.1)
 done_ended _ to source node epoch forward rest urgent stopped w = absurd (false≢true stopped)
 
 rebuilt_urgent : (switched : Bool) (world : World) (back : Wire) → world.urgent.frames ≡ [] → AreSoundUrgent world →
