@@ -24,7 +24,7 @@ use Rattle.mig_model.proofs.SettledPromises.{accessed_events}
 use Rattle.mig_model.proofs.FaultLemmas.{AreFaults-tried}
 use Rattle.mig_model.proofs.WaitingCommands.{map_at, set_there, set_other}
 use Rattle.mig_model.proofs.DestinationRead.{none_is}
-use Rattle.mig_model.proofs.EveryStep.{kept-next}
+use Rattle.mig_model.proofs.EveryStep.{by_reached}
 use Rattle.mig_model.proofs.FirstWorld.{kept-first}
 use Rattle.mig_model.specs.Cpus.{access_took, all_woken, call_took, idle_processors, is_idle, is_woken, message_less, processor_after, processor_at, taken_over, woken_if}
 use Rattle.mig_model.specs.Guest.{Guest, read_guest, tried, is_left_by}
@@ -243,12 +243,7 @@ idle_calls zero k = refl
 idle_calls (suc count) zero = refl
 idle_calls (suc count) (suc k) = idle_calls count k
 
-steps_calls : (world : World) (steps : List Step) → IsSoundWorld world → AreSoundUrgent world → AreSoundCalls world → AreSoundCalls (after_steps world steps)
-steps_calls world [] kept urgent all = all
-steps_calls world (step ∷ steps) kept urgent all = steps_calls (next world step) steps (kept-next world step kept urgent) (urgent-next world step kept urgent) (calls_next world step kept all)
-
 pub are_sound_calls : (world : World) → IsReached world → AreSoundCalls world
 are_sound_calls world reached =
-    subst AreSoundCalls (sym reached.is)
-    (steps_calls (first_world_with reached.cpus reached.epoch reached.rounds) reached.steps (kept-first reached.cpus reached.epoch reached.rounds) (urgent-first reached.cpus reached.epoch reached.rounds)
-    (record { source = record { fits = λ k. idle_calls reached.cpus k; faults = tt }; destination = record { fits = λ k. idle_calls reached.cpus k; faults = tt } }))
+    by_reached AreSoundCalls (λ old step kept urgent all. calls_next old step kept all)
+    (λ cpus epoch rounds. record { source = record { fits = λ k. idle_calls cpus k; faults = tt }; destination = record { fits = λ k. idle_calls cpus k; faults = tt } }) world reached

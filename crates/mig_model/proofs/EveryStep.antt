@@ -88,9 +88,10 @@ pub kept-after_steps : (world : World) (steps : List Step) → IsSoundWorld worl
 kept-after_steps world [] kept urgent = kept
 kept-after_steps world (step ∷ steps) kept urgent = kept-after_steps (next world step) steps (kept-next world step kept urgent) (urgent-next world step kept urgent)
 
-pub urgent-after_steps : (world : World) (steps : List Step) → IsSoundWorld world → AreSoundUrgent world → AreSoundUrgent (after_steps world steps)
-urgent-after_steps world [] kept urgent = urgent
-urgent-after_steps world (step ∷ steps) kept urgent = urgent-after_steps (next world step) steps (kept-next world step kept urgent) (urgent-next world step kept urgent)
+-- what each step keeps beside it, a list of steps keeps
+pub by_steps : (P : World → Type 0) → ((world : World) (step : Step) → IsSoundWorld world → AreSoundUrgent world → P world → P (next world step)) → (world : World) (steps : List Step) → IsSoundWorld world → AreSoundUrgent world → P world → P (after_steps world steps)
+by_steps P keeps world [] kept urgent h = h
+by_steps P keeps world (step ∷ steps) kept urgent h = by_steps P keeps (next world step) steps (kept-next world step kept urgent) (urgent-next world step kept urgent) (keeps world step kept urgent h)
 
 -- every list of steps from a first world
 pub always : (cpus epoch rounds : ℕ) (steps : List Step) → IsSoundWorld (after_steps (first_world_with cpus epoch rounds) steps)
@@ -100,12 +101,14 @@ always cpus epoch rounds steps = kept-after_steps (first_world_with cpus epoch r
 pub kept-reached : (world : World) → IsReached world → IsSoundWorld world
 kept-reached world reached = subst IsSoundWorld (sym reached.is) (always reached.cpus reached.epoch reached.rounds reached.steps)
 
+pub by_reached : (P : World → Type 0) → ((world : World) (step : Step) → IsSoundWorld world → AreSoundUrgent world → P world → P (next world step)) → ((cpus epoch rounds : ℕ) → P (first_world_with cpus epoch rounds)) → (world : World) → IsReached world → P world
+by_reached P keeps first world reached =
+    subst P (sym reached.is)
+    (by_steps P keeps (first_world_with reached.cpus reached.epoch reached.rounds) reached.steps (kept-first reached.cpus reached.epoch reached.rounds) (urgent-first reached.cpus reached.epoch reached.rounds) (first reached.cpus reached.epoch reached.rounds))
+
 pub urgent-reached : (world : World) → IsReached world → AreSoundUrgent world
-urgent-reached world reached =
-    subst AreSoundUrgent (sym reached.is)
-    (urgent-after_steps (first_world_with reached.cpus reached.epoch reached.rounds) reached.steps (kept-first reached.cpus reached.epoch reached.rounds) (urgent-first reached.cpus reached.epoch reached.rounds))
+urgent-reached world reached = by_reached AreSoundUrgent (λ old step kept urgent h. urgent-next old step kept h) urgent-first world reached
 
 -- a migration that is complete stays so
 pub complete-after_steps : (world : World) (steps : List Step) → IsSoundWorld world → AreSoundUrgent world → IsComplete world → IsComplete (after_steps world steps)
-complete-after_steps world [] kept urgent done = done
-complete-after_steps world (step ∷ steps) kept urgent done = complete-after_steps (next world step) steps (kept-next world step kept urgent) (urgent-next world step kept urgent) (complete-next world step kept done)
+complete-after_steps world steps kept urgent done = by_steps IsComplete (λ old step kept urgent h. complete-next old step kept h) world steps kept urgent done

@@ -11,7 +11,7 @@ use Rattle.mig_model.specs.Wire.Frame.{Request, Recv, Done}
 use Rattle.mig_model.specs.Guest.{Act, Guest}
 use Rattle.mig_model.specs.Guest.Act.{Unprotected}
 use Rattle.mig_model.specs.Invariant.{IsSoundWorld, SwitchedAt, AreSoundUrgent}
-use Rattle.mig_model.proofs.EveryStep.{kept-next}
+use Rattle.mig_model.proofs.EveryStep.{by_steps, kept-next}
 use Rattle.mig_model.proofs.FramesTaken.{is_taken_back}
 use Rattle.mig_model.proofs.SourceRounds.{precopy_unswitched}
 use Rattle.mig_model.proofs.WokenSteps.{stopped_switched}
@@ -115,8 +115,7 @@ pushed_answer pushed world Step.Resume kept h =
 pushed_answer pushed world _ kept h = assumption
 
 pushed_steps : (pushed : ℕ) (world : World) (steps : List Step) → IsSoundWorld world → AreSoundUrgent world → PushedIn pushed world → PushedIn pushed (after_steps world steps)
-pushed_steps pushed world [] kept urgent h = h
-pushed_steps pushed world (step ∷ steps) kept urgent h = pushed_steps pushed (next world step) steps (kept-next world step kept urgent) (urgent-next world step kept urgent) (made-next (PushedIn pushed) world step h (pushed_answer pushed world step kept h))
+pushed_steps pushed world steps = by_steps (PushedIn pushed) (λ old step kept urgent h. made-next (PushedIn pushed) old step h (pushed_answer pushed old step kept h)) world steps
 
 stopped_not_paused : (phase : SourcePhase) → is_stopped phase ≡ true → is_source_paused phase ≡ false
 stopped_not_paused SourcePhase.Stopped h = refl

@@ -27,7 +27,7 @@ use Rattle.mig_model.specs.Promises.{IsReached}
 use Rattle.mig_model.proofs.Taken.{IsInPlaceBack}
 use Rattle.mig_model.specs.Bounds.{AreUrgentFew, IsUrgentFew}
 use Rattle.mig_model.proofs.WokenSteps.{stopped_switched}
-use Rattle.mig_model.proofs.EveryStep.{kept-next}
+use Rattle.mig_model.proofs.EveryStep.{by_reached}
 use Rattle.mig_model.proofs.Facts.{member_not_clean}
 use Rattle.mig_model.proofs.FirstWorld.{kept-first}
 use Rattle.mig_model.proofs.FramesTaken.{is_taken_back}
@@ -175,12 +175,5 @@ few-answer world _ kept urgent h = assumption
 pub few-next : (world : World) (step : Step) → IsSoundWorld world → AreSoundUrgent world → AreUrgentFew world → AreUrgentFew (next world step)
 few-next world step kept urgent h = made-next AreUrgentFew world step h (few-answer world step kept urgent h)
 
-few-after_steps : (world : World) (steps : List Step) → IsSoundWorld world → AreSoundUrgent world → AreUrgentFew world → AreUrgentFew (after_steps world steps)
-few-after_steps world [] kept urgent h = h
-few-after_steps world (step ∷ steps) kept urgent h = few-after_steps (next world step) steps (kept-next world step kept urgent) (urgent-next world step kept urgent) (few-next world step kept urgent h)
-
 pub few-reached : (world : World) → IsReached world → AreUrgentFew world
-few-reached world reached =
-    subst AreUrgentFew (sym reached.is)
-    (few-after_steps (first_world_with reached.cpus reached.epoch reached.rounds) reached.steps (kept-first reached.cpus reached.epoch reached.rounds) (urgent-first reached.cpus reached.epoch reached.rounds)
-    (few-first reached.cpus reached.epoch reached.rounds))
+few-reached world reached = by_reached AreUrgentFew few-next few-first world reached

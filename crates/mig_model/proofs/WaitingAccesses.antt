@@ -23,7 +23,7 @@ use Rattle.mig_model.specs.Invariant.{IsSoundWorld, AreSoundUrgent}
 use Rattle.mig_model.specs.Promises.{IsReached, AllAccess, AreAccesses}
 use Rattle.mig_model.proofs.WaitingCommands.{package_next, taken_keeps, waits_read, woken_waits}
 use Rattle.mig_model.proofs.WokenSteps.{takes, wakes-next, woken_many}
-use Rattle.mig_model.proofs.EveryStep.{kept-next}
+use Rattle.mig_model.proofs.EveryStep.{by_reached}
 use Rattle.mig_model.proofs.FirstWorld.{kept-first}
 use Rattle.mig_model.proofs.StepCases.{made-next}
 use Rattle.mig_model.specs.Cpus.{access_took, call_took, idle_processors, outstanding, processor_after, processor_at, taken_over}
@@ -117,15 +117,9 @@ idle_all zero k command h = absurd (none-some command h)
 idle_all (suc count) zero command h = absurd (none-some command h)
 idle_all (suc count) (suc k) command h = idle_all count k command h
 
-steps_all : (world : World) (steps : List Step) → IsSoundWorld world → AreSoundUrgent world → Wait world → Wait (after_steps world steps)
-steps_all world [] kept urgent all = all
-steps_all world (step ∷ steps) kept urgent all = steps_all (next world step) steps (kept-next world step kept urgent) (urgent-next world step kept urgent) (next_all world step kept all)
-
 waits : (world : World) → IsReached world → Wait world
 waits world reached =
-    subst Wait (sym reached.is)
-    (steps_all (first_world_with reached.cpus reached.epoch reached.rounds) reached.steps (kept-first reached.cpus reached.epoch reached.rounds) (urgent-first reached.cpus reached.epoch reached.rounds)
-    (record { source = idle_all reached.cpus; destination = idle_all reached.cpus; many = refl }))
+    by_reached Wait (λ old step kept urgent all. next_all old step kept all) (λ cpus epoch rounds. record { source = idle_all cpus; destination = idle_all cpus; many = refl }) world reached
 
 pub are_accesses : (world : World) → IsReached world → AreAccesses world
 are_accesses world reached = let all = waits world reached in record { source = all.source; destination = all.destination }
