@@ -18,23 +18,21 @@ use Rattle.mig_model.specs.Userfault.{Noted, next_of, next_message}
 use Rattle.mig_model.specs.Space.{access_of, call_messages, modes_after}
 use Rattle.mig_model.specs.Wire.{Frame}
 use Rattle.mig_model.specs.Wire.Frame.{Package}
-use Rattle.mig_model.specs.Invariant.{IsSoundWorld, AreRight, unread_of, CallFits, HasSoundCalls, AreSoundCalls, AreSoundUrgent}
+use Rattle.mig_model.specs.Invariant.{IsSoundWorld, AreRight, unread_of, CallFits, HasSoundCalls, AreSoundCalls}
 use Rattle.mig_model.proofs.SourceMessages.{noted_all, events_queued}
 use Rattle.mig_model.proofs.SettledPromises.{accessed_events}
 use Rattle.mig_model.proofs.FaultLemmas.{AreFaults-tried}
 use Rattle.mig_model.proofs.WaitingCommands.{map_at, set_there, set_other}
 use Rattle.mig_model.proofs.DestinationRead.{none_is}
 use Rattle.mig_model.proofs.EveryStep.{by_reached}
-use Rattle.mig_model.proofs.FirstWorld.{kept-first}
 use Rattle.mig_model.specs.Cpus.{access_took, all_woken, call_took, idle_processors, is_idle, is_woken, message_less, processor_after, processor_at, taken_over, woken_if}
 use Rattle.mig_model.specs.Guest.{Guest, read_guest, tried, is_left_by}
 use Rattle.mig_model.specs.Destination.{Destination, destination_took}
-use Rattle.mig_model.specs.Migration.{World, after_command, after_steps, first_world_with, guest_by, guest_of, has_no_cpu, next, start, with_guest_by}
+use Rattle.mig_model.specs.Migration.{World, after_command, guest_by, guest_of, has_no_cpu, next, start, with_guest_by}
 use Rattle.mig_model.specs.Promises.{IsReached}
 use Rattle.mig_model.proofs.StepCases.{made-next}
 use Rattle.mig_model.proofs.WokenSteps.{Wakes, takes, wakes-next}
 use Rattle.mig_model.proofs.Facts.{eqb-self, some_is, modes_events}
-use Rattle.mig_model.proofs.UrgentSteps.{urgent-first, urgent-next}
 
 -- Numbers of events
 

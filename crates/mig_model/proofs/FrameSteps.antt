@@ -29,9 +29,9 @@ use Rattle.mig_model.specs.Userfault.{Noted}
 use Rattle.mig_model.specs.Log.{least_of, no_pages}
 use Rattle.mig_model.specs.Owed.{home}
 use Rattle.mig_model.specs.Wire.{Copy, Frame, Sent, page_frame, wire_behind}
-use Rattle.mig_model.specs.Wire.Frame.{Package, Advise, Page, Zero, Run, End, Resume, Request, Recv, Done}
+use Rattle.mig_model.specs.Wire.Frame.{Package, Advise, Run, End, Resume, Request, Recv, Done}
 use Rattle.mig_model.specs.Source.{Source, bytes_of, is_precopy, is_released, is_source_idle, is_source_paused, is_stopped, rebuild_frames, run_of, source_act, source_acted_by, source_rebuilt, space_of, switch_frames}
-use Rattle.mig_model.specs.Destination.{Destination, act_frames, copy_came, destination_act, destination_acted_by, destination_answers, destination_took, install_by, received_of, resumed_by, urgent_took}
+use Rattle.mig_model.specs.Destination.{Destination, act_frames, destination_act, destination_acted_by, destination_answers, destination_took, install_by, urgent_took}
 use Rattle.mig_model.specs.Migration.{World, after_break, after_command, after_deliver, after_deliver_back, after_deliver_urgent, after_dest_act, after_end, after_notice, after_push, after_push_urgent, after_resume, after_run, after_send, after_source_read, after_start, after_switch, first_world_with, guest_by, guest_of, has_started, is_changing, is_used, next, run_bound, source_sends, with_guest_by}
 use Rattle.mig_model.specs.Invariant.{IsSoundWorld, PausedWires, Wires, is_unread}
 use Rattle.mig_model.proofs.Taken.{IsInPlaceBack}

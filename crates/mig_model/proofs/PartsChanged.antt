@@ -8,16 +8,15 @@ use Rattle.mig_base.specs.declared.schedule.Side.{Side}
 use Rattle.mig_base.specs.declared.schedule.Step.{Step}
 use Rattle.mig_base.specs.declared.command.Command.{Command}
 use Rattle.mig_base.specs.Commands.{is_access}
-use Rattle.mig_model.specs.Guest.{Guest, Fault, tried}
+use Rattle.mig_model.specs.Guest.{Guest, tried}
 use Rattle.mig_model.specs.Wire.{Frame, Sent, page_frame, sending, Wire, wire_if, wire_with}
 use Rattle.mig_model.specs.Wire.Frame.{Advise, Run, End, Resume}
-use Rattle.mig_model.specs.Migration.{World, next, guest_of, with_guest_by, after_command, source_sends, after_deliver, after_deliver_back, after_dest_act, after_move, after_move_back, after_move_urgent, after_deliver_urgent}
-use Rattle.mig_model.specs.Parts.{Grows, Shrinks, GuestAlone, SourceAlone, DestinationAlone, Delivers, DeliversBack, ChangesParts}
+use Rattle.mig_model.specs.Migration.{World, next, guest_of, with_guest_by, after_command, after_deliver, after_deliver_back, after_dest_act, after_move, after_move_back, after_move_urgent, after_deliver_urgent}
+use Rattle.mig_model.specs.Parts.{Grows, Shrinks, GuestAlone, ChangesParts}
 use Rattle.mig_model.proofs.Stopping.{append-nil}
 use Rattle.mig_model.proofs.StepCases.{MakesWorld, made-next}
-use Rattle.mig_model.specs.Source.{Source, bytes_of, page_pushed, page_sent, run_of, run_sent, source_answers, source_started, source_took, switch_frames, switch_made}
-use Rattle.mig_model.specs.Destination.{Destination}
-use Rattle.mig_model.proofs.Facts.{as_it_was, tried_up}
+use Rattle.mig_model.specs.Source.{bytes_of, run_of, source_answers, source_took, switch_frames}
+use Rattle.mig_model.proofs.Facts.{as_it_was}
 
 none_taken : (wire : Wire) → Shrinks wire wire
 none_taken wire = record { taken = []; is = refl }
@@ -55,24 +54,27 @@ made_alone world Step.Start forward back = λ idle unused. assumption (grows_by 
 made_alone world Step.Send forward back = λ page is precopy up quiet. assumption (grows_by world.forward world.source.epoch (page_frame page (bytes_of world.source page) ∷ []))
 made_alone world (Step.SendRun count) forward back = λ first number is many precopy up quiet. assumption (grows_by world.forward world.source.epoch (Run first (run_of world.source first number) ∷ []))
 made_alone world Step.Switch forward back = λ precopy up quiet. assumption (grows_by world.forward world.source.epoch (switch_frames world.source))
-made_alone world (Step.Deliver n) forward back =
-    ((λ sent rest is short. let taken : Shrinks world.forward (after_move world n).forward = record { taken = []; is = refl } in assumption),
-    (λ sent rest is full started up free early.
-    let new = after_deliver world sent rest in
-    let taken : Shrinks world.forward new.forward = record { taken = sent ∷ []; is = is } in
-    let answers : Grows world.back new.back = grows_if world.up world.back _ _ in
-    assumption))
-made_alone world (Step.DeliverBack n) forward back =
-    ((λ sent rest is short. let taken : Shrinks world.back (after_move_back world n).back = record { taken = []; is = refl } in assumption),
-    (λ sent rest is full started up.
-    let taken : Shrinks world.back (after_deliver_back world sent rest).back = record { taken = sent ∷ []; is = is } in
-    assumption (grows_by world.forward (source_took world.source sent.frame).epoch (source_answers world.source sent.frame))))
+made_alone world (Step.Deliver n) forward back = (
+  (λ sent rest is short. let taken : Shrinks world.forward (after_move world n).forward = record { taken = []; is = refl } in assumption),
+  (λ sent rest is full started up free early.
+      let new = after_deliver world sent rest in
+      let taken : Shrinks world.forward new.forward = record { taken = sent ∷ []; is = is } in
+      let answers : Grows world.back new.back = grows_if world.up world.back _ _ in
+      assumption),
+)
+made_alone world (Step.DeliverBack n) forward back = (
+  (λ sent rest is short. let taken : Shrinks world.back (after_move_back world n).back = record { taken = []; is = refl } in assumption),
+  (λ sent rest is full started up.
+      let taken : Shrinks world.back (after_deliver_back world sent rest).back = record { taken = sent ∷ []; is = is } in
+      assumption (grows_by world.forward (source_took world.source sent.frame).epoch (source_answers world.source sent.frame))),
+)
 made_alone world Step.DestAct forward back = λ fault rest is ran quiet. let asks : Grows world.back (after_dest_act world fault).back = grows_if world.up world.back _ _ in assumption
 made_alone world (Step.Push ticket) forward back = λ stopped up own present remains. assumption (grows_by world.forward world.source.epoch (page_frame ticket.page (bytes_of world.source ticket.page) ∷ []))
 made_alone world (Step.PushUrgent ticket) forward back = λ stopped up own present remains. assumption (grows_by world.urgent world.source.epoch (page_frame ticket.page (bytes_of world.source ticket.page) ∷ []))
-made_alone world (Step.DeliverUrgent n) forward back =
-    ((λ sent rest is short. let taken : Shrinks world.urgent (after_move_urgent world n).urgent = record { taken = []; is = refl } in assumption),
-    (λ sent rest is full ran up. let taken : Shrinks world.urgent (after_deliver_urgent world sent rest).urgent = record { taken = sent ∷ []; is = is } in assumption))
+made_alone world (Step.DeliverUrgent n) forward back = (
+  (λ sent rest is short. let taken : Shrinks world.urgent (after_move_urgent world n).urgent = record { taken = []; is = refl } in assumption),
+  (λ sent rest is full ran up. let taken : Shrinks world.urgent (after_deliver_urgent world sent rest).urgent = record { taken = sent ∷ []; is = is } in assumption),
+)
 made_alone world Step.End forward back = λ stopped other up none. assumption (grows_by world.forward world.source.epoch (End world.source.urgent_sent ∷ []))
 made_alone world (Step.Notice Side.Source) forward back = λ started unreleased down. record { phase = SourcePhase.Paused; is = refl }
 made_alone world (Step.Notice Side.Destination) forward back = λ started unreleased down. record { phase = DestPhase.Paused; is = refl }

@@ -1,17 +1,14 @@
 -- A run that may be short of memory is a run of those of its steps that were not.
-use Rattle.std.proofs.Common.{◌≡◌, ◌≢◌, ℕ, Bool, true, false, not, Option, Some, None, List, [], ◌∷◌, refl, sym, ap, ◌∙◌, subst, inl, ⊎_elim, if◌then◌else◌}
+use Rattle.std.proofs.Common.{◌≡◌, ◌≢◌, Bool, true, false, not, Option, Some, None, List, [], ◌∷◌, refl, sym, ap, ◌∙◌, subst, inl, ⊎_elim, if◌then◌else◌}
 use Rattle.std.specs.Prelude.{Ok, Err}
 use Rattle.std.specs.List.{list_all}
 use Rattle.std.proofs.lemmas.Bool.{false≢true, and_parts}
-use Rattle.mig_base.specs.declared.command.Command.{Command}
 use Rattle.mig_base.specs.declared.refusal.Refusal.{Refusal}
 use Rattle.mig_base.specs.declared.schedule.Step.{Step}
 use Rattle.mig_model.specs.Cpus.{outstanding, processor_at}
-use Rattle.mig_model.specs.Guest.{Fault}
 use Rattle.mig_model.specs.Log.{least_of}
 use Rattle.mig_model.specs.Source.{space_of}
-use Rattle.mig_model.specs.Userfault.{Noted, next_message}
-use Rattle.mig_model.specs.Wire.{Copy, Sent}
+use Rattle.mig_model.specs.Userfault.{next_message}
 use Rattle.mig_model.specs.Migration.{Answer, World, after_steps, answer, deliver_back_first, deliver_first, deliver_urgent_first, destination_act_first, destination_read_next, guest_of, install_first, is_short, next, outcome, outcome_by, retry_command, send_page, send_run_from, serve_first, source_act_first, source_read_next, unless}
 use Rattle.mig_model.specs.Promises.{IsReached}
 use Rattle.mig_model.specs.Runs.{Happens, IsRun, Outcome, is_lacking, may_lack, needs_memory, outcomes, results_of, steps_made}

@@ -8,7 +8,6 @@ use Rattle.std.specs.FinMap as finmap
 use Rattle.std.specs.FinMap.{FinMap, get}
 use Rattle.std.proofs.lemmas.Bool.{false≢true}
 use Rattle.mig_base.specs.declared.effect.Effect.{Effect}
-use Rattle.mig_base.specs.declared.phase.Received.{Received}
 use Rattle.mig_base.specs.declared.schedule.Side.{Side}
 use Rattle.mig_base.specs.declared.schedule.Step.{Step}
 use Rattle.mig_base.specs.declared.command.Command.{Command}
@@ -23,10 +22,10 @@ use Rattle.mig_model.specs.Userfault.{Noted, Object, waits_fault, next_of}
 use Rattle.mig_model.specs.Space.{Space, access_of, accessed_by}
 use Rattle.mig_model.specs.Guest.{tried, Act}
 use Rattle.mig_model.specs.Wire.{Frame, Sent, Copy}
-use Rattle.mig_model.specs.Wire.Frame.{Page, Zero, Package, Resume}
+use Rattle.mig_model.specs.Wire.Frame.{Package}
 use Rattle.mig_model.specs.Guest.Act.{Unprotected}
 use Rattle.mig_model.specs.Migration.{World, with_guest_by, guest_by, next, outcome, install_effect, after_command, after_dest_read, guest_of, runs, start}
-use Rattle.mig_model.specs.Invariant.{IsSoundWorld, AreFaults, AreRight, is_package}
+use Rattle.mig_model.specs.Invariant.{IsSoundWorld, AreFaults, AreRight}
 use Rattle.mig_model.specs.Promises.{owed_changed, leaves_settled, AreAccesses}
 use Rattle.mig_model.proofs.SettledLemmas.{settled_by-applied}
 use Rattle.mig_model.proofs.TriedLemmas.{settled_then}
@@ -37,7 +36,7 @@ use Rattle.mig_model.proofs.StepCases.{MakesWorld, made-next, made-ok, made-effe
 use Rattle.mig_model.proofs.DestinationRead.{none_is}
 use Rattle.mig_model.specs.Cpus.{outstanding, processor_at}
 use Rattle.mig_model.specs.Owed.{home, settled_by}
-use Rattle.mig_model.specs.Destination.{Destination, copy_came, destination_act, destination_acted_by, destination_took, install_by, received_of, resumed_by, settled, urgent_took}
+use Rattle.mig_model.specs.Destination.{Destination, destination_act, destination_acted_by, destination_took, install_by, settled}
 use Rattle.mig_model.proofs.Facts.{some_is, dropped_not, page_again, no_event}
 
 -- A map call at the destination

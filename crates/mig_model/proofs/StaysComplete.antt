@@ -15,7 +15,7 @@ use Rattle.mig_model.specs.Invariant.{IsSoundWorld}
 use Rattle.mig_model.specs.Promises.{IsComplete}
 use Rattle.mig_model.proofs.Stopping.{in_phases}
 use Rattle.mig_model.proofs.StepCases.{MakesWorld, made-next}
-use Rattle.mig_model.specs.Source.{is_precopy, is_released, is_source_idle, is_source_paused, is_stopped, released, source_act, source_acted_by}
+use Rattle.mig_model.specs.Source.{is_precopy, is_released, is_source_idle, is_stopped, released, source_act, source_acted_by}
 use Rattle.mig_model.proofs.Facts.{none_absurd}
 
 -- A released source is in no other phase

@@ -1,5 +1,5 @@
 -- The frames that were put on the urgent wire in an epoch and the pages that remain are, together, no more than the pages of the source.
-use Rattle.std.proofs.Common.{◌≡◌, ℕ, ◌+◌, ◌-◌, ◌<◌, ◌≤◌, ◌&&◌, ◌||◌, not, Bool, true, false, List, [], ◌∷◌, refl, sym, ◌∙◌, subst, arith, ltb}
+use Rattle.std.proofs.Common.{◌≡◌, ℕ, ◌+◌, ◌-◌, ◌<◌, ◌≤◌, ◌&&◌, ◌||◌, not, Bool, true, false, List, refl, sym, ◌∙◌, arith, ltb}
 use Rattle.std.specs.Ordering.{nat_cmp}
 use Rattle.std.specs.FinSet as finset
 use Rattle.std.specs.FinSet.{FinSet, contains, len}
@@ -20,7 +20,7 @@ use Rattle.mig_model.specs.Guest.Act.{Unprotected}
 use Rattle.mig_model.specs.Log.{present}
 use Rattle.mig_model.specs.Wire.{Frame, Sent}
 use Rattle.mig_model.specs.Wire.Frame.{Request, Recv, Done}
-use Rattle.mig_model.specs.Migration.{World, after_command, after_deliver_back, after_steps, after_switch, first_world_with, guest_of, next, runs, with_guest_by}
+use Rattle.mig_model.specs.Migration.{World, after_command, after_deliver_back, after_switch, first_world_with, guest_of, next, runs, with_guest_by}
 use Rattle.mig_model.specs.Source.{Source, is_precopy, is_released, is_stopped, not_clean, source_act, source_acted_by, source_rebuilt, space_of}
 use Rattle.mig_model.specs.Invariant.{AreSoundUrgent, IsSoundWorld}
 use Rattle.mig_model.specs.Promises.{IsReached}
@@ -29,14 +29,12 @@ use Rattle.mig_model.specs.Bounds.{AreUrgentFew, IsUrgentFew}
 use Rattle.mig_model.proofs.WokenSteps.{stopped_switched}
 use Rattle.mig_model.proofs.EveryStep.{by_reached}
 use Rattle.mig_model.proofs.Facts.{member_not_clean}
-use Rattle.mig_model.proofs.FirstWorld.{kept-first}
 use Rattle.mig_model.proofs.FramesTaken.{is_taken_back}
 use Rattle.mig_model.proofs.PushOrder.{idle_unswitched}
 use Rattle.mig_model.proofs.SetSizes.{len-part, len-removed, len-some}
 use Rattle.mig_model.proofs.SourceRounds.{precopy_unswitched}
 use Rattle.mig_model.proofs.StepCases.{MakesWorld, made-next}
 use Rattle.mig_model.proofs.Stopping.{present_below}
-use Rattle.mig_model.proofs.UrgentSteps.{urgent-first, urgent-next}
 use Rattle.mig_model.proofs.UrgentWire.{is_paused}
 
 -- Sets of pages of the source

@@ -18,17 +18,15 @@ use Rattle.mig_model.specs.Space.{Space, access_of, queued_by}
 use Rattle.mig_model.specs.Guest.{Guest, read_guest, took_by, tried}
 use Rattle.mig_model.specs.Wire.{Frame, Sent}
 use Rattle.mig_model.specs.Wire.Frame.{Package}
-use Rattle.mig_model.specs.Migration.{World, first_world_with, next, after_deliver, after_steps, guest_by, with_guest_by, after_command}
-use Rattle.mig_model.specs.Invariant.{IsSoundWorld, AreSoundUrgent}
+use Rattle.mig_model.specs.Migration.{World, next, after_deliver, guest_by, with_guest_by, after_command}
+use Rattle.mig_model.specs.Invariant.{IsSoundWorld}
 use Rattle.mig_model.specs.Promises.{IsReached, AllAccess, AreAccesses}
 use Rattle.mig_model.proofs.WaitingCommands.{package_next, taken_keeps, waits_read, woken_waits}
 use Rattle.mig_model.proofs.WokenSteps.{takes, wakes-next, woken_many}
 use Rattle.mig_model.proofs.EveryStep.{by_reached}
-use Rattle.mig_model.proofs.FirstWorld.{kept-first}
 use Rattle.mig_model.proofs.StepCases.{made-next}
 use Rattle.mig_model.specs.Cpus.{access_took, call_took, idle_processors, outstanding, processor_after, processor_at, taken_over}
 use Rattle.mig_model.specs.Source.{commands_of}
-use Rattle.mig_model.proofs.UrgentSteps.{urgent-first, urgent-next}
 
 -- A command that is tried
 

@@ -1,5 +1,5 @@
 -- What deliveries, installs and breaks take from the wires and the arrivals, and by which frames a migration completes.
-use Rattle.std.proofs.Common.{◌≡◌, ◌≢◌, ℕ, ◌*◌, Bool, true, false, Option, Some, None, List, [], ◌∷◌, refl, sym, ap, ◌∙◌, subst, if◌then◌else◌, IsOk}
+use Rattle.std.proofs.Common.{◌≡◌, ◌≢◌, ℕ, ◌*◌, Bool, true, false, Option, Some, None, List, ◌∷◌, refl, sym, ap, ◌∙◌, subst, if◌then◌else◌, IsOk}
 use Rattle.std.specs.Prelude.{Ok}
 use Rattle.std.specs.FinMap.{get}
 use Rattle.std.specs.FinSet.{contains}
@@ -40,9 +40,11 @@ short_not wire n same short full = absurd (false≢true (sym full ∙ sym (ap (�
 pub delivered_first : (world : World) (n : ℕ) (sent : Sent) (rest : List Sent) → IsOk (outcome world (Step.Deliver n)) → world.forward.frames ≡ sent ∷ rest → is_short world.forward sent.frame n ≡ false →
     IsDelivered world (next world (Step.Deliver n)) sent rest
 delivered_first world n sent rest ok first full =
-    made-ok (λ new. IsDelivered world new sent rest) world (Step.Deliver n)
-    ((λ other more is short. short_not world.forward n (the_first is first).0 short full), (λ other more is whole started up free early. as_first (λ s r. IsDelivered world (after_deliver world s r) sent rest) (the_first is first) 
-    (record { destination = refl; forward = refl; back = ap (λ u. wire_if u world.back (destination_took world.destination sent.epoch sent.frame).epoch (destination_answers world.destination sent.frame)) up }))) ok
+    made-ok (λ new. IsDelivered world new sent rest) world (Step.Deliver n) (
+      (λ other more is short. short_not world.forward n (the_first is first).0 short full),
+      (λ other more is whole started up free early. as_first (λ s r. IsDelivered world (after_deliver world s r) sent rest) (the_first is first)
+          (record { destination = refl; forward = refl; back = ap (λ u. wire_if u world.back (destination_took world.destination sent.epoch sent.frame).epoch (destination_answers world.destination sent.frame)) up })),
+    ) ok
 
 pub moved_short : (world : World) (n : ℕ) (sent : Sent) (rest : List Sent) → IsOk (outcome world (Step.Deliver n)) → world.forward.frames ≡ sent ∷ rest → is_short world.forward sent.frame n ≡ true →
     (outcome world (Step.Deliver n) ≡ Ok (Effect.Moved n)) × (next world (Step.Deliver n) ≡ after_move world n)

@@ -1,6 +1,6 @@
 -- A step that tries no command and reads no message changes no processor, but that it may wake some, and hands over no reply; nor does a
 -- frame that the destination takes, unless it is the Package.
-use Rattle.std.proofs.Common.{◌≡◌, ◌≢◌, ℕ, ◌*◌, Bool, true, false, eqb, Option, Some, None, List, [], ◌∷◌, refl, sym, ap, ◌∙◌, subst, length, if◌then◌else◌}
+use Rattle.std.proofs.Common.{◌≡◌, ℕ, ◌*◌, Bool, true, false, eqb, Option, Some, None, List, [], ◌∷◌, refl, sym, ap, ◌∙◌, subst, length, if◌then◌else◌}
 use lib.ListN.{length-map}
 use Rattle.mig_base.specs.declared.TheConstants.{PAGE_SIZE}
 use Rattle.mig_base.specs.declared.cpu_state.CpuState.{CpuState}
