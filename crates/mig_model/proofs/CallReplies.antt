@@ -25,8 +25,8 @@ use Rattle.mig_model.specs.Migration.{Answer, Made, World, after_command, after_
 use Rattle.mig_model.specs.Invariant.{CallFits, AreSoundCalls, IsSoundWorld, unread_of}
 use Rattle.mig_model.specs.Promises.{IsReached}
 use Rattle.mig_model.specs.Replies.{HandsOver, call_reply, last_reply}
-use Rattle.mig_model.proofs.Calls.{are_sound_calls}
-use Rattle.mig_model.proofs.EveryStep.{kept-reached}
+use Rattle.mig_model.proofs.Calls.{are_sound_calls, calls-first, calls_next}
+use Rattle.mig_model.proofs.EveryStep.{by_reached, kept-reached}
 use Rattle.mig_model.proofs.Facts.{by_test, eqb-self}
 use Rattle.mig_model.proofs.FirstFrame.{delivered}
 use Rattle.mig_model.proofs.ReachedLemmas.{reached-next}
@@ -35,7 +35,7 @@ use Rattle.mig_model.proofs.StepCases.{Makes, holds-made}
 use Rattle.mig_model.proofs.WokenSteps.{IsQuiet, IsWoken, frame_not_last, guest_woken, is_last_read, quiet, stopped_switched, wakes-taken}
 use Rattle.mig_model.proofs.StepLemmas.{Holds, Leaves, holds-effect, holds-map, leaves-next}
 use Rattle.mig_model.proofs.Stopping.{append-nil}
-use Rattle.mig_model.proofs.WaitingCommands.{is_try, map_at, package_next, set_other, tried_guest}
+use Rattle.mig_model.proofs.WaitingCommands.{idle_at, is_try, map_at, package_next, set_other, tried_guest}
 
 -- The last entry of a processor
 
@@ -113,11 +113,6 @@ taken_reply [] k = refl
 taken_reply (None ∷ commands) zero = refl
 taken_reply (Some command ∷ commands) zero = refl
 taken_reply (command ∷ commands) (suc k) = taken_reply commands k
-
-idle_replies : (count k : ℕ) → reply_at (idle_processors count) k ≡ None
-idle_replies zero k = refl
-idle_replies (suc count) zero = refl
-idle_replies (suc count) (suc k) = idle_replies count k
 
 -- one message less
 
@@ -343,20 +338,10 @@ replies_answer world step kept all has =
     (λ tries. holds-map (Tries world) _ (answer world step) (λ made t. subst HasReplies (sym t.is) (tried_replies world t.cpu t.command t.free has)) (holds-made _ world step (is_tried world step tries)))
     (λ other. holds-map (GoesOn world) _ (answer world step) (λ made g k reply h. ap (λ e. last_reply e k) g.transcript ∙ has k reply (g.calls.was k reply h)) (goes_on world step kept all other))
 
-replies_steps : (world : World) (steps : List Step) → IsReached world → HasReplies world → HasReplies (after_steps world steps)
-replies_steps world [] reached has = has
-replies_steps world (step ∷ steps) reached has =
-    replies_steps (next world step) steps (reached-next world step reached)
-    (leaves-next HasReplies world step has (replies_answer world step (kept-reached world reached) (are_sound_calls world reached) has))
-
-first_reached : (cpus epoch rounds : ℕ) → IsReached (first_world_with cpus epoch rounds)
-first_reached cpus epoch rounds = record { cpus = cpus; epoch = epoch; rounds = rounds; steps = []; is = refl }
-
 pub reply_entered : (world : World) (cpu : ℕ) (reply : Reply) → IsReached world → call_reply (processor_at (guest_of world).cpus cpu) ≡ Some reply → last_reply world.transcript cpu ≡ Some reply
 reply_entered world cpu reply reached =
-    subst HasReplies (sym reached.is)
-    (replies_steps (first_world_with reached.cpus reached.epoch reached.rounds) reached.steps (first_reached reached.cpus reached.epoch reached.rounds)
-    (λ k other h. absurd (none-some other (sym (idle_replies reached.cpus k) ∙ h)))) cpu reply
+    (by_reached (λ w. AreSoundCalls w × HasReplies w) (λ old step kept urgent both. (calls_next old step kept both.0, leaves-next HasReplies old step both.1 (replies_answer old step kept both.0 both.1)))
+    (λ cpus epoch rounds. (calls-first cpus epoch rounds, λ k other h. absurd (none-some other (sym (ap call_reply (idle_at cpus k)) ∙ h)))) world reached).1 cpu reply
 
 -- a call that goes on, or gives its reply by this step
 abbrev GoesOnOr : ℕ → Reply → Made → Type 0

@@ -22,13 +22,13 @@ use Rattle.mig_model.specs.Invariant.{IsSoundWorld, AreRight, unread_of, CallFit
 use Rattle.mig_model.proofs.SourceMessages.{noted_all, events_queued}
 use Rattle.mig_model.proofs.SettledPromises.{accessed_events}
 use Rattle.mig_model.proofs.FaultLemmas.{AreFaults-tried}
-use Rattle.mig_model.proofs.WaitingCommands.{map_at, set_there, set_other}
+use Rattle.mig_model.proofs.WaitingCommands.{idle_at, map_at, set_there, set_other}
 use Rattle.mig_model.proofs.DestinationRead.{none_is}
 use Rattle.mig_model.proofs.EveryStep.{by_reached}
 use Rattle.mig_model.specs.Cpus.{access_took, all_woken, call_took, idle_processors, is_idle, is_woken, message_less, processor_after, processor_at, taken_over, woken_if}
 use Rattle.mig_model.specs.Guest.{Guest, read_guest, tried, is_left_by}
 use Rattle.mig_model.specs.Destination.{Destination, destination_took}
-use Rattle.mig_model.specs.Migration.{World, after_command, guest_by, guest_of, has_no_cpu, next, start, with_guest_by}
+use Rattle.mig_model.specs.Migration.{first_world_with, World, after_command, guest_by, guest_of, has_no_cpu, next, start, with_guest_by}
 use Rattle.mig_model.specs.Promises.{IsReached}
 use Rattle.mig_model.proofs.StepCases.{made-next}
 use Rattle.mig_model.proofs.WokenSteps.{Wakes, takes, wakes-next}
@@ -218,7 +218,7 @@ taken_calls : (frame : Frame) (node : Destination) (epoch : ℕ) → HasSoundCal
 taken_calls (Package areas owed commands) node epoch calls = record { fits = λ k. taken_fits commands k; faults = tt }
 taken_calls frame node epoch calls = woken_calls _ _ (takes frame node epoch refl).node.guest calls
 
-calls_next : (world : World) (step : Step) → IsSoundWorld world → AreSoundCalls world → AreSoundCalls (next world step)
+pub calls_next : (world : World) (step : Step) → IsSoundWorld world → AreSoundCalls world → AreSoundCalls (next world step)
 calls_next world (Step.Issue cpu command) kept all =
     made-next AreSoundCalls world (Step.Issue cpu command) all
     (λ there idle may. command_calls world cpu command there (λ calls. idle_unread (processor_at (guest_of world).cpus cpu) _ idle (calls.fits cpu)) all)
@@ -237,11 +237,10 @@ calls_next world step kept all =
     record { source = woken_calls _ _ wakes.source all.source; destination = woken_calls _ _ wakes.node.guest all.destination }
 
 idle_calls : (count k : ℕ) → CallFits (processor_at (idle_processors count) k) 0
-idle_calls zero k = refl
-idle_calls (suc count) zero = refl
-idle_calls (suc count) (suc k) = idle_calls count k
+idle_calls count k = subst (λ p. CallFits p 0) (sym (idle_at count k)) refl
+
+pub calls-first : (cpus epoch rounds : ℕ) → AreSoundCalls (first_world_with cpus epoch rounds)
+calls-first cpus epoch rounds = let fits = idle_calls cpus in record { source = record { fits = fits; faults = tt }; destination = record { fits = fits; faults = tt } }
 
 pub are_sound_calls : (world : World) → IsReached world → AreSoundCalls world
-are_sound_calls world reached =
-    by_reached AreSoundCalls (λ old step kept urgent all. calls_next old step kept all)
-    (λ cpus epoch rounds. record { source = record { fits = λ k. idle_calls cpus k; faults = tt }; destination = record { fits = λ k. idle_calls cpus k; faults = tt } }) world reached
+are_sound_calls world reached = by_reached AreSoundCalls (λ old step kept urgent all. calls_next old step kept all) calls-first world reached

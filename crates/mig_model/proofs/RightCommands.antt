@@ -26,7 +26,7 @@ use Rattle.mig_model.specs.Promises.{Slept}
 use Rattle.mig_model.specs.Bounds.{AreRightAccesses, IsMapping, IsPage, IsRightAccess}
 use Rattle.mig_model.proofs.HostLemmas.{is_mapped-memory}
 use Rattle.mig_model.proofs.MappingLemmas.{IsMapping-guest}
-use Rattle.mig_model.proofs.WaitingCommands.{waits_arise}
+use Rattle.mig_model.proofs.WaitingCommands.{idle_at, waits_arise}
 
 -- A command that sleeps
 
@@ -70,9 +70,7 @@ abbrev pub AreRight : World → Type 0
 AreRight world = AllRight (guest_of world).cpus
 
 idle_right : (count : ℕ) → AllRight (idle_processors count)
-idle_right zero k command h = absurd (none-some command h)
-idle_right (suc count) zero command h = absurd (none-some command h)
-idle_right (suc count) (suc k) command h = idle_right count k command h
+idle_right count k command h = absurd (none-some command (sym (ap outstanding (idle_at count k)) ∙ h))
 
 pub right-first : (cpus epoch rounds : ℕ) → AreRight (first_world_with cpus epoch rounds)
 right-first cpus epoch rounds = idle_right cpus

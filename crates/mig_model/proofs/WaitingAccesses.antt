@@ -21,7 +21,7 @@ use Rattle.mig_model.specs.Wire.Frame.{Package}
 use Rattle.mig_model.specs.Migration.{World, next, after_deliver, guest_by, with_guest_by, after_command}
 use Rattle.mig_model.specs.Invariant.{IsSoundWorld}
 use Rattle.mig_model.specs.Promises.{IsReached, AllAccess, AreAccesses}
-use Rattle.mig_model.proofs.WaitingCommands.{package_next, taken_keeps, waits_read, woken_waits}
+use Rattle.mig_model.proofs.WaitingCommands.{idle_at, package_next, taken_keeps, waits_read, woken_waits}
 use Rattle.mig_model.proofs.WokenSteps.{takes, wakes-next, woken_many}
 use Rattle.mig_model.proofs.EveryStep.{by_reached}
 use Rattle.mig_model.proofs.StepCases.{made-next}
@@ -111,9 +111,7 @@ next_all world step kept all =
     }
 
 idle_all : (count : ℕ) → AllAccess (idle_processors count)
-idle_all zero k command h = absurd (none-some command h)
-idle_all (suc count) zero command h = absurd (none-some command h)
-idle_all (suc count) (suc k) command h = idle_all count k command h
+idle_all count k command h = absurd (none-some command (sym (ap outstanding (idle_at count k)) ∙ h))
 
 waits : (world : World) → IsReached world → Wait world
 waits world reached =

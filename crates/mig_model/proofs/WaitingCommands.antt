@@ -27,7 +27,7 @@ use Rattle.mig_model.proofs.FirstFrame.{comes, first_in_place, delivered}
 use Rattle.mig_model.proofs.FramesTaken.{with_first, commands_in}
 use Rattle.mig_model.proofs.StepCases.{made-next, made-ok}
 use Rattle.mig_model.proofs.WokenSteps.{IsWoken, guest_woken, wakes-next, wakes-taken}
-use Rattle.mig_model.specs.Cpus.{all_woken, is_idle, message_less, outstanding, processor_after, processor_at, taken_over, woken_if, Took}
+use Rattle.mig_model.specs.Cpus.{idle_processors, all_woken, is_idle, message_less, outstanding, processor_after, processor_at, taken_over, woken_if, Took}
 use Rattle.mig_model.specs.Source.{is_stopped, commands_of}
 use Rattle.mig_model.proofs.Facts.{some_command}
 
@@ -40,6 +40,11 @@ set_same (p ∷ ps) zero new same zero = same
 set_same (p ∷ ps) zero new same (suc k) = refl
 set_same (p ∷ ps) (suc i) new same zero = refl
 set_same (p ∷ ps) (suc i) new same (suc k) = set_same ps i new same k
+
+pub idle_at : (count k : ℕ) → processor_at (idle_processors count) k ≡ CpuState.Idle
+idle_at zero k = refl
+idle_at (suc count) zero = refl
+idle_at (suc count) (suc k) = idle_at count k
 
 pub map_at : (f : CpuState → CpuState) (ps : List CpuState) (k : ℕ) → f CpuState.Idle ≡ CpuState.Idle → processor_at (map f ps) k ≡ f (processor_at ps k)
 map_at f [] k idle = sym idle
