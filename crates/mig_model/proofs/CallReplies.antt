@@ -16,12 +16,12 @@ use Rattle.mig_base.specs.declared.message.Message.{Message}
 use Rattle.mig_base.specs.declared.message.Message.TheVariants.{PageFault}
 use Rattle.mig_base.specs.declared.schedule.Step.{Step}
 use Rattle.mig_base.specs.Commands.{is_access, page_of}
-use Rattle.mig_model.specs.Cpus.{Took, all_woken, entries_of, handed_over, idle_processors, is_idle, is_woken, message_less, processor_after, processor_at, taken_over, woken_if}
+use Rattle.mig_model.specs.Cpus.{Took, all_woken, entries_of, handed_over, is_idle, is_woken, message_less, processor_after, processor_at, taken_over, woken_if}
 use Rattle.mig_model.specs.Cpus.Took.{Sleep, Call}
 use Rattle.mig_model.specs.Guest.{Guest, is_left_by, read_guest, took_by}
 use Rattle.mig_model.specs.Wire.{Frame, Sent}
 use Rattle.mig_model.specs.Wire.Frame.{Package}
-use Rattle.mig_model.specs.Migration.{Answer, Made, World, after_command, after_deliver, after_steps, answer, event_effect, first_world_with, guest_by, guest_of, next, next_by, outcome, outcome_by, read_effect, try_effect}
+use Rattle.mig_model.specs.Migration.{Answer, Made, World, after_command, after_deliver, answer, event_effect, guest_by, guest_of, next, next_by, outcome, outcome_by, read_effect, try_effect}
 use Rattle.mig_model.specs.Invariant.{CallFits, AreSoundCalls, IsSoundWorld, unread_of}
 use Rattle.mig_model.specs.Promises.{IsReached}
 use Rattle.mig_model.specs.Replies.{HandsOver, call_reply, last_reply}
@@ -29,7 +29,6 @@ use Rattle.mig_model.proofs.Calls.{are_sound_calls, calls-first, calls_next}
 use Rattle.mig_model.proofs.EveryStep.{by_reached, kept-reached}
 use Rattle.mig_model.proofs.Facts.{by_test, eqb-self}
 use Rattle.mig_model.proofs.FirstFrame.{delivered}
-use Rattle.mig_model.proofs.ReachedLemmas.{reached-next}
 use Rattle.mig_model.proofs.SourceHandler.{has_not_run}
 use Rattle.mig_model.proofs.StepCases.{Makes, holds-made}
 use Rattle.mig_model.proofs.WokenSteps.{IsQuiet, IsWoken, frame_not_last, guest_woken, is_last_read, quiet, stopped_switched, wakes-taken}
