@@ -27,7 +27,8 @@ abbrev pub Makes : (Made → Type 0) → World → Step → Type 0
 Makes Q world (Step.Issue cpu command) =
     has_no_cpu world cpu ≡ false → is_idle (processor_at (guest_of world).cpus cpu) ≡ true → runs world ≡ true → Q (record { effect = try_effect cpu (took_by (is_access command) (guest_of world).space command); world = after_command world cpu command })
 Makes Q world (Step.Retry cpu) =
-    (command : Command) → outstanding (processor_at (guest_of world).cpus cpu) ≡ Some command → is_woken (processor_at (guest_of world).cpus cpu) ≡ true → runs world ≡ true → Q (record { effect = try_effect cpu (took_by (is_access command) (guest_of world).space command); world = after_command world cpu command })
+    (command : Command) → outstanding (processor_at (guest_of world).cpus cpu) ≡ Some command → is_woken (processor_at (guest_of world).cpus cpu) ≡ true → runs world ≡ true →
+    Q (record { effect = try_effect cpu (took_by (is_access command) (guest_of world).space command); world = after_command world cpu command })
 Makes Q world Step.Start =
     is_source_idle world.source.phase ≡ true → is_used world.source.epoch ≡ false → Q (record { effect = Effect.Started (world.source.epoch + 1); world = after_start world })
 Makes Q world Step.Round =
@@ -35,16 +36,19 @@ Makes Q world Step.Round =
 Makes Q world Step.Send =
     (page : ℕ) → least_of world.source.log.todo ≡ Some page → is_precopy world.source.phase ≡ true → world.up ≡ true → is_changing world.source.guest ≡ false → Q (record { effect = page_effect page (bytes_of world.source page); world = after_send world page })
 Makes Q world (Step.SendRun count) =
-    (first number : ℕ) → least_of world.source.log.todo ≡ Some first → number ≡ run_length world.source.log.todo first (run_bound count) → is_precopy world.source.phase ≡ true → world.up ≡ true → is_changing world.source.guest ≡ false → Q (record { effect = Effect.SentRun (PAGE_SIZE * first) number; world = after_run world first number })
+    (first number : ℕ) → least_of world.source.log.todo ≡ Some first → number ≡ run_length world.source.log.todo first (run_bound count) → is_precopy world.source.phase ≡ true → world.up ≡ true → is_changing world.source.guest ≡ false →
+    Q (record { effect = Effect.SentRun (PAGE_SIZE * first) number; world = after_run world first number })
 Makes Q world Step.SourceRead =
     (noted : Noted) → next_message (space_of world.source).object ≡ Some noted → is_source_idle world.source.phase ≡ false → world.source.switched ≡ false → Q (record { effect = read_effect world.source.guest noted.cpu noted.message; world = after_source_read world noted })
 Makes Q world Step.SourceAct =
-    (fault : Fault) (rest : List Fault) → world.source.log.held ≡ fault ∷ rest → is_source_idle world.source.phase ≡ false → world.source.switched ≡ false → is_changing world.source.guest ≡ false → Q (record { effect = act_effect (source_act world.source fault) (PAGE_SIZE * fault.page); world = after_source_act world fault })
+    (fault : Fault) (rest : List Fault) → world.source.log.held ≡ fault ∷ rest → is_source_idle world.source.phase ≡ false → world.source.switched ≡ false → is_changing world.source.guest ≡ false →
+    Q (record { effect = act_effect (source_act world.source fault) (PAGE_SIZE * fault.page); world = after_source_act world fault })
 Makes Q world Step.Switch =
     is_precopy world.source.phase ≡ true → world.up ≡ true → is_changing world.source.guest ≡ false → Q (record { effect = Effect.Switched (finset.len (less world.source.log.sent world.source.log.clean)) (finset.len (not_clean world.source)); world = after_switch world })
 Makes Q world (Step.Deliver n) =
     ((sent : Sent) (rest : List Sent) → world.forward.frames ≡ sent ∷ rest → is_short world.forward sent.frame n ≡ true → Q (record { effect = Effect.Moved n; world = after_move world n })) ×
-    ((sent : Sent) (rest : List Sent) → world.forward.frames ≡ sent ∷ rest → is_short world.forward sent.frame n ≡ false → has_started world ≡ true → world.up ≡ true → (is_end sent.frame && not (is_empty world.destination.arrivals)) ≡ false → is_early world.destination sent.frame ≡ false → Q (record { effect = frame_effect sent.frame; world = after_deliver world sent rest }))
+    ((sent : Sent) (rest : List Sent) → world.forward.frames ≡ sent ∷ rest → is_short world.forward sent.frame n ≡ false → has_started world ≡ true → world.up ≡ true → (is_end sent.frame && not (is_empty world.destination.arrivals)) ≡ false → is_early world.destination sent.frame ≡ false →
+    Q (record { effect = frame_effect sent.frame; world = after_deliver world sent rest }))
 Makes Q world (Step.DeliverBack n) =
     ((sent : Sent) (rest : List Sent) → world.back.frames ≡ sent ∷ rest → is_short world.back sent.frame n ≡ true → Q (record { effect = Effect.Moved n; world = after_move_back world n })) ×
     ((sent : Sent) (rest : List Sent) → world.back.frames ≡ sent ∷ rest → is_short world.back sent.frame n ≡ false → has_started world ≡ true → world.up ≡ true → Q (record { effect = frame_effect sent.frame; world = after_deliver_back world sent rest }))
@@ -55,9 +59,11 @@ Makes Q world Step.DestAct =
 Makes Q world Step.Install =
     (copy : Copy) (rest : List Copy) → world.destination.arrivals ≡ copy ∷ rest → world.destination.has_run ≡ true → is_changing world.destination.guest ≡ false → Q (record { effect = install_effect (home world.destination.owed copy.page) copy.page; world = after_install world copy rest })
 Makes Q world (Step.Push ticket) =
-    is_stopped world.source.phase ≡ true → world.up ≡ true → eqb ticket.epoch world.source.epoch ≡ true → is_present (space_of world.source) ticket.page ≡ true → contains world.source.remaining ticket.page ≡ true → Q (record { effect = page_effect ticket.page (bytes_of world.source ticket.page); world = after_push world ticket.page })
+    is_stopped world.source.phase ≡ true → world.up ≡ true → eqb ticket.epoch world.source.epoch ≡ true → is_present (space_of world.source) ticket.page ≡ true → contains world.source.remaining ticket.page ≡ true →
+    Q (record { effect = page_effect ticket.page (bytes_of world.source ticket.page); world = after_push world ticket.page })
 Makes Q world (Step.PushUrgent ticket) =
-    is_stopped world.source.phase ≡ true → world.up ≡ true → eqb ticket.epoch world.source.epoch ≡ true → is_present (space_of world.source) ticket.page ≡ true → contains world.source.remaining ticket.page ≡ true → Q (record { effect = page_effect ticket.page (bytes_of world.source ticket.page); world = after_push_urgent world ticket.page })
+    is_stopped world.source.phase ≡ true → world.up ≡ true → eqb ticket.epoch world.source.epoch ≡ true → is_present (space_of world.source) ticket.page ≡ true → contains world.source.remaining ticket.page ≡ true →
+    Q (record { effect = page_effect ticket.page (bytes_of world.source ticket.page); world = after_push_urgent world ticket.page })
 Makes Q world (Step.DeliverUrgent n) =
     ((sent : Sent) (rest : List Sent) → world.urgent.frames ≡ sent ∷ rest → is_short world.urgent sent.frame n ≡ true → Q (record { effect = Effect.Moved n; world = after_move_urgent world n })) ×
     ((sent : Sent) (rest : List Sent) → world.urgent.frames ≡ sent ∷ rest → is_short world.urgent sent.frame n ≡ false → world.destination.has_run ≡ true → world.up ≡ true → Q (record { effect = frame_effect sent.frame; world = after_deliver_urgent world sent rest }))
