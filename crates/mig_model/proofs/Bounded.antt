@@ -53,7 +53,7 @@ bounded-next cpus world step old =
         kept = kept-next world step ready.kept old.urgent;
         few = few-next world step ready.kept old.urgent ready.few;
         right = right-next world step ready.kept ready.right;
-        many = as_many_next world step ∙ ready.many;
+        many = as_many_next world step ready.kept ∙ ready.many;
       };
       urgent = urgent-next world step ready.kept old.urgent;
       limited = limited-next world step ready old.limited;

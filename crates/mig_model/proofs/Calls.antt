@@ -1,48 +1,38 @@
 -- A processor is in a call exactly as long as it has unread events there, and counts them: every step keeps it.
-use Rattle.std.proofs.Common.{◌≡◌, ℕ, zero, suc, ◌+◌, Bool, true, false, not, eqb, ltb, Option, Some, None, List, [], ◌∷◌, ◌++◌, length, refl, sym, ap, ◌∙◌, subst, ◌≢◌, ⊎_elim, arith, if◌then◌else◌}
+use Rattle.std.proofs.Common.{◌≡◌, ℕ, zero, suc, ◌+◌, Bool, true, false, not, eqb, ltb, Option, Some, None, List, [], ◌∷◌, ◌++◌, length, refl, sym, ap, ◌∙◌, subst, ⊎_elim, arith, if◌then◌else◌}
 use Rattle.std.specs.Prelude.{set, map}
 use Rattle.std.proofs.lemmas.Bool.Decides.{nat_tests}
 use Rattle.std.proofs.lemmas.Bool.{false≢true, cases_eq, ne_eqb}
 use Rattle.mig_base.specs.declared.command.Access.{Access}
-use Rattle.mig_base.specs.declared.command.Access.TheVariants.{Answered, Missing, Protected}
+use Rattle.mig_base.specs.declared.command.Access.TheVariants.{Answered}
 use Rattle.mig_base.specs.declared.command.Command.{Command}
 use Rattle.mig_base.specs.declared.command.Reply.{Reply}
 use Rattle.mig_base.specs.declared.cpu_state.CpuState.{CpuState}
 use Rattle.mig_base.specs.declared.message.Message.{Message}
 use Rattle.mig_base.specs.declared.message.Message.TheVariants.{PageFault, Remap, Remove, Unmap}
-use Rattle.mig_base.specs.declared.phase.Received.{Received}
-use Rattle.mig_base.specs.declared.phase.SourcePhase.{SourcePhase}
-use Rattle.mig_base.specs.declared.schedule.Side.{Side}
 use Rattle.mig_base.specs.declared.schedule.Step.{Step}
 use Rattle.mig_base.specs.Commands.{is_access, page_of}
 use Rattle.mig_base.specs.Flat.{reply_of}
 use Rattle.mig_model.specs.Host.{memory}
 use Rattle.mig_model.specs.Userfault.{Noted, next_of, next_message}
-use Rattle.mig_model.specs.Space.{Space, access_of, call_messages, modes_after}
-use Rattle.mig_model.specs.Guest.Act.{Unprotected, Zeroed, Woke, Forgot, Requested}
-use Rattle.mig_model.specs.Wire.{Frame, Copy}
-use Rattle.mig_model.specs.Wire.Frame.{Advise, Page, Zero, Run, Discard, Package, End, Resume, Request, Recv, Done}
-use Rattle.mig_model.specs.Invariant.{IsSoundWorld, AreRight, AreFaults, unread_of, CallFits, HasSoundCalls, AreSoundCalls, SwitchedAt, AreSoundUrgent}
+use Rattle.mig_model.specs.Space.{access_of, call_messages, modes_after}
+use Rattle.mig_model.specs.Wire.{Frame}
+use Rattle.mig_model.specs.Wire.Frame.{Package}
+use Rattle.mig_model.specs.Invariant.{IsSoundWorld, AreRight, unread_of, CallFits, HasSoundCalls, AreSoundCalls}
 use Rattle.mig_model.proofs.SourceMessages.{noted_all, events_queued}
 use Rattle.mig_model.proofs.SettledPromises.{accessed_events}
 use Rattle.mig_model.proofs.FaultLemmas.{AreFaults-tried}
-use Rattle.mig_model.proofs.WaitingCommands.{map_at, set_there, set_other}
+use Rattle.mig_model.proofs.WaitingCommands.{idle_at, map_at, set_there, set_other}
 use Rattle.mig_model.proofs.DestinationRead.{none_is}
-use Rattle.mig_model.proofs.EveryStep.{kept-next}
-use Rattle.mig_model.proofs.FirstWorld.{kept-first}
-use Rattle.mig_model.proofs.FramesTaken.{is_taken_back}
-use Rattle.mig_model.proofs.StepLemmas.{Leaves, leaves-next}
+use Rattle.mig_model.proofs.EveryStep.{by_reached}
 use Rattle.mig_model.specs.Cpus.{access_took, all_woken, call_took, idle_processors, is_idle, is_woken, message_less, processor_after, processor_at, taken_over, woken_if}
-use Rattle.mig_model.specs.Guest.{Act, Guest, read_guest, resolved, tried, is_left_by}
-use Rattle.mig_model.specs.Owed.{home}
-use Rattle.mig_model.specs.Source.{Source, is_stopped, released, source_act, source_acted_by, source_took, space_of}
-use Rattle.mig_model.specs.Destination.{Destination, copy_came, destination_act, destination_acted_by, destination_took, install_by, received_of, resumed_by, urgent_took}
-use Rattle.mig_model.specs.Migration.{World, after_command, after_steps, answer, first_world_with, guest_by, guest_of, has_no_cpu, next, start, with_guest_by}
-use Rattle.mig_model.specs.Promises.{IsReached, is_last}
-use Rattle.mig_model.proofs.Taken.{IsInPlaceBack}
-use Rattle.mig_model.proofs.StepCases.{made-break, made-deliver, made-deliver_back, made-dest_act, made-dest_read, made-end, made-install, made-issue, made-notice, made-push, made-resume, made-retry, made-round, made-send, made-send_run, made-serve, made-source_act, made-source_read, made-start, made-switch, made-deliver_urgent, made-push_urgent}
+use Rattle.mig_model.specs.Guest.{Guest, read_guest, tried, is_left_by}
+use Rattle.mig_model.specs.Destination.{Destination, destination_took}
+use Rattle.mig_model.specs.Migration.{first_world_with, World, after_command, guest_by, guest_of, has_no_cpu, next, start, with_guest_by}
+use Rattle.mig_model.specs.Promises.{IsReached}
+use Rattle.mig_model.proofs.StepCases.{made-next}
+use Rattle.mig_model.proofs.WokenSteps.{Wakes, takes, wakes-next}
 use Rattle.mig_model.proofs.Facts.{eqb-self, some_is, modes_events}
-use Rattle.mig_model.proofs.UrgentSteps.{urgent-first, urgent-next}
 
 -- Numbers of events
 
@@ -84,12 +74,6 @@ woken_unread : (p : CpuState) (unread : ℕ) → is_woken p ≡ true → CallFit
 woken_unread (CpuState.Woken command) unread is h = h
 woken_unread _ unread is h = absurd (false≢true is)
 
-zero_suc : (n : ℕ) → 0 ≡ suc n → ⊥
-zero_suc n h = omega (arith, h)
-
-less_one : (a b : ℕ) → suc a ≡ suc b → a ≡ b
-less_one a b h = omega (arith, h)
-
 -- a processor that is there changes, and the others stay
 fits_set : (cpus : List CpuState) (i : ℕ) (new : CpuState) (before now : ℕ → ℕ) → not (ltb i (length cpus)) ≡ false → ((k : ℕ) → CallFits (processor_at cpus k) (before k)) → ((k : ℕ) → (i ≡ k → ⊥) → now k ≡ before k) → CallFits new (now i) → (k : ℕ) →
     CallFits (processor_at (set cpus i new) k) (now k)
@@ -108,10 +92,6 @@ answered_fits _ command unread h = h
 called_fits : (reply : Reply) (count : ℕ) (command : Command) (unread : ℕ) → unread ≡ count → CallFits (processor_after command (call_took reply count)) unread
 called_fits reply zero command unread h = h
 called_fits reply (suc left) command unread h = (sym h, omega arith)
-
-eqb_by : (here : Bool) (a b : ℕ) → eqb a b ≡ here → (a ≡ b → ⊥) → here ≡ false
-eqb_by true a b is h = absurd (h (grind (arith, nat_tests)))
-eqb_by false a b is h = refl
 
 plus_none : (n : ℕ) → n + 0 ≡ n
 plus_none n = omega arith
@@ -205,28 +185,6 @@ read_in (first ∷ faults) events noted guest is right calls =
 read_calls : (guest : Guest) (noted : Noted) → next_message guest.space.object ≡ Some noted → AreRight guest.space.object.events → HasSoundCalls guest → HasSoundCalls (read_guest guest noted.cpu noted.message)
 read_calls guest noted is right calls = read_in guest.space.object.faults guest.space.object.events noted guest is right calls
 
--- The steps of the nodes
-
--- a guest whose space is another with the same object, and whose sleepers of a page are woken
-resolved_calls : (guest : Guest) (page : ℕ) (space : Space) → space.object ≡ guest.space.object → HasSoundCalls guest → HasSoundCalls (resolved guest page space)
-resolved_calls guest page space same calls =
-    record {
-      fits = λ k. subst (λ o. CallFits (processor_at (all_woken (λ q. eqb q page) guest.cpus) k) (unread_of o.events k)) (sym same) (fits_all (λ q. eqb q page) guest.cpus k (unread_of guest.space.object.events k) (calls.fits k));
-      faults = subst (λ o. AreFaults o.faults) (sym same) calls.faults;
-    }
-
-source_act_calls : (act : Act) (node : Source) (page : ℕ) → HasSoundCalls node.guest → HasSoundCalls (source_acted_by act node page).guest
-source_act_calls Unprotected node page calls = resolved_calls node.guest page _ refl calls
-source_act_calls _ node page calls = resolved_calls node.guest page _ refl calls
-
-destination_act_calls : (act : Act) (node : Destination) (page : ℕ) → HasSoundCalls node.guest → HasSoundCalls (destination_acted_by act node page).guest
-destination_act_calls (Requested origin) node page calls = calls
-destination_act_calls _ node page calls = resolved_calls node.guest page _ refl calls
-
-install_calls : (o : Option ℕ) (node : Destination) (copy : Copy) (rest : List Copy) → HasSoundCalls node.guest → HasSoundCalls (install_by o node copy rest).guest
-install_calls None node copy rest calls = calls
-install_calls (Some page) node copy rest calls = resolved_calls node.guest page _ refl calls
-
 -- a processor that is taken over is in no call
 taken_fits : (commands : List (Option Command)) (k : ℕ) → CallFits (processor_at (map taken_over commands) k) 0
 taken_fits [] k = refl
@@ -234,38 +192,15 @@ taken_fits (None ∷ commands) zero = refl
 taken_fits (Some command ∷ commands) zero = refl
 taken_fits (command ∷ commands) (suc k) = taken_fits commands k
 
-came_calls : (ran : Bool) (node : Destination) (copy : Copy) → HasSoundCalls node.guest → HasSoundCalls (copy_came ran node copy).guest
-came_calls true node copy calls = record { fits = calls.fits; faults = calls.faults }
-came_calls false node copy calls = record { fits = calls.fits; faults = calls.faults }
-
-resumed_calls : (state : Received) (node : Destination) → HasSoundCalls node.guest → HasSoundCalls (resumed_by state node).guest
-resumed_calls Received.NotRun node calls = calls
-resumed_calls _ node calls = calls
-
-took_calls : (frame : Frame) (node : Destination) (epoch : ℕ) → HasSoundCalls node.guest → HasSoundCalls (destination_took node epoch frame).guest
-took_calls (Package areas owed commands) node epoch calls = record { fits = λ k. taken_fits commands k; faults = tt }
-took_calls (Page page bytes) node epoch calls = came_calls node.has_run node _ calls
-took_calls (Zero page) node epoch calls = came_calls node.has_run node _ calls
-took_calls Resume node epoch calls = resumed_calls (received_of node) _ calls
-took_calls _ node epoch calls = calls
-
-urgent_calls : (frame : Frame) (node : Destination) → HasSoundCalls node.guest → HasSoundCalls (urgent_took node frame).guest
-urgent_calls (Page page bytes) node calls = calls
-urgent_calls _ node calls = calls
-
--- a source that has switched has no unread event, and gives up its space with none
-released_calls : (node : Source) → (space_of node).object.events ≡ [] → HasSoundCalls node.guest → HasSoundCalls (released node).guest
-released_calls node quiet calls = record { fits = λ k. subst (λ e. CallFits (processor_at node.guest.cpus k) (unread_of e k)) quiet (calls.fits k); faults = tt }
-
-rebuilt_calls : (switched : Bool) (one other : Source) → HasSoundCalls one.guest → HasSoundCalls other.guest → HasSoundCalls (if switched then one else other).guest
-rebuilt_calls true one other a b = a
-rebuilt_calls false one other a b = b
-
-back_calls : (frame : Frame) (node : Source) → (is_last frame ≡ true → (space_of node).object.events ≡ []) → HasSoundCalls node.guest → HasSoundCalls (source_took node frame).guest
-back_calls (Recv Received.NotRun owed) node quiet calls = rebuilt_calls node.switched _ _ calls calls
-back_calls (Recv Received.Ended owed) node quiet calls = released_calls node (quiet refl) calls
-back_calls Done node quiet calls = released_calls node (quiet refl) calls
-back_calls _ node quiet calls = calls
+-- waking leaves calls
+woken_calls : (old new : Guest) → Wakes old new → HasSoundCalls old → HasSoundCalls new
+woken_calls old new w calls =
+    record {
+      fits = λ k.
+          subst (λ ps. CallFits (processor_at ps k) (unread_of new.space.object.events k)) (sym w.woken.is)
+          (subst (λ e. CallFits (processor_at (all_woken w.woken.test old.cpus) k) (unread_of e k)) (sym w.events) (fits_all w.woken.test old.cpus k (unread_of old.space.object.events k) (calls.fits k)));
+      faults = w.faults calls.faults;
+    }
 
 -- Steps
 
@@ -279,72 +214,33 @@ by_guest false world cpu command there none all = record { source = tried_calls 
 command_calls : (world : World) (cpu : ℕ) (command : Command) → has_no_cpu world cpu ≡ false → (HasSoundCalls (guest_of world) → unread_of (guest_of world).space.object.events cpu ≡ 0) → AreSoundCalls world → AreSoundCalls (after_command world cpu command)
 command_calls world cpu command there none all = let new = by_guest world.destination.has_run world cpu command there none all in record { source = new.source; destination = new.destination }
 
-pub stopped_switched : (phase : SourcePhase) (switched : Bool) → is_stopped phase ≡ true → SwitchedAt phase switched → switched ≡ true
-stopped_switched SourcePhase.Stopped switched h at = at
-stopped_switched _ switched h at = absurd (false≢true h)
+taken_calls : (frame : Frame) (node : Destination) (epoch : ℕ) → HasSoundCalls node.guest → HasSoundCalls (destination_took node epoch frame).guest
+taken_calls (Package areas owed commands) node epoch calls = record { fits = λ k. taken_fits commands k; faults = tt }
+taken_calls frame node epoch calls = woken_calls _ _ (takes frame node epoch refl).node.guest calls
 
-ended_ran : Received.Ended ≢ Received.NotRun
-ended_ran h = cc
-
-last_switched : (frame : Frame) (world : World) → IsSoundWorld world → IsInPlaceBack world.source frame → is_last frame ≡ true → world.source.switched ≡ true
-last_switched Done world kept place h = stopped_switched world.source.phase world.source.switched place.0 kept.phases.source_phase
-last_switched (Recv Received.Ended owed) world kept place h = place.3 ended_ran
-last_switched (Recv Received.NotRun owed) world kept place h = absurd (false≢true h)
-last_switched (Recv Received.Running owed) world kept place h = absurd (false≢true h)
-last_switched _ world kept place h = absurd (false≢true h)
-
-calls_answer : (world : World) (step : Step) → IsSoundWorld world → AreSoundCalls world → Leaves AreSoundCalls (answer world step)
-calls_answer world (Step.Issue cpu command) kept all =
-    made-issue _ world cpu command (λ there idle may. command_calls world cpu command there (λ calls. idle_unread (processor_at (guest_of world).cpus cpu) _ idle (calls.fits cpu)) all)
-calls_answer world (Step.Retry cpu) kept all =
-    made-retry _ world cpu (λ command is woken may.
-    command_calls world cpu command (woken_there (guest_of world).cpus cpu woken) (λ calls. woken_unread (processor_at (guest_of world).cpus cpu) _ woken (calls.fits cpu)) all)
-calls_answer world Step.Start kept all = made-start _ world (λ idle. record { source = record { fits = all.source.fits; faults = all.source.faults }; destination = all.destination })
-calls_answer world Step.Round kept all = made-round _ world (λ precopy quiet. record { source = record { fits = all.source.fits; faults = all.source.faults }; destination = all.destination })
-calls_answer world Step.Send kept all = made-send _ world (λ page is precopy up quiet. record { source = record { fits = all.source.fits; faults = all.source.faults }; destination = all.destination })
-calls_answer world (Step.SendRun count) kept all = made-send_run _ world count (λ first number is many precopy up quiet. record { source = record { fits = all.source.fits; faults = all.source.faults }; destination = all.destination })
-calls_answer world Step.SourceRead kept all =
-    made-source_read _ world (λ noted is started unswitched. record { source = read_calls world.source.guest noted is kept.spaces.source_events all.source; destination = all.destination })
-calls_answer world Step.SourceAct kept all =
-    made-source_act _ world (λ fault rest is started unswitched quiet. record { source = source_act_calls (source_act world.source fault) world.source fault.page all.source; destination = all.destination })
-calls_answer world Step.Switch kept all = made-switch _ world (λ precopy up quiet. record { source = record { fits = all.source.fits; faults = tt }; destination = all.destination })
-calls_answer world (Step.Deliver n) kept all =
-    made-deliver _ world n (λ sent rest is short. record { source = all.source; destination = all.destination })
-    (λ sent rest is full started up free early. record { source = all.source; destination = took_calls sent.frame world.destination sent.epoch all.destination })
-calls_answer world (Step.DeliverBack n) kept all =
-    made-deliver_back _ world n (λ sent rest is short. record { source = all.source; destination = all.destination })
-    (λ sent rest is full started up.
-    record {
-      source = back_calls sent.frame world.source (λ last. kept.phases.source_quiet (last_switched sent.frame world kept (is_taken_back world sent rest kept up is) last)) all.source;
-      destination = all.destination;
-    })
-calls_answer world Step.DestRead kept all =
-    made-dest_read _ world (λ noted is ran. record { source = all.source; destination = read_calls world.destination.guest noted is kept.spaces.destination_events all.destination })
-calls_answer world Step.DestAct kept all =
-    made-dest_act _ world (λ fault rest is ran quiet. record { source = all.source; destination = destination_act_calls (destination_act world.destination fault) world.destination fault.page all.destination })
-calls_answer world Step.Install kept all =
-    made-install _ world (λ copy rest is ran quiet. record { source = all.source; destination = install_calls (home world.destination.owed copy.page) world.destination copy rest all.destination })
-calls_answer world (Step.Push ticket) kept all = made-push _ world ticket (λ stopped up own present remains. record { source = all.source; destination = all.destination })
-calls_answer world (Step.PushUrgent ticket) kept all = made-push_urgent _ world ticket (λ stopped up own present remains. record { source = all.source; destination = all.destination })
-calls_answer world (Step.DeliverUrgent n) kept all = made-deliver_urgent _ world n (λ sent rest is short. record { source = all.source; destination = all.destination }) (λ sent rest is full ran up. record { source = all.source; destination = urgent_calls sent.frame world.destination all.destination })
-calls_answer world Step.Serve kept all = made-serve _ world (λ page pages is stopped up. record { source = all.source; destination = all.destination })
-calls_answer world Step.End kept all = made-end _ world (λ stopped other up none. record { source = all.source; destination = all.destination })
-calls_answer world Step.Break kept all = made-break _ world (λ started unreleased up. record { source = all.source; destination = all.destination })
-calls_answer world (Step.Notice Side.Source) kept all = made-notice _ world Side.Source (λ started unreleased down. record { source = all.source; destination = all.destination })
-calls_answer world (Step.Notice Side.Destination) kept all = made-notice _ world Side.Destination (λ started unreleased down. record { source = all.source; destination = all.destination })
-calls_answer world Step.Resume kept all = made-resume _ world (λ from to down. record { source = all.source; destination = all.destination })
+pub calls_next : (world : World) (step : Step) → IsSoundWorld world → AreSoundCalls world → AreSoundCalls (next world step)
+calls_next world (Step.Issue cpu command) kept all =
+    made-next AreSoundCalls world (Step.Issue cpu command) all
+    (λ there idle may. command_calls world cpu command there (λ calls. idle_unread (processor_at (guest_of world).cpus cpu) _ idle (calls.fits cpu)) all)
+calls_next world (Step.Retry cpu) kept all =
+    made-next AreSoundCalls world (Step.Retry cpu) all
+    (λ command is woken may. command_calls world cpu command (woken_there (guest_of world).cpus cpu woken) (λ calls. woken_unread (processor_at (guest_of world).cpus cpu) _ woken (calls.fits cpu)) all)
+calls_next world Step.SourceRead kept all =
+    made-next AreSoundCalls world Step.SourceRead all (λ noted is started unswitched. record { source = read_calls world.source.guest noted is kept.spaces.source_events all.source; destination = all.destination })
+calls_next world Step.DestRead kept all =
+    made-next AreSoundCalls world Step.DestRead all (λ noted is ran. record { source = all.source; destination = read_calls world.destination.guest noted is kept.spaces.destination_events all.destination })
+calls_next world (Step.Deliver n) kept all =
+    made-next AreSoundCalls world (Step.Deliver n) all
+    ((assumption), (λ sent rest is full started up free early. record { source = all.source; destination = taken_calls sent.frame world.destination sent.epoch all.destination }))
+calls_next world step kept all =
+    let wakes = wakes-next world step kept refl in
+    record { source = woken_calls _ _ wakes.source all.source; destination = woken_calls _ _ wakes.node.guest all.destination }
 
 idle_calls : (count k : ℕ) → CallFits (processor_at (idle_processors count) k) 0
-idle_calls zero k = refl
-idle_calls (suc count) zero = refl
-idle_calls (suc count) (suc k) = idle_calls count k
+idle_calls count k = subst (λ p. CallFits p 0) (sym (idle_at count k)) refl
 
-steps_calls : (world : World) (steps : List Step) → IsSoundWorld world → AreSoundUrgent world → AreSoundCalls world → AreSoundCalls (after_steps world steps)
-steps_calls world [] kept urgent all = all
-steps_calls world (step ∷ steps) kept urgent all = steps_calls (next world step) steps (kept-next world step kept urgent) (urgent-next world step kept urgent) (leaves-next AreSoundCalls world step all (calls_answer world step kept all))
+pub calls-first : (cpus epoch rounds : ℕ) → AreSoundCalls (first_world_with cpus epoch rounds)
+calls-first cpus epoch rounds = let fits = idle_calls cpus in record { source = record { fits = fits; faults = tt }; destination = record { fits = fits; faults = tt } }
 
 pub are_sound_calls : (world : World) → IsReached world → AreSoundCalls world
-are_sound_calls world reached =
-    subst AreSoundCalls (sym reached.is)
-    (steps_calls (first_world_with reached.cpus reached.epoch reached.rounds) reached.steps (kept-first reached.cpus reached.epoch reached.rounds) (urgent-first reached.cpus reached.epoch reached.rounds)
-    (record { source = record { fits = λ k. idle_calls reached.cpus k; faults = tt }; destination = record { fits = λ k. idle_calls reached.cpus k; faults = tt } }))
+are_sound_calls world reached = by_reached AreSoundCalls (λ old step kept urgent all. calls_next old step kept all) calls-first world reached

@@ -10,7 +10,7 @@ use Rattle.std.proofs.lemmas.Bool.Decides.{nat_tests}
 use Rattle.std.proofs.lemmas.Option.{none-some, same_Some}
 use Rattle.mig_base.specs.declared.TheConstants.{HIGH_PAGE}
 use Rattle.mig_base.specs.declared.message.Message.{Message}
-use Rattle.mig_base.specs.declared.message.Message.TheVariants.{PageFault, Remap, Remove, Unmap}
+use Rattle.mig_base.specs.declared.message.Message.TheVariants.{PageFault}
 use Rattle.mig_base.specs.declared.phase.DestPhase.{DestPhase}
 use Rattle.mig_base.specs.declared.phase.SourcePhase.{SourcePhase}
 use Rattle.mig_base.specs.Tests.{is_empty}
@@ -186,9 +186,6 @@ none_early : (node : Destination) (epoch end_epoch count : ℕ) (frame : Frame) 
 none_early node epoch end_epoch count (End urgent) told all = let same = told.1 in grind (arith, nat_tests, same, all)
 none_early node epoch end_epoch count _ told all = refl
 
-running_not_paused : DestPhase.Running ≢ DestPhase.Paused
-running_not_paused h = cc
-
 deliver_step : (world : World) (sent : Sent) (rest : List Sent) → world.forward.frames ≡ sent ∷ rest → world.urgent.frames ≡ [] → world.destination.arrivals ≡ [] → IsDraining world → Again world → CanComplete world
 unfolding Again work
 deliver_step world sent rest first none free draining again =
@@ -196,7 +193,7 @@ deliver_step world sent rest first none free draining again =
     let in_place : is_some (flow_next Pushed sent.frame) ≡ true = subst (λ p. comes SourcePhase.Stopped p sent.frame ≡ true) draining.runs (subst (λ p. comes p world.destination.phase sent.frame ≡ true) draining.at.phase comes_so) in
     let node = pushed-next world.destination sent.epoch sent.frame in_place in
     let urgent = draining.at.order.urgent in
-    let counted = urgent.counted draining.at.up (λ paused. running_not_paused (sym draining.runs ∙ paused)) ∙ ap (λ frames. world.destination.urgent_taken + length frames) none in
+    let counted = urgent.counted draining.at.up (λ paused. let h : DestPhase.Running ≡ DestPhase.Paused = sym draining.runs ∙ paused in cc) ∙ ap (λ frames. world.destination.urgent_taken + length frames) none in
     let told = subst (AreTold world.source.epoch world.source.end_epoch world.source.urgent_sent) first urgent.told in
     let taken = ap length first in
     let object = ap (λ (guest : Guest). unread guest.space.object) node.guest in
@@ -205,9 +202,6 @@ deliver_step world sent rest first none free draining again =
     (none_early world.destination world.source.epoch world.source.end_epoch world.source.urgent_sent sent.frame told.0 counted) draining.at.order (λ order.
     again (after_deliver world sent rest) (omega (arith, taken, object, arrived)) (record { order = order; up = draining.at.up; phase = draining.at.phase }) draining.told (still_runs world.destination.phase _ draining.runs node.phase))
 
-flow_not_ended : Pushed ≢ AfterEnd
-flow_not_ended h = cc
-
 -- the wire is not empty as long as End was not taken
 not_at_end : (flow : Flow) (source : Source) (frames : List Sent) → flow ≢ AfterEnd → flow_of source ≡ AfterEnd → flow_after flow frames ≡ Some (flow_of source) → frames ≢ []
 not_at_end flow source frames other told h none =
@@ -215,7 +209,7 @@ not_at_end flow source frames other told h none =
 
 forward_step : (frames : List Sent) (world : World) → world.forward.frames ≡ frames → world.urgent.frames ≡ [] → world.destination.arrivals ≡ [] → IsDraining world → Again world → CanComplete world
 forward_step [] world first none free draining again =
-    absurd (not_at_end Pushed world.source world.forward.frames flow_not_ended draining.told (wires_at SourcePhase.Stopped DestPhase.Running world draining.runs draining.at).0 first)
+    absurd (not_at_end Pushed world.source world.forward.frames (λ h. cc) draining.told (wires_at SourcePhase.Stopped DestPhase.Running world draining.runs draining.at).0 first)
 forward_step (sent ∷ rest) world first none free draining again = deliver_step world sent rest first none free draining again
 
 quiet_step : (copy : Copy) (rest : List Copy) (events : List Noted) (world : World) → world.destination.arrivals ≡ copy ∷ rest → world.destination.guest.space.object.events ≡ events → IsDraining world → Again world → CanComplete world
@@ -275,7 +269,6 @@ waiting_flow phase = BeforePackage
 
 waiting-not_ended : (to : DestPhase) → waiting_flow to ≢ AfterEnd
 unfolding waiting_flow
-waiting-not_ended DestPhase.Idle h = cc
 waiting-not_ended DestPhase.Advised h = cc
 waiting-not_ended _ h = cc
 

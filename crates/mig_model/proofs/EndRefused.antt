@@ -1,5 +1,5 @@
 -- End is refused exactly where a page remains.
-use Rattle.std.proofs.Common.{◌≡◌, ℕ, zero, suc, ◌<◌, ◌||◌, ◌⊎◌, ⊎_elim, inl, inr, Bool, true, false, not, eqb, ltb, Option, Some, None, is_some, if◌then◌else◌, List, [], ◌∷◌, refl, sym, ap, ◌∙◌, arith}
+use Rattle.std.proofs.Common.{◌≡◌, ℕ, zero, suc, ◌<◌, ◌||◌, ◌⊎◌, ⊎_elim, inl, inr, Bool, true, false, not, eqb, Option, Some, None, is_some, if◌then◌else◌, [], ◌∷◌, refl, sym, ap, ◌∙◌, arith}
 use Rattle.std.specs.Prelude.{Ok, Err}
 use Rattle.std.specs.FinSet.{contains}
 use Rattle.mig_base.specs.declared.TheConstants.{HIGH_PAGE}

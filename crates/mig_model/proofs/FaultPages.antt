@@ -34,7 +34,7 @@ use Rattle.mig_model.proofs.Bounded.{IsBounded, bounded-first, bounded-next, has
 use Rattle.mig_model.proofs.FaultLemmas.{called_faults}
 use Rattle.mig_model.proofs.Registering.{pages_again}
 use Rattle.mig_model.proofs.RightCommands.{right_slept}
-use Rattle.mig_model.proofs.StepCases.{made-break, made-deliver, made-deliver_back, made-deliver_urgent, made-dest_act, made-dest_read, made-end, made-install, made-issue, made-notice, made-push, made-push_urgent, made-resume, made-retry, made-round, made-send, made-send_run, made-serve, made-source_act, made-source_read, made-start, made-switch}
+use Rattle.mig_model.proofs.StepCases.{holds-made}
 use Rattle.mig_model.proofs.StepLemmas.{Leaves, leaves-next}
 
 -- a message that waits, if it is of a page fault
@@ -215,29 +215,29 @@ dest_read_inside world noted kept is h =
 -- Steps
 
 inside-answer : (cpus : ℕ) (world : World) (step : Step) → IsBounded cpus world → HasFaultsInside world → Leaves HasFaultsInside (answer world step)
-inside-answer cpus world (Step.Issue cpu command) all h = made-issue _ world cpu command (λ there idle may. guest_inside world.destination.has_run world cpu command all.limited.areas (has_memory cpus world all).destination h)
-inside-answer cpus world (Step.Retry cpu) all h = made-retry _ world cpu (λ command waits woken may. guest_inside world.destination.has_run world cpu command all.limited.areas (has_memory cpus world all).destination h)
-inside-answer cpus world Step.Start all h = made-start _ world (λ idle. h)
-inside-answer cpus world Step.Round all h = made-round _ world (λ precopy quiet. h)
-inside-answer cpus world Step.Send all h = made-send _ world (λ page is precopy up quiet. h)
-inside-answer cpus world (Step.SendRun count) all h = made-send_run _ world count (λ first number is many precopy up quiet. h)
-inside-answer cpus world Step.SourceRead all h = made-source_read _ world (λ noted is started unswitched. source_read_inside world noted all.ready.kept is h)
-inside-answer cpus world Step.SourceAct all h = made-source_act _ world (λ fault rest is started unswitched quiet. acted_inside (source_act world.source fault) world fault.page h)
-inside-answer cpus world Step.Switch all h = made-switch _ world (λ precopy up quiet. with_source [] [] tt tt h)
-inside-answer cpus world (Step.Deliver n) all h = made-deliver _ world n (λ sent rest is short. h) (λ sent rest is full started up free early. took_inside sent.frame sent.epoch world h)
-inside-answer cpus world (Step.DeliverBack n) all h = made-deliver_back _ world n (λ sent rest is short. h) (λ sent rest is full started up. back_inside sent.frame world h)
-inside-answer cpus world Step.DestRead all h = made-dest_read _ world (λ noted is ran. dest_read_inside world noted all.ready.kept is h)
-inside-answer cpus world Step.DestAct all h = made-dest_act _ world (λ fault rest is ran quiet. handled_inside (destination_act world.destination fault) world fault.page h)
-inside-answer cpus world Step.Install all h = made-install _ world (λ copy rest is ran quiet. installed_inside (home world.destination.owed copy.page) world copy rest h)
-inside-answer cpus world (Step.Push ticket) all h = made-push _ world ticket (λ stopped up own present remains. h)
-inside-answer cpus world (Step.PushUrgent ticket) all h = made-push_urgent _ world ticket (λ stopped up own present remains. h)
-inside-answer cpus world (Step.DeliverUrgent n) all h = made-deliver_urgent _ world n (λ sent rest is short. h) (λ sent rest is full ran up. urgent_inside sent.frame world h)
-inside-answer cpus world Step.Serve all h = made-serve _ world (λ page pages is stopped up. h)
-inside-answer cpus world Step.End all h = made-end _ world (λ stopped other up none. h)
-inside-answer cpus world Step.Break all h = made-break _ world (λ started unreleased up. h)
-inside-answer cpus world (Step.Notice Side.Source) all h = made-notice _ world Side.Source (λ started unreleased down. h)
-inside-answer cpus world (Step.Notice Side.Destination) all h = made-notice _ world Side.Destination (λ started unreleased down. h)
-inside-answer cpus world Step.Resume all h = made-resume _ world (λ from to down. h)
+inside-answer cpus world (Step.Issue cpu command) all h = holds-made _ world (Step.Issue cpu command) (λ there idle may. guest_inside world.destination.has_run world cpu command all.limited.areas (has_memory cpus world all).destination h)
+inside-answer cpus world (Step.Retry cpu) all h = holds-made _ world (Step.Retry cpu) (λ command waits woken may. guest_inside world.destination.has_run world cpu command all.limited.areas (has_memory cpus world all).destination h)
+inside-answer cpus world Step.Start all h = holds-made _ world Step.Start (λ idle unused. h)
+inside-answer cpus world Step.Round all h = holds-made _ world Step.Round (λ precopy quiet. h)
+inside-answer cpus world Step.Send all h = holds-made _ world Step.Send (λ page is precopy up quiet. h)
+inside-answer cpus world (Step.SendRun count) all h = holds-made _ world (Step.SendRun count) (λ first number is many precopy up quiet. h)
+inside-answer cpus world Step.SourceRead all h = holds-made _ world Step.SourceRead (λ noted is started unswitched. source_read_inside world noted all.ready.kept is h)
+inside-answer cpus world Step.SourceAct all h = holds-made _ world Step.SourceAct (λ fault rest is started unswitched quiet. acted_inside (source_act world.source fault) world fault.page h)
+inside-answer cpus world Step.Switch all h = holds-made _ world Step.Switch (λ precopy up quiet. with_source [] [] tt tt h)
+inside-answer cpus world (Step.Deliver n) all h = holds-made _ world (Step.Deliver n) ((λ sent rest is short. h), (λ sent rest is full started up free early. took_inside sent.frame sent.epoch world h))
+inside-answer cpus world (Step.DeliverBack n) all h = holds-made _ world (Step.DeliverBack n) ((λ sent rest is short. h), (λ sent rest is full started up. back_inside sent.frame world h))
+inside-answer cpus world Step.DestRead all h = holds-made _ world Step.DestRead (λ noted is ran. dest_read_inside world noted all.ready.kept is h)
+inside-answer cpus world Step.DestAct all h = holds-made _ world Step.DestAct (λ fault rest is ran quiet. handled_inside (destination_act world.destination fault) world fault.page h)
+inside-answer cpus world Step.Install all h = holds-made _ world Step.Install (λ copy rest is ran quiet. installed_inside (home world.destination.owed copy.page) world copy rest h)
+inside-answer cpus world (Step.Push ticket) all h = holds-made _ world (Step.Push ticket) (λ stopped up own present remains. h)
+inside-answer cpus world (Step.PushUrgent ticket) all h = holds-made _ world (Step.PushUrgent ticket) (λ stopped up own present remains. h)
+inside-answer cpus world (Step.DeliverUrgent n) all h = holds-made _ world (Step.DeliverUrgent n) ((λ sent rest is short. h), (λ sent rest is full ran up. urgent_inside sent.frame world h))
+inside-answer cpus world Step.Serve all h = holds-made _ world Step.Serve (λ page pages is stopped up. h)
+inside-answer cpus world Step.End all h = holds-made _ world Step.End (λ stopped other up none. h)
+inside-answer cpus world Step.Break all h = holds-made _ world Step.Break (λ started unreleased up. h)
+inside-answer cpus world (Step.Notice Side.Source) all h = holds-made _ world (Step.Notice Side.Source) (λ started unreleased down. h)
+inside-answer cpus world (Step.Notice Side.Destination) all h = holds-made _ world (Step.Notice Side.Destination) (λ started unreleased down. h)
+inside-answer cpus world Step.Resume all h = holds-made _ world Step.Resume (λ from to down unused. h)
 
 inside-after_steps : (cpus : ℕ) (world : World) (steps : List Step) → IsBounded cpus world → HasFaultsInside world → HasFaultsInside (after_steps world steps)
 inside-after_steps cpus world [] all h = h

@@ -106,26 +106,21 @@ resume_first sent rest epoch h = ap (λ (wire : List Sent). elim wire [ [] ↦ f
 
 in_place_by : (from : SourcePhase) (to : DestPhase) (source : Source) (destination : Destination) (sent : Sent) (rest back urgent : List Sent)
     → Wires (record source { phase = from }) (record destination { phase = to }) (sent ∷ rest) back urgent → comes from to sent.frame ≡ true
-in_place_by SourcePhase.Idle to source destination sent rest back urgent w = absurd (empty_not sent rest w.1)
 in_place_by SourcePhase.Precopy DestPhase.Idle source destination sent rest back urgent w = first_flows BeforeAdvise sent rest Copies w.0
 in_place_by SourcePhase.Precopy DestPhase.Advised source destination sent rest back urgent w = copy_first sent.frame rest w.0
-in_place_by SourcePhase.Precopy DestPhase.Discarding source destination sent rest back urgent w = absurd w
-in_place_by SourcePhase.Precopy DestPhase.Running source destination sent rest back urgent w = absurd w
-in_place_by SourcePhase.Precopy DestPhase.Paused source destination sent rest back urgent w = absurd w
-in_place_by SourcePhase.Precopy DestPhase.Ended source destination sent rest back urgent w = absurd w
+in_place_by SourcePhase.Precopy _ source destination sent rest back urgent w = absurd w
 in_place_by SourcePhase.Stopped DestPhase.Idle source destination sent rest back urgent w = first_flows BeforeAdvise sent rest _ w.0
 in_place_by SourcePhase.Stopped DestPhase.Advised source destination sent rest back urgent w = first_flows Copies sent rest _ w.0
 in_place_by SourcePhase.Stopped DestPhase.Discarding source destination sent rest back urgent w = first_flows BeforePackage sent rest _ w.0
 in_place_by SourcePhase.Stopped DestPhase.Running source destination sent rest back urgent w = first_flows Pushed sent rest _ w.0
 in_place_by SourcePhase.Stopped DestPhase.Paused source destination sent rest back urgent w = absurd w
 in_place_by SourcePhase.Stopped DestPhase.Ended source destination sent rest back urgent w = absurd (empty_not sent rest w.0)
-in_place_by SourcePhase.Paused DestPhase.Idle source destination sent rest back urgent w = absurd w
 in_place_by SourcePhase.Paused DestPhase.Advised source destination sent rest back urgent w = absurd (empty_not sent rest w.0)
-in_place_by SourcePhase.Paused DestPhase.Discarding source destination sent rest back urgent w = absurd w
 in_place_by SourcePhase.Paused DestPhase.Running source destination sent rest back urgent w = absurd (empty_not sent rest w.0)
 in_place_by SourcePhase.Paused DestPhase.Paused source destination sent rest back urgent w = resume_first sent rest source.epoch w.0
 in_place_by SourcePhase.Paused DestPhase.Ended source destination sent rest back urgent w = absurd (empty_not sent rest w.0)
-in_place_by SourcePhase.Released to source destination sent rest back urgent w = absurd (empty_not sent rest w.1)
+in_place_by SourcePhase.Paused _ source destination sent rest back urgent w = absurd w
+in_place_by _ to source destination sent rest back urgent w = absurd (empty_not sent rest w.1)
 
 -- while the link is up the first frame is never out of place
 pub first_in_place : (source : Source) (destination : Destination) (sent : Sent) (rest back urgent : List Sent) → Wires source destination (sent ∷ rest) back urgent → comes source.phase destination.phase sent.frame ≡ true

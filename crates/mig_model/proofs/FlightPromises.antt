@@ -23,8 +23,7 @@ use Rattle.mig_model.specs.Invariant.Flow.{BeforeAdvise, Copies, BeforePackage, 
 use Rattle.mig_model.specs.Promises.{has_recv, is_running_recv}
 use Rattle.mig_model.proofs.FirstFrame.{stays_late}
 use Rattle.mig_model.proofs.Stopping.{in_phases}
-use Rattle.mig_model.proofs.StepLemmas.{leaves-ok}
-use Rattle.mig_model.proofs.StepCases.{made-switch}
+use Rattle.mig_model.proofs.StepCases.{made-ok}
 use Rattle.mig_model.proofs.SwitchMade.{member_not_clean}
 use Rattle.mig_model.proofs.Facts.{either, and_false}
 
@@ -191,9 +190,9 @@ owed_at world page kept = member_not_clean world.source page ∙ ap (λ b. b && 
 
 pub switch_owes : (world : World) (page : ℕ) → IsSoundWorld world → IsOk (outcome world Step.Switch) → contains (next world Step.Switch).source.remaining page ≡ (is_present (space_of world.source) page && not (contains world.source.log.clean page))
 switch_owes world page kept ok =
-    leaves-ok (λ new. contains new.source.remaining page ≡ (is_present (space_of world.source) page && not (contains world.source.log.clean page))) world Step.Switch
-    (made-switch _ world (λ precopy up quiet. owed_at world page kept)) ok
+    made-ok (λ new. contains new.source.remaining page ≡ (is_present (space_of world.source) page && not (contains world.source.log.clean page))) world Step.Switch
+    (λ precopy up quiet. owed_at world page kept) ok
 
 pub switch_sends : (world : World) → IsOk (outcome world Step.Switch) → (next world Step.Switch).forward ≡ wire_with world.forward world.source.epoch (switch_frames world.source)
 switch_sends world ok =
-    leaves-ok (λ new. new.forward ≡ wire_with world.forward world.source.epoch (switch_frames world.source)) world Step.Switch (made-switch _ world (λ precopy up quiet. refl)) ok
+    made-ok (λ new. new.forward ≡ wire_with world.forward world.source.epoch (switch_frames world.source)) world Step.Switch (λ precopy up quiet. refl) ok

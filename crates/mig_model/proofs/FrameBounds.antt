@@ -13,7 +13,7 @@ use Rattle.mig_base.proofs.PageLemmas.{count_below-contains_key}
 use Rattle.mig_base.proofs.SetLemmas.{member_below}
 use Rattle.mig_model.specs.Host.{Host, IsSound}
 use Rattle.mig_model.specs.Guest.{Act, is_present}
-use Rattle.mig_model.specs.Guest.Act.{Unprotected, Zeroed, Woke, Forgot, Requested}
+use Rattle.mig_model.specs.Guest.Act.{Zeroed, Woke, Forgot, Requested}
 use Rattle.mig_model.specs.Log.{less, no_pages, present}
 use Rattle.mig_model.specs.Owed.{origins, is_requested, requesting, without_request}
 use Rattle.mig_model.specs.Space.{Space}
@@ -88,9 +88,6 @@ frames-requests (request ∷ requests) are = (are.0, frames-requests requests ar
 
 pub present_page : (host : Host) (page : ℕ) → IsSound host → IsMapping host.areas → contains_key host.bytes page ≡ true → IsPage page
 present_page host page sound mapping h = mapping.pages page (has_areas host page sound h)
-
-few_of : (part all limit : ℕ) → part ≤ all → all ≤ limit → part ≤ limit
-few_of part all limit h k = omega (arith, h, k)
 
 -- a set of present pages
 pub present_pages : (host : Host) (set : FinSet nat_cmp) → IsSound host → IsMapping host.areas → ((page : ℕ) → contains set page ≡ true → contains_key host.bytes page ≡ true) → AreFewPages set

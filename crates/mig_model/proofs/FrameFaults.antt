@@ -1,5 +1,5 @@
 -- A frame that is taken has no fault, but for having to wait.
-use Rattle.std.proofs.Common.{◌≡◌, ◌≢◌, ℕ, ◌≤◌, ◌&&◌, ◌||◌, Bool, true, false, not, eqb, leb, ltb, Option, Some, None, List, [], ◌∷◌, refl, sym, ap, ◌∙◌, length, arith, cond, is_some, subst, ◌<◌, if◌then◌else◌}
+use Rattle.std.proofs.Common.{◌≡◌, ℕ, ◌≤◌, ◌&&◌, ◌||◌, Bool, true, false, not, eqb, leb, ltb, Option, Some, None, List, [], ◌∷◌, refl, sym, ap, ◌∙◌, length, arith, cond, is_some, subst, ◌<◌, if◌then◌else◌}
 use Rattle.std.specs.Prelude.{Ok, Err, Result}
 use Rattle.std.specs.Ordering.{nat_cmp}
 use Rattle.std.specs.FinMap as finmap
@@ -25,7 +25,7 @@ use Rattle.mig_model.specs.Migration.{World, Made, Answer, after_deliver, after_
 use Rattle.mig_model.specs.Invariant.{IsSoundWorld}
 use Rattle.mig_model.proofs.SourceRounds.{idle_forward}
 use Rattle.mig_model.specs.Wire.{Frame, Sent, Copy, is_copy}
-use Rattle.mig_model.specs.Wire.Frame.{Advise, Page, Zero, Run, Discard, Package, End, Resume, Request, Recv, Done}
+use Rattle.mig_model.specs.Wire.Frame.{Advise, Package, End, Resume, Request, Recv, Done}
 use Rattle.mig_model.specs.Guest.{is_present}
 use Rattle.mig_model.specs.Log.{less, no_pages, present}
 use Rattle.mig_model.specs.Source.{Source, is_source_idle, is_stopped, space_of}
@@ -140,29 +140,17 @@ no_back_fault node sent place own =
 none_listed : (owed : FinSet nat_cmp) → owed ≡ no_pages → not (eqb (finset.len owed) 0) ≡ false
 none_listed owed none = ap (λ s. not (eqb (finset.len s) 0)) none ∙ ap (λ n. not (eqb n 0)) (len-empty nat_cmp)
 
-not_run_other : Received.NotRun ≢ Received.Running
-not_run_other h = cc
-
-ended_other : Received.Ended ≢ Received.Running
-ended_other h = cc
-
-running_run : Received.Running ≢ Received.NotRun
-running_run h = cc
-
-ended_run : Received.Ended ≢ Received.NotRun
-ended_run h = cc
-
 -- a Recv that is taken lists what the source has
 pub no_rebuild_fault : (node : Source) (state : Received) (owed : FinSet nat_cmp) → ((page : ℕ) → is_present (space_of node) page ≡ true → contains (present (space_of node)) page ≡ true) → IsInPlaceBack node (Recv state owed) →
     rebuild_fault node state owed ≡ None
-no_rebuild_fault node Received.NotRun owed below place = none_first (is_bad_owed node Received.NotRun owed) RebuildFault.BadOwed None (none_listed owed (place.2 not_run_other)) refl
+no_rebuild_fault node Received.NotRun owed below place = none_first (is_bad_owed node Received.NotRun owed) RebuildFault.BadOwed None (none_listed owed (place.2 (λ h. cc))) refl
 no_rebuild_fault node Received.Running owed below place =
     none_first (is_bad_owed node Received.Running owed) RebuildFault.BadOwed None
-    (or_from (not node.switched) (not (eqb (finset.len (less owed (present (space_of node)))) 0)) (not_from_true node.switched (place.3 running_run))
+    (or_from (not node.switched) (not (eqb (finset.len (less owed (present (space_of node)))) 0)) (not_from_true node.switched (place.3 (λ h. cc)))
     (none_empty (less owed (present (space_of node))) (no_member owed (λ page. not (contains (present (space_of node)) page)) (λ page h. not_from_true (contains (present (space_of node)) page) (below page (place.1 page h)))))) refl
 no_rebuild_fault node Received.Ended owed below place =
     none_first (is_bad_owed node Received.Ended owed) RebuildFault.BadOwed None
-    (or_from (not node.switched) (not (eqb (finset.len owed) 0)) (not_from_true node.switched (place.3 ended_run)) (none_listed owed (place.2 ended_other))) refl
+    (or_from (not node.switched) (not (eqb (finset.len owed) 0)) (not_from_true node.switched (place.3 (λ h. cc))) (none_listed owed (place.2 (λ h. cc)))) refl
 
 -- A Deliver that completes a frame
 
@@ -189,23 +177,17 @@ fault_by install early = first_holding ((install, TakeFault.InstallFirst) ∷ (e
 abbrev answer_by : (install early : Bool) → Made → Result Effect Refusal
 answer_by install early new = outcome_by (unless ((install, Refusal.InstallFirst) ∷ (early, Refusal.UrgentFirst) ∷ []) (Ok new))
 
-taken_by : (install early : Bool) (new : Made) → fault_by install early ≡ None → answer_by install early new ≡ Ok new.effect
-unfolding unless
-taken_by true early new h = absurd (cc)
-taken_by false true new h = absurd (cc)
-taken_by false false new h = refl
+-- what a step whose frame has such a fault answers
+abbrev pub answer_to : Option TakeFault → Made → Result Effect Refusal
+answer_to (Some TakeFault.InstallFirst) new = Err Refusal.InstallFirst
+answer_to (Some fault) new = Err Refusal.UrgentFirst
+answer_to None new = Ok new.effect
 
-install_by : (install early : Bool) (new : Made) → fault_by install early ≡ Some TakeFault.InstallFirst → answer_by install early new ≡ Err Refusal.InstallFirst
+told_by : (install early : Bool) (new : Made) → answer_by install early new ≡ answer_to (fault_by install early) new
 unfolding unless
-install_by true early new h = refl
-install_by false true new h = absurd (cc)
-install_by false false new h = absurd (cc)
-
-urgent_by : (install early : Bool) (new : Made) → fault_by install early ≡ Some TakeFault.UrgentFirst → answer_by install early new ≡ Err Refusal.UrgentFirst
-unfolding unless
-urgent_by true early new h = absurd (cc)
-urgent_by false true new h = refl
-urgent_by false false new h = absurd (cc)
+told_by true early new = refl
+told_by false true new = refl
+told_by false false new = refl
 
 -- a frame that is not wrong has no fault but for having to wait
 only_waits : (node : Destination) (sent : Sent) (fault : Option TakeFault) → frame_fault node sent.epoch sent.frame ≡ None → take_fault node sent.epoch sent.frame ≡ fault → wait_fault node sent.frame ≡ fault
@@ -219,20 +201,13 @@ pub record IsFull (world : World) (n : ℕ) (sent : Sent) (rest : List Sent) : T
   pub full : is_short world.forward sent.frame n ≡ false
   pub right : frame_fault world.destination sent.epoch sent.frame ≡ None
 
-pub full_taken : (world : World) (n : ℕ) (sent : Sent) (rest : List Sent) → IsFull world n sent rest → take_fault world.destination sent.epoch sent.frame ≡ None → outcome world (Step.Deliver n) ≡ Ok (frame_effect sent.frame)
-full_taken world n sent rest is h =
+pub full_by : (world : World) (n : ℕ) (sent : Sent) (rest : List Sent) (fault : Option TakeFault) → IsFull world n sent rest → take_fault world.destination sent.epoch sent.frame ≡ fault →
+    outcome world (Step.Deliver n) ≡ answer_to fault (record { effect = frame_effect sent.frame; world = after_deliver world sent rest })
+full_by world n sent rest fault is h =
+    let new : Made = record { effect = frame_effect sent.frame; world = after_deliver world sent rest } in
     completed world n sent rest is.started is.up is.first is.full
-    ∙ taken_by (is_end sent.frame && not (is_empty world.destination.arrivals)) (is_early world.destination sent.frame) (record { effect = frame_effect sent.frame; world = after_deliver world sent rest }) (only_waits world.destination sent None is.right h)
-
-pub full_install : (world : World) (n : ℕ) (sent : Sent) (rest : List Sent) → IsFull world n sent rest → take_fault world.destination sent.epoch sent.frame ≡ Some TakeFault.InstallFirst → outcome world (Step.Deliver n) ≡ Err Refusal.InstallFirst
-full_install world n sent rest is h =
-    completed world n sent rest is.started is.up is.first is.full
-    ∙ install_by (is_end sent.frame && not (is_empty world.destination.arrivals)) (is_early world.destination sent.frame) (record { effect = frame_effect sent.frame; world = after_deliver world sent rest }) (only_waits world.destination sent (Some TakeFault.InstallFirst) is.right h)
-
-pub full_urgent : (world : World) (n : ℕ) (sent : Sent) (rest : List Sent) → IsFull world n sent rest → take_fault world.destination sent.epoch sent.frame ≡ Some TakeFault.UrgentFirst → outcome world (Step.Deliver n) ≡ Err Refusal.UrgentFirst
-full_urgent world n sent rest is h =
-    completed world n sent rest is.started is.up is.first is.full
-    ∙ urgent_by (is_end sent.frame && not (is_empty world.destination.arrivals)) (is_early world.destination sent.frame) (record { effect = frame_effect sent.frame; world = after_deliver world sent rest }) (only_waits world.destination sent (Some TakeFault.UrgentFirst) is.right h)
+    ∙ told_by (is_end sent.frame && not (is_empty world.destination.arrivals)) (is_early world.destination sent.frame) new
+    ∙ ap (λ f. answer_to f new) (only_waits world.destination sent fault is.right h)
 
 -- nothing is in flight before Start
 unstarted : (idle : Bool) (frames : List Sent) (sent : Sent) (rest : List Sent) → (idle ≡ true → frames ≡ []) → frames ≡ sent ∷ rest → not idle ≡ true

@@ -14,7 +14,7 @@ use Rattle.mig_base.specs.declared.phase.Received.{Received}
 use Rattle.mig_base.specs.declared.phase.SourcePhase.{SourcePhase}
 use Rattle.mig_base.specs.declared.command.Command.{Command}
 use Rattle.mig_base.specs.declared.message.Message.{Message}
-use Rattle.mig_base.specs.declared.message.Message.TheVariants.{PageFault, Remap, Remove, Unmap}
+use Rattle.mig_base.specs.declared.message.Message.TheVariants.{PageFault}
 use Rattle.mig_base.specs.declared.schedule.Side.{Side}
 use Rattle.mig_base.specs.declared.schedule.Step.{Step}
 use Rattle.mig_base.specs.Commands.{is_access}
@@ -24,20 +24,20 @@ use Rattle.mig_base.specs.Ranges.{in_range}
 use Rattle.mig_base.specs.Sets.{run_length, with_range}
 use Rattle.mig_model.specs.Host.{Host, bare_host}
 use Rattle.mig_model.specs.Guest.{Act, Fault, Guest, is_forgotten, is_present, read_guest, tried}
-use Rattle.mig_model.specs.Guest.Act.{Unprotected, Zeroed, Woke, Forgot, Requested}
+use Rattle.mig_model.specs.Guest.Act.{Zeroed, Requested}
 use Rattle.mig_model.specs.Userfault.{Noted}
 use Rattle.mig_model.specs.Log.{least_of, no_pages}
 use Rattle.mig_model.specs.Owed.{home}
 use Rattle.mig_model.specs.Wire.{Copy, Frame, Sent, page_frame, wire_behind}
-use Rattle.mig_model.specs.Wire.Frame.{Advise, Page, Zero, Run, Discard, Package, End, Resume, Request, Recv, Done}
+use Rattle.mig_model.specs.Wire.Frame.{Package, Advise, Run, End, Resume, Request, Recv, Done}
 use Rattle.mig_model.specs.Source.{Source, bytes_of, is_precopy, is_released, is_source_idle, is_source_paused, is_stopped, rebuild_frames, run_of, source_act, source_acted_by, source_rebuilt, space_of, switch_frames}
-use Rattle.mig_model.specs.Destination.{Destination, act_frames, copy_came, destination_act, destination_acted_by, destination_answers, destination_took, install_by, received_of, resumed_by, urgent_took}
-use Rattle.mig_model.specs.Migration.{World, after_break, after_command, after_deliver, after_deliver_back, after_deliver_urgent, after_dest_act, after_end, after_notice, after_push, after_push_urgent, after_resume, after_run, after_send, after_source_read, after_start, after_switch, answer, first_world_with, guest_by, guest_of, has_started, is_changing, is_used, next, run_bound, source_sends, with_guest_by}
+use Rattle.mig_model.specs.Destination.{Destination, act_frames, destination_act, destination_acted_by, destination_answers, destination_took, install_by, urgent_took}
+use Rattle.mig_model.specs.Migration.{World, after_break, after_command, after_deliver, after_deliver_back, after_deliver_urgent, after_dest_act, after_end, after_notice, after_push, after_push_urgent, after_resume, after_run, after_send, after_source_read, after_start, after_switch, first_world_with, guest_by, guest_of, has_started, is_changing, is_used, next, run_bound, source_sends, with_guest_by}
 use Rattle.mig_model.specs.Invariant.{IsSoundWorld, PausedWires, Wires, is_unread}
 use Rattle.mig_model.proofs.Taken.{IsInPlaceBack}
 use Rattle.mig_model.specs.Bounds.{ArePages, AreUrgentFew, IsCpuCount, IsMapping, IsPage}
 use Rattle.mig_model.proofs.PageBytes.{HasBytes, changed_bytes, zeroed_bytes}
-use Rattle.mig_model.proofs.Calls.{stopped_switched}
+use Rattle.mig_model.proofs.WokenSteps.{stopped_switched, takes, takes_urgent}
 use Rattle.mig_model.proofs.Facts.{no_event, no_page}
 use Rattle.mig_model.proofs.FirstFrame.{empty_not}
 use Rattle.mig_model.proofs.FrameBounds.{AreBodies, AreListed, act_good, act_listed, answers_good, bodies-sending, bodies-sending_if, end_good, listed-without, page_good, present_page, rebuilt_good, run_good, requested_owed, switch_good}
@@ -46,8 +46,7 @@ use Rattle.mig_model.proofs.MappingLemmas.{IsMapping-after, IsMapping-empty, hos
 use Rattle.mig_model.proofs.RightCommands.{AllRight, AreRight, right_source}
 use Rattle.mig_model.proofs.SourceKept.{source_holds}
 use Rattle.mig_model.proofs.SourceRounds.{precopy_unswitched}
-use Rattle.mig_model.proofs.StepCases.{made-break, made-deliver, made-deliver_back, made-deliver_urgent, made-dest_act, made-dest_read, made-end, made-install, made-issue, made-notice, made-push, made-push_urgent, made-retry, made-round, made-send, made-send_run, made-serve, made-source_act, made-source_read, made-switch}
-use Rattle.mig_model.proofs.StepLemmas.{Leaves, holds-unless, leaves-next}
+use Rattle.mig_model.proofs.StepCases.{MakesWorld, made-next}
 use Rattle.mig_model.proofs.UrgentWire.{is_paused}
 use Rattle.mig_model.proofs.SetSizes.{only_where}
 
@@ -74,15 +73,18 @@ pub record IsReady (cpus : ℕ) (world : World) : Type 0 where
   pub right : AreRight world
   pub many : length world.source.guest.cpus ≡ cpus
 
-no_pair : {X : Type 0} (page : ℕ) (value : X) → get {R = nat_cmp} finmap.empty page ≡ Some value → ⊥
-no_pair page value h = none-some value (sym (get-empty nat_cmp page) ∙ h)
+none_bytes : HasBytes finmap.empty
+none_bytes page bytes h = absurd (none-some bytes (sym (get-empty nat_cmp page) ∙ h))
+
+none_pages : ArePages no_pages
+none_pages page h = no_page page h
 
 pub limited-first : (cpus epoch rounds : ℕ) → AreLimited cpus (first_world_with cpus epoch rounds)
 limited-first cpus epoch rounds =
     record {
       areas = IsMapping-empty;
-      bytes = λ page bytes h. absurd (no_pair page bytes h);
-      sent_pages = λ page h. no_page page h;
+      bytes = none_bytes;
+      sent_pages = none_pages;
       started = λ h. absurd (false≢true (sym h));
       requested = tt;
       to_destination = λ c. tt;
@@ -101,46 +103,19 @@ with_host new areas bytes h = assumption
 with_forward : {cpus : ℕ} {from : SourcePhase} {epoch : ℕ} {host : Host} {sent : FinSet nat_cmp} {requests : List ℕ} {forward back urgent : List Sent} (new : List Sent) → (IsCpuCount cpus → AreBodies new) →
     IsLimited cpus from epoch host sent requests forward back urgent → IsLimited cpus from epoch host sent requests new back urgent
 with_forward new bodies h =
-    record {
-      areas = h.areas;
-      bytes = h.bytes;
-      sent_pages = h.sent_pages;
-      started = h.started;
-      requested = h.requested;
-      to_destination = bodies;
-      to_source = h.to_source;
-      on_urgent = h.on_urgent;
-    }
+    assumption
 
 -- other requests, and other frames on the wire back
 with_requests : {cpus : ℕ} {from : SourcePhase} {epoch : ℕ} {host : Host} {sent : FinSet nat_cmp} {requests : List ℕ} {forward back urgent : List Sent} (new : List ℕ) (frames : List Sent) → AreListed new → (IsCpuCount cpus → AreBodies frames) →
     IsLimited cpus from epoch host sent requests forward back urgent → IsLimited cpus from epoch host sent new forward frames urgent
 with_requests new frames listed bodies h =
-    record {
-      areas = h.areas;
-      bytes = h.bytes;
-      sent_pages = h.sent_pages;
-      started = h.started;
-      requested = listed;
-      to_destination = h.to_destination;
-      to_source = bodies;
-      on_urgent = h.on_urgent;
-    }
+    assumption
 
 -- other frames on the urgent wire
 with_urgent : {cpus : ℕ} {from : SourcePhase} {epoch : ℕ} {host : Host} {sent : FinSet nat_cmp} {requests : List ℕ} {forward back urgent : List Sent} (new : List Sent) → (IsCpuCount cpus → AreBodies new) →
     IsLimited cpus from epoch host sent requests forward back urgent → IsLimited cpus from epoch host sent requests forward back new
 with_urgent new bodies h =
-    record {
-      areas = h.areas;
-      bytes = h.bytes;
-      sent_pages = h.sent_pages;
-      started = h.started;
-      requested = h.requested;
-      to_destination = h.to_destination;
-      to_source = h.to_source;
-      on_urgent = bodies;
-    }
+    assumption
 
 guest_limited : {cpus : ℕ} → (ran : Bool) (world : World) (guest : Guest) → (ran ≡ false → IsMapping guest.space.host.areas × HasBytes guest.space.host.bytes) → AreLimited cpus world → AreLimited cpus (with_guest_by ran world guest)
 guest_limited true world guest new h = h
@@ -164,17 +139,11 @@ unused_next : (epoch : ℕ) → is_used epoch ≡ false → epoch + 1 < 42949672
 unused_next epoch h = grind (arith, nat_tests, h)
 
 start_limited : {cpus : ℕ} → (world : World) → is_used world.source.epoch ≡ false → AreLimited cpus world → AreLimited cpus (after_start world)
-start_limited world unused h =
-    record {
-      areas = h.areas;
-      bytes = h.bytes;
-      sent_pages = h.sent_pages;
-      started = λ s. unused_next world.source.epoch unused;
-      requested = h.requested;
-      to_destination = λ c. bodies-sending world.forward.frames (world.source.epoch + 1) (Advise ∷ []) (h.to_destination c) (tt, tt);
-      to_source = h.to_source;
-      on_urgent = h.on_urgent;
-    }
+start_limited {cpus = cpus} world unused h =
+    assumption (
+      unused_next world.source.epoch unused,
+      λ (c : IsCpuCount cpus). bodies-sending world.forward.frames (world.source.epoch + 1) (Advise ∷ []) (h.to_destination c) (tt, tt),
+    )
 
 -- the page that is sent is present
 sendable : (world : World) (page : ℕ) → IsSoundWorld world → least_of world.source.log.todo ≡ Some page → is_precopy world.source.phase ≡ true → is_changing world.source.guest ≡ false → is_present (space_of world.source) page ≡ true
@@ -190,18 +159,12 @@ inserted_pages : (set : FinSet nat_cmp) (page : ℕ) → ArePages set → IsPage
 inserted_pages set page are is q h = one_more (eqb q page) (contains set q) (λ e. subst IsPage (sym (eqb-true q page e)) is) (λ old. are q old) (sym (member_inserted set page q) ∙ h)
 
 send_limited : {cpus : ℕ} → (world : World) (page : ℕ) → IsSoundWorld world → is_present (space_of world.source) page ≡ true → AreLimited cpus world → AreLimited cpus (after_send world page)
-send_limited world page kept here h =
+send_limited {cpus = cpus} world page kept here h =
     let sound = kept.spaces.source_space.host in
-    record {
-      areas = h.areas;
-      bytes = h.bytes;
-      sent_pages = inserted_pages world.source.log.sent page h.sent_pages (present_page (space_of world.source).host page sound h.areas here);
-      started = h.started;
-      requested = h.requested;
-      to_destination = λ c. bodies-sending world.forward.frames world.source.epoch (page_frame page (bytes_of world.source page) ∷ []) (h.to_destination c) (page_good world.source page sound h.areas h.bytes here, tt);
-      to_source = h.to_source;
-      on_urgent = h.on_urgent;
-    }
+    assumption (
+      inserted_pages world.source.log.sent page h.sent_pages (present_page (space_of world.source).host page sound h.areas here),
+      λ (c : IsCpuCount cpus). bodies-sending world.forward.frames world.source.epoch (page_frame page (bytes_of world.source page) ∷ []) (h.to_destination c) (page_good world.source page sound h.areas h.bytes here, tt),
+    )
 
 -- the pages of a run: some, no more than a run may have, and all present
 record IsSendable (world : World) (first number : ℕ) : Type 0 where
@@ -242,21 +205,15 @@ pub end_below : (first number : ℕ) → 0 < number → first + (number - 1) < H
 end_below first number h l = omega (arith, h, l)
 
 run_limited : {cpus : ℕ} → (world : World) (first number : ℕ) → IsSoundWorld world → IsSendable world first number → AreLimited cpus world → AreLimited cpus (after_run world first number)
-run_limited world first number kept are h =
+run_limited {cpus = cpus} world first number kept are h =
     let sound = kept.spaces.source_space.host in
     let pages : (q : ℕ) → in_range first number q ≡ true → IsPage q = λ q i. present_page (space_of world.source).host q sound h.areas (are.present q i) in
     let end = end_below first number are.some (pages (first + (number - 1)) (last_in first number are.some)).1 in
     let frame = run_good world.source first number sound h.bytes are.some are.few (pages first (first_in first number are.some)).0 end in
-    record {
-      areas = h.areas;
-      bytes = h.bytes;
-      sent_pages = ranged_pages world.source.log.sent first number h.sent_pages pages;
-      started = h.started;
-      requested = h.requested;
-      to_destination = λ c. bodies-sending world.forward.frames world.source.epoch (Run first (run_of world.source first number) ∷ []) (h.to_destination c) (frame, tt);
-      to_source = h.to_source;
-      on_urgent = h.on_urgent;
-    }
+    assumption (
+      ranged_pages world.source.log.sent first number h.sent_pages pages,
+      λ (c : IsCpuCount cpus). bodies-sending world.forward.frames world.source.epoch (Run first (run_of world.source first number) ∷ []) (h.to_destination c) (frame, tt),
+    )
 
 read_host : (guest : Guest) (cpu : ℕ) (message : Message) → (read_guest guest cpu message).space.host ≡ guest.space.host
 read_host guest cpu (PageFault addr write wp tid) = refl
@@ -280,20 +237,13 @@ stopped_unreleased SourcePhase.Released h = sym h
 stopped_unreleased _ h = refl
 
 switch_limited : {cpus : ℕ} → (world : World) → IsReady cpus world → is_precopy world.source.phase ≡ true → AreLimited cpus world → AreLimited cpus (after_switch world)
-switch_limited world ready precopy h =
+switch_limited {cpus = cpus} world ready precopy h =
     let kept = ready.kept in
     let bare = only_where world.destination.has_run world.source.switched kept.phases.ran_after_switch (precopy_unswitched world.source.phase world.source.switched precopy kept.phases.source_phase) in
-    record {
-      areas = h.areas;
-      bytes = h.bytes;
-      sent_pages = h.sent_pages;
-      started = λ s. h.started (precopy_started world.source.phase precopy);
-      requested = h.requested;
-      to_destination = λ c. bodies-sending world.forward.frames world.source.epoch (switch_frames world.source) (h.to_destination c)
-          (switch_good world.source kept.spaces.source_space.host h.areas h.sent_pages (right_source world.destination.has_run world.source.guest world.destination.guest bare ready.right) (subst IsCpuCount (sym ready.many) c));
-      to_source = h.to_source;
-      on_urgent = h.on_urgent;
-    }
+    assumption (
+      h.started (precopy_started world.source.phase precopy),
+      λ (c : IsCpuCount cpus). bodies-sending world.forward.frames world.source.epoch (switch_frames world.source) (h.to_destination c) (switch_good world.source kept.spaces.source_space.host h.areas h.sent_pages (right_source world.destination.has_run world.source.guest world.destination.guest bare ready.right) (subst IsCpuCount (sym ready.many) c)),
+    )
 
 push_limited : {cpus : ℕ} → (world : World) (page : ℕ) → IsSoundWorld world → is_present (space_of world.source) page ≡ true → AreLimited cpus world → AreLimited cpus (after_push world page)
 push_limited world page kept here h =
@@ -313,19 +263,9 @@ end_limited world ready stopped h =
 
 -- Frames that the destination takes
 
-came_requests : (ran : Bool) (node : Destination) (copy : Copy) → (copy_came ran node copy).requests ≡ node.requests
-came_requests true node copy = refl
-came_requests false node copy = refl
-
-resumed_requests : (state : Received) (node : Destination) → (resumed_by state node).requests ≡ node.requests
-resumed_requests Received.NotRun node = refl
-resumed_requests _ node = refl
-
 took_requests : (frame : Frame) (epoch : ℕ) (node : Destination) → (destination_took node epoch frame).requests ≡ node.requests
-took_requests (Page page bytes) epoch node = came_requests node.has_run node _
-took_requests (Zero page) epoch node = came_requests node.has_run node _
-took_requests Resume epoch node = resumed_requests (received_of node) _
-took_requests _ epoch node = refl
+took_requests (Package areas owed commands) epoch node = refl
+took_requests frame epoch node = (takes frame node epoch refl).requests
 
 deliver_limited : {cpus : ℕ} → (world : World) (sent : Sent) (rest : List Sent) → IsSoundWorld world → world.forward.frames ≡ sent ∷ rest → AreLimited cpus world → AreLimited cpus (after_deliver world sent rest)
 deliver_limited {cpus = cpus} world sent rest kept first h =
@@ -335,14 +275,10 @@ deliver_limited {cpus = cpus} world sent rest kept first h =
     (with_requests node.requests _ (subst AreListed (sym (took_requests sent.frame sent.epoch world.destination)) h.requested)
     (λ c. bodies-sending_if world.up world.back.frames node.epoch (destination_answers world.destination sent.frame) (h.to_source c) (answers_good sent.frame world kept.spaces.source_space.host h.areas kept.owing.origins_present h.requested)) h)
 
-urgent_requests : (frame : Frame) (node : Destination) → (urgent_took node frame).requests ≡ node.requests
-urgent_requests (Page page bytes) node = refl
-urgent_requests _ node = refl
-
 urgent_limited : {cpus : ℕ} → (world : World) (sent : Sent) (rest : List Sent) → world.urgent.frames ≡ sent ∷ rest → AreLimited cpus world → AreLimited cpus (after_deliver_urgent world sent rest)
 urgent_limited {cpus = cpus} world sent rest first h =
     let bodies = λ (c : IsCpuCount cpus). subst AreBodies first (h.on_urgent c) in
-    with_urgent rest (λ c. (bodies c).1) (with_requests (urgent_took world.destination sent.frame).requests world.back.frames (subst AreListed (sym (urgent_requests sent.frame world.destination)) h.requested) h.to_source h)
+    with_urgent rest (λ c. (bodies c).1) (with_requests (urgent_took world.destination sent.frame).requests world.back.frames (subst AreListed (sym (takes_urgent sent.frame world.destination).requests) h.requested) h.to_source h)
 
 -- Its handler, and Install
 
@@ -389,43 +325,14 @@ bare_notrun world rest epoch owed kept up first paused =
 
 rebuilt_limited : {cpus : ℕ} → (switched : Bool) (world : World) (rest : List Sent) (owed : FinSet nat_cmp) → IsSoundWorld world → AllRight world.source.guest.cpus → length world.source.guest.cpus ≡ cpus → world.source.epoch < 2 ^ 32 → (IsCpuCount cpus → AreBodies rest) → AreLimited cpus world →
     AreLimited cpus (source_sends (record world { back = wire_behind rest }) (source_rebuilt Received.NotRun owed (record world.source { switched = switched })) (rebuild_frames Received.NotRun (record world.source { switched = switched })))
-rebuilt_limited true world rest owed kept right many epoch bodies h =
-    record {
-      areas = h.areas;
-      bytes = h.bytes;
-      sent_pages = h.sent_pages;
-      started = λ s. epoch;
-      requested = h.requested;
-      to_destination = λ c. bodies-sending world.forward.frames world.source.epoch (rebuild_frames Received.NotRun (record world.source { switched = true })) (h.to_destination c)
-          (rebuilt_good Received.NotRun (record world.source { switched = true }) kept.spaces.source_space.host h.areas (λ s. right) (subst IsCpuCount (sym many) c));
-      to_source = bodies;
-      on_urgent = h.on_urgent;
-    }
-rebuilt_limited false world rest owed kept right many epoch bodies h =
-    record {
-      areas = h.areas;
-      bytes = h.bytes;
-      sent_pages = λ page m. no_page page m;
-      started = λ s. epoch;
-      requested = h.requested;
-      to_destination = h.to_destination;
-      to_source = bodies;
-      on_urgent = h.on_urgent;
-    }
+rebuilt_limited {cpus = cpus} true world rest owed kept right many epoch bodies h =
+    assumption (λ (c : IsCpuCount cpus). bodies-sending world.forward.frames world.source.epoch (rebuild_frames Received.NotRun (record world.source { switched = true })) (h.to_destination c) (rebuilt_good Received.NotRun (record world.source { switched = true }) kept.spaces.source_space.host h.areas (λ s. right) (subst IsCpuCount (sym many) c)))
+rebuilt_limited {cpus = cpus} false world rest owed kept right many epoch bodies h =
+    assumption none_pages
 
 released_limited : {cpus : ℕ} → (world : World) (rest : List Sent) → world.source.epoch < 2 ^ 32 → (IsCpuCount cpus → AreBodies rest) → AreLimited cpus world →
     IsLimited cpus SourcePhase.Released world.source.epoch bare_host no_pages world.destination.requests world.forward.frames rest world.urgent.frames
-released_limited world rest epoch bodies h =
-    record {
-      areas = IsMapping-empty;
-      bytes = λ page bytes m. absurd (no_pair page bytes m);
-      sent_pages = λ page m. no_page page m;
-      started = λ s. epoch;
-      requested = h.requested;
-      to_destination = h.to_destination;
-      to_source = bodies;
-      on_urgent = h.on_urgent;
-    }
+released_limited world rest epoch bodies h = assumption (IsMapping-empty, none_bytes, none_pages)
 
 back_limited : {cpus : ℕ} → (frame : Frame) (epoch : ℕ) (rest : List Sent) (world : World) → IsReady cpus world → world.up ≡ true → world.source.epoch < 2 ^ 32 → world.back.frames ≡ record { epoch = epoch; frame = frame } ∷ rest → IsInPlaceBack world.source frame → (IsCpuCount cpus → AreBodies rest) →
     AreLimited cpus world → AreLimited cpus (after_deliver_back world (record { epoch = epoch; frame = frame }) rest)
@@ -433,16 +340,7 @@ back_limited (Recv Received.NotRun owed) epoch rest world ready up below first p
     rebuilt_limited world.source.switched world rest owed ready.kept
     (right_source world.destination.has_run world.source.guest world.destination.guest (bare_notrun world rest epoch owed ready.kept up first place.0) ready.right) ready.many below bodies h
 back_limited (Recv Received.Running owed) epoch rest world ready up below first place bodies h =
-    record {
-      areas = h.areas;
-      bytes = h.bytes;
-      sent_pages = h.sent_pages;
-      started = λ s. below;
-      requested = h.requested;
-      to_destination = h.to_destination;
-      to_source = bodies;
-      on_urgent = h.on_urgent;
-    }
+    assumption
 back_limited (Recv Received.Ended owed) epoch rest world ready up below first place bodies h = released_limited world rest below bodies h
 back_limited Done epoch rest world ready up below first place bodies h = released_limited world rest below bodies h
 back_limited (Request page) epoch rest world ready up below first place bodies h = with_requests world.destination.requests rest h.requested bodies h
@@ -459,59 +357,41 @@ break_limited : {cpus : ℕ} → (world : World) → AreLimited cpus world → A
 break_limited world h = with_forward [] (λ c. tt) (with_urgent [] (λ c. tt) (with_requests world.destination.requests [] h.requested (λ c. tt) h))
 
 notices_limited : {cpus : ℕ} → (world : World) → has_started world ≡ true → AreLimited cpus world → AreLimited cpus (after_notice world Side.Source)
-notices_limited world started h =
-    record {
-      areas = h.areas;
-      bytes = h.bytes;
-      sent_pages = h.sent_pages;
-      started = λ s. h.started (not-true (is_source_idle world.source.phase) started);
-      requested = h.requested;
-      to_destination = h.to_destination;
-      to_source = h.to_source;
-      on_urgent = h.on_urgent;
-    }
+notices_limited {cpus = cpus} world started h =
+    assumption (h.started (not-true (is_source_idle world.source.phase) started))
 
 resume_limited : {cpus : ℕ} → (world : World) → is_used world.source.epoch ≡ false → AreLimited cpus world → AreLimited cpus (after_resume world)
-resume_limited world unused h =
-    record {
-      areas = h.areas;
-      bytes = h.bytes;
-      sent_pages = h.sent_pages;
-      started = λ s. unused_next world.source.epoch unused;
-      requested = h.requested;
-      to_destination = λ c. bodies-sending world.forward.frames (world.source.epoch + 1) (Resume ∷ []) (h.to_destination c) (tt, tt);
-      to_source = h.to_source;
-      on_urgent = h.on_urgent;
-    }
+resume_limited {cpus = cpus} world unused h =
+    assumption (
+      unused_next world.source.epoch unused,
+      λ (c : IsCpuCount cpus). bodies-sending world.forward.frames (world.source.epoch + 1) (Resume ∷ []) (h.to_destination c) (tt, tt),
+    )
 
 -- Steps
 
-pub limited-answer : {cpus : ℕ} → (world : World) (step : Step) → IsReady cpus world → AreLimited cpus world → Leaves (AreLimited cpus) (answer world step)
-limited-answer world (Step.Issue cpu command) ready h = made-issue _ world cpu command (λ there idle may. command_limited world cpu command ready.kept h)
-limited-answer world (Step.Retry cpu) ready h = made-retry _ world cpu (λ command waits woken may. command_limited world cpu command ready.kept h)
-limited-answer world Step.Start ready h = holds-unless _ _ _ (λ told. start_limited world told.1.0 h)
-limited-answer world Step.Round ready h = made-round _ world (λ precopy quiet. h)
-limited-answer world Step.Send ready h = made-send _ world (λ page is precopy up quiet. send_limited world page ready.kept (sendable world page ready.kept is precopy quiet) h)
+pub limited-answer : {cpus : ℕ} → (world : World) (step : Step) → IsReady cpus world → AreLimited cpus world → MakesWorld (AreLimited cpus) world step
+limited-answer world (Step.Issue cpu command) ready h = λ there idle may. command_limited world cpu command ready.kept h
+limited-answer world (Step.Retry cpu) ready h = λ command waits woken may. command_limited world cpu command ready.kept h
+limited-answer world Step.Start ready h = λ idle unused. start_limited world unused h
+limited-answer world Step.Send ready h = λ page is precopy up quiet. send_limited world page ready.kept (sendable world page ready.kept is precopy quiet) h
 limited-answer world (Step.SendRun count) ready h =
-    made-send_run _ world count (λ first number is many precopy up quiet.
-    run_limited world first number ready.kept (run_sendable world first number (run_bound count) ready.kept is many (some_bound count) (most_bound count) precopy quiet) h)
-limited-answer world Step.SourceRead ready h = made-source_read _ world (λ noted is started unswitched. read_limited world noted h)
-limited-answer world Step.SourceAct ready h = made-source_act _ world (λ fault rest is started unswitched quiet. acted_limited (source_act world.source fault) world fault.page h)
-limited-answer world Step.Switch ready h = made-switch _ world (λ precopy up quiet. switch_limited world ready precopy h)
-limited-answer world (Step.Deliver n) ready h = made-deliver _ world n (λ sent rest is short. h) (λ sent rest is full started up free early. deliver_limited world sent rest ready.kept is h)
-limited-answer world (Step.DeliverBack n) ready h = made-deliver_back _ world n (λ sent rest is short. h) (λ sent rest is full started up. deliver_back_limited world sent rest ready started up is h)
-limited-answer world Step.DestRead ready h = made-dest_read _ world (λ noted is ran. h)
-limited-answer world Step.DestAct ready h = made-dest_act _ world (λ fault rest is ran quiet. handled_limited world fault ready.kept h)
-limited-answer world Step.Install ready h = made-install _ world (λ copy rest is ran quiet. installed_limited (home world.destination.owed copy.page) world copy rest h)
-limited-answer world (Step.Push ticket) ready h = made-push _ world ticket (λ stopped up own present remains. push_limited world ticket.page ready.kept present h)
-limited-answer world (Step.PushUrgent ticket) ready h = made-push_urgent _ world ticket (λ stopped up own present remains. push_urgent_limited world ticket.page ready.kept present h)
-limited-answer world (Step.DeliverUrgent n) ready h = made-deliver_urgent _ world n (λ sent rest is short. h) (λ sent rest is full ran up. urgent_limited world sent rest is h)
-limited-answer world Step.Serve ready h = made-serve _ world (λ page pages is stopped up. h)
-limited-answer world Step.End ready h = made-end _ world (λ stopped other up none. end_limited world ready stopped h)
-limited-answer world Step.Break ready h = made-break _ world (λ started unreleased up. break_limited world h)
-limited-answer world (Step.Notice Side.Source) ready h = made-notice _ world Side.Source (λ started unreleased down. notices_limited world started h)
-limited-answer world (Step.Notice Side.Destination) ready h = made-notice _ world Side.Destination (λ started unreleased down. h)
-limited-answer world Step.Resume ready h = holds-unless _ _ _ (λ told. resume_limited world told.1.1.0 h)
+    λ first number is many precopy up quiet.
+    run_limited world first number ready.kept (run_sendable world first number (run_bound count) ready.kept is many (some_bound count) (most_bound count) precopy quiet) h
+limited-answer world Step.SourceRead ready h = λ noted is started unswitched. read_limited world noted h
+limited-answer world Step.SourceAct ready h = λ fault rest is started unswitched quiet. acted_limited (source_act world.source fault) world fault.page h
+limited-answer world Step.Switch ready h = λ precopy up quiet. switch_limited world ready precopy h
+limited-answer world (Step.Deliver n) ready h = ((λ sent rest is short. h), (λ sent rest is full started up free early. deliver_limited world sent rest ready.kept is h))
+limited-answer world (Step.DeliverBack n) ready h = ((λ sent rest is short. h), (λ sent rest is full started up. deliver_back_limited world sent rest ready started up is h))
+limited-answer world Step.DestAct ready h = λ fault rest is ran quiet. handled_limited world fault ready.kept h
+limited-answer world Step.Install ready h = λ copy rest is ran quiet. installed_limited (home world.destination.owed copy.page) world copy rest h
+limited-answer world (Step.Push ticket) ready h = λ stopped up own present remains. push_limited world ticket.page ready.kept present h
+limited-answer world (Step.PushUrgent ticket) ready h = λ stopped up own present remains. push_urgent_limited world ticket.page ready.kept present h
+limited-answer world (Step.DeliverUrgent n) ready h = ((λ sent rest is short. h), (λ sent rest is full ran up. urgent_limited world sent rest is h))
+limited-answer world Step.End ready h = λ stopped other up none. end_limited world ready stopped h
+limited-answer world Step.Break ready h = λ started unreleased up. break_limited world h
+limited-answer world (Step.Notice Side.Source) ready h = λ started unreleased down. notices_limited world started h
+limited-answer world Step.Resume ready h = λ from to down unused. resume_limited world unused h
+limited-answer world _ ready h = assumption
 
 pub limited-next : {cpus : ℕ} → (world : World) (step : Step) → IsReady cpus world → AreLimited cpus world → AreLimited cpus (next world step)
-limited-next {cpus = cpus} world step ready h = leaves-next (AreLimited cpus) world step h (limited-answer world step ready h)
+limited-next {cpus = cpus} world step ready h = made-next (AreLimited cpus) world step h (limited-answer world step ready h)

@@ -46,7 +46,7 @@ use Rattle.mig_model.proofs.PromiseLemmas.{destination_zero, source_zero}
 use Rattle.mig_model.proofs.Registering.{CanRegister, areas_registered, every_registered, left_new, registered_by}
 use Rattle.mig_model.proofs.SettledLemmas.{home_tells}
 use Rattle.mig_model.proofs.SourceRounds.{precopy_unswitched}
-use Rattle.mig_model.proofs.StepCases.{made-deliver, made-dest_act, made-install, made-round, made-send, made-send_run, made-source_act, made-start}
+use Rattle.mig_model.proofs.StepCases.{holds-made}
 use Rattle.mig_model.proofs.StepLemmas.{holds-effect, leaves-ok}
 use Rattle.mig_model.proofs.StepPromises.{told_zeroed}
 
@@ -79,7 +79,7 @@ source_open cpus world all unswitched = all.opened.source (unswitched_unreleased
 pub source_zeroes : (cpus : ℕ) (world : World) (addr : ℕ) → IsBounded cpus world → outcome world Step.SourceAct ≡ Ok (Effect.Zeroed addr) → IsZeroPage world.source.guest (next world Step.SourceAct).source.guest addr
 source_zeroes cpus world addr all answered =
     holds-effect (λ effect new. effect ≡ Effect.Zeroed addr → IsZeroPage world.source.guest new.source.guest addr) world Step.SourceAct (Effect.Zeroed addr)
-    (made-source_act _ world (λ fault rest is started unswitched quiet h.
+    (holds-made _ world Step.SourceAct (λ fault rest is started unswitched quiet h.
     let space = space_of world.source in
     let told = told_zeroed (source_act world.source fault) (4096 * fault.page) addr h in
     let there = not_forgotten space fault.page (source_served (is_forgotten space fault.page) (is_present space fault.page) _ told.0) in
@@ -91,7 +91,7 @@ pub source_unprotects : (cpus : ℕ) (world : World) (addr : ℕ) → IsBounded 
     IsWriteProtect world.source.guest (next world Step.SourceAct).source.guest addr 4096 0 (Range addr 4096)
 source_unprotects cpus world addr all answered =
     holds-effect (λ effect new. effect ≡ Effect.Unprotected addr → IsWriteProtect world.source.guest new.source.guest addr 4096 0 (Range addr 4096)) world Step.SourceAct (Effect.Unprotected addr)
-    (made-source_act _ world (λ fault rest is started unswitched quiet h.
+    (holds-made _ world Step.SourceAct (λ fault rest is started unswitched quiet h.
     let space = space_of world.source in
     let sound = all.ready.kept.spaces.source_space in
     let told = told_unprotected (source_act world.source fault) (4096 * fault.page) addr h in
@@ -124,7 +124,7 @@ held_page held fault rest is are = (subst AreHeldPages is are).0
 pub source_wakes : (cpus : ℕ) (world : World) (addr : ℕ) → IsBounded cpus world → HasFaultsInside world → outcome world Step.SourceAct ≡ Ok (Effect.Woke addr) → IsWake world.source.guest (next world Step.SourceAct).source.guest addr
 source_wakes cpus world addr all faults answered =
     holds-effect (λ effect new. effect ≡ Effect.Woke addr → IsWake world.source.guest new.source.guest addr) world Step.SourceAct (Effect.Woke addr)
-    (made-source_act _ world (λ fault rest is started unswitched quiet h.
+    (holds-made _ world Step.SourceAct (λ fault rest is started unswitched quiet h.
     let told = told_woke (source_act world.source fault) (4096 * fault.page) addr h in
     let made = wake_made world.source.guest fault.page (source_open cpus world all unswitched).enabled (held_page world.source.log.held fault rest is faults.source_held) in
     subst (λ a. IsWake world.source.guest (after_source_act world fault).source.guest a) told.1
@@ -133,7 +133,7 @@ source_wakes cpus world addr all faults answered =
 pub source_forgets : (cpus : ℕ) (world : World) (addr : ℕ) → IsBounded cpus world → HasFaultsInside world → outcome world Step.SourceAct ≡ Ok (Effect.Forgot addr) → IsWake world.source.guest (next world Step.SourceAct).source.guest addr
 source_forgets cpus world addr all faults answered =
     holds-effect (λ effect new. effect ≡ Effect.Forgot addr → IsWake world.source.guest new.source.guest addr) world Step.SourceAct (Effect.Forgot addr)
-    (made-source_act _ world (λ fault rest is started unswitched quiet h.
+    (holds-made _ world Step.SourceAct (λ fault rest is started unswitched quiet h.
     let told = told_forgot (source_act world.source fault) (4096 * fault.page) addr h in
     let made = wake_made world.source.guest fault.page (source_open cpus world all unswitched).enabled (held_page world.source.log.held fault rest is faults.source_held) in
     subst (λ a. IsWake world.source.guest (after_source_act world fault).source.guest a) told.1
@@ -142,7 +142,7 @@ source_forgets cpus world addr all faults answered =
 pub destination_wakes : (cpus : ℕ) (world : World) (addr : ℕ) → IsBounded cpus world → HasFaultsInside world → outcome world Step.DestAct ≡ Ok (Effect.Woke addr) → IsWake world.destination.guest (next world Step.DestAct).destination.guest addr
 destination_wakes cpus world addr all faults answered =
     holds-effect (λ effect new. effect ≡ Effect.Woke addr → IsWake world.destination.guest new.destination.guest addr) world Step.DestAct (Effect.Woke addr)
-    (made-dest_act _ world (λ fault rest is ran quiet h.
+    (holds-made _ world Step.DestAct (λ fault rest is ran quiet h.
     let told = told_woke (destination_act world.destination fault) (4096 * fault.page) addr h in
     let made = wake_made world.destination.guest fault.page (all.opened.destination ran).enabled (held_page world.destination.held fault rest is faults.destination_held) in
     subst (λ a. IsWake world.destination.guest (destination_acted_by (destination_act world.destination fault) world.destination fault.page).guest a) told.1
@@ -151,7 +151,7 @@ destination_wakes cpus world addr all faults answered =
 pub destination_forgets : (cpus : ℕ) (world : World) (addr : ℕ) → IsBounded cpus world → HasFaultsInside world → outcome world Step.DestAct ≡ Ok (Effect.Forgot addr) → IsWake world.destination.guest (next world Step.DestAct).destination.guest addr
 destination_forgets cpus world addr all faults answered =
     holds-effect (λ effect new. effect ≡ Effect.Forgot addr → IsWake world.destination.guest new.destination.guest addr) world Step.DestAct (Effect.Forgot addr)
-    (made-dest_act _ world (λ fault rest is ran quiet h.
+    (holds-made _ world Step.DestAct (λ fault rest is ran quiet h.
     let told = told_forgot (destination_act world.destination fault) (4096 * fault.page) addr h in
     let made = wake_made world.destination.guest fault.page (all.opened.destination ran).enabled (held_page world.destination.held fault rest is faults.destination_held) in
     subst (λ a. IsWake world.destination.guest (destination_acted_by (destination_act world.destination fault) world.destination fault.page).guest a) told.1
@@ -184,14 +184,14 @@ sent_protected cpus world page all found precopy quiet =
 pub page_protected : (cpus : ℕ) (world : World) (addr : ℕ) → IsBounded cpus world → outcome world Step.Send ≡ Ok (Effect.SentPage addr) → IsWriteProtect world.source.guest (next world Step.Send).source.guest addr 4096 1 Nobody
 page_protected cpus world addr all answered =
     holds-effect (λ effect new. effect ≡ Effect.SentPage addr → IsWriteProtect world.source.guest new.source.guest addr 4096 1 Nobody) world Step.Send (Effect.SentPage addr)
-    (made-send _ world (λ page is precopy up quiet h.
+    (holds-made _ world Step.Send (λ page is precopy up quiet h.
     subst (λ a. IsWriteProtect world.source.guest (record world.source.guest { space = protected_in (space_of world.source) page 1 true }) a 4096 1 Nobody) (told_page (is_zeros (bytes_of world.source page)) (4096 * page) addr h) (sent_protected cpus world page all is precopy quiet)))
     answered refl
 
 pub zero_protected : (cpus : ℕ) (world : World) (addr : ℕ) → IsBounded cpus world → outcome world Step.Send ≡ Ok (Effect.SentZero addr) → IsWriteProtect world.source.guest (next world Step.Send).source.guest addr 4096 1 Nobody
 zero_protected cpus world addr all answered =
     holds-effect (λ effect new. effect ≡ Effect.SentZero addr → IsWriteProtect world.source.guest new.source.guest addr 4096 1 Nobody) world Step.Send (Effect.SentZero addr)
-    (made-send _ world (λ page is precopy up quiet h.
+    (holds-made _ world Step.Send (λ page is precopy up quiet h.
     subst (λ a. IsWriteProtect world.source.guest (record world.source.guest { space = protected_in (space_of world.source) page 1 true }) a 4096 1 Nobody) (told_zero (is_zeros (bytes_of world.source page)) (4096 * page) addr h) (sent_protected cpus world page all is precopy quiet)))
     answered refl
 
@@ -225,7 +225,7 @@ pub run_protected : (cpus : ℕ) (world : World) (count addr pages : ℕ) → Is
     IsWriteProtect world.source.guest (next world (Step.SendRun count)).source.guest addr (4096 * pages) 1 Nobody
 run_protected cpus world count addr pages all answered =
     holds-effect (λ effect new. effect ≡ Effect.SentRun addr pages → IsWriteProtect world.source.guest new.source.guest addr (4096 * pages) 1 Nobody) world (Step.SendRun count) (Effect.SentRun addr pages)
-    (made-send_run _ world count (λ first number is many precopy up quiet h.
+    (holds-made _ world (Step.SendRun count) (λ first number is many precopy up quiet h.
     let told = told_run (4096 * first) addr number pages h in
     let made = subst (λ n. IsWriteProtect world.source.guest (run_guest world first n) (4096 * first) (4096 * n) 1 Nobody) (sym many) (sent_run_protected cpus world first (run_bound count) all is (some_bound count) precopy quiet) in
     subst (λ n. IsWriteProtect world.source.guest (run_guest world first number) addr (4096 * n) 1 Nobody) told.1
@@ -237,7 +237,7 @@ run_protected cpus world count addr pages all answered =
 pub destination_zeroes : (cpus : ℕ) (world : World) (addr : ℕ) → IsBounded cpus world → outcome world Step.DestAct ≡ Ok (Effect.Zeroed addr) → IsZeroPage world.destination.guest (next world Step.DestAct).destination.guest addr
 destination_zeroes cpus world addr all answered =
     holds-effect (λ effect new. effect ≡ Effect.Zeroed addr → IsZeroPage world.destination.guest new.destination.guest addr) world Step.DestAct (Effect.Zeroed addr)
-    (made-dest_act _ world (λ fault rest is ran quiet h.
+    (holds-made _ world Step.DestAct (λ fault rest is ran quiet h.
     let space = world.destination.guest.space in
     let told = told_zeroed (destination_act world.destination fault) (4096 * fault.page) addr h in
     let there = not_forgotten space fault.page (destination_served (is_forgotten space fault.page) (is_present space fault.page) (get world.destination.owed fault.page) told.0) in
@@ -276,7 +276,7 @@ pub copy_installed : (cpus : ℕ) (world : World) (copy : Copy) (rest : List Cop
     IsPlaced world.destination.guest (next world Step.Install).destination.guest addr copy.bytes
 copy_installed cpus world copy rest addr source all first answered =
     holds-effect (λ effect new. effect ≡ Effect.Installed addr source → IsPlaced world.destination.guest new.destination.guest addr copy.bytes) world Step.Install (Effect.Installed addr source)
-    (made-install _ world (λ one more is ran quiet h.
+    (holds-made _ world Step.Install (λ one more is ran quiet h.
     let told = told_installed (home world.destination.owed one.page) one.page addr source h in
     let made = home_copied cpus world one more told.0 all ran is quiet told.1 in
     subst (λ bytes. IsPlaced world.destination.guest (after_install world one more).destination.guest addr bytes) (ap (λ c. c.bytes) (same_first one copy more rest (sym is ∙ first)))
@@ -317,12 +317,12 @@ both_registered space runs sound opened mapping are =
 pub start_registers : (cpus : ℕ) (world : World) (runs : List Run) → IsBounded cpus world → IsOk (outcome world Step.Start) → AreRunsOf (space_of world.source).host.areas runs → AreRegistered (space_of world.source) (space_of (next world Step.Start).source) runs 3
 start_registers cpus world runs all ok are =
     leaves-ok (λ new. AreRegistered (space_of world.source) (space_of new.source) runs 3) world Step.Start
-    (made-start _ world (λ idle. both_registered (space_of world.source) runs all.ready.kept.spaces.source_space (all.opened.source (idle_unreleased world.source.phase idle)) all.limited.areas are)) ok
+    (holds-made _ world Step.Start (λ idle unused. both_registered (space_of world.source) runs all.ready.kept.spaces.source_space (all.opened.source (idle_unreleased world.source.phase idle)) all.limited.areas are)) ok
 
 pub round_registers : (cpus : ℕ) (world : World) (runs : List Run) → IsBounded cpus world → IsOk (outcome world Step.Round) → AreRunsOf (space_of world.source).host.areas runs → AreRegistered (space_of world.source) (space_of (next world Step.Round).source) runs 3
 round_registers cpus world runs all ok are =
     leaves-ok (λ new. AreRegistered (space_of world.source) (space_of new.source) runs 3) world Step.Round
-    (made-round _ world (λ precopy quiet.
+    (holds-made _ world Step.Round (λ precopy quiet.
     both_registered (space_of world.source) runs all.ready.kept.spaces.source_space (source_open cpus world all (precopy_unswitched world.source.phase world.source.switched precopy all.ready.kept.phases.source_phase)) all.limited.areas are)) ok
 
 -- The run of the destination
@@ -379,7 +379,7 @@ no_package n count h = cc
 run_assembles : (world : World) (n count : ℕ) → outcome world (Step.Deliver n) ≡ Ok (Effect.TookPackage count) → IsAssembled (next world (Step.Deliver n))
 run_assembles world n count answered =
     holds-effect (λ effect new. effect ≡ Effect.TookPackage count → IsAssembled new) world (Step.Deliver n) (Effect.TookPackage count)
-    (made-deliver _ world n (λ sent rest is short h. absurd (no_package n count h)) (λ sent rest is full started up free early h. frame_assembles sent.frame sent.epoch rest world count h)) answered refl
+    (holds-made _ world (Step.Deliver n) ((λ sent rest is short h. absurd (no_package n count h)), (λ sent rest is full started up free early h. frame_assembles sent.frame sent.epoch rest world count h))) answered refl
 
 pub run_registers : (cpus : ℕ) (world : World) (n count : ℕ) (runs : List Run) → IsBounded cpus world → outcome world (Step.Deliver n) ≡ Ok (Effect.TookPackage count) → AreRunsOf (next world (Step.Deliver n)).destination.guest.space.host.areas runs →
     AreWatched (next world (Step.Deliver n)).destination.guest.space.host (next world (Step.Deliver n)).destination.guest.space runs event_features 1

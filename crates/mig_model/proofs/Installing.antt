@@ -27,8 +27,7 @@ use Rattle.mig_model.specs.Promises.{IsPut}
 use Rattle.mig_model.proofs.IoctlLemmas.{IsSoundSpace-installed, get-put_pages}
 use Rattle.mig_model.proofs.SettledLemmas.{home_tells, home-none}
 use Rattle.mig_model.proofs.DestinationRead.{kept-handled}
-use Rattle.mig_model.proofs.StepLemmas.{holds-effect}
-use Rattle.mig_model.proofs.StepCases.{made-install}
+use Rattle.mig_model.proofs.StepCases.{made-effect}
 use Rattle.mig_model.specs.Cpus.{all_woken}
 use Rattle.mig_model.specs.Owed.{home, without_request}
 use Rattle.mig_model.specs.Source.{space_of}
@@ -257,5 +256,5 @@ install_put world copy rest addr source kept first runs quiet same =
 -- an Install that answers Installed has put a page that was missing just before
 pub install_put_next : (world : World) (addr source : ℕ) → IsSoundWorld world → outcome world Step.Install ≡ Ok (Effect.Installed addr source) → IsPut world (next world Step.Install) (addr / 4096) (source / 4096)
 install_put_next world addr source kept answered =
-    holds-effect (λ effect new. effect ≡ Effect.Installed addr source → IsPut world new (addr / 4096) (source / 4096)) world Step.Install (Effect.Installed addr source)
-    (made-install _ world (λ copy rest first runs quiet same. install_put world copy rest addr source kept first runs quiet same)) answered refl
+    made-effect (λ effect new. effect ≡ Effect.Installed addr source → IsPut world new (addr / 4096) (source / 4096)) world Step.Install (Effect.Installed addr source)
+    (λ copy rest first runs quiet same. install_put world copy rest addr source kept first runs quiet same) answered refl

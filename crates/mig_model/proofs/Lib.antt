@@ -70,6 +70,7 @@ pub mod Taken
 pub mod FramesTaken
 pub mod FrameFaults
 pub mod EndRefused
+pub mod WokenSteps
 pub mod WaitingCommands
 pub mod SettledPromises
 pub mod AcceptedSteps

@@ -25,7 +25,7 @@ use Rattle.mig_model.specs.Migration.{World, answer, first_world_with, guest_by,
 use Rattle.mig_model.specs.Invariant.{IsSoundWorld}
 use Rattle.mig_model.proofs.Taken.{IsInPlaceBack}
 use Rattle.mig_model.proofs.FramesTaken.{is_taken_back}
-use Rattle.mig_model.proofs.StepCases.{made-break, made-deliver, made-deliver_back, made-deliver_urgent, made-dest_act, made-dest_read, made-end, made-install, made-issue, made-notice, made-push, made-push_urgent, made-resume, made-retry, made-round, made-send, made-send_run, made-serve, made-source_act, made-source_read, made-start, made-switch}
+use Rattle.mig_model.proofs.StepCases.{holds-made}
 use Rattle.mig_model.proofs.StepLemmas.{Leaves, leaves-next}
 
 -- an object that is enabled, with these features
@@ -112,30 +112,30 @@ back_open frame world place h = grind (arith, nat_tests)
 -- Steps
 
 open-answer : (world : World) (step : Step) → IsSoundWorld world → HasOpenObjects world → Leaves HasOpenObjects (answer world step)
-open-answer world (Step.Issue cpu command) kept h = made-issue _ world cpu command (λ there idle may. guest_open world.destination.has_run world cpu command h)
-open-answer world (Step.Retry cpu) kept h = made-retry _ world cpu (λ command waits woken may. guest_open world.destination.has_run world cpu command h)
-open-answer world Step.Start kept h = made-start _ world (λ idle. with_source _ _ (λ u. idle_unreleased world.source.phase idle) (same_setup (space_of world.source).object _ all_features refl refl) h)
-open-answer world Step.Round kept h = made-round _ world (λ precopy quiet. with_source _ _ (λ u. u) (same_setup (space_of world.source).object _ all_features refl refl) h)
-open-answer world Step.Send kept h = made-send _ world (λ page is precopy up quiet. h)
-open-answer world (Step.SendRun count) kept h = made-send_run _ world count (λ first number is many precopy up quiet. h)
-open-answer world Step.SourceRead kept h = made-source_read _ world (λ noted is started unswitched. with_source _ _ (λ u. u) (read_open world.source.guest noted.cpu noted.message all_features) h)
-open-answer world Step.SourceAct kept h = made-source_act _ world (λ fault rest is started unswitched quiet. acted_open (source_act world.source fault) world fault.page h)
+open-answer world (Step.Issue cpu command) kept h = holds-made _ world (Step.Issue cpu command) (λ there idle may. guest_open world.destination.has_run world cpu command h)
+open-answer world (Step.Retry cpu) kept h = holds-made _ world (Step.Retry cpu) (λ command waits woken may. guest_open world.destination.has_run world cpu command h)
+open-answer world Step.Start kept h = holds-made _ world Step.Start (λ idle unused. with_source _ _ (λ u. idle_unreleased world.source.phase idle) (same_setup (space_of world.source).object _ all_features refl refl) h)
+open-answer world Step.Round kept h = holds-made _ world Step.Round (λ precopy quiet. with_source _ _ (λ u. u) (same_setup (space_of world.source).object _ all_features refl refl) h)
+open-answer world Step.Send kept h = holds-made _ world Step.Send (λ page is precopy up quiet. h)
+open-answer world (Step.SendRun count) kept h = holds-made _ world (Step.SendRun count) (λ first number is many precopy up quiet. h)
+open-answer world Step.SourceRead kept h = holds-made _ world Step.SourceRead (λ noted is started unswitched. with_source _ _ (λ u. u) (read_open world.source.guest noted.cpu noted.message all_features) h)
+open-answer world Step.SourceAct kept h = holds-made _ world Step.SourceAct (λ fault rest is started unswitched quiet. acted_open (source_act world.source fault) world fault.page h)
 open-answer world Step.Switch kept h =
-    made-switch _ world (λ precopy up quiet. with_source _ _ (λ u. precopy_unreleased world.source.phase precopy) (same_setup (space_of world.source).object _ all_features refl refl) h)
-open-answer world (Step.Deliver n) kept h = made-deliver _ world n (λ sent rest is short. h) (λ sent rest is full started up free early. took_open sent.frame sent.epoch world h)
-open-answer world (Step.DeliverBack n) kept h = made-deliver_back _ world n (λ sent rest is short. h) (λ sent rest is full started up. back_open sent.frame world (is_taken_back world sent rest kept up is) h)
-open-answer world Step.DestRead kept h = made-dest_read _ world (λ noted is ran. with_destination _ (read_open world.destination.guest noted.cpu noted.message event_features) h)
-open-answer world Step.DestAct kept h = made-dest_act _ world (λ fault rest is ran quiet. handled_open (destination_act world.destination fault) world fault.page h)
-open-answer world Step.Install kept h = made-install _ world (λ copy rest is ran quiet. installed_open (home world.destination.owed copy.page) world copy rest h)
-open-answer world (Step.Push ticket) kept h = made-push _ world ticket (λ stopped up own present remains. h)
-open-answer world (Step.PushUrgent ticket) kept h = made-push_urgent _ world ticket (λ stopped up own present remains. h)
-open-answer world (Step.DeliverUrgent n) kept h = made-deliver_urgent _ world n (λ sent rest is short. h) (λ sent rest is full ran up. urgent_open sent.frame world h)
-open-answer world Step.Serve kept h = made-serve _ world (λ page pages is stopped up. h)
-open-answer world Step.End kept h = made-end _ world (λ stopped other up none. h)
-open-answer world Step.Break kept h = made-break _ world (λ started unreleased up. h)
-open-answer world (Step.Notice Side.Source) kept h = made-notice _ world Side.Source (λ started unreleased down. with_source _ _ (λ u. unreleased) (λ o. o) h)
-open-answer world (Step.Notice Side.Destination) kept h = made-notice _ world Side.Destination (λ started unreleased down. h)
-open-answer world Step.Resume kept h = made-resume _ world (λ from to down. h)
+    holds-made _ world Step.Switch (λ precopy up quiet. with_source _ _ (λ u. precopy_unreleased world.source.phase precopy) (same_setup (space_of world.source).object _ all_features refl refl) h)
+open-answer world (Step.Deliver n) kept h = holds-made _ world (Step.Deliver n) ((λ sent rest is short. h), (λ sent rest is full started up free early. took_open sent.frame sent.epoch world h))
+open-answer world (Step.DeliverBack n) kept h = holds-made _ world (Step.DeliverBack n) ((λ sent rest is short. h), (λ sent rest is full started up. back_open sent.frame world (is_taken_back world sent rest kept up is) h))
+open-answer world Step.DestRead kept h = holds-made _ world Step.DestRead (λ noted is ran. with_destination _ (read_open world.destination.guest noted.cpu noted.message event_features) h)
+open-answer world Step.DestAct kept h = holds-made _ world Step.DestAct (λ fault rest is ran quiet. handled_open (destination_act world.destination fault) world fault.page h)
+open-answer world Step.Install kept h = holds-made _ world Step.Install (λ copy rest is ran quiet. installed_open (home world.destination.owed copy.page) world copy rest h)
+open-answer world (Step.Push ticket) kept h = holds-made _ world (Step.Push ticket) (λ stopped up own present remains. h)
+open-answer world (Step.PushUrgent ticket) kept h = holds-made _ world (Step.PushUrgent ticket) (λ stopped up own present remains. h)
+open-answer world (Step.DeliverUrgent n) kept h = holds-made _ world (Step.DeliverUrgent n) ((λ sent rest is short. h), (λ sent rest is full ran up. urgent_open sent.frame world h))
+open-answer world Step.Serve kept h = holds-made _ world Step.Serve (λ page pages is stopped up. h)
+open-answer world Step.End kept h = holds-made _ world Step.End (λ stopped other up none. h)
+open-answer world Step.Break kept h = holds-made _ world Step.Break (λ started unreleased up. h)
+open-answer world (Step.Notice Side.Source) kept h = holds-made _ world (Step.Notice Side.Source) (λ started unreleased down. with_source _ _ (λ u. unreleased) (λ o. o) h)
+open-answer world (Step.Notice Side.Destination) kept h = holds-made _ world (Step.Notice Side.Destination) (λ started unreleased down. h)
+open-answer world Step.Resume kept h = holds-made _ world Step.Resume (λ from to down unused. h)
 
 pub open-next : (world : World) (step : Step) → IsSoundWorld world → HasOpenObjects world → HasOpenObjects (next world step)
 open-next world step kept h = leaves-next HasOpenObjects world step h (open-answer world step kept h)

@@ -22,6 +22,7 @@ use Rattle.mig_model.specs.Promises.{IsComplete, IsAlone, ArePaired, AreUnderWay
 use Rattle.mig_model.proofs.Stopping.{in_phases}
 use Rattle.mig_model.proofs.SettledLemmas.{IsOneToOne-settled, values-settled, none-settled}
 use Rattle.mig_model.specs.Log.{present}
+use Rattle.mig_model.specs.Owed.{owed_after, settled_by}
 use Rattle.mig_model.specs.Source.{is_precopy, is_released, is_source_paused, is_stopped, released, source_act, source_act_by, space_of}
 use Rattle.mig_model.specs.Destination.{destination_act, destination_act_by, is_running, settled}
 use Rattle.mig_model.proofs.Facts.{none_absurd}
@@ -111,12 +112,9 @@ are_paired world kept =
 whereabouts_in : (from : SourcePhase) (to : DestPhase) (world : World) → is_stopped from ≡ true → world.destination.has_run ≡ true → world.up ≡ true → IsSoundWorld (in_phases from to world) → (page origin : ℕ) → get world.destination.owed page ≡ Some origin →
     (is_urgent_or_left world.source.remaining world.urgent.frames origin || has_copy (copies_of world.forward.frames) origin || has_copy world.destination.arrivals origin) ≡ true
 whereabouts_in SourcePhase.Stopped DestPhase.Running world stopped ran up kept page origin owed = (kept.flight.wires up).2.whereabouts page origin owed
-whereabouts_in SourcePhase.Stopped DestPhase.Idle world stopped ran up kept page origin owed = absurd (false≢true (sym kept.phases.destination_phase ∙ ran))
-whereabouts_in SourcePhase.Stopped DestPhase.Advised world stopped ran up kept page origin owed = absurd (false≢true (sym kept.phases.destination_phase ∙ ran))
-whereabouts_in SourcePhase.Stopped DestPhase.Discarding world stopped ran up kept page origin owed = absurd (false≢true (sym kept.phases.destination_phase ∙ ran))
 whereabouts_in SourcePhase.Stopped DestPhase.Paused world stopped ran up kept page origin owed = absurd (kept.flight.wires up)
 whereabouts_in SourcePhase.Stopped DestPhase.Ended world stopped ran up kept page origin owed = absurd (none-some origin (sym (ap (λ m. get m page) (kept.owing.ended_empty kept.phases.destination_phase).0 ∙ get-empty nat_cmp page) ∙ owed))
-whereabouts_in SourcePhase.Idle to world stopped ran up kept page origin owed = none_absurd stopped
+whereabouts_in SourcePhase.Stopped _ world stopped ran up kept page origin owed = absurd (false≢true (sym kept.phases.destination_phase ∙ ran))
 whereabouts_in _ to world stopped ran up kept page origin owed = none_absurd stopped
 
 pub are_under_way : (world : World) → IsSoundWorld world → AreSoundUrgent world → world.destination.has_run ≡ true → AreUnderWay world
@@ -133,26 +131,17 @@ are_under_way world kept urgent ran =
 precopying_in : (from : SourcePhase) (to : DestPhase) (world : World) → is_precopy from ≡ true → world.up ≡ true → IsSoundWorld (in_phases from to world) → IsPrecopying (in_phases from to world).source world.destination.kept world.forward.frames
 precopying_in SourcePhase.Precopy DestPhase.Idle world precopy up kept = (kept.flight.wires up).2
 precopying_in SourcePhase.Precopy DestPhase.Advised world precopy up kept = (kept.flight.wires up).2
-precopying_in SourcePhase.Precopy DestPhase.Discarding world precopy up kept = absurd (kept.flight.wires up)
-precopying_in SourcePhase.Precopy DestPhase.Running world precopy up kept = absurd (kept.flight.wires up)
-precopying_in SourcePhase.Precopy DestPhase.Paused world precopy up kept = absurd (kept.flight.wires up)
-precopying_in SourcePhase.Precopy DestPhase.Ended world precopy up kept = absurd (kept.flight.wires up)
-precopying_in SourcePhase.Idle to world precopy up kept = none_absurd precopy
-precopying_in SourcePhase.Stopped to world precopy up kept = none_absurd precopy
-precopying_in SourcePhase.Paused to world precopy up kept = none_absurd precopy
-precopying_in SourcePhase.Released to world precopy up kept = none_absurd precopy
+precopying_in SourcePhase.Precopy _ world precopy up kept = absurd (kept.flight.wires up)
+precopying_in _ to world precopy up kept = none_absurd precopy
 
 pub is_precopying : (world : World) → IsSoundWorld world → world.up ≡ true → is_precopy world.source.phase ≡ true → IsPrecopying world.source world.destination.kept world.forward.frames
 is_precopying world kept up precopy = precopying_in world.source.phase world.destination.phase world precopy up kept
 
 switching_in : (from : SourcePhase) (to : DestPhase) (world : World) → is_stopped from ≡ true → world.up ≡ true → world.destination.has_run ≡ false → IsSoundWorld (in_phases from to world) → IsSwitching (in_phases from to world).source world.destination.kept world.forward.frames world.urgent.frames
-switching_in SourcePhase.Stopped DestPhase.Idle world stopped up ran kept = (kept.flight.wires up).2
-switching_in SourcePhase.Stopped DestPhase.Advised world stopped up ran kept = (kept.flight.wires up).2
-switching_in SourcePhase.Stopped DestPhase.Discarding world stopped up ran kept = (kept.flight.wires up).2
 switching_in SourcePhase.Stopped DestPhase.Running world stopped up ran kept = absurd (false≢true (sym ran ∙ kept.phases.destination_phase.0))
 switching_in SourcePhase.Stopped DestPhase.Paused world stopped up ran kept = absurd (kept.flight.wires up)
 switching_in SourcePhase.Stopped DestPhase.Ended world stopped up ran kept = absurd (false≢true (sym ran ∙ kept.phases.ended_after_run kept.phases.destination_phase))
-switching_in SourcePhase.Idle to world stopped up ran kept = none_absurd stopped
+switching_in SourcePhase.Stopped _ world stopped up ran kept = (kept.flight.wires up).2
 switching_in _ to world stopped up ran kept = none_absurd stopped
 
 pub is_switching : (world : World) → IsSoundWorld world → world.up ≡ true → is_stopped world.source.phase ≡ true → world.destination.has_run ≡ false → IsSwitching world.source world.destination.kept world.forward.frames world.urgent.frames
@@ -161,15 +150,8 @@ is_switching world kept up stopped ran = switching_in world.source.phase world.d
 receiving_in : (from : SourcePhase) (to : DestPhase) (world : World) → is_source_paused from ≡ true → is_running to ≡ true → world.up ≡ true → IsSoundWorld (in_phases from to world) →
     IsReceiving (in_phases from to world).source (in_phases from to world).destination Received.Running world.back.frames
 receiving_in SourcePhase.Paused DestPhase.Running world paused runs up kept = (kept.flight.wires up).1
-receiving_in SourcePhase.Paused DestPhase.Idle world paused runs up kept = none_absurd runs
-receiving_in SourcePhase.Paused DestPhase.Advised world paused runs up kept = none_absurd runs
-receiving_in SourcePhase.Paused DestPhase.Discarding world paused runs up kept = none_absurd runs
-receiving_in SourcePhase.Paused DestPhase.Paused world paused runs up kept = none_absurd runs
-receiving_in SourcePhase.Paused DestPhase.Ended world paused runs up kept = none_absurd runs
-receiving_in SourcePhase.Idle to world paused runs up kept = none_absurd paused
-receiving_in SourcePhase.Precopy to world paused runs up kept = none_absurd paused
-receiving_in SourcePhase.Stopped to world paused runs up kept = none_absurd paused
-receiving_in SourcePhase.Released to world paused runs up kept = none_absurd paused
+receiving_in SourcePhase.Paused _ world paused runs up kept = none_absurd runs
+receiving_in _ to world paused runs up kept = none_absurd paused
 
 pub is_receiving : (world : World) → IsSoundWorld world → world.up ≡ true → is_source_paused world.source.phase ≡ true → is_running world.destination.phase ≡ true → IsReceiving world.source world.destination Received.Running world.back.frames
 is_receiving world kept up paused runs = receiving_in world.source.phase world.destination.phase world paused runs up kept
@@ -177,18 +159,16 @@ is_receiving world kept up paused runs = receiving_in world.source.phase world.d
 -- The zero pages of the handlers
 
 source_zero_by : (forgotten present protected : Bool) → source_act_by forgotten present protected ≡ Zeroed → present ≡ false
-source_zero_by true present protected h = absurd (cc)
 source_zero_by false false protected h = refl
 source_zero_by false true true h = absurd (cc)
-source_zero_by false true false h = absurd (cc)
+source_zero_by _ _ _ h = absurd (cc)
 
 pub source_zero : (world : World) (fault : Fault) → source_act world.source fault ≡ Zeroed → is_present (space_of world.source) fault.page ≡ false
 source_zero world fault h = source_zero_by _ (is_present (space_of world.source) fault.page) _ h
 
 destination_zero_by : (forgotten present : Bool) (owed : Option ℕ) → destination_act_by forgotten present owed ≡ Zeroed → present ≡ false
-destination_zero_by true present owed h = absurd (cc)
-destination_zero_by false true owed h = absurd (cc)
 destination_zero_by false false owed h = refl
+destination_zero_by _ _ owed h = absurd (cc)
 
 pub destination_zero : (world : World) (fault : Fault) → destination_act world.destination fault ≡ Zeroed → is_present world.destination.guest.space fault.page ≡ false
 destination_zero world fault h = destination_zero_by _ (is_present world.destination.guest.space fault.page) _ h

@@ -1,5 +1,5 @@
 -- After a Push no Switch of its epoch is made, and no Recv of its epoch is taken.
-use Rattle.std.proofs.Common.{◌≡◌, ℕ, ◌+◌, ◌<◌, Bool, true, false, not, List, [], ◌∷◌, refl, sym, ◌∙◌, subst, ◌⊎◌, inl, inr, ⊎_elim, arith, IsOk, if◌then◌else◌}
+use Rattle.std.proofs.Common.{◌≡◌, ℕ, ◌+◌, ◌<◌, Bool, true, false, not, List, ◌∷◌, refl, sym, ◌∙◌, subst, ◌⊎◌, inl, inr, ⊎_elim, arith, IsOk, if◌then◌else◌}
 use Rattle.std.proofs.lemmas.Bool.{false≢true}
 use Rattle.mig_base.specs.declared.phase.Received.{Received}
 use Rattle.mig_base.specs.declared.phase.SourcePhase.{SourcePhase}
@@ -7,20 +7,19 @@ use Rattle.mig_base.specs.declared.schedule.Side.{Side}
 use Rattle.mig_base.specs.declared.schedule.Step.{Step}
 use Rattle.mig_base.specs.declared.schedule.Ticket.{Ticket}
 use Rattle.mig_model.specs.Wire.{Frame, Sent}
-use Rattle.mig_model.specs.Wire.Frame.{Advise, Page, Zero, Run, Discard, Package, End, Resume, Request, Recv, Done}
+use Rattle.mig_model.specs.Wire.Frame.{Recv, Done}
 use Rattle.mig_model.specs.Guest.{Act, Guest}
-use Rattle.mig_model.specs.Guest.Act.{Unprotected, Zeroed, Woke, Forgot, Requested}
+use Rattle.mig_model.specs.Guest.Act.{Unprotected}
 use Rattle.mig_model.specs.Invariant.{IsSoundWorld, SwitchedAt, AreSoundUrgent}
-use Rattle.mig_model.proofs.EveryStep.{kept-next}
+use Rattle.mig_model.proofs.EveryStep.{by_steps, kept-next}
 use Rattle.mig_model.proofs.FramesTaken.{is_taken_back}
 use Rattle.mig_model.proofs.SourceRounds.{precopy_unswitched}
-use Rattle.mig_model.proofs.Calls.{stopped_switched}
-use Rattle.mig_model.proofs.StepLemmas.{Leaves, leaves-next, leaves-ok}
+use Rattle.mig_model.proofs.WokenSteps.{stopped_switched}
 use Rattle.mig_model.specs.Source.{Source, is_source_idle, is_source_paused, is_stopped, source_act, source_acted_by, source_took}
-use Rattle.mig_model.specs.Migration.{World, after_steps, answer, next, outcome, with_guest_by}
+use Rattle.mig_model.specs.Migration.{World, after_steps, next, outcome, with_guest_by}
 use Rattle.mig_model.specs.Promises.{is_recv}
 use Rattle.mig_model.proofs.Taken.{IsInPlaceBack}
-use Rattle.mig_model.proofs.StepCases.{made-break, made-deliver, made-deliver_back, made-dest_act, made-dest_read, made-end, made-install, made-issue, made-notice, made-push, made-resume, made-retry, made-round, made-send, made-send_run, made-serve, made-source_act, made-source_read, made-start, made-switch, made-deliver_urgent, made-push_urgent}
+use Rattle.mig_model.proofs.StepCases.{MakesWorld, made-next, made-ok}
 use Rattle.mig_model.proofs.UrgentSteps.{urgent-next}
 
 -- what tells that the source has switched in an epoch, and is not to be told again what the destination needs: its epoch, whether it
@@ -82,7 +81,6 @@ taken_pushed (Recv Received.Running owed) pushed node up linked paused h = resum
 taken_pushed (Recv Received.Ended owed) pushed node up linked paused h = resumed_later pushed node.epoch node.switched node.phase up linked (paused refl) h (λ more. inl more)
 taken_pushed Done pushed node up linked paused h =
     ⊎_elim (λ (more : pushed < node.epoch). inl more) (λ (one : (node.epoch ≡ pushed) × (node.switched ≡ true) × (up ≡ true → is_source_paused node.phase ≡ false)). inr (one.0, one.1, λ u. refl)) h
-taken_pushed (Request page) pushed node up linked paused h = h
 taken_pushed _ pushed node up linked paused h = h
 
 recv_paused : (frame : Frame) (node : Source) → IsInPlaceBack node frame → is_recv frame ≡ true → is_source_paused node.phase ≡ true
@@ -94,45 +92,30 @@ down_pushed : (pushed epoch : ℕ) (switched : Bool) (old new : SourcePhase) (be
 down_pushed pushed epoch switched old new before h =
     ⊎_elim (λ (more : pushed < epoch). inl more) (λ (one : (epoch ≡ pushed) × (switched ≡ true) × (before ≡ true → is_source_paused old ≡ false)). inr (one.0, one.1, λ u. absurd (false≢true u))) h
 
-pushed_answer : (pushed : ℕ) (world : World) (step : Step) → IsSoundWorld world → PushedIn pushed world → Leaves (PushedIn pushed) (answer world step)
-pushed_answer pushed world (Step.Issue cpu command) kept h = made-issue _ world cpu command (λ there idle may. guest_alike world.destination.has_run pushed world _ h)
-pushed_answer pushed world (Step.Retry cpu) kept h = made-retry _ world cpu (λ command is woken may. guest_alike world.destination.has_run pushed world _ h)
+pushed_answer : (pushed : ℕ) (world : World) (step : Step) → IsSoundWorld world → PushedIn pushed world → MakesWorld (PushedIn pushed) world step
+pushed_answer pushed world (Step.Issue cpu command) kept h = λ there idle may. guest_alike world.destination.has_run pushed world _ h
+pushed_answer pushed world (Step.Retry cpu) kept h = λ command is woken may. guest_alike world.destination.has_run pushed world _ h
 pushed_answer pushed world Step.Start kept h =
-    made-start _ world (λ idle. later pushed world.source.epoch world.source.switched world.source.phase world.up (idle_unswitched world.source.phase world.source.switched idle kept.phases.source_phase) h (λ more. inl (one_later pushed world.source.epoch more)))
-pushed_answer pushed world Step.Round kept h = made-round _ world (λ precopy quiet. h)
-pushed_answer pushed world Step.Send kept h = made-send _ world (λ page is precopy up quiet. h)
-pushed_answer pushed world (Step.SendRun count) kept h = made-send_run _ world count (λ first number is many precopy up quiet. h)
-pushed_answer pushed world Step.SourceRead kept h = made-source_read _ world (λ noted is started unswitched. h)
+    λ idle unused. later pushed world.source.epoch world.source.switched world.source.phase world.up (idle_unswitched world.source.phase world.source.switched idle kept.phases.source_phase) h (λ more. inl (one_later pushed world.source.epoch more))
 pushed_answer pushed world Step.SourceAct kept h =
-    made-source_act _ world (λ fault rest is started unswitched quiet. alike pushed world.source _ world.up (act_alike (source_act world.source fault) world.source fault.page) h)
+    λ fault rest is started unswitched quiet. alike pushed world.source _ world.up (act_alike (source_act world.source fault) world.source fault.page) h
 pushed_answer pushed world Step.Switch kept h =
-    made-switch _ world (λ precopy up quiet.
-    later pushed world.source.epoch world.source.switched world.source.phase world.up (precopy_unswitched world.source.phase world.source.switched precopy kept.phases.source_phase) h (λ more. inl more))
-pushed_answer pushed world (Step.Deliver n) kept h = made-deliver _ world n (λ sent rest is short. h) (λ sent rest is full started up free early. h)
+    λ precopy up quiet.
+    later pushed world.source.epoch world.source.switched world.source.phase world.up (precopy_unswitched world.source.phase world.source.switched precopy kept.phases.source_phase) h (λ more. inl more)
 pushed_answer pushed world (Step.DeliverBack n) kept h =
-    made-deliver_back _ world n (λ sent rest is short. h)
-    (λ sent rest is full started up. taken_pushed sent.frame pushed world.source world.up up (recv_paused sent.frame world.source (is_taken_back world sent rest kept up is)) h)
-pushed_answer pushed world Step.DestRead kept h = made-dest_read _ world (λ noted is ran. h)
-pushed_answer pushed world Step.DestAct kept h = made-dest_act _ world (λ fault rest is ran quiet. h)
-pushed_answer pushed world Step.Install kept h = made-install _ world (λ copy rest is ran quiet. h)
-pushed_answer pushed world (Step.Push ticket) kept h = made-push _ world ticket (λ stopped up own present remains. h)
-pushed_answer pushed world (Step.PushUrgent ticket) kept h = made-push_urgent _ world ticket (λ stopped up own present remains. h)
-pushed_answer pushed world (Step.DeliverUrgent n) kept h = made-deliver_urgent _ world n (λ sent rest is short. h) (λ sent rest is full ran up. h)
-pushed_answer pushed world Step.Serve kept h = made-serve _ world (λ page pages is stopped up. h)
-pushed_answer pushed world Step.End kept h = made-end _ world (λ stopped other up none. h)
-pushed_answer pushed world Step.Break kept h = made-break _ world (λ started unreleased up. down_pushed pushed world.source.epoch world.source.switched world.source.phase world.source.phase world.up h)
+    ((λ sent rest is short. h), (λ sent rest is full started up. taken_pushed sent.frame pushed world.source world.up up (recv_paused sent.frame world.source (is_taken_back world sent rest kept up is)) h))
+pushed_answer pushed world Step.Break kept h = λ started unreleased up. down_pushed pushed world.source.epoch world.source.switched world.source.phase world.source.phase world.up h
 pushed_answer pushed world (Step.Notice Side.Source) kept h =
-    made-notice _ world Side.Source (λ started unreleased down.
-    subst (λ u. HasPushed pushed world.source.epoch world.source.switched SourcePhase.Paused u) (sym down) (down_pushed pushed world.source.epoch world.source.switched world.source.phase SourcePhase.Paused world.up h))
-pushed_answer pushed world (Step.Notice Side.Destination) kept h = made-notice _ world Side.Destination (λ started unreleased down. h)
+    λ started unreleased down.
+    subst (λ u. HasPushed pushed world.source.epoch world.source.switched SourcePhase.Paused u) (sym down) (down_pushed pushed world.source.epoch world.source.switched world.source.phase SourcePhase.Paused world.up h)
 pushed_answer pushed world Step.Resume kept h =
-    made-resume _ world (λ from to down.
+    λ from to down unused.
     ⊎_elim (λ (more : pushed < world.source.epoch). inl (one_later pushed world.source.epoch more))
-    (λ (one : (world.source.epoch ≡ pushed) × (world.source.switched ≡ true) × (world.up ≡ true → is_source_paused world.source.phase ≡ false)). inl (next_later pushed world.source.epoch one.0)) h)
+    (λ (one : (world.source.epoch ≡ pushed) × (world.source.switched ≡ true) × (world.up ≡ true → is_source_paused world.source.phase ≡ false)). inl (next_later pushed world.source.epoch one.0)) h
+pushed_answer pushed world _ kept h = assumption
 
 pushed_steps : (pushed : ℕ) (world : World) (steps : List Step) → IsSoundWorld world → AreSoundUrgent world → PushedIn pushed world → PushedIn pushed (after_steps world steps)
-pushed_steps pushed world [] kept urgent h = h
-pushed_steps pushed world (step ∷ steps) kept urgent h = pushed_steps pushed (next world step) steps (kept-next world step kept urgent) (urgent-next world step kept urgent) (leaves-next (PushedIn pushed) world step h (pushed_answer pushed world step kept h))
+pushed_steps pushed world steps = by_steps (PushedIn pushed) (λ old step kept urgent h. made-next (PushedIn pushed) old step h (pushed_answer pushed old step kept h)) world steps
 
 stopped_not_paused : (phase : SourcePhase) → is_stopped phase ≡ true → is_source_paused phase ≡ false
 stopped_not_paused SourcePhase.Stopped h = refl
@@ -142,17 +125,17 @@ stopped_not_paused _ h = absurd (false≢true h)
 pub pushed_before : (world : World) (ticket : Ticket) (steps : List Step) → IsSoundWorld world → AreSoundUrgent world → IsOk (outcome world (Step.Push ticket)) → PushedIn world.source.epoch (after_steps (next world (Step.Push ticket)) steps)
 pushed_before world ticket steps kept urgent ok =
     pushed_steps world.source.epoch (next world (Step.Push ticket)) steps (kept-next world (Step.Push ticket) kept urgent) (urgent-next world (Step.Push ticket) kept urgent)
-    (leaves-ok (PushedIn world.source.epoch) world (Step.Push ticket)
-    (made-push _ world ticket (λ stopped up own present remains.
-    inr (refl, stopped_switched world.source.phase world.source.switched stopped kept.phases.source_phase, λ u. stopped_not_paused world.source.phase stopped))) ok)
+    (made-ok (PushedIn world.source.epoch) world (Step.Push ticket)
+    (λ stopped up own present remains.
+    inr (refl, stopped_switched world.source.phase world.source.switched stopped kept.phases.source_phase, λ u. stopped_not_paused world.source.phase stopped)) ok)
 
 -- an accepted PushUrgent, and any steps behind it
 pub urgent_before : (world : World) (ticket : Ticket) (steps : List Step) → IsSoundWorld world → AreSoundUrgent world → IsOk (outcome world (Step.PushUrgent ticket)) → PushedIn world.source.epoch (after_steps (next world (Step.PushUrgent ticket)) steps)
 urgent_before world ticket steps kept urgent ok =
     pushed_steps world.source.epoch (next world (Step.PushUrgent ticket)) steps (kept-next world (Step.PushUrgent ticket) kept urgent) (urgent-next world (Step.PushUrgent ticket) kept urgent)
-    (leaves-ok (PushedIn world.source.epoch) world (Step.PushUrgent ticket)
-    (made-push_urgent _ world ticket (λ stopped up own present remains.
-    inr (refl, stopped_switched world.source.phase world.source.switched stopped kept.phases.source_phase, λ u. stopped_not_paused world.source.phase stopped))) ok)
+    (made-ok (PushedIn world.source.epoch) world (Step.PushUrgent ticket)
+    (λ stopped up own present remains.
+    inr (refl, stopped_switched world.source.phase world.source.switched stopped kept.phases.source_phase, λ u. stopped_not_paused world.source.phase stopped)) ok)
 
 not_later : (pushed epoch : ℕ) → epoch ≡ pushed → pushed < epoch → ⊥
 not_later pushed epoch same more = omega (arith, same, more)
@@ -160,9 +143,9 @@ not_later pushed epoch same more = omega (arith, same, more)
 -- so no Switch is accepted in that epoch
 pub no_switch : (pushed : ℕ) (world : World) → IsSoundWorld world → PushedIn pushed world → world.source.epoch ≡ pushed → IsOk (outcome world Step.Switch) → ⊥
 no_switch pushed world kept h same ok =
-    leaves-ok (λ new. ⊥) world Step.Switch
-    (made-switch _ world (λ precopy up quiet.
-    later pushed world.source.epoch world.source.switched world.source.phase world.up (precopy_unswitched world.source.phase world.source.switched precopy kept.phases.source_phase) h (not_later pushed world.source.epoch same))) ok
+    made-ok (λ new. ⊥) world Step.Switch
+    (λ precopy up quiet.
+    later pushed world.source.epoch world.source.switched world.source.phase world.up (precopy_unswitched world.source.phase world.source.switched precopy kept.phases.source_phase) h (not_later pushed world.source.epoch same)) ok
 
 -- and no Recv is on the wire back
 pub no_recv_taken : (pushed : ℕ) (world : World) (sent : Sent) (rest : List Sent) → IsSoundWorld world → PushedIn pushed world → world.source.epoch ≡ pushed → world.up ≡ true → world.back.frames ≡ sent ∷ rest → is_recv sent.frame ≡ true → ⊥

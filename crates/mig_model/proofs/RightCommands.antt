@@ -7,7 +7,7 @@ use Rattle.mig_base.specs.declared.cpu_state.CpuState.{CpuState}
 use Rattle.mig_base.specs.declared.command.Access.{Access}
 use Rattle.mig_base.specs.declared.command.Access.TheVariants.{Answered}
 use Rattle.mig_base.specs.declared.command.Command.{Command}
-use Rattle.mig_base.specs.declared.command.Command.TheVariants.{Load, Store, Mmap, Munmap, Mremap, DontNeed}
+use Rattle.mig_base.specs.declared.command.Command.TheVariants.{Load, Store}
 use Rattle.mig_base.specs.declared.command.Reply.{Reply}
 use Rattle.mig_base.specs.declared.command.Reply.TheVariants.{BadAccess}
 use Rattle.mig_base.specs.declared.schedule.Step.{Step}
@@ -25,7 +25,7 @@ use Rattle.mig_model.specs.Promises.{Slept}
 use Rattle.mig_model.specs.Bounds.{AreRightAccesses, IsMapping, IsPage, IsRightAccess}
 use Rattle.mig_model.proofs.HostLemmas.{is_mapped-memory}
 use Rattle.mig_model.proofs.MappingLemmas.{IsMapping-guest}
-use Rattle.mig_model.proofs.WaitingCommands.{waits_arise}
+use Rattle.mig_model.proofs.WaitingCommands.{idle_at, waits_arise}
 
 -- A command that sleeps
 
@@ -51,7 +51,6 @@ right_by space (Store addr width value) mapping is h =
     let form = access_form (is_aligned addr width && ltb value (256 ^ width)) (memory space.host addr) _ _ h in
     let both = and_parts (is_aligned addr width) (ltb value (256 ^ width)) form.0 in
     (both.0, ltb-true value (256 ^ width) both.1, page_of_access space addr mapping form.1)
-right_by space (Mmap len prot place) mapping is h = absurd (false≢true is)
 right_by space _ mapping is h = absurd (false≢true is)
 
 pub right_slept : (access : Bool) (space : Space) (command : Command) → access ≡ is_access command → IsMapping space.host.areas → took_by access space command ≡ Sleep → IsRightAccess command
@@ -67,9 +66,7 @@ abbrev pub AreRight : World → Type 0
 AreRight world = AllRight (guest_of world).cpus
 
 idle_right : (count : ℕ) → AllRight (idle_processors count)
-idle_right zero k command h = absurd (none-some command h)
-idle_right (suc count) zero command h = absurd (none-some command h)
-idle_right (suc count) (suc k) command h = idle_right count k command h
+idle_right count k command h = absurd (none-some command (sym (ap outstanding (idle_at count k)) ∙ h))
 
 pub right-first : (cpus epoch rounds : ℕ) → AreRight (first_world_with cpus epoch rounds)
 right-first cpus epoch rounds = idle_right cpus

@@ -1,21 +1,17 @@
 -- A run that may be short of memory is a run of those of its steps that were not.
-use Rattle.std.proofs.Common.{◌≡◌, ◌≢◌, ℕ, Bool, true, false, not, Option, Some, None, List, [], ◌∷◌, refl, sym, ap, ◌∙◌, subst, ◌⊎◌, inl, inr, ⊎_elim, if◌then◌else◌}
+use Rattle.std.proofs.Common.{◌≡◌, ◌≢◌, Bool, true, false, not, Option, Some, None, List, [], ◌∷◌, refl, sym, ap, ◌∙◌, subst, inl, ⊎_elim, if◌then◌else◌}
 use Rattle.std.specs.Prelude.{Ok, Err}
 use Rattle.std.specs.List.{list_all}
 use Rattle.std.proofs.lemmas.Bool.{false≢true, and_parts}
-use Rattle.mig_base.specs.declared.command.Command.{Command}
-use Rattle.mig_base.specs.declared.effect.Effect.{Effect}
 use Rattle.mig_base.specs.declared.refusal.Refusal.{Refusal}
 use Rattle.mig_base.specs.declared.schedule.Step.{Step}
 use Rattle.mig_model.specs.Cpus.{outstanding, processor_at}
-use Rattle.mig_model.specs.Guest.{Fault}
 use Rattle.mig_model.specs.Log.{least_of}
 use Rattle.mig_model.specs.Source.{space_of}
-use Rattle.mig_model.specs.Userfault.{Noted, next_message}
-use Rattle.mig_model.specs.Wire.{Copy, Sent}
+use Rattle.mig_model.specs.Userfault.{next_message}
 use Rattle.mig_model.specs.Migration.{Answer, World, after_steps, answer, deliver_back_first, deliver_first, deliver_urgent_first, destination_act_first, destination_read_next, guest_of, install_first, is_short, next, outcome, outcome_by, retry_command, send_page, send_run_from, serve_first, source_act_first, source_read_next, unless}
 use Rattle.mig_model.specs.Promises.{IsReached}
-use Rattle.mig_model.specs.Runs.{Happens, IsRun, Outcome, comes_later, is_lacking, may_lack, needs_memory, outcomes, results_of, steps_made}
+use Rattle.mig_model.specs.Runs.{Happens, IsRun, Outcome, is_lacking, may_lack, needs_memory, outcomes, results_of, steps_made}
 use Rattle.mig_model.proofs.Facts.{by_test}
 use Rattle.mig_model.proofs.ReachedLemmas.{reached-after_steps}
 use Rattle.mig_model.proofs.StepLemmas.{next-refused}
@@ -118,67 +114,28 @@ other_either : (test : Bool) (one two : Answer) → is_other one ≡ true → is
 other_either true one two a b = a
 other_either false one two a b = b
 
-other_retry : (world : World) (cpu : ℕ) (o : Option Command) → is_other (retry_command world cpu o) ≡ true
-other_retry world cpu None = refl
-other_retry world cpu (Some command) = other-unless _ _ refl refl
+other_some : {A : Type 0} (f : Option A → Answer) (o : Option A) → is_other (f None) ≡ true → ((x : A) → is_other (f (Some x)) ≡ true) → is_other (f o) ≡ true
+other_some f None none some = none
+other_some f (Some x) none some = some x
 
-other_send : (world : World) (o : Option ℕ) → is_other (send_page world o) ≡ true
-other_send world None = refl
-other_send world (Some page) = other-unless _ _ refl refl
-
-other_run : (world : World) (count : ℕ) (o : Option ℕ) → is_other (send_run_from world count o) ≡ true
-other_run world count None = refl
-other_run world count (Some first) = other-unless _ _ refl refl
-
-other_source_read : (world : World) (o : Option Noted) → is_other (source_read_next world o) ≡ true
-other_source_read world None = refl
-other_source_read world (Some noted) = refl
-
-other_source_act : (world : World) (held : List Fault) → is_other (source_act_first world held) ≡ true
-other_source_act world [] = refl
-other_source_act world (fault ∷ rest) = other-unless _ _ refl refl
-
-other_deliver : (world : World) (n : ℕ) (wire : List Sent) → is_other (deliver_first world n wire) ≡ true
-other_deliver world n [] = refl
-other_deliver world n (sent ∷ rest) = other_either (is_short world.forward sent.frame n) _ _ refl (other-unless _ _ refl refl)
-
-other_deliver_back : (world : World) (n : ℕ) (wire : List Sent) → is_other (deliver_back_first world n wire) ≡ true
-other_deliver_back world n [] = refl
-other_deliver_back world n (sent ∷ rest) = other_either (is_short world.back sent.frame n) _ _ refl refl
-
-other_deliver_urgent : (world : World) (n : ℕ) (wire : List Sent) → is_other (deliver_urgent_first world n wire) ≡ true
-other_deliver_urgent world n [] = refl
-other_deliver_urgent world n (sent ∷ rest) = other_either (is_short world.urgent sent.frame n) _ _ refl refl
-
-other_dest_read : (world : World) (o : Option Noted) → is_other (destination_read_next world o) ≡ true
-other_dest_read world None = refl
-other_dest_read world (Some noted) = refl
-
-other_dest_act : (world : World) (held : List Fault) → is_other (destination_act_first world held) ≡ true
-other_dest_act world [] = refl
-other_dest_act world (fault ∷ rest) = other-unless _ _ refl refl
-
-other_install : (world : World) (arrivals : List Copy) → is_other (install_first world arrivals) ≡ true
-other_install world [] = refl
-other_install world (copy ∷ rest) = other-unless _ _ refl refl
-
-other_serve : (world : World) (asked : List ℕ) → is_other (serve_first world asked) ≡ true
-other_serve world [] = refl
-other_serve world (page ∷ pages) = refl
+other_first : {A : Type 0} (f : List A → Answer) (l : List A) → is_other (f []) ≡ true → ((x : A) (xs : List A) → is_other (f (x ∷ xs)) ≡ true) → is_other (f l) ≡ true
+other_first f [] none some = none
+other_first f (x ∷ xs) none some = some x xs
 
 other_answer : (world : World) (step : Step) → is_other (answer world step) ≡ true
-other_answer world (Step.Retry cpu) = other-unless _ _ refl (other_retry world cpu (outstanding (processor_at (guest_of world).cpus cpu)))
-other_answer world Step.Send = other-unless _ _ refl (other_send world (least_of world.source.log.todo))
-other_answer world (Step.SendRun count) = other-unless _ _ refl (other_run world count (least_of world.source.log.todo))
-other_answer world Step.SourceRead = other-unless _ _ refl (other_source_read world (next_message (space_of world.source).object))
-other_answer world Step.SourceAct = other-unless _ _ refl (other_source_act world world.source.log.held)
-other_answer world (Step.Deliver n) = other-unless _ _ refl (other_deliver world n world.forward.frames)
-other_answer world (Step.DeliverBack n) = other-unless _ _ refl (other_deliver_back world n world.back.frames)
-other_answer world Step.DestRead = other-unless _ _ refl (other_dest_read world (next_message world.destination.guest.space.object))
-other_answer world Step.DestAct = other-unless _ _ refl (other_dest_act world world.destination.held)
-other_answer world Step.Install = other-unless _ _ refl (other_install world world.destination.arrivals)
-other_answer world (Step.DeliverUrgent n) = other-unless _ _ refl (other_deliver_urgent world n world.urgent.frames)
-other_answer world Step.Serve = other-unless _ _ refl (other_serve world world.source.asked)
+other_answer world (Step.Retry cpu) = other-unless _ _ refl (other_some (retry_command world cpu) (outstanding (processor_at (guest_of world).cpus cpu)) refl (λ command. other-unless _ _ refl refl))
+other_answer world Step.Send = other-unless _ _ refl (other_some (send_page world) (least_of world.source.log.todo) refl (λ page. other-unless _ _ refl refl))
+other_answer world (Step.SendRun count) = other-unless _ _ refl (other_some (send_run_from world count) (least_of world.source.log.todo) refl (λ first. other-unless _ _ refl refl))
+other_answer world Step.SourceRead = other-unless _ _ refl (other_some (source_read_next world) (next_message (space_of world.source).object) refl (λ noted. refl))
+other_answer world Step.SourceAct = other-unless _ _ refl (other_first (source_act_first world) world.source.log.held refl (λ fault rest. other-unless _ _ refl refl))
+other_answer world (Step.Deliver n) =
+    other-unless _ _ refl (other_first (deliver_first world n) world.forward.frames refl (λ sent rest. other_either (is_short world.forward sent.frame n) _ _ refl (other-unless _ _ refl refl)))
+other_answer world (Step.DeliverBack n) = other-unless _ _ refl (other_first (deliver_back_first world n) world.back.frames refl (λ sent rest. other_either (is_short world.back sent.frame n) _ _ refl refl))
+other_answer world (Step.DeliverUrgent n) = other-unless _ _ refl (other_first (deliver_urgent_first world n) world.urgent.frames refl (λ sent rest. other_either (is_short world.urgent sent.frame n) _ _ refl refl))
+other_answer world Step.DestRead = other-unless _ _ refl (other_some (destination_read_next world) (next_message world.destination.guest.space.object) refl (λ noted. refl))
+other_answer world Step.DestAct = other-unless _ _ refl (other_first (destination_act_first world) world.destination.held refl (λ fault rest. other-unless _ _ refl refl))
+other_answer world Step.Install = other-unless _ _ refl (other_first (install_first world) world.destination.arrivals refl (λ copy rest. other-unless _ _ refl refl))
+other_answer world Step.Serve = other-unless _ _ refl (other_first (serve_first world) world.source.asked refl (λ page pages. refl))
 other_answer world _ = other-unless _ _ refl refl
 
 pub never_lacking : (world : World) (step : Step) → outcome world step ≢ Err Refusal.NoMemory

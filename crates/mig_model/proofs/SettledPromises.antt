@@ -8,7 +8,6 @@ use Rattle.std.specs.FinMap as finmap
 use Rattle.std.specs.FinMap.{FinMap, get}
 use Rattle.std.proofs.lemmas.Bool.{false≢true}
 use Rattle.mig_base.specs.declared.effect.Effect.{Effect}
-use Rattle.mig_base.specs.declared.phase.Received.{Received}
 use Rattle.mig_base.specs.declared.schedule.Side.{Side}
 use Rattle.mig_base.specs.declared.schedule.Step.{Step}
 use Rattle.mig_base.specs.declared.command.Command.{Command}
@@ -23,23 +22,21 @@ use Rattle.mig_model.specs.Userfault.{Noted, Object, waits_fault, next_of}
 use Rattle.mig_model.specs.Space.{Space, access_of, accessed_by}
 use Rattle.mig_model.specs.Guest.{tried, Act}
 use Rattle.mig_model.specs.Wire.{Frame, Sent, Copy}
-use Rattle.mig_model.specs.Wire.Frame.{Advise, Page, Zero, Run, Discard, Package, End, Resume, Request, Recv, Done}
-use Rattle.mig_model.specs.Guest.Act.{Unprotected, Zeroed, Woke, Forgot, Requested}
-use Rattle.mig_model.specs.Migration.{World, with_guest_by, guest_by, next, outcome, install_effect, after_command, after_dest_read, answer, guest_of, runs, start}
-use Rattle.mig_model.specs.Invariant.{IsSoundWorld, AreFaults, AreRight, is_package}
+use Rattle.mig_model.specs.Wire.Frame.{Package}
+use Rattle.mig_model.specs.Guest.Act.{Unprotected}
+use Rattle.mig_model.specs.Migration.{World, with_guest_by, guest_by, next, outcome, install_effect, after_command, after_dest_read, guest_of, runs, start}
+use Rattle.mig_model.specs.Invariant.{IsSoundWorld, AreFaults, AreRight}
 use Rattle.mig_model.specs.Promises.{owed_changed, leaves_settled, AreAccesses}
 use Rattle.mig_model.proofs.SettledLemmas.{settled_by-applied}
 use Rattle.mig_model.proofs.TriedLemmas.{settled_then}
 use Rattle.mig_model.proofs.DestinationCommands.{ready_of}
-use Rattle.mig_model.proofs.FirstFrame.{first_in_place}
-use Rattle.mig_model.proofs.FramesTaken.{with_first}
-use Rattle.mig_model.proofs.WaitingCommands.{package_told}
-use Rattle.mig_model.proofs.StepLemmas.{Leaves, holds-effect, leaves-next, leaves-ok}
-use Rattle.mig_model.proofs.StepCases.{made-break, made-deliver, made-deliver_back, made-dest_act, made-dest_read, made-end, made-install, made-issue, made-notice, made-push, made-resume, made-retry, made-round, made-send, made-send_run, made-serve, made-source_act, made-source_read, made-start, made-switch, made-deliver_urgent, made-push_urgent}
+use Rattle.mig_model.proofs.WaitingCommands.{package_next}
+use Rattle.mig_model.proofs.WokenSteps.{TakesFrame, takes, takes_urgent}
+use Rattle.mig_model.proofs.StepCases.{MakesWorld, made-next, made-ok, made-effect}
 use Rattle.mig_model.proofs.DestinationRead.{none_is}
 use Rattle.mig_model.specs.Cpus.{outstanding, processor_at}
 use Rattle.mig_model.specs.Owed.{home, settled_by}
-use Rattle.mig_model.specs.Destination.{Destination, copy_came, destination_act, destination_acted_by, destination_took, install_by, received_of, resumed_by, settled, urgent_took}
+use Rattle.mig_model.specs.Destination.{Destination, destination_act, destination_acted_by, destination_took, install_by, settled}
 use Rattle.mig_model.proofs.Facts.{some_is, dropped_not, page_again, no_event}
 
 -- A map call at the destination
@@ -54,8 +51,8 @@ called_by true false world cpu command runs is kept page = ap (λ f. f page) (se
 pub settled_call : (world : World) (cpu : ℕ) (command : Command) → IsSoundWorld world → world.destination.has_run ≡ true → is_access command ≡ false → (page : ℕ) →
     IsOk (outcome world (Step.Issue cpu command)) → settled (next world (Step.Issue cpu command)).destination page ≡ owed_changed (settled world.destination) command (reply_of (memory world.destination.guest.space.host) command) page
 settled_call world cpu command kept ran is page ok =
-    leaves-ok (λ new. settled new.destination page ≡ owed_changed (settled world.destination) command (reply_of (memory world.destination.guest.space.host) command) page) world (Step.Issue cpu command)
-    (made-issue _ world cpu command (λ there idle may. called_by world.destination.has_run (is_access command) world cpu command ran is kept page)) ok
+    made-ok (λ new. settled new.destination page ≡ owed_changed (settled world.destination) command (reply_of (memory world.destination.guest.space.host) command) page) world (Step.Issue cpu command)
+    (λ there idle may. called_by world.destination.has_run (is_access command) world cpu command ran is kept page) ok
 
 -- A message that is read
 
@@ -115,7 +112,7 @@ abbrev SettledAs : World → ℕ → World → Type 0
 SettledAs world page new = settled new.destination page ≡ settled world.destination page
 
 pub settled_access : (world : World) (cpu : ℕ) (command : Command) → world.destination.has_run ≡ true → is_access command ≡ true → (page : ℕ) → settled (next world (Step.Issue cpu command)).destination page ≡ settled world.destination page
-settled_access world cpu command ran is page = leaves-next (SettledAs world page) world (Step.Issue cpu command) refl (made-issue _ world cpu command (λ there idle may. settled_try world cpu command ran is page))
+settled_access world cpu command ran is page = made-next (SettledAs world page) world (Step.Issue cpu command) refl (λ there idle may. settled_try world cpu command ran is page)
 
 -- An install takes away its own pair
 
@@ -138,9 +135,9 @@ installed_by (Some here) copy rest world addr source quiet same page =
 pub settled_install : (world : World) (addr source : ℕ) → outcome world Step.Install ≡ Ok (Effect.Installed addr source) → (page : ℕ) →
     settled (next world Step.Install).destination page ≡ (if eqb page (addr / 4096) then None else settled world.destination page)
 settled_install world addr source answered page =
-    holds-effect (λ effect new. effect ≡ Effect.Installed addr source → settled new.destination page ≡ (if eqb page (addr / 4096) then None else settled world.destination page)) world Step.Install (Effect.Installed addr source)
-    (made-install _ world (λ copy rest first ran quiet same.
-    installed_by (home world.destination.owed copy.page) copy rest world addr source (no_event world.destination.guest.space.object.events quiet) same page)) answered refl
+    made-effect (λ effect new. effect ≡ Effect.Installed addr source → settled new.destination page ≡ (if eqb page (addr / 4096) then None else settled world.destination page)) world Step.Install (Effect.Installed addr source)
+    (λ copy rest first ran quiet same.
+    installed_by (home world.destination.owed copy.page) copy rest world addr source (no_event world.destination.guest.space.object.events quiet) same page) answered refl
 
 -- Any other step
 
@@ -152,80 +149,35 @@ waits_by false world cpu command waits ran is = absurd (false≢true ran)
 waits_here : (world : World) (cpu : ℕ) (command : Command) → AreAccesses world → world.destination.has_run ≡ true → outstanding (processor_at (guest_of world).cpus cpu) ≡ Some command → is_access command ≡ true
 waits_here world cpu command waits ran is = waits_by world.destination.has_run world cpu command waits ran is
 
-came_settled : (ran : Bool) (node : Destination) (copy : Copy) (page : ℕ) → settled (copy_came ran node copy) page ≡ settled node page
-came_settled true node copy page = refl
-came_settled false node copy page = refl
-
-resumed_settled : (state : Received) (node : Destination) (page : ℕ) → settled (resumed_by state node) page ≡ settled node page
-resumed_settled Received.NotRun node page = refl
-resumed_settled _ node page = refl
-
-took_settled : (frame : Frame) (node : Destination) (epoch page : ℕ) → is_package frame ≡ false → settled (destination_took node epoch frame) page ≡ settled node page
-took_settled (Page number bytes) node epoch page h = came_settled node.has_run node _ page
-took_settled (Zero number) node epoch page h = came_settled node.has_run node _ page
-took_settled (Package areas owed commands) node epoch page h = absurd (false≢true (sym h))
-took_settled Resume node epoch page h = resumed_settled (received_of node) _ page
-took_settled _ node epoch page h = refl
-
 acted_settled : (act : Act) (node : Destination) (fault page : ℕ) → settled (destination_acted_by act node fault) page ≡ settled node page
 acted_settled Unprotected node fault page = refl
 acted_settled _ node fault page = refl
+
+taken_settled : (old new : Destination) (page : ℕ) → TakesFrame old new → settled new page ≡ settled old page
+taken_settled old new page is = ap (λ events. settled_by events (get new.owed) page) is.node.guest.events ∙ ap (λ owed. settled_by old.guest.space.object.events (get owed) page) is.owed
 
 -- a destination that has run takes no Package
 frame_settled : (frame : Frame) (epoch : ℕ) (rest : List Sent) (world : World) → IsSoundWorld world → world.up ≡ true → world.destination.has_run ≡ true → world.forward.frames ≡ record { epoch = epoch; frame = frame } ∷ rest → (page : ℕ) →
     settled (destination_took world.destination epoch frame) page ≡ settled world.destination page
 frame_settled (Package areas owed commands) epoch rest world kept up ran first page =
-    let again = subst (λ w. IsSoundWorld (record world { forward = record world.forward { frames = w } })) first kept in
-    let old = with_first world.source.phase world.destination.phase epoch (Package areas owed commands) rest world in
-    let is = first_in_place old.source old.destination (record { epoch = epoch; frame = Package areas owed commands }) rest old.back.frames old.urgent.frames (again.flight.wires up) in
-    absurd (false≢true (sym (package_told world.source.phase world.destination.phase epoch areas owed commands rest world is up again).1 ∙ ran))
-frame_settled Advise epoch rest world kept up ran first page = took_settled Advise world.destination epoch page refl
-frame_settled (Page number bytes) epoch rest world kept up ran first page = took_settled (Page number bytes) world.destination epoch page refl
-frame_settled (Zero number) epoch rest world kept up ran first page = took_settled (Zero number) world.destination epoch page refl
-frame_settled (Run from pages) epoch rest world kept up ran first page = took_settled (Run from pages) world.destination epoch page refl
-frame_settled (Discard pages) epoch rest world kept up ran first page = took_settled (Discard pages) world.destination epoch page refl
-frame_settled (End count) epoch rest world kept up ran first page = took_settled (End count) world.destination epoch page refl
-frame_settled Resume epoch rest world kept up ran first page = took_settled Resume world.destination epoch page refl
-frame_settled (Request number) epoch rest world kept up ran first page = took_settled (Request number) world.destination epoch page refl
-frame_settled (Recv state owed) epoch rest world kept up ran first page = took_settled (Recv state owed) world.destination epoch page refl
-frame_settled Done epoch rest world kept up ran first page = took_settled Done world.destination epoch page refl
+    absurd (false≢true (sym (package_next epoch areas owed commands rest world up first kept).1 ∙ ran))
+frame_settled frame epoch rest world kept up ran first page = taken_settled _ _ page (takes frame world.destination epoch refl)
 
-urgent_settled : (frame : Frame) (node : Destination) (page : ℕ) → settled (urgent_took node frame) page ≡ settled node page
-urgent_settled (Page number bytes) node page = refl
-urgent_settled _ node page = refl
-
-same_node : (old new : World) (page : ℕ) → new.destination ≡ old.destination → settled new.destination page ≡ settled old.destination page
-same_node old new page h = ap (λ node. settled node page) h
-
-settled_answer : (world : World) (step : Step) → IsSoundWorld world → AreAccesses world → world.destination.has_run ≡ true → leaves_settled step ≡ true → (page : ℕ) → Leaves (SettledAs world page) (answer world step)
-settled_answer world (Step.Issue cpu command) kept waits ran leaves page = made-issue _ world cpu command (λ there idle may. settled_try world cpu command ran leaves page)
+settled_answer : (world : World) (step : Step) → IsSoundWorld world → AreAccesses world → world.destination.has_run ≡ true → leaves_settled step ≡ true → (page : ℕ) → MakesWorld (SettledAs world page) world step
+settled_answer world (Step.Issue cpu command) kept waits ran leaves page = λ there idle may. settled_try world cpu command ran leaves page
 settled_answer world (Step.Retry cpu) kept waits ran leaves page =
-    made-retry _ world cpu (λ command is woken may. settled_try world cpu command ran (waits_here world cpu command waits ran is) page)
+    λ command is woken may. settled_try world cpu command ran (waits_here world cpu command waits ran is) page
 settled_answer world Step.Install kept waits ran leaves page = absurd (false≢true leaves)
-settled_answer world Step.Start kept waits ran leaves page = made-start _ world (λ idle. refl)
-settled_answer world Step.Round kept waits ran leaves page = made-round _ world (λ precopy quiet. refl)
-settled_answer world Step.Send kept waits ran leaves page = made-send _ world (λ number is precopy up quiet. refl)
-settled_answer world (Step.SendRun count) kept waits ran leaves page = made-send_run _ world count (λ first number is many precopy up quiet. refl)
-settled_answer world Step.SourceRead kept waits ran leaves page = made-source_read _ world (λ noted is started unswitched. refl)
-settled_answer world Step.SourceAct kept waits ran leaves page = made-source_act _ world (λ fault rest is started unswitched quiet. refl)
-settled_answer world Step.Switch kept waits ran leaves page = made-switch _ world (λ precopy up quiet. refl)
-settled_answer world (Step.Deliver n) kept waits ran leaves page = made-deliver _ world n (λ sent rest is short. refl) (λ sent rest is full started up free early. frame_settled sent.frame sent.epoch rest world kept up ran is page)
-settled_answer world (Step.DeliverBack n) kept waits ran leaves page = made-deliver_back _ world n (λ sent rest is short. refl) (λ sent rest is full started up. refl)
+settled_answer world (Step.Deliver n) kept waits ran leaves page = ((λ sent rest is short. refl), (λ sent rest is full started up free early. frame_settled sent.frame sent.epoch rest world kept up ran is page))
 settled_answer world Step.DestRead kept waits ran leaves page =
-    made-dest_read _ world (λ noted is runs. read_settled world.destination.guest.space.object.faults world.destination.guest.space.object.events noted world is kept.spaces.destination_faults kept.spaces.destination_events page)
-settled_answer world Step.DestAct kept waits ran leaves page = made-dest_act _ world (λ fault rest is runs quiet. acted_settled (destination_act world.destination fault) world.destination fault.page page)
-settled_answer world (Step.Push ticket) kept waits ran leaves page = made-push _ world ticket (λ stopped up own present remains. refl)
-settled_answer world (Step.PushUrgent ticket) kept waits ran leaves page = made-push_urgent _ world ticket (λ stopped up own present remains. refl)
-settled_answer world (Step.DeliverUrgent n) kept waits ran leaves page = made-deliver_urgent _ world n (λ sent rest is short. refl) (λ sent rest is full runs up. urgent_settled sent.frame world.destination page)
-settled_answer world Step.Serve kept waits ran leaves page = made-serve _ world (λ number pages is stopped up. refl)
-settled_answer world Step.End kept waits ran leaves page = made-end _ world (λ stopped other up none. refl)
-settled_answer world Step.Break kept waits ran leaves page = made-break _ world (λ started unreleased up. refl)
-settled_answer world (Step.Notice Side.Source) kept waits ran leaves page = made-notice _ world Side.Source (λ started unreleased down. refl)
-settled_answer world (Step.Notice Side.Destination) kept waits ran leaves page = made-notice _ world Side.Destination (λ started unreleased down. refl)
-settled_answer world Step.Resume kept waits ran leaves page = made-resume _ world (λ from to down. refl)
+    λ noted is runs. read_settled world.destination.guest.space.object.faults world.destination.guest.space.object.events noted world is kept.spaces.destination_faults kept.spaces.destination_events page
+settled_answer world Step.DestAct kept waits ran leaves page = λ fault rest is runs quiet. acted_settled (destination_act world.destination fault) world.destination fault.page page
+settled_answer world (Step.DeliverUrgent n) kept waits ran leaves page = ((λ sent rest is short. refl), (λ sent rest is full runs up. taken_settled _ _ page (takes_urgent sent.frame world.destination)))
+settled_answer world (Step.Notice Side.Source) kept waits ran leaves page = assumption
+settled_answer world _ kept waits ran leaves page = assumption
 
 pub settled_else : (world : World) (step : Step) → IsSoundWorld world → AreAccesses world → world.destination.has_run ≡ true → leaves_settled step ≡ true → (page : ℕ) → settled (next world step).destination page ≡ settled world.destination page
-settled_else world step kept waits ran leaves page = leaves-next (SettledAs world page) world step refl (settled_answer world step kept waits ran leaves page)
+settled_else world step kept waits ran leaves page = made-next (SettledAs world page) world step refl (settled_answer world step kept waits ran leaves page)
 
 -- A copy that is given up leaves the relation
 
@@ -235,5 +187,5 @@ dropped_by (Some here) copy rest world source page same = absurd (cc)
 
 pub settled_dropped : (world : World) (source page : ℕ) → outcome world Step.Install ≡ Ok (Effect.Dropped source) → settled (next world Step.Install).destination page ≡ settled world.destination page
 settled_dropped world source page answered =
-    holds-effect (λ effect new. effect ≡ Effect.Dropped source → settled new.destination page ≡ settled world.destination page) world Step.Install (Effect.Dropped source)
-    (made-install _ world (λ copy rest first ran quiet same. dropped_by (home world.destination.owed copy.page) copy rest world source page same)) answered refl
+    made-effect (λ effect new. effect ≡ Effect.Dropped source → settled new.destination page ≡ settled world.destination page) world Step.Install (Effect.Dropped source)
+    (λ copy rest first ran quiet same. dropped_by (home world.destination.owed copy.page) copy rest world source page same) answered refl

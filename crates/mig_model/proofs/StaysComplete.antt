@@ -9,14 +9,13 @@ use Rattle.mig_base.specs.Tests.{is_empty}
 use Rattle.mig_base.specs.Commands.{is_access}
 use Rattle.mig_model.specs.Guest.{Guest, tried, Act}
 use Rattle.mig_model.specs.Wire.{Sent}
-use Rattle.mig_model.specs.Guest.Act.{Unprotected, Zeroed, Woke, Forgot, Requested}
-use Rattle.mig_model.specs.Migration.{World, next, guest_of, with_guest_by, after_command, answer}
+use Rattle.mig_model.specs.Guest.Act.{Unprotected}
+use Rattle.mig_model.specs.Migration.{World, next, guest_of, with_guest_by, after_command}
 use Rattle.mig_model.specs.Invariant.{IsSoundWorld}
 use Rattle.mig_model.specs.Promises.{IsComplete}
 use Rattle.mig_model.proofs.Stopping.{in_phases}
-use Rattle.mig_model.proofs.StepLemmas.{Leaves, leaves-next}
-use Rattle.mig_model.proofs.StepCases.{made-break, made-deliver, made-deliver_back, made-dest_act, made-dest_read, made-end, made-install, made-issue, made-notice, made-push, made-resume, made-retry, made-round, made-send, made-send_run, made-serve, made-source_act, made-source_read, made-start, made-switch, made-deliver_urgent, made-push_urgent}
-use Rattle.mig_model.specs.Source.{is_precopy, is_released, is_source_idle, is_source_paused, is_stopped, released, source_act, source_acted_by}
+use Rattle.mig_model.proofs.StepCases.{MakesWorld, made-next}
+use Rattle.mig_model.specs.Source.{is_precopy, is_released, is_source_idle, is_stopped, released, source_act, source_acted_by}
 use Rattle.mig_model.proofs.Facts.{none_absurd}
 
 -- A released source is in no other phase
@@ -32,10 +31,6 @@ not_precopy _ h is = false≢true h
 not_stopped : (phase : SourcePhase) → is_released phase ≡ true → is_stopped phase ≡ true → ⊥
 not_stopped SourcePhase.Released h is = false≢true is
 not_stopped _ h is = false≢true h
-
-not_paused : (phase : SourcePhase) → is_released phase ≡ true → is_source_paused phase ≡ true → ⊥
-not_paused SourcePhase.Released h is = false≢true is
-not_paused _ h is = false≢true h
 
 -- Steps that leave the phase of the source
 
@@ -62,30 +57,20 @@ still old new is h = ap is_released is ∙ h
 nothing_back : (world : World) (sent : Sent) (rest : List Sent) → IsSoundWorld world → IsComplete world → world.back.frames ≡ sent ∷ rest → ⊥
 nothing_back world sent rest kept done is = false≢true (ap is_empty (sym is) ∙ back_empty_in world.source.phase world done kept)
 
-complete-answer : (world : World) (step : Step) → IsSoundWorld world → IsComplete world → Leaves IsComplete (answer world step)
-complete-answer world (Step.Issue cpu command) kept done = made-issue _ world cpu command (λ there idle may. still world.source.phase _ (command_phase world cpu command) done)
-complete-answer world (Step.Retry cpu) kept done = made-retry _ world cpu (λ command waits woken may. still world.source.phase _ (command_phase world cpu command) done)
-complete-answer world Step.Start kept done = made-start _ world (λ idle. absurd (not_idle world.source.phase done idle))
-complete-answer world Step.Round kept done = made-round _ world (λ precopy quiet. absurd (not_precopy world.source.phase done precopy))
-complete-answer world Step.Send kept done = made-send _ world (λ page is precopy up quiet. absurd (not_precopy world.source.phase done precopy))
-complete-answer world (Step.SendRun count) kept done = made-send_run _ world count (λ first number is many precopy up quiet. absurd (not_precopy world.source.phase done precopy))
-complete-answer world Step.SourceRead kept done = made-source_read _ world (λ noted is started unswitched. done)
-complete-answer world Step.SourceAct kept done = made-source_act _ world (λ fault rest is started unswitched quiet. still world.source.phase _ (worked_phase (source_act world.source fault) world fault.page) done)
-complete-answer world Step.Switch kept done = made-switch _ world (λ precopy up quiet. absurd (not_precopy world.source.phase done precopy))
-complete-answer world (Step.Deliver n) kept done = made-deliver _ world n (λ sent rest is short. done) (λ sent rest is full started up free early. done)
-complete-answer world (Step.DeliverBack n) kept done = made-deliver_back _ world n (λ sent rest is short. done) (λ sent rest is full started up. absurd (nothing_back world sent rest kept done is))
-complete-answer world Step.DestRead kept done = made-dest_read _ world (λ noted is ran. done)
-complete-answer world Step.DestAct kept done = made-dest_act _ world (λ fault rest is ran quiet. done)
-complete-answer world Step.Install kept done = made-install _ world (λ copy rest is ran quiet. done)
-complete-answer world (Step.Push ticket) kept done = made-push _ world ticket (λ stopped up own present remains. absurd (not_stopped world.source.phase done stopped))
-complete-answer world (Step.PushUrgent ticket) kept done = made-push_urgent _ world ticket (λ stopped up own present remains. absurd (not_stopped world.source.phase done stopped))
-complete-answer world (Step.DeliverUrgent n) kept done = made-deliver_urgent _ world n (λ sent rest is short. done) (λ sent rest is full ran up. done)
-complete-answer world Step.Serve kept done = made-serve _ world (λ page pages is stopped up. done)
-complete-answer world Step.End kept done = made-end _ world (λ stopped other up none. done)
-complete-answer world Step.Break kept done = made-break _ world (λ started unreleased up. done)
-complete-answer world (Step.Notice Side.Source) kept done = made-notice _ world Side.Source (λ started unreleased down. absurd (false≢true (sym unreleased ∙ done)))
-complete-answer world (Step.Notice Side.Destination) kept done = made-notice _ world Side.Destination (λ started unreleased down. done)
-complete-answer world Step.Resume kept done = made-resume _ world (λ from to down. done)
+complete-answer : (world : World) (step : Step) → IsSoundWorld world → IsComplete world → MakesWorld IsComplete world step
+complete-answer world (Step.Issue cpu command) kept done = λ there idle may. still world.source.phase _ (command_phase world cpu command) done
+complete-answer world (Step.Retry cpu) kept done = λ command waits woken may. still world.source.phase _ (command_phase world cpu command) done
+complete-answer world Step.Start kept done = λ idle unused. absurd (not_idle world.source.phase done idle)
+complete-answer world Step.Round kept done = λ precopy quiet. absurd (not_precopy world.source.phase done precopy)
+complete-answer world Step.Send kept done = λ page is precopy up quiet. absurd (not_precopy world.source.phase done precopy)
+complete-answer world (Step.SendRun count) kept done = λ first number is many precopy up quiet. absurd (not_precopy world.source.phase done precopy)
+complete-answer world Step.SourceAct kept done = λ fault rest is started unswitched quiet. still world.source.phase _ (worked_phase (source_act world.source fault) world fault.page) done
+complete-answer world Step.Switch kept done = λ precopy up quiet. absurd (not_precopy world.source.phase done precopy)
+complete-answer world (Step.DeliverBack n) kept done = ((λ sent rest is short. done), (λ sent rest is full started up. absurd (nothing_back world sent rest kept done is)))
+complete-answer world (Step.Push ticket) kept done = λ stopped up own present remains. absurd (not_stopped world.source.phase done stopped)
+complete-answer world (Step.PushUrgent ticket) kept done = λ stopped up own present remains. absurd (not_stopped world.source.phase done stopped)
+complete-answer world (Step.Notice Side.Source) kept done = λ started unreleased down. absurd (false≢true (sym unreleased ∙ done))
+complete-answer world _ kept done = assumption
 
 pub complete-next : (world : World) (step : Step) → IsSoundWorld world → IsComplete world → IsComplete (next world step)
-complete-next world step kept done = leaves-next IsComplete world step done (complete-answer world step kept done)
+complete-next world step kept done = made-next IsComplete world step done (complete-answer world step kept done)

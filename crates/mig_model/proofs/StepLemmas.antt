@@ -16,6 +16,10 @@ Holds Q (Err refusal) = Unit {0}
 abbrev pub Leaves : (World → Type 0) → Answer → Type 0
 Leaves P answer = Holds (λ made. P made.world) answer
 
+pub holds-map : (Q R : Made → Type 0) (result : Answer) → ((made : Made) → Q made → R made) → Holds Q result → Holds R result
+holds-map Q R (Ok made) as_well h = as_well made h
+holds-map Q R (Err refusal) as_well h = h
+
 -- no test of the list holds
 abbrev pub NoneApplies : List (Bool × Refusal) → Type 0
 NoneApplies [] = Unit {0}

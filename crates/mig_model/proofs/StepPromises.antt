@@ -16,13 +16,12 @@ use Rattle.mig_base.proofs.SetLemmas.{member_removed}
 use Rattle.mig_base.specs.Commands.{is_access}
 use Rattle.mig_model.specs.Space.{Space}
 use Rattle.mig_model.specs.Guest.{Guest, took_by, tried, zero_installed, Act}
-use Rattle.mig_model.specs.Guest.Act.{Unprotected, Zeroed, Woke, Forgot, Requested}
-use Rattle.mig_model.specs.Migration.{World, next, outcome, act_effect, act_effect, guest_of, with_guest_by, after_command, after_dest_act, after_source_act, answer}
+use Rattle.mig_model.specs.Guest.Act.{Unprotected, Zeroed}
+use Rattle.mig_model.specs.Migration.{World, next, outcome, act_effect, act_effect, guest_of, with_guest_by, after_command, after_dest_act, after_source_act}
 use Rattle.mig_model.specs.Promises.{IsZeroed, keeps_remaining}
 use Rattle.mig_model.proofs.IoctlLemmas.{get-put_pages}
 use Rattle.mig_model.proofs.PromiseLemmas.{source_zero, destination_zero}
-use Rattle.mig_model.proofs.StepLemmas.{Leaves, holds-effect, leaves-next, leaves-ok}
-use Rattle.mig_model.proofs.StepCases.{made-break, made-deliver, made-dest_act, made-dest_read, made-end, made-install, made-issue, made-notice, made-push, made-resume, made-retry, made-round, made-send, made-send_run, made-serve, made-source_act, made-source_read, made-start, made-deliver_urgent, made-push_urgent}
+use Rattle.mig_model.proofs.StepCases.{MakesWorld, made-next, made-ok, made-effect}
 use Rattle.mig_model.specs.Cpus.{entries_of, outstanding, processor_at}
 use Rattle.mig_model.specs.Source.{Source, source_act, source_acted_by, space_of}
 use Rattle.mig_model.specs.Destination.{destination_act, destination_acted_by}
@@ -33,13 +32,13 @@ use Rattle.mig_model.proofs.Facts.{and_second, some_command, page_again}
 pub entered_issue : (world : World) (cpu : ℕ) (command : Command) → IsOk (outcome world (Step.Issue cpu command)) →
     (next world (Step.Issue cpu command)).transcript ≡ world.transcript ++ entries_of cpu command (took_by (is_access command) (guest_of world).space command)
 entered_issue world cpu command ok =
-    leaves-ok (λ new. new.transcript ≡ world.transcript ++ entries_of cpu command (took_by (is_access command) (guest_of world).space command)) world (Step.Issue cpu command) (made-issue _ world cpu command (λ there idle may. refl)) ok
+    made-ok (λ new. new.transcript ≡ world.transcript ++ entries_of cpu command (took_by (is_access command) (guest_of world).space command)) world (Step.Issue cpu command) (λ there idle may. refl) ok
 
 pub entered_retry : (world : World) (cpu : ℕ) (command : Command) → IsOk (outcome world (Step.Retry cpu)) → outstanding (processor_at (guest_of world).cpus cpu) ≡ Some command →
     (next world (Step.Retry cpu)).transcript ≡ world.transcript ++ entries_of cpu command (took_by (is_access command) (guest_of world).space command)
 entered_retry world cpu command ok waits =
-    leaves-ok (λ new. new.transcript ≡ world.transcript ++ entries_of cpu command (took_by (is_access command) (guest_of world).space command)) world (Step.Retry cpu)
-    (made-retry _ world cpu (λ other is woken may. ap (λ c. world.transcript ++ entries_of cpu c (took_by (is_access c) (guest_of world).space c)) (some_command other command (sym is ∙ waits)))) ok
+    made-ok (λ new. new.transcript ≡ world.transcript ++ entries_of cpu command (took_by (is_access command) (guest_of world).space command)) world (Step.Retry cpu)
+    (λ other is woken may. ap (λ c. world.transcript ++ entries_of cpu c (took_by (is_access c) (guest_of world).space c)) (some_command other command (sym is ∙ waits))) ok
 
 -- Pages of zeros
 
@@ -61,31 +60,31 @@ destination_put act world page is = ap (λ a. get (destination_acted_by a world.
 
 pub source_zeroed : (world : World) (addr : ℕ) → outcome world Step.SourceAct ≡ Ok (Effect.Zeroed addr) → IsZeroed (space_of world.source) (space_of (next world Step.SourceAct).source) (addr / 4096)
 source_zeroed world addr answered =
-    holds-effect (λ effect new. effect ≡ Effect.Zeroed addr → IsZeroed (space_of world.source) (space_of new.source) (addr / 4096)) world Step.SourceAct (Effect.Zeroed addr)
-    (made-source_act _ world (λ fault rest is started unswitched quiet h.
+    made-effect (λ effect new. effect ≡ Effect.Zeroed addr → IsZeroed (space_of world.source) (space_of new.source) (addr / 4096)) world Step.SourceAct (Effect.Zeroed addr)
+    (λ fault rest is started unswitched quiet h.
     let told = told_zeroed (source_act world.source fault) (4096 * fault.page) addr h in
     subst (λ p. IsZeroed (space_of world.source) (space_of (after_source_act world fault).source) p) (page_again fault.page addr told.1)
-    (record { missing = source_zero world fault told.0; zeros = source_put (source_act world.source fault) world fault.page told.0 }))) answered refl
+    (record { missing = source_zero world fault told.0; zeros = source_put (source_act world.source fault) world fault.page told.0 })) answered refl
 
 pub destination_zeroed : (world : World) (addr : ℕ) → outcome world Step.DestAct ≡ Ok (Effect.Zeroed addr) → IsZeroed world.destination.guest.space (next world Step.DestAct).destination.guest.space (addr / 4096)
 destination_zeroed world addr answered =
-    holds-effect (λ effect new. effect ≡ Effect.Zeroed addr → IsZeroed world.destination.guest.space new.destination.guest.space (addr / 4096)) world Step.DestAct (Effect.Zeroed addr)
-    (made-dest_act _ world (λ fault rest is ran quiet h.
+    made-effect (λ effect new. effect ≡ Effect.Zeroed addr → IsZeroed world.destination.guest.space new.destination.guest.space (addr / 4096)) world Step.DestAct (Effect.Zeroed addr)
+    (λ fault rest is ran quiet h.
     let told = told_zeroed (destination_act world.destination fault) (4096 * fault.page) addr h in
     subst (λ p. IsZeroed world.destination.guest.space (after_dest_act world fault).destination.guest.space p) (page_again fault.page addr told.1)
-    (record { missing = destination_zero world fault told.0; zeros = destination_put (destination_act world.destination fault) world fault.page told.0 }))) answered refl
+    (record { missing = destination_zero world fault told.0; zeros = destination_put (destination_act world.destination fault) world fault.page told.0 })) answered refl
 
 -- The pages that remain
 
 pub remaining_push : (world : World) (ticket : Ticket) (q : ℕ) → IsOk (outcome world (Step.Push ticket)) → contains (next world (Step.Push ticket)).source.remaining q ≡ (not (eqb q ticket.page) && contains world.source.remaining q)
 remaining_push world ticket q ok =
-    leaves-ok (λ new. contains new.source.remaining q ≡ (not (eqb q ticket.page) && contains world.source.remaining q)) world (Step.Push ticket)
-    (made-push _ world ticket (λ stopped up own present remains. member_removed world.source.remaining ticket.page q)) ok
+    made-ok (λ new. contains new.source.remaining q ≡ (not (eqb q ticket.page) && contains world.source.remaining q)) world (Step.Push ticket)
+    (λ stopped up own present remains. member_removed world.source.remaining ticket.page q) ok
 
 pub remaining_push_urgent : (world : World) (ticket : Ticket) (q : ℕ) → IsOk (outcome world (Step.PushUrgent ticket)) → contains (next world (Step.PushUrgent ticket)).source.remaining q ≡ (not (eqb q ticket.page) && contains world.source.remaining q)
 remaining_push_urgent world ticket q ok =
-    leaves-ok (λ new. contains new.source.remaining q ≡ (not (eqb q ticket.page) && contains world.source.remaining q)) world (Step.PushUrgent ticket)
-    (made-push_urgent _ world ticket (λ stopped up own present remains. member_removed world.source.remaining ticket.page q)) ok
+    made-ok (λ new. contains new.source.remaining q ≡ (not (eqb q ticket.page) && contains world.source.remaining q)) world (Step.PushUrgent ticket)
+    (λ stopped up own present remains. member_removed world.source.remaining ticket.page q) ok
 
 guest_remaining : (ran : Bool) (world : World) (guest : Guest) (q : ℕ) → contains (with_guest_by ran world guest).source.remaining q ≡ contains world.source.remaining q
 guest_remaining true world guest q = refl
@@ -102,31 +101,17 @@ worked_remaining _ node page q = refl
 abbrev RemainedIn : World → ℕ → World → Type 0
 RemainedIn world q new = contains new.source.remaining q ≡ true → contains world.source.remaining q ≡ true
 
-remaining_answer : (world : World) (step : Step) (q : ℕ) → keeps_remaining step ≡ true → Leaves (RemainedIn world q) (answer world step)
-remaining_answer world (Step.Issue cpu command) q keeps = made-issue _ world cpu command (λ there idle may h. sym (tried_remaining world cpu command q) ∙ h)
-remaining_answer world (Step.Retry cpu) q keeps = made-retry _ world cpu (λ command waits woken may h. sym (tried_remaining world cpu command q) ∙ h)
-remaining_answer world Step.Start q keeps = made-start _ world (λ idle h. h)
-remaining_answer world Step.Round q keeps = made-round _ world (λ precopy quiet h. h)
-remaining_answer world Step.Send q keeps = made-send _ world (λ page is precopy up quiet h. h)
-remaining_answer world (Step.SendRun count) q keeps = made-send_run _ world count (λ first number is many precopy up quiet h. h)
-remaining_answer world Step.SourceRead q keeps = made-source_read _ world (λ noted is started unswitched h. h)
-remaining_answer world Step.SourceAct q keeps = made-source_act _ world (λ fault rest is started unswitched quiet h. sym (worked_remaining (source_act world.source fault) world.source fault.page q) ∙ h)
+remaining_answer : (world : World) (step : Step) (q : ℕ) → keeps_remaining step ≡ true → MakesWorld (RemainedIn world q) world step
+remaining_answer world (Step.Issue cpu command) q keeps = λ there idle may h. sym (tried_remaining world cpu command q) ∙ h
+remaining_answer world (Step.Retry cpu) q keeps = λ command waits woken may h. sym (tried_remaining world cpu command q) ∙ h
+remaining_answer world Step.SourceAct q keeps = λ fault rest is started unswitched quiet h. sym (worked_remaining (source_act world.source fault) world.source fault.page q) ∙ h
 remaining_answer world Step.Switch q keeps = absurd (false≢true keeps)
-remaining_answer world (Step.Deliver n) q keeps = made-deliver _ world n (λ sent rest is short h. h) (λ sent rest is full started up free early h. h)
 remaining_answer world (Step.DeliverBack n) q keeps = absurd (false≢true keeps)
-remaining_answer world Step.DestRead q keeps = made-dest_read _ world (λ noted is ran h. h)
-remaining_answer world Step.DestAct q keeps = made-dest_act _ world (λ fault rest is ran quiet h. h)
-remaining_answer world Step.Install q keeps = made-install _ world (λ copy rest is ran quiet h. h)
 remaining_answer world (Step.Push ticket) q keeps =
-    made-push _ world ticket (λ stopped up own present remains h. and_second (not (eqb q ticket.page)) (contains world.source.remaining q) (sym (member_removed world.source.remaining ticket.page q) ∙ h))
-remaining_answer world (Step.PushUrgent ticket) q keeps = made-push_urgent _ world ticket (λ stopped up own present remains h. and_second (not (eqb q ticket.page)) (contains world.source.remaining q) (sym (member_removed world.source.remaining ticket.page q) ∙ h))
-remaining_answer world (Step.DeliverUrgent n) q keeps = made-deliver_urgent _ world n (λ sent rest is short h. h) (λ sent rest is full ran up h. h)
-remaining_answer world Step.Serve q keeps = made-serve _ world (λ page pages is stopped up h. h)
-remaining_answer world Step.End q keeps = made-end _ world (λ stopped other up none h. h)
-remaining_answer world Step.Break q keeps = made-break _ world (λ started unreleased up h. h)
-remaining_answer world (Step.Notice Side.Source) q keeps = made-notice _ world Side.Source (λ started unreleased down h. h)
-remaining_answer world (Step.Notice Side.Destination) q keeps = made-notice _ world Side.Destination (λ started unreleased down h. h)
-remaining_answer world Step.Resume q keeps = made-resume _ world (λ from to down h. h)
+    λ stopped up own present remains h. and_second (not (eqb q ticket.page)) (contains world.source.remaining q) (sym (member_removed world.source.remaining ticket.page q) ∙ h)
+remaining_answer world (Step.PushUrgent ticket) q keeps = λ stopped up own present remains h. and_second (not (eqb q ticket.page)) (contains world.source.remaining q) (sym (member_removed world.source.remaining ticket.page q) ∙ h)
+remaining_answer world (Step.Notice Side.Source) q keeps = assumption
+remaining_answer world _ q keeps = assumption
 
 pub remaining_shrinks : (world : World) (step : Step) (q : ℕ) → keeps_remaining step ≡ true → contains (next world step).source.remaining q ≡ true → contains world.source.remaining q ≡ true
-remaining_shrinks world step q keeps = leaves-next (RemainedIn world q) world step (λ h. h) (remaining_answer world step q keeps)
+remaining_shrinks world step q keeps = made-next (RemainedIn world q) world step (λ h. h) (remaining_answer world step q keeps)

@@ -1,8 +1,8 @@
 -- Without a break the Package that is taken is that of the Switch, and what is kept then is what was clean at the source.
-use Rattle.std.proofs.Common.{◌≡◌, ◌&&◌, Bool, true, false, cond, not, ltb, ℕ, Option, Some, None, is_some, List, [], ◌∷◌, ◌++◌, refl, sym, ap, ◌∙◌, subst, IsOk, if◌then◌else◌}
+use Rattle.std.proofs.Common.{◌≡◌, ◌&&◌, Bool, true, false, cond, not, ℕ, Option, Some, None, is_some, List, [], ◌∷◌, ◌++◌, refl, sym, ap, ◌∙◌, IsOk, if◌then◌else◌}
 use Rattle.std.specs.Prelude.{Ok}
 use Rattle.std.specs.Ordering.{nat_cmp}
-use Rattle.std.specs.FinMap.{FinMap, get, contains_key}
+use Rattle.std.specs.FinMap.{FinMap, get}
 use Rattle.std.specs.FinSet.{FinSet, contains}
 use Rattle.std.proofs.lemmas.Bool.{false≢true}
 use Rattle.mig_base.specs.declared.Prot.{Prot}
@@ -20,26 +20,26 @@ use Rattle.mig_model.specs.Guest.{is_present, tried}
 use Rattle.mig_model.specs.Source.{Source, commands_of, is_precopy, is_stopped, not_clean, space_of}
 use Rattle.mig_model.specs.Destination.{Destination, destination_act, destination_took}
 use Rattle.mig_model.specs.Owed.{home}
-use Rattle.mig_model.specs.Migration.{World, after_command, after_deliver, after_steps, answer, frame_effect, guest_of, is_changing, next, outcome, runs}
-use Rattle.mig_model.specs.Invariant.{IsSoundWorld, IsSwitching, Flow, flow_after, is_package, is_unread, kept_by, package_in}
+use Rattle.mig_model.specs.Migration.{World, after_command, after_deliver, after_steps, frame_effect, guest_of, is_changing, next, outcome, runs}
+use Rattle.mig_model.specs.Invariant.{IsSoundWorld, is_package, is_unread, kept_by, package_in}
 use Rattle.mig_model.specs.Invariant.Flow.{BeforeAdvise, Copies}
 use Rattle.mig_model.specs.Promises.{IsReached}
 use Rattle.mig_model.specs.Unbroken.{StaysUp, KeepsClean}
 use Rattle.mig_model.proofs.EveryStep.{kept-reached}
 use Rattle.mig_model.proofs.Facts.{by_test, no_event, none_absurd}
-use Rattle.mig_model.proofs.FirstFrame.{empty_not, first_in_place}
+use Rattle.mig_model.proofs.FirstFrame.{empty_not}
 use Rattle.mig_model.proofs.FlightPromises.{none_precopy, owed_at}
-use Rattle.mig_model.proofs.FramesTaken.{owed_in, with_first}
+use Rattle.mig_model.proofs.FramesTaken.{owed_in}
 use Rattle.mig_model.proofs.PromiseLemmas.{is_switching}
 use Rattle.mig_model.proofs.ReachedLemmas.{reached-after_steps, reached-next}
 use Rattle.mig_model.proofs.SendingLemmas.{has_package}
 use Rattle.mig_model.proofs.SourceRounds.{precopy_unswitched}
-use Rattle.mig_model.proofs.StepCases.{made-break, made-deliver, made-deliver_back, made-dest_act, made-dest_read, made-end, made-install, made-issue, made-notice, made-push, made-resume, made-retry, made-round, made-send, made-send_run, made-serve, made-source_act, made-source_read, made-start, made-switch, made-deliver_urgent, made-push_urgent}
-use Rattle.mig_model.proofs.StepLemmas.{Leaves, holds-effect, leaves-next, leaves-ok}
+use Rattle.mig_model.proofs.StepCases.{MakesWorld, made-next, made-ok, made-effect}
 use Rattle.mig_model.proofs.Stopping.{in_phases}
 use Rattle.mig_model.proofs.UrgentSteps.{runs_unstopped}
 use Rattle.mig_model.proofs.UrgentWire.{idle_unstopped, not_stopped, precopy_unstopped}
-use Rattle.mig_model.proofs.WaitingCommands.{acted_ran, installed_ran, package_told, same_ran, same_took, same_urgent}
+use Rattle.mig_model.proofs.WaitingCommands.{package_next, same_ran}
+use Rattle.mig_model.proofs.WokenSteps.{handles, installs, takes, takes_urgent}
 use Rattle.mig_model.proofs.WireLemmas.{package_in-append}
 
 -- From the Switch until the destination runs
@@ -76,69 +76,63 @@ taken_awaits : (host : Host) (frame_sent : Frame) (epoch : ℕ) (frame : Frame) 
 taken_awaits host frame_sent epoch frame rest world first h ran =
     by_test (is_package frame) (λ is. absurd (false≢true (sym ran ∙ package_runs frame world.destination epoch is)))
     (λ other.
-    let now = h (sym (same_took frame world.destination epoch other).ran ∙ ran) in
+    let now = h (sym (takes frame world.destination epoch other).node.ran ∙ ran) in
     record { stopped = now.stopped; host_is = now.host_is; package_is = sym (ap (λ b. cond b (Some frame) (package_in rest)) other) ∙ ap package_in (sym first) ∙ now.package_is })
 
 -- nothing comes back
 no_back : (from : SourcePhase) (to : DestPhase) (world : World) → is_stopped from ≡ true → world.up ≡ true → world.destination.has_run ≡ false → IsSoundWorld (in_phases from to world) → world.back.frames ≡ []
-no_back SourcePhase.Stopped DestPhase.Idle world stopped up ran kept = (kept.flight.wires up).1
-no_back SourcePhase.Stopped DestPhase.Advised world stopped up ran kept = (kept.flight.wires up).1
-no_back SourcePhase.Stopped DestPhase.Discarding world stopped up ran kept = (kept.flight.wires up).1
 no_back SourcePhase.Stopped DestPhase.Running world stopped up ran kept = absurd (false≢true (sym ran ∙ kept.phases.destination_phase.0))
 no_back SourcePhase.Stopped DestPhase.Paused world stopped up ran kept = absurd (kept.flight.wires up)
 no_back SourcePhase.Stopped DestPhase.Ended world stopped up ran kept = absurd (false≢true (sym ran ∙ kept.phases.ended_after_run kept.phases.destination_phase))
-no_back SourcePhase.Idle to world stopped up ran kept = none_absurd stopped
+no_back SourcePhase.Stopped _ world stopped up ran kept = (kept.flight.wires up).1
 no_back _ to world stopped up ran kept = none_absurd stopped
 
 -- more frames behind the Package
 sent_more : (host : Host) (frame_sent : Frame) (world : World) (more : List Sent) → HasSwitched host frame_sent world → package_in (world.forward.frames ++ more) ≡ Some frame_sent
 sent_more host frame_sent world more now = (has_package world.destination.kept world.forward.frames more frame_sent now.package_is).same ∙ now.package_is
 
-awaits_answer : (host : Host) (frame_sent : Frame) (world : World) (step : Step) → IsSoundWorld world → world.up ≡ true → Awaits host frame_sent world → Leaves (AwaitsUp host frame_sent) (answer world step)
-awaits_answer host frame_sent world (Step.Issue cpu command) kept linked h = made-issue _ world cpu command (λ there idle may up. no_command host frame_sent world cpu command kept may h)
-awaits_answer host frame_sent world (Step.Retry cpu) kept linked h = made-retry _ world cpu (λ command is woken may up. no_command host frame_sent world cpu command kept may h)
-awaits_answer host frame_sent world Step.Start kept linked h = made-start _ world (λ idle up ran. unstopped host frame_sent world (h ran) (idle_unstopped world.source.phase idle))
-awaits_answer host frame_sent world Step.Round kept linked h = made-round _ world (λ precopy quiet up ran. unstopped host frame_sent world (h ran) (precopy_unstopped world.source.phase precopy))
-awaits_answer host frame_sent world Step.Send kept linked h = made-send _ world (λ page is precopy link quiet up ran. unstopped host frame_sent world (h ran) (precopy_unstopped world.source.phase precopy))
-awaits_answer host frame_sent world (Step.SendRun count) kept linked h = made-send_run _ world count (λ first number is many precopy link quiet up ran. unstopped host frame_sent world (h ran) (precopy_unstopped world.source.phase precopy))
+awaits_answer : (host : Host) (frame_sent : Frame) (world : World) (step : Step) → IsSoundWorld world → world.up ≡ true → Awaits host frame_sent world → MakesWorld (AwaitsUp host frame_sent) world step
+awaits_answer host frame_sent world (Step.Issue cpu command) kept linked h = λ there idle may up. no_command host frame_sent world cpu command kept may h
+awaits_answer host frame_sent world (Step.Retry cpu) kept linked h = λ command is woken may up. no_command host frame_sent world cpu command kept may h
+awaits_answer host frame_sent world Step.Start kept linked h = λ idle unused up ran. unstopped host frame_sent world (h ran) (idle_unstopped world.source.phase idle)
+awaits_answer host frame_sent world Step.Round kept linked h = λ precopy quiet up ran. unstopped host frame_sent world (h ran) (precopy_unstopped world.source.phase precopy)
+awaits_answer host frame_sent world Step.Send kept linked h = λ page is precopy link quiet up ran. unstopped host frame_sent world (h ran) (precopy_unstopped world.source.phase precopy)
+awaits_answer host frame_sent world (Step.SendRun count) kept linked h = λ first number is many precopy link quiet up ran. unstopped host frame_sent world (h ran) (precopy_unstopped world.source.phase precopy)
 awaits_answer host frame_sent world Step.SourceRead kept linked h =
-    made-source_read _ world (λ noted is started unswitched up ran. unstopped host frame_sent world (h ran) (not_stopped world.source.phase world.source.switched kept.phases.source_phase unswitched))
+    λ noted is started unswitched up ran. unstopped host frame_sent world (h ran) (not_stopped world.source.phase world.source.switched kept.phases.source_phase unswitched)
 awaits_answer host frame_sent world Step.SourceAct kept linked h =
-    made-source_act _ world (λ fault rest is started unswitched quiet up ran. unstopped host frame_sent world (h ran) (not_stopped world.source.phase world.source.switched kept.phases.source_phase unswitched))
-awaits_answer host frame_sent world Step.Switch kept linked h = made-switch _ world (λ precopy link quiet up ran. unstopped host frame_sent world (h ran) (precopy_unstopped world.source.phase precopy))
+    λ fault rest is started unswitched quiet up ran. unstopped host frame_sent world (h ran) (not_stopped world.source.phase world.source.switched kept.phases.source_phase unswitched)
+awaits_answer host frame_sent world Step.Switch kept linked h = λ precopy link quiet up ran. unstopped host frame_sent world (h ran) (precopy_unstopped world.source.phase precopy)
 awaits_answer host frame_sent world (Step.Deliver n) kept linked h =
-    made-deliver _ world n (λ sent rest is short up ran. let now = h ran in record { stopped = now.stopped; host_is = now.host_is; package_is = now.package_is })
-    (λ sent rest is full started link free early up. taken_awaits host frame_sent sent.epoch sent.frame rest world is h)
+    ((λ sent rest is short up ran. let now = h ran in record { stopped = now.stopped; host_is = now.host_is; package_is = now.package_is }), (λ sent rest is full started link free early up. taken_awaits host frame_sent sent.epoch sent.frame rest world is h))
 awaits_answer host frame_sent world (Step.DeliverBack n) kept linked h =
-    made-deliver_back _ world n (λ sent rest is short up ran. let now = h ran in record { stopped = now.stopped; host_is = now.host_is; package_is = now.package_is })
-    (λ sent rest is full started link up ran. absurd (empty_not sent rest (sym is ∙ no_back world.source.phase world.destination.phase world (h ran).stopped linked ran kept)))
-awaits_answer host frame_sent world Step.DestRead kept linked h = made-dest_read _ world (λ noted is runs up ran. absurd (false≢true (sym ran ∙ runs)))
+    ((λ sent rest is short up ran. let now = h ran in record { stopped = now.stopped; host_is = now.host_is; package_is = now.package_is }), (λ sent rest is full started link up ran. absurd (empty_not sent rest (sym is ∙ no_back world.source.phase world.destination.phase world (h ran).stopped linked ran kept))))
+awaits_answer host frame_sent world Step.DestRead kept linked h = λ noted is runs up ran. absurd (false≢true (sym ran ∙ runs))
 awaits_answer host frame_sent world Step.DestAct kept linked h =
-    made-dest_act _ world (λ fault rest is runs quiet up ran. absurd (false≢true (sym ran ∙ acted_ran (destination_act world.destination fault) world.destination fault.page ∙ runs)))
+    λ fault rest is runs quiet up ran. absurd (false≢true (sym ran ∙ (handles (destination_act world.destination fault) world.destination fault.page).ran ∙ runs))
 awaits_answer host frame_sent world Step.Install kept linked h =
-    made-install _ world (λ copy rest is runs quiet up ran. absurd (false≢true (sym ran ∙ installed_ran (home world.destination.owed copy.page) world.destination copy rest ∙ runs)))
+    λ copy rest is runs quiet up ran. absurd (false≢true (sym ran ∙ (installs (home world.destination.owed copy.page) world.destination copy rest).ran ∙ runs))
 awaits_answer host frame_sent world (Step.Push ticket) kept linked h =
-    made-push _ world ticket (λ stopped link own present remains up ran. let now = h ran in record { stopped = now.stopped; host_is = now.host_is; package_is = sent_more host frame_sent world _ now })
+    λ stopped link own present remains up ran. let now = h ran in record { stopped = now.stopped; host_is = now.host_is; package_is = sent_more host frame_sent world _ now }
 awaits_answer host frame_sent world (Step.PushUrgent ticket) kept linked h =
-    made-push_urgent _ world ticket (λ stopped link own present remains up ran. let now = h ran in record { stopped = now.stopped; host_is = now.host_is; package_is = now.package_is })
+    λ stopped link own present remains up ran. let now = h ran in record { stopped = now.stopped; host_is = now.host_is; package_is = now.package_is }
 awaits_answer host frame_sent world (Step.DeliverUrgent n) kept linked h =
-    made-deliver_urgent _ world n (λ sent rest is short up ran. let now = h ran in record { stopped = now.stopped; host_is = now.host_is; package_is = now.package_is })
-    (λ sent rest is full runs link up ran. absurd (false≢true (sym ran ∙ (same_urgent sent.frame world.destination).ran ∙ runs)))
+    ((λ sent rest is short up ran. let now = h ran in record { stopped = now.stopped; host_is = now.host_is; package_is = now.package_is }), (λ sent rest is full runs link up ran. absurd (false≢true (sym ran ∙ (takes_urgent sent.frame world.destination).node.ran ∙ runs))))
 awaits_answer host frame_sent world Step.Serve kept linked h =
-    made-serve _ world (λ page pages is stopped link up ran. let now = h ran in record { stopped = now.stopped; host_is = now.host_is; package_is = now.package_is })
+    λ page pages is stopped link up ran. let now = h ran in record { stopped = now.stopped; host_is = now.host_is; package_is = now.package_is }
 awaits_answer host frame_sent world Step.End kept linked h =
-    made-end _ world (λ stopped other link none up ran. let now = h ran in record { stopped = now.stopped; host_is = now.host_is; package_is = sent_more host frame_sent world _ now })
-awaits_answer host frame_sent world Step.Break kept linked h = made-break _ world (λ started unreleased link up. absurd (false≢true up))
-awaits_answer host frame_sent world (Step.Notice Side.Source) kept linked h = made-notice _ world Side.Source (λ started unreleased down. absurd (false≢true (sym down ∙ linked)))
-awaits_answer host frame_sent world (Step.Notice Side.Destination) kept linked h = made-notice _ world Side.Destination (λ started unreleased down. absurd (false≢true (sym down ∙ linked)))
-awaits_answer host frame_sent world Step.Resume kept linked h = made-resume _ world (λ from to down. absurd (false≢true (sym down ∙ linked)))
+    λ stopped other link none up ran. let now = h ran in record { stopped = now.stopped; host_is = now.host_is; package_is = sent_more host frame_sent world _ now }
+awaits_answer host frame_sent world Step.Break kept linked h = λ started unreleased link up. absurd (false≢true up)
+awaits_answer host frame_sent world (Step.Notice Side.Source) kept linked h = λ started unreleased down. absurd (false≢true (sym down ∙ linked))
+awaits_answer host frame_sent world (Step.Notice Side.Destination) kept linked h = λ started unreleased down. absurd (false≢true (sym down ∙ linked))
+awaits_answer host frame_sent world Step.Resume kept linked h = λ from to down unused. absurd (false≢true (sym down ∙ linked))
 
 awaits_steps : (host : Host) (frame_sent : Frame) (world : World) (steps : List Step) → IsReached world → world.up ≡ true → StaysUp world steps → Awaits host frame_sent world →
     ((after_steps world steps).up ≡ true) × Awaits host frame_sent (after_steps world steps)
 awaits_steps host frame_sent world [] reached linked stays h = (linked, h)
 awaits_steps host frame_sent world (step ∷ steps) reached linked stays h =
     awaits_steps host frame_sent (next world step) steps (reached-next world step reached) stays.0 stays.1
-    (leaves-next (AwaitsUp host frame_sent) world step (λ up. h) (awaits_answer host frame_sent world step (kept-reached world reached) linked h) stays.0)
+    (made-next (AwaitsUp host frame_sent) world step (λ up. h) (awaits_answer host frame_sent world step (kept-reached world reached) linked h) stays.0)
 
 -- The Switch
 
@@ -162,18 +156,18 @@ package_of source = Package (space_of source).host.areas (not_clean source) (com
 
 switch_awaits : (world : World) → IsSoundWorld world → IsOk (outcome world Step.Switch) → Awaits (space_of world.source).host (package_of world.source) (next world Step.Switch)
 switch_awaits world kept ok =
-    leaves-ok (Awaits (space_of world.source).host (package_of world.source)) world Step.Switch
-    (made-switch _ world (λ precopy up quiet ran.
+    made-ok (Awaits (space_of world.source).host (package_of world.source)) world Step.Switch
+    (λ precopy up quiet ran.
     let before = no_package_by (package_in world.forward.frames) (none_before world.source.phase world.destination.phase world precopy up kept) in
-    record { stopped = refl; host_is = refl; package_is = sent_first (world.forward.frames ++ _ ∷ []) _ (sent_first world.forward.frames _ before) })) ok
+    record { stopped = refl; host_is = refl; package_is = sent_first (world.forward.frames ++ _ ∷ []) _ (sent_first world.forward.frames _ before) }) ok
 
 -- what an accepted Switch was asked
 switch_free : (world : World) → IsOk (outcome world Step.Switch) → (is_precopy world.source.phase ≡ true) × (world.up ≡ true) × (is_changing world.source.guest ≡ false)
 switch_free world ok =
-    leaves-ok (λ new. (is_precopy world.source.phase ≡ true) × (world.up ≡ true) × (is_changing world.source.guest ≡ false)) world Step.Switch (made-switch _ world (λ precopy up quiet. (precopy, up, quiet))) ok
+    made-ok (λ new. (is_precopy world.source.phase ≡ true) × (world.up ≡ true) × (is_changing world.source.guest ≡ false)) world Step.Switch (λ precopy up quiet. (precopy, up, quiet)) ok
 
 switch_up : (world : World) → IsOk (outcome world Step.Switch) → (next world Step.Switch).up ≡ true
-switch_up world ok = leaves-ok (λ new. new.up ≡ true) world Step.Switch (made-switch _ world (λ precopy up quiet. up)) ok
+switch_up world ok = made-ok (λ new. new.up ≡ true) world Step.Switch (λ precopy up quiet. up) ok
 
 -- The Package is taken
 
@@ -189,15 +183,11 @@ takes_package _ owed h = absurd (cc)
 
 package_first : (world : World) (n owed : ℕ) → outcome world (Step.Deliver n) ≡ Ok (Effect.TookPackage owed) → IsPackageFirst world
 package_first world n owed answered =
-    holds-effect (λ effect new. effect ≡ Effect.TookPackage owed → IsPackageFirst world) world (Step.Deliver n) (Effect.TookPackage owed)
-    (made-deliver _ world n (λ sent rest is short h. absurd (cc)) (λ sent rest is full started up free early h. record { sent = sent; rest = rest; first = is; is = takes_package sent.frame owed h })) answered refl
+    made-effect (λ effect new. effect ≡ Effect.TookPackage owed → IsPackageFirst world) world (Step.Deliver n) (Effect.TookPackage owed)
+    ((λ sent rest is short h. absurd (cc)), (λ sent rest is full started up free early h. record { sent = sent; rest = rest; first = is; is = takes_package sent.frame owed h })) answered refl
 
 not_run_yet : (epoch : ℕ) (frame : Frame) (rest : List Sent) (world : World) → world.up ≡ true → world.forward.frames ≡ record { epoch = epoch; frame = frame } ∷ rest → IsSoundWorld world → is_package frame ≡ true → world.destination.has_run ≡ false
-not_run_yet epoch (Package areas owed commands) rest world up first kept is =
-    let again = subst (λ w. IsSoundWorld (record world { forward = record world.forward { frames = w } })) first kept in
-    let old = with_first world.source.phase world.destination.phase epoch (Package areas owed commands) rest world in
-    let place = first_in_place old.source old.destination (record { epoch = epoch; frame = Package areas owed commands }) rest old.back.frames old.urgent.frames (again.flight.wires up) in
-    (package_told world.source.phase world.destination.phase epoch areas owed commands rest world place up again).1
+not_run_yet epoch (Package areas owed commands) rest world up first kept is = (package_next epoch areas owed commands rest world up first kept).1
 not_run_yet epoch _ rest world up first kept is = absurd (false≢true is)
 
 -- one page: it is kept exactly where it was clean

@@ -1,5 +1,5 @@
 -- The frames that were put on the urgent wire in an epoch and the pages that remain are, together, no more than the pages of the source.
-use Rattle.std.proofs.Common.{◌≡◌, ℕ, ◌+◌, ◌-◌, ◌<◌, ◌≤◌, ◌&&◌, not, Bool, true, false, List, [], ◌∷◌, refl, sym, ◌∙◌, subst, arith, ltb}
+use Rattle.std.proofs.Common.{◌≡◌, ℕ, ◌+◌, ◌-◌, ◌<◌, ◌≤◌, ◌&&◌, not, Bool, true, false, List, [], ◌∷◌, refl, sym, ◌∙◌, subst, arith, ltb, ◌||◌}
 use Rattle.std.specs.Ordering.{nat_cmp}
 use Rattle.std.specs.FinSet as finset
 use Rattle.std.specs.FinSet.{FinSet, contains, len}
@@ -16,28 +16,26 @@ use Rattle.mig_base.proofs.SetLemmas.{member_below}
 use Rattle.mig_model.specs.Host.{IsSound}
 use Rattle.mig_model.specs.Space.{Space}
 use Rattle.mig_model.specs.Guest.{Guest, Act, is_present, tried}
-use Rattle.mig_model.specs.Guest.Act.{Unprotected, Zeroed, Woke, Forgot, Requested}
+use Rattle.mig_model.specs.Guest.Act.{Unprotected}
 use Rattle.mig_model.specs.Log.{present}
 use Rattle.mig_model.specs.Wire.{Frame, Sent}
 use Rattle.mig_model.specs.Wire.Frame.{Request, Recv, Done}
-use Rattle.mig_model.specs.Migration.{World, after_command, after_deliver_back, after_steps, after_switch, answer, first_world_with, guest_of, next, runs, with_guest_by}
+use Rattle.mig_model.specs.Migration.{World, after_command, after_deliver_back, after_switch, first_world_with, guest_of, next, runs, with_guest_by}
 use Rattle.mig_model.specs.Source.{Source, is_precopy, is_released, is_stopped, not_clean, source_act, source_acted_by, source_rebuilt, space_of}
 use Rattle.mig_model.specs.Invariant.{AreSoundUrgent, IsSoundWorld}
 use Rattle.mig_model.specs.Promises.{IsReached}
 use Rattle.mig_model.proofs.Taken.{IsInPlaceBack}
 use Rattle.mig_model.specs.Bounds.{AreUrgentFew, IsUrgentFew}
-use Rattle.mig_model.proofs.Calls.{stopped_switched}
-use Rattle.mig_model.proofs.EveryStep.{kept-next, runs_source}
+use Rattle.mig_model.proofs.EveryStep.{kept-next, runs_source, by_reached}
 use Rattle.mig_model.proofs.Facts.{owed_is_present}
 use Rattle.mig_model.proofs.FirstWorld.{kept-first}
+use Rattle.mig_model.proofs.WokenSteps.{stopped_switched}
 use Rattle.mig_model.proofs.FramesTaken.{is_taken_back}
 use Rattle.mig_model.proofs.PushOrder.{idle_unswitched}
 use Rattle.mig_model.proofs.SetSizes.{len-part, len-removed, len-some}
 use Rattle.mig_model.proofs.SourceRounds.{precopy_unswitched}
-use Rattle.mig_model.proofs.StepCases.{made-break, made-deliver, made-deliver_back, made-deliver_urgent, made-dest_act, made-dest_read, made-end, made-install, made-issue, made-notice, made-push, made-push_urgent, made-resume, made-retry, made-round, made-send, made-send_run, made-serve, made-source_act, made-source_read, made-start, made-switch}
-use Rattle.mig_model.proofs.StepLemmas.{Leaves, leaves-next}
+use Rattle.mig_model.proofs.StepCases.{MakesWorld, made-next}
 use Rattle.mig_model.proofs.Stopping.{present_below}
-use Rattle.mig_model.proofs.UrgentSteps.{urgent-first, urgent-next}
 use Rattle.mig_model.proofs.UrgentWire.{is_paused}
 
 -- Sets of pages of the source
@@ -150,41 +148,26 @@ notices_few world unreleased h = record { before_switch = h.before_switch; few =
 
 -- Steps
 
-pub few-answer : (world : World) (step : Step) → IsSoundWorld world → AreSoundUrgent world → AreUrgentFew world → Leaves AreUrgentFew (answer world step)
-few-answer world (Step.Issue cpu command) kept urgent h = made-issue _ world cpu command (λ there idle may. command_few world cpu command may h)
-few-answer world (Step.Retry cpu) kept urgent h = made-retry _ world cpu (λ command waits woken may. command_few world cpu command may h)
-few-answer world Step.Start kept urgent h = made-start _ world (λ idle. before _ _ _ (idle_unswitched world.source.phase world.source.switched idle kept.phases.source_phase) h)
-few-answer world Step.Round kept urgent h = made-round _ world (λ precopy quiet. before _ _ _ (precopy_unswitched world.source.phase world.source.switched precopy kept.phases.source_phase) h)
-few-answer world Step.Send kept urgent h = made-send _ world (λ page is precopy up quiet. before _ _ _ (precopy_unswitched world.source.phase world.source.switched precopy kept.phases.source_phase) h)
-few-answer world (Step.SendRun count) kept urgent h = made-send_run _ world count (λ first number is many precopy up quiet. before _ _ _ (precopy_unswitched world.source.phase world.source.switched precopy kept.phases.source_phase) h)
-few-answer world Step.SourceRead kept urgent h = made-source_read _ world (λ noted is started unswitched. before _ _ _ unswitched h)
-few-answer world Step.SourceAct kept urgent h = made-source_act _ world (λ fault rest is started unswitched quiet. acted_few (source_act world.source fault) world fault.page unswitched h)
-few-answer world Step.Switch kept urgent h = made-switch _ world (λ precopy up quiet. switch_few world kept precopy h)
-few-answer world (Step.Deliver n) kept urgent h = made-deliver _ world n (λ sent rest is short. h) (λ sent rest is full started up free early. h)
+pub few-answer : (world : World) (step : Step) → IsSoundWorld world → AreSoundUrgent world → AreUrgentFew world → MakesWorld AreUrgentFew world step
+few-answer world (Step.Issue cpu command) kept urgent h = λ there idle may. command_few world cpu command may h
+few-answer world (Step.Retry cpu) kept urgent h = λ command waits woken may. command_few world cpu command may h
+few-answer world Step.Start kept urgent h = λ idle unused. before _ _ _ (idle_unswitched world.source.phase world.source.switched idle kept.phases.source_phase) h
+few-answer world Step.Round kept urgent h = λ precopy quiet. before _ _ _ (precopy_unswitched world.source.phase world.source.switched precopy kept.phases.source_phase) h
+few-answer world Step.Send kept urgent h = λ page is precopy up quiet. before _ _ _ (precopy_unswitched world.source.phase world.source.switched precopy kept.phases.source_phase) h
+few-answer world (Step.SendRun count) kept urgent h = λ first number is many precopy up quiet. before _ _ _ (precopy_unswitched world.source.phase world.source.switched precopy kept.phases.source_phase) h
+few-answer world Step.SourceRead kept urgent h = λ noted is started unswitched. before _ _ _ unswitched h
+few-answer world Step.SourceAct kept urgent h = λ fault rest is started unswitched quiet. acted_few (source_act world.source fault) world fault.page unswitched h
+few-answer world Step.Switch kept urgent h = λ precopy up quiet. switch_few world kept precopy h
 few-answer world (Step.DeliverBack n) kept urgent h =
-    made-deliver_back _ world n (λ sent rest is short. h) (λ sent rest is full started up. back_few sent.frame sent.epoch rest world kept urgent up (is_taken_back world sent rest kept up is) h)
-few-answer world Step.DestRead kept urgent h = made-dest_read _ world (λ noted is ran. h)
-few-answer world Step.DestAct kept urgent h = made-dest_act _ world (λ fault rest is ran quiet. h)
-few-answer world Step.Install kept urgent h = made-install _ world (λ copy rest is ran quiet. h)
-few-answer world (Step.Push ticket) kept urgent h = made-push _ world ticket (λ stopped up own present remains. push_few world ticket.page remains h)
-few-answer world (Step.PushUrgent ticket) kept urgent h = made-push_urgent _ world ticket (λ stopped up own present remains. push_urgent_few world ticket.page kept stopped remains h)
-few-answer world (Step.DeliverUrgent n) kept urgent h = made-deliver_urgent _ world n (λ sent rest is short. h) (λ sent rest is full ran up. h)
-few-answer world Step.Serve kept urgent h = made-serve _ world (λ page pages is stopped up. h)
-few-answer world Step.End kept urgent h = made-end _ world (λ stopped other up none. h)
-few-answer world Step.Break kept urgent h = made-break _ world (λ started unreleased up. h)
-few-answer world (Step.Notice Side.Source) kept urgent h = made-notice _ world Side.Source (λ started unreleased down. notices_few world unreleased h)
-few-answer world (Step.Notice Side.Destination) kept urgent h = made-notice _ world Side.Destination (λ started unreleased down. h)
-few-answer world Step.Resume kept urgent h = made-resume _ world (λ from to down. resume_few world kept h)
+    ((λ sent rest is short. h), (λ sent rest is full started up. back_few sent.frame sent.epoch rest world kept urgent up (is_taken_back world sent rest kept up is) h))
+few-answer world (Step.Push ticket) kept urgent h = λ stopped up own present remains. push_few world ticket.page remains h
+few-answer world (Step.PushUrgent ticket) kept urgent h = λ stopped up own present remains. push_urgent_few world ticket.page kept stopped remains h
+few-answer world (Step.Notice Side.Source) kept urgent h = λ started unreleased down. notices_few world unreleased h
+few-answer world Step.Resume kept urgent h = λ from to down unused. resume_few world kept h
+few-answer world _ kept urgent h = assumption
 
 pub few-next : (world : World) (step : Step) → IsSoundWorld world → AreSoundUrgent world → AreUrgentFew world → AreUrgentFew (next world step)
-few-next world step kept urgent h = leaves-next AreUrgentFew world step h (few-answer world step kept urgent h)
-
-few-after_steps : (world : World) (steps : List Step) → IsSoundWorld world → AreSoundUrgent world → AreUrgentFew world → AreUrgentFew (after_steps world steps)
-few-after_steps world [] kept urgent h = h
-few-after_steps world (step ∷ steps) kept urgent h = few-after_steps (next world step) steps (kept-next world step kept urgent) (urgent-next world step kept urgent) (few-next world step kept urgent h)
+few-next world step kept urgent h = made-next AreUrgentFew world step h (few-answer world step kept urgent h)
 
 pub few-reached : (world : World) → IsReached world → AreUrgentFew world
-few-reached world reached =
-    subst AreUrgentFew (sym reached.is)
-    (few-after_steps (first_world_with reached.cpus reached.epoch reached.rounds) reached.steps (kept-first reached.cpus reached.epoch reached.rounds) (urgent-first reached.cpus reached.epoch reached.rounds)
-    (few-first reached.cpus reached.epoch reached.rounds))
+few-reached world reached = by_reached AreUrgentFew few-next few-first world reached

@@ -1,7 +1,8 @@
 -- PushUrgent and DeliverUrgent keep what every world keeps: a page goes from those that remain to the urgent wire, and from there to the
 -- copies that have arrived.
-use Rattle.std.proofs.Common.{◌≡◌, ◌≢◌, ℕ, ◌&&◌, ◌||◌, Bool, true, false, not, eqb, Some, List, [], ◌∷◌, ◌++◌, refl, sym, ap, ◌∙◌, subst, ⊎_elim, length}
+use Rattle.std.proofs.Common.{◌≡◌, ◌≢◌, ℕ, ◌⊎◌, ◌&&◌, ◌||◌, Bool, true, false, not, eqb, Some, List, [], ◌∷◌, ◌++◌, refl, sym, ap, ◌∙◌, subst, ⊎_elim, length}
 use Rattle.std.specs.Ordering.{nat_cmp}
+use Rattle.std.specs.FinMap as finmap
 use Rattle.std.specs.FinMap.{FinMap, get}
 use Rattle.std.specs.FinSet as finset
 use Rattle.std.specs.FinSet.{FinSet, contains}
@@ -14,11 +15,12 @@ use Rattle.mig_model.specs.Wire.{Frame, Sent, Copy, page_frame, wire_behind, is_
 use Rattle.mig_model.specs.Wire.Frame.{Page, Zero}
 use Rattle.mig_model.specs.Migration.{World, after_deliver_urgent, after_push_urgent}
 use Rattle.mig_model.specs.Source.{Source, is_stopped, bytes_of, space_of, urgent_pushed}
-use Rattle.mig_model.specs.Invariant.{AreFaithful, AreSoundUrgent, IsSoundWorld, IsSwitching, StoppedWires, are_copies, behind, copies_of, has_copy, is_urgent_or_left, AreOf, EpochAt}
+use Rattle.mig_model.specs.Invariant.{AreFaithful, Wires, AreSoundUrgent, IsSoundWorld, IsSwitching, StoppedWires, are_copies, behind, copies_of, has_copy, is_urgent_or_left, AreOf, EpochAt}
 use Rattle.mig_model.specs.Destination.{urgent_came, is_running}
-use Rattle.mig_model.specs.Log.{present}
+use Rattle.mig_model.specs.Log.{present, no_pages}
 use Rattle.mig_model.specs.Guest.{is_present}
-use Rattle.mig_model.proofs.Facts.{AreFaithful-append, copies_of-append, eqb-self, none_absurd, not_up, same_or_other, and_left}
+use Rattle.mig_model.specs.Space.{fresh_space}
+use Rattle.mig_model.proofs.Facts.{by_test, AreFaithful-append, copies_of-append, eqb-self, none_absurd, not_up, same_or_other, and_left}
 use Rattle.mig_model.proofs.SendingLemmas.{copies_of-page, has_copy-append}
 use Rattle.mig_model.proofs.Stopping.{in_phases, not_ended, or_true, present_bytes, stopped_at, stopped_not_released, was_there}
 use Rattle.mig_model.proofs.Taken.{IsTakenUrgent}
@@ -99,29 +101,14 @@ urgent_in SourcePhase.Stopped to world page stopped up present remains kept =
     let other = not_ended source page kept.pushing.end_sent remains in
     let copies : copies_of (world.urgent.frames ++ sent ∷ []) ≡ copies_of world.urgent.frames ++ record { page = page; bytes = bytes_of source page } ∷ [] =
     copies_of-append world.urgent.frames (sent ∷ []) ∙ ap (λ c. copies_of world.urgent.frames ++ c) (copies_of-page source.epoch page (bytes_of source page) whole) in
-    record {
-      memory = kept.memory;
-      spaces = kept.spaces;
-      phases = kept.phases;
-      precopy = kept.precopy;
-      pushing = record {
-        before_switch = λ h. absurd (false≢true (sym h ∙ kept.phases.source_phase));
-        end_sent = λ h. absurd (other h);
-        remaining_present = λ q h. kept.pushing.remaining_present q (was_there source.remaining page q h);
-        ended_before = kept.pushing.ended_before;
-        paused_fresh = kept.pushing.paused_fresh;
-        released_empty = λ h. absurd (stopped_not_released h);
-      };
-      copies = kept.copies;
-      owing = kept.owing;
-      flight = record {
-        flight_faithful = kept.flight.flight_faithful;
-        down = λ h. absurd (false≢true (sym h ∙ up));
-        wires = λ h. urgent_wires to world sent page (bytes_of source page) copies (kept.flight.wires h);
-      };
-      epochs = kept.epochs;
-      held = kept.held;
-    }
+    let new : World = after_push_urgent (in_phases SourcePhase.Stopped to world) page in
+    let before_switch : new.source.switched ≡ false → (new.source.remaining ≡ no_pages) × (new.source.end_epoch ≢ new.source.epoch ⊎ (new.source.phase ≡ SourcePhase.Idle)) = λ h. absurd (false≢true (sym h ∙ kept.phases.source_phase)) in
+    let end_sent : source.end_epoch ≡ source.epoch → new.source.remaining ≡ no_pages = λ h. absurd (other h) in
+    let remaining_present : (q : ℕ) → contains new.source.remaining q ≡ true → is_present (space_of new.source) q ≡ true = λ q h. kept.pushing.remaining_present q (was_there source.remaining page q h) in
+    let released_empty : new.source.phase ≡ SourcePhase.Released → (space_of new.source ≡ fresh_space) × (new.source.remaining ≡ no_pages) = λ h. absurd (stopped_not_released h) in
+    let down : new.up ≡ false → (new.forward.frames ≡ []) × (new.back.frames ≡ []) × (new.source.phase ≢ SourcePhase.Idle) × (new.source.phase ≢ SourcePhase.Released) = λ h. absurd (false≢true (sym h ∙ up)) in
+    let wires : new.up ≡ true → Wires new.source new.destination new.forward.frames new.back.frames new.urgent.frames = λ h. urgent_wires to world sent page (bytes_of source page) copies (kept.flight.wires h) in
+    assumption
 urgent_in SourcePhase.Idle to world page stopped up present remains kept = none_absurd stopped
 urgent_in _ to world page stopped up present remains kept = none_absurd stopped
 
@@ -142,12 +129,9 @@ came_urgent false false false false false h = none_absurd h
 -- where a frame of the urgent wire is taken the source is stopped and the destination runs
 pub both_run : (from : SourcePhase) (to : DestPhase) (world : World) → is_stopped from ≡ true → world.destination.has_run ≡ true → world.up ≡ true → (to ≢ DestPhase.Ended) → IsSoundWorld (in_phases from to world) → (from ≡ SourcePhase.Stopped) × (to ≡ DestPhase.Running)
 both_run SourcePhase.Stopped DestPhase.Running world stopped ran up other kept = (refl, refl)
-both_run SourcePhase.Stopped DestPhase.Idle world stopped ran up other kept = none_absurd (sym kept.phases.destination_phase ∙ ran)
-both_run SourcePhase.Stopped DestPhase.Advised world stopped ran up other kept = none_absurd (sym kept.phases.destination_phase ∙ ran)
-both_run SourcePhase.Stopped DestPhase.Discarding world stopped ran up other kept = none_absurd (sym kept.phases.destination_phase ∙ ran)
 both_run SourcePhase.Stopped DestPhase.Paused world stopped ran up other kept = absurd (kept.flight.wires up)
 both_run SourcePhase.Stopped DestPhase.Ended world stopped ran up other kept = absurd (other refl)
-both_run SourcePhase.Idle to world stopped ran up other kept = none_absurd stopped
+both_run SourcePhase.Stopped _ world stopped ran up other kept = none_absurd (sym kept.phases.destination_phase ∙ ran)
 both_run _ to world stopped ran up other kept = none_absurd stopped
 
 abbrev at_urgent : World → List Sent → World
@@ -164,39 +148,23 @@ urgent_arrives : (copy : Copy) (sent : Sent) (rest : List Sent) (world : World) 
 urgent_arrives copy sent rest world copies faithful kept =
     let w = kept.flight.wires refl in
     let bytes = (space_of world.source).host.bytes in
-    record {
-      memory = kept.memory;
-      spaces = kept.spaces;
-      phases = kept.phases;
-      precopy = kept.precopy;
-      pushing = kept.pushing;
-      copies = kept.copies;
-      owing = record {
-        not_run = λ h. none_absurd (sym h);
-        one_to_one = kept.owing.one_to_one;
-        owed_below = kept.owing.owed_below;
-        origins_present = kept.owing.origins_present;
-        pairs_missing = kept.owing.pairs_missing;
-        arrivals_faithful = λ r. AreFaithful-append bytes world.destination.arrivals (copy ∷ []) (kept.owing.arrivals_faithful refl) (faithful, tt);
-        ended_empty = λ h. none_absurd (sym kept.phases.destination_phase.1 ∙ h);
-      };
-      flight = record {
-        flight_faithful = kept.flight.flight_faithful;
-        down = λ h. absurd (not_up h);
-        wires = λ u. (
-          w.0,
-          w.1,
-          record {
-            whereabouts = λ q origin h.
-                ap (λ b. is_urgent_or_left world.source.remaining rest origin || has_copy (copies_of world.forward.frames) origin || b) (has_copy-append world.destination.arrivals (copy ∷ []) origin)
-                ∙ came_urgent (contains world.source.remaining origin) (eqb copy.page origin) (has_copy (copies_of rest) origin) (has_copy (copies_of world.forward.frames) origin) (has_copy world.destination.arrivals origin)
-                (sym (ap (λ c. (contains world.source.remaining origin || has_copy c origin) || has_copy (copies_of world.forward.frames) origin || has_copy world.destination.arrivals origin) copies) ∙ w.2.whereabouts q origin h);
-          },
-        );
-      };
-      epochs = kept.epochs;
-      held = kept.held;
-    }
+    let new : World = record (at_urgent world (sent ∷ rest)) { destination = urgent_came (at_urgent world (sent ∷ rest)).destination copy; urgent = wire_behind rest } in
+    let not_run : true ≡ false → (new.destination.owed ≡ finmap.empty) × (new.destination.guest.space ≡ fresh_space) × (new.destination.arrivals ≡ []) = λ h. none_absurd (sym h) in
+    let arrived = AreFaithful-append bytes world.destination.arrivals (copy ∷ []) (kept.owing.arrivals_faithful refl) (faithful, tt) in
+    let ended_empty : new.destination.ended ≡ true → (new.destination.owed ≡ finmap.empty) × (new.destination.arrivals ≡ []) = λ h. none_absurd (sym kept.phases.destination_phase.1 ∙ h) in
+    let down : new.up ≡ false → (new.forward.frames ≡ []) × (new.back.frames ≡ []) × (new.source.phase ≢ SourcePhase.Idle) × (new.source.phase ≢ SourcePhase.Released) = λ h. absurd (not_up h) in
+    let wires : new.up ≡ true → Wires new.source new.destination new.forward.frames new.back.frames new.urgent.frames =
+    λ u. (
+      w.0,
+      w.1,
+      record {
+        whereabouts = λ q origin h.
+            ap (λ b. is_urgent_or_left world.source.remaining rest origin || has_copy (copies_of world.forward.frames) origin || b) (has_copy-append world.destination.arrivals (copy ∷ []) origin)
+            ∙ came_urgent (contains world.source.remaining origin) (eqb copy.page origin) (has_copy (copies_of rest) origin) (has_copy (copies_of world.forward.frames) origin) (has_copy world.destination.arrivals origin)
+            (sym (ap (λ c. (contains world.source.remaining origin || has_copy c origin) || has_copy (copies_of world.forward.frames) origin || has_copy world.destination.arrivals origin) copies) ∙ w.2.whereabouts q origin h);
+      },
+    ) in
+    assumption
 
 arrives_by : (frame : Frame) (epoch : ℕ) (rest : List Sent) (world : World) → are_copies (record { epoch = epoch; frame = frame } ∷ rest) ≡ true → AreFaithful (space_of world.source).host.bytes (copies_of (record { epoch = epoch; frame = frame } ∷ rest)) →
     IsSoundWorld (at_urgent world (record { epoch = epoch; frame = frame } ∷ rest)) → IsSoundWorld (after_deliver_urgent (at_urgent world (record { epoch = epoch; frame = frame } ∷ rest)) (record { epoch = epoch; frame = frame }) rest)
@@ -204,36 +172,28 @@ arrives_by (Page page bytes) epoch rest world are faithful kept = urgent_arrives
 arrives_by (Zero page) epoch rest world are faithful kept = urgent_arrives (record { page = page; bytes = zero_page }) (record { epoch = epoch; frame = Zero page }) rest world refl faithful.0 kept
 arrives_by _ epoch rest world are faithful kept = none_absurd are
 
-in_place_urgent : (from : SourcePhase) (to : DestPhase) (ran up : Bool) (sent : Sent) (rest : List Sent) (world : World) → from ≡ SourcePhase.Stopped → to ≡ DestPhase.Running → ran ≡ true → up ≡ true →
-    are_copies (sent ∷ rest) ≡ true → AreFaithful (space_of world.source).host.bytes (copies_of (sent ∷ rest)) →
-    IsSoundWorld (record world { source = record world.source { phase = from }; destination = record world.destination { phase = to; has_run = ran }; urgent = record world.urgent { frames = sent ∷ rest }; up = up }) →
-    IsSoundWorld (after_deliver_urgent (record world { source = record world.source { phase = from }; destination = record world.destination { phase = to; has_run = ran }; urgent = record world.urgent { frames = sent ∷ rest }; up = up }) sent rest)
-in_place_urgent from to false up sent rest world f t r u are faithful kept = absurd (false≢true r)
-in_place_urgent from to true false sent rest world f t r u are faithful kept = absurd (false≢true u)
-in_place_urgent from to true true sent rest world f t r u are faithful kept =
-    subst (λ p. IsSoundWorld (record world { source = record world.source { phase = p }; destination = record world.destination { phase = to; has_run = true }; urgent = record world.urgent { frames = sent ∷ rest }; up = true }) →
-    IsSoundWorld (after_deliver_urgent (record world { source = record world.source { phase = p }; destination = record world.destination { phase = to; has_run = true }; urgent = record world.urgent { frames = sent ∷ rest }; up = true }) sent rest))
-    (sym f)
-    (subst (λ p. IsSoundWorld (record world { source = record world.source { phase = SourcePhase.Stopped }; destination = record world.destination { phase = p; has_run = true }; urgent = record world.urgent { frames = sent ∷ rest }; up = true }) →
-    IsSoundWorld (after_deliver_urgent (record world { source = record world.source { phase = SourcePhase.Stopped }; destination = record world.destination { phase = p; has_run = true }; urgent = record world.urgent { frames = sent ∷ rest }; up = true }) sent rest))
-    (sym t) (λ k. arrives_by sent.frame sent.epoch rest world are faithful k)) kept
-
-stopped_by : {A : Type 0} (stopped : Bool) → (stopped ≡ false → A) → (stopped ≡ true → A) → A
-stopped_by true other stopped = stopped refl
-stopped_by false other stopped = other refl
+urgent_at : (world : World) (sent : Sent) (rest : List Sent) → world.source.phase ≡ SourcePhase.Stopped → world.destination.phase ≡ DestPhase.Running → world.destination.has_run ≡ true → world.up ≡ true → world.urgent.frames ≡ sent ∷ rest → world ≡ at_urgent world (sent ∷ rest)
+urgent_at world sent rest from to ran up first =
+    ap (λ p. record world { source = record world.source { phase = p } }) from
+    ∙ ap (λ p. record world { source = record world.source { phase = SourcePhase.Stopped }; destination = record world.destination { phase = p } }) to
+    ∙ ap (λ r. record world { source = record world.source { phase = SourcePhase.Stopped }; destination = record world.destination { phase = DestPhase.Running; has_run = r } }) ran
+    ∙ ap (λ f. record (at_urgent world f) { up = world.up }) first
+    ∙ ap (λ u. record (at_urgent world (sent ∷ rest)) { up = u }) up
 
 pub running_urgent : (world : World) (sent : Sent) (rest : List Sent) → IsSoundWorld world → AreSoundUrgent world → world.urgent.frames ≡ sent ∷ rest → world.destination.has_run ≡ true → world.up ≡ true →
     (world.source.phase ≡ SourcePhase.Stopped) × (world.destination.phase ≡ DestPhase.Running)
 running_urgent world sent rest kept h first ran up =
-    stopped_by (is_stopped world.source.phase) (λ not. not_none world.urgent.frames sent rest first (h.stopped not))
+    by_test (is_stopped world.source.phase)
     (λ stopped. both_run world.source.phase world.destination.phase world stopped ran up (λ e. not_none world.urgent.frames sent rest first (h.ended e)) kept)
+    (λ not. not_none world.urgent.frames sent rest first (h.stopped not))
 
 pub kept-deliver_urgent : (world : World) (sent : Sent) (rest : List Sent) → IsSoundWorld world → AreSoundUrgent world → world.urgent.frames ≡ sent ∷ rest → world.destination.has_run ≡ true → world.up ≡ true → IsSoundWorld (after_deliver_urgent world sent rest)
 kept-deliver_urgent world sent rest kept h first ran up =
     let both = running_urgent world sent rest kept h first ran up in
-    in_place_urgent world.source.phase world.destination.phase world.destination.has_run world.up sent rest world both.0 both.1 ran up
-    (subst (λ f. are_copies f ≡ true) first h.copies) (subst (λ f. AreFaithful (space_of world.source).host.bytes (copies_of f)) first h.faithful)
-    (subst (λ f. IsSoundWorld (record world { urgent = record world.urgent { frames = f } })) first kept)
+    let same = urgent_at world sent rest both.0 both.1 ran up first in
+    subst (λ w. IsSoundWorld (after_deliver_urgent w sent rest)) (sym same)
+    (arrives_by sent.frame sent.epoch rest world (subst (λ f. are_copies f ≡ true) first h.copies)
+    (subst (λ f. AreFaithful (space_of world.source).host.bytes (copies_of f)) first h.faithful) (subst IsSoundWorld same kept))
 
 running_epoch : (to : DestPhase) (epoch source_epoch : ℕ) → to ≡ DestPhase.Running → EpochAt to epoch source_epoch → epoch ≡ source_epoch
 running_epoch to epoch source_epoch is at = subst (λ p. EpochAt p epoch source_epoch) is at

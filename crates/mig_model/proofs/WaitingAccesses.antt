@@ -1,52 +1,32 @@
 -- A command that waits is a load or a store.
-use Rattle.std.proofs.Common.{◌≡◌, ℕ, zero, suc, Bool, true, false, eqb, Option, Some, None, List, [], ◌∷◌, refl, sym, ap, ◌∙◌, subst, if◌then◌else◌}
+use Rattle.std.proofs.Common.{◌≡◌, ℕ, zero, suc, Bool, true, false, Some, List, [], ◌∷◌, refl, sym, ap, ◌∙◌, subst}
 use Rattle.std.specs.Prelude.{map, set, length}
 use Rattle.std.proofs.lemmas.Option.{same_Some, none-some}
-use lib.ListN.{length-map}
+use lib.ListN.{length-map, length-set}
 use Rattle.mig_base.specs.declared.cpu_state.CpuState.{CpuState}
-use Rattle.mig_base.specs.declared.phase.Received.{Received}
-use Rattle.mig_base.specs.declared.schedule.Side.{Side}
 use Rattle.mig_base.specs.declared.schedule.Step.{Step}
 use Rattle.mig_base.specs.declared.command.Command.{Command}
 use Rattle.mig_base.specs.declared.command.Reply.{Reply}
 use Rattle.mig_base.specs.declared.command.Access.{Access}
 use Rattle.mig_base.specs.declared.command.Access.TheVariants.{Answered, Missing, Protected}
 use Rattle.mig_base.specs.declared.message.Message.{Message}
-use Rattle.mig_base.specs.declared.message.Message.TheVariants.{PageFault, Remap, Remove, Unmap}
+use Rattle.mig_base.specs.declared.message.Message.TheVariants.{PageFault}
 use Rattle.mig_base.specs.Flat.{reply_of}
 use Rattle.mig_base.specs.Commands.{is_access}
 use Rattle.mig_model.specs.Host.{memory}
 use Rattle.mig_model.specs.Space.{Space, access_of, queued_by}
-use Rattle.mig_model.specs.Guest.{Guest, is_left_by, read_guest, took_by, tried, Act}
-use Rattle.mig_model.specs.Wire.{Frame, Sent, Copy}
-use Rattle.mig_model.specs.Wire.Frame.{Advise, Page, Zero, Run, Discard, Package, End, Resume, Request, Recv, Done}
-use Rattle.mig_model.specs.Guest.Act.{Unprotected, Zeroed, Woke, Forgot, Requested}
-use Rattle.mig_model.specs.Migration.{World, first_world_with, next, after_steps, guest_by, with_guest_by, after_command, answer, start}
-use Rattle.mig_model.specs.Invariant.{IsSoundWorld, AreSoundUrgent}
+use Rattle.mig_model.specs.Guest.{Guest, read_guest, took_by, tried}
+use Rattle.mig_model.specs.Wire.{Frame, Sent}
+use Rattle.mig_model.specs.Wire.Frame.{Package}
+use Rattle.mig_model.specs.Migration.{World, next, after_deliver, guest_by, with_guest_by, after_command}
+use Rattle.mig_model.specs.Invariant.{IsSoundWorld}
 use Rattle.mig_model.specs.Promises.{IsReached, AllAccess, AreAccesses}
-use Rattle.mig_model.proofs.FirstFrame.{first_in_place}
-use Rattle.mig_model.proofs.FramesTaken.{with_first}
-use Rattle.mig_model.proofs.WaitingCommands.{woken_keeps, taken_keeps, package_told, less_same, set_same}
-use Rattle.mig_model.proofs.EveryStep.{kept-next}
-use Rattle.mig_model.proofs.FirstWorld.{kept-first}
-use Rattle.mig_model.proofs.StepLemmas.{Leaves, leaves-next}
-use Rattle.mig_model.proofs.StepCases.{made-break, made-deliver, made-deliver_back, made-dest_act, made-dest_read, made-end, made-install, made-issue, made-notice, made-push, made-resume, made-retry, made-round, made-send, made-send_run, made-serve, made-source_act, made-source_read, made-start, made-switch, made-deliver_urgent, made-push_urgent}
-use Rattle.mig_model.specs.Cpus.{access_took, all_woken, call_took, idle_processors, message_less, outstanding, processor_after, processor_at, taken_over, woken_if}
-use Rattle.mig_model.specs.Owed.{home}
-use Rattle.mig_model.specs.Source.{Source, commands_of, source_act, source_acted_by, source_took}
-use Rattle.mig_model.specs.Destination.{Destination, copy_came, destination_act, destination_acted_by, destination_took, install_by, received_of, resumed_by, urgent_took}
-use Rattle.mig_model.proofs.UrgentSteps.{urgent-first, urgent-next}
-
--- the second are as many as the first, and have to make what the first have to, and nothing else
-pub record IsLike (old new : List CpuState) : Type 0 where
-  pub waits : (k : ℕ) → outstanding (processor_at new k) ≡ outstanding (processor_at old k)
-  pub many : length new ≡ length old
-
-all_like : (old new : List CpuState) → IsLike old new → AllAccess old → AllAccess new
-all_like old new like all k command h = all k command (sym (like.waits k) ∙ h)
-
-unchanged : (processors : List CpuState) → IsLike processors processors
-unchanged processors = record { waits = λ k. refl; many = refl }
+use Rattle.mig_model.proofs.WaitingCommands.{idle_at, package_next, taken_keeps, waits_read, woken_waits}
+use Rattle.mig_model.proofs.WokenSteps.{takes, wakes-next, woken_many}
+use Rattle.mig_model.proofs.EveryStep.{by_reached}
+use Rattle.mig_model.proofs.StepCases.{made-next}
+use Rattle.mig_model.specs.Cpus.{access_took, call_took, idle_processors, outstanding, processor_after, processor_at, taken_over}
+use Rattle.mig_model.specs.Source.{commands_of}
 
 -- A command that is tried
 
@@ -73,173 +53,69 @@ set_access (p ∷ ps) (suc i) new one all (suc k) command h = set_access ps i ne
 guest_access : (guest : Guest) (cpu : ℕ) (command : Command) → AllAccess guest.cpus → AllAccess (tried (is_access command) guest cpu command).cpus
 guest_access guest cpu command all = set_access guest.cpus cpu _ (λ other h. tried_access (is_access command) guest.space command other refl h) all
 
--- A message that is read
-
-woken_like : (test : ℕ → Bool) (processors : List CpuState) → IsLike processors (all_woken test processors)
-woken_like test processors = record { waits = woken_keeps test processors; many = length-map processors (woken_if test) }
-
-pub set_many : (processors : List CpuState) (i : ℕ) (new : CpuState) → length (set processors i new) ≡ length processors
-set_many [] i new = refl
-set_many (p ∷ ps) zero new = refl
-set_many (p ∷ ps) (suc i) new = ap suc (set_many ps i new)
-
-event_like : (guest : Guest) (cpu : ℕ) (message : Message) → IsLike guest.cpus (all_woken (is_left_by message) (set guest.cpus cpu (message_less (processor_at guest.cpus cpu))))
-event_like guest cpu message =
-    let less = message_less (processor_at guest.cpus cpu) in
-    let woken = woken_like (is_left_by message) (set guest.cpus cpu less) in
-    record {
-      waits = λ k. woken.waits k ∙ set_same guest.cpus cpu less (less_same (processor_at guest.cpus cpu)) k;
-      many = woken.many ∙ set_many guest.cpus cpu less;
-    }
-
-pub read_like : (guest : Guest) (cpu : ℕ) (message : Message) → IsLike guest.cpus (read_guest guest cpu message).cpus
-read_like guest cpu (PageFault addr write wp tid) = unchanged guest.cpus
-read_like guest cpu (Remap from to len) = event_like guest cpu (Remap from to len)
-read_like guest cpu (Remove start end) = event_like guest cpu (Remove start end)
-read_like guest cpu (Unmap start end) = event_like guest cpu (Unmap start end)
-
--- what a destination takes over
-taken_many : (processors : List CpuState) → length (map taken_over (commands_of processors)) ≡ length processors
-taken_many processors = length-map (commands_of processors) taken_over ∙ length-map processors outstanding
-
-taken_like : (processors : List CpuState) → IsLike processors (map taken_over (commands_of processors))
-taken_like processors = record { waits = taken_keeps processors; many = taken_many processors }
-
--- The nodes
-
-pub source_act_like : (act : Act) (node : Source) (page : ℕ) → IsLike node.guest.cpus (source_acted_by act node page).guest.cpus
-source_act_like Unprotected node page = woken_like (λ q. eqb q page) node.guest.cpus
-source_act_like _ node page = woken_like (λ q. eqb q page) node.guest.cpus
-
-destination_act_like : (act : Act) (node : Destination) (page : ℕ) → IsLike node.guest.cpus (destination_acted_by act node page).guest.cpus
-destination_act_like (Requested source) node page = unchanged node.guest.cpus
-destination_act_like _ node page = woken_like (λ q. eqb q page) node.guest.cpus
-
-install_like : (o : Option ℕ) (node : Destination) (copy : Copy) (rest : List Copy) → IsLike node.guest.cpus (install_by o node copy rest).guest.cpus
-install_like None node copy rest = unchanged node.guest.cpus
-install_like (Some page) node copy rest = woken_like (λ q. eqb q page) node.guest.cpus
-
-rebuilt_like : (switched : Bool) (a b node : Source) → IsLike node.guest.cpus a.guest.cpus → IsLike node.guest.cpus b.guest.cpus → IsLike node.guest.cpus (if switched then a else b).guest.cpus
-rebuilt_like true a b node one two = one
-rebuilt_like false a b node one two = two
-
-pub took_like : (frame : Frame) (node : Source) → IsLike node.guest.cpus (source_took node frame).guest.cpus
-took_like (Recv Received.NotRun owed) node = rebuilt_like node.switched _ _ node (unchanged node.guest.cpus) (unchanged node.guest.cpus)
-took_like _ node = unchanged node.guest.cpus
-
-came_like : (ran : Bool) (node : Destination) (copy : Copy) → IsLike node.guest.cpus (copy_came ran node copy).guest.cpus
-came_like true node copy = unchanged node.guest.cpus
-came_like false node copy = unchanged node.guest.cpus
-
-urgent_like : (frame : Frame) (node : Destination) → IsLike node.guest.cpus (urgent_took node frame).guest.cpus
-urgent_like (Page page bytes) node = unchanged node.guest.cpus
-urgent_like _ node = unchanged node.guest.cpus
-
-resumed_like : (state : Received) (node : Destination) → IsLike node.guest.cpus (resumed_by state node).guest.cpus
-resumed_like Received.NotRun node = unchanged node.guest.cpus
-resumed_like _ node = unchanged node.guest.cpus
-
--- Steps: what both nodes' processors still have to make
-
 -- only loads and stores wait, and the nodes have as many processors
 record Wait (world : World) : Type 0 where
   source : AllAccess world.source.guest.cpus
   destination : AllAccess world.destination.guest.cpus
   many : length world.destination.guest.cpus ≡ length world.source.guest.cpus
 
-source_like : (world : World) (processors : List CpuState) → IsLike world.source.guest.cpus processors → Wait world → AllAccess processors × (length world.destination.guest.cpus ≡ length processors)
-source_like world processors like all = (all_like world.source.guest.cpus processors like all.source, all.many ∙ sym like.many)
-
-destination_like : (world : World) (processors : List CpuState) → IsLike world.destination.guest.cpus processors → Wait world → AllAccess processors × (length processors ≡ length world.source.guest.cpus)
-destination_like world processors like all = (all_like world.destination.guest.cpus processors like all.destination, like.many ∙ all.many)
-
 by_guest : (ran : Bool) (world : World) (cpu : ℕ) (command : Command) → Wait world → Wait (with_guest_by ran world (tried (is_access command) (guest_by ran world.source.guest world.destination.guest) cpu command))
 by_guest true world cpu command all =
-    record { source = all.source; destination = guest_access world.destination.guest cpu command all.destination; many = set_many world.destination.guest.cpus cpu _ ∙ all.many }
+    record { source = all.source; destination = guest_access world.destination.guest cpu command all.destination; many = length-set {A = CpuState} world.destination.guest.cpus cpu _ ∙ all.many }
 by_guest false world cpu command all =
-    record { source = guest_access world.source.guest cpu command all.source; destination = all.destination; many = all.many ∙ sym (set_many world.source.guest.cpus cpu _) }
+    record { source = guest_access world.source.guest cpu command all.source; destination = all.destination; many = all.many ∙ sym (length-set {A = CpuState} world.source.guest.cpus cpu _) }
 
 tried_all : (world : World) (cpu : ℕ) (command : Command) → Wait world → Wait (after_command world cpu command)
 tried_all world cpu command all = let new = by_guest world.destination.has_run world cpu command all in record { source = new.source; destination = new.destination; many = new.many }
 
--- the destination's processors and those of the source, after a frame
-abbrev pub AfterFrame : World → List CpuState → Type 0
-AfterFrame world processors = AllAccess processors × (length processors ≡ length world.source.guest.cpus)
+all_like : (old new : List CpuState) → ((k : ℕ) → outstanding (processor_at new k) ≡ outstanding (processor_at old k)) → AllAccess old → AllAccess new
+all_like old new like all k command h = all k command (sym (like k) ∙ h)
 
-unmoved : (world : World) → Wait world → AfterFrame world world.destination.guest.cpus
-unmoved world all = destination_like world world.destination.guest.cpus (unchanged world.destination.guest.cpus) all
+pub read_many : (guest : Guest) (cpu : ℕ) (message : Message) → length (read_guest guest cpu message).cpus ≡ length guest.cpus
+read_many guest cpu (PageFault addr write wp tid) = refl
+read_many guest cpu _ = simp (length-map, length-set)
 
 -- the commands of a Package are those that wait at the source
-frame_all : (frame : Frame) (epoch : ℕ) (rest : List Sent) (world : World) → IsSoundWorld world → world.up ≡ true → world.forward.frames ≡ record { epoch = epoch; frame = frame } ∷ rest → Wait world →
-    AfterFrame world (destination_took world.destination epoch frame).guest.cpus
-frame_all (Package areas owed commands) epoch rest world kept up first all =
-    let again = subst (λ w. IsSoundWorld (record world { forward = record world.forward { frames = w } })) first kept in
-    let old = with_first world.source.phase world.destination.phase epoch (Package areas owed commands) rest world in
-    let is = first_in_place old.source old.destination (record { epoch = epoch; frame = Package areas owed commands }) rest old.back.frames old.urgent.frames (again.flight.wires up) in
-    let told = package_told world.source.phase world.destination.phase epoch areas owed commands rest world is up again in
-    let new = source_like world _ (taken_like world.source.guest.cpus) all in
-    subst (λ cs. AfterFrame world (map taken_over cs)) (sym told.0) (new.0, taken_many world.source.guest.cpus)
-frame_all (Page page bytes) epoch rest world kept up first all = destination_like world _ (came_like world.destination.has_run world.destination _) all
-frame_all (Zero page) epoch rest world kept up first all = destination_like world _ (came_like world.destination.has_run world.destination _) all
-frame_all Resume epoch rest world kept up first all = destination_like world _ (resumed_like (received_of world.destination) _) all
-frame_all _ epoch rest world kept up first all = unmoved world all
-
-waits_answer : (world : World) (step : Step) → IsSoundWorld world → Wait world → Leaves Wait (answer world step)
-waits_answer world (Step.Issue cpu command) kept all = made-issue _ world cpu command (λ there idle may. tried_all world cpu command all)
-waits_answer world (Step.Retry cpu) kept all = made-retry _ world cpu (λ command waits woken may. tried_all world cpu command all)
-waits_answer world Step.Start kept all = made-start _ world (λ idle. record { source = all.source; destination = all.destination; many = all.many })
-waits_answer world Step.Round kept all = made-round _ world (λ precopy quiet. record { source = all.source; destination = all.destination; many = all.many })
-waits_answer world Step.Send kept all = made-send _ world (λ page is precopy up quiet. record { source = all.source; destination = all.destination; many = all.many })
-waits_answer world (Step.SendRun count) kept all = made-send_run _ world count (λ first number is many precopy up quiet. record { source = all.source; destination = all.destination; many = all.many })
-waits_answer world Step.SourceRead kept all =
-    made-source_read _ world (λ noted is started unswitched.
-    let new = source_like world _ (read_like world.source.guest noted.cpu noted.message) all in record { source = new.0; destination = all.destination; many = new.1 })
-waits_answer world Step.SourceAct kept all =
-    made-source_act _ world (λ fault rest is started unswitched quiet.
-    let new = source_like world _ (source_act_like (source_act world.source fault) world.source fault.page) all in record { source = new.0; destination = all.destination; many = new.1 })
-waits_answer world Step.Switch kept all = made-switch _ world (λ precopy up quiet. record { source = all.source; destination = all.destination; many = all.many })
-waits_answer world (Step.Deliver n) kept all =
-    made-deliver _ world n (λ sent rest is short. record { source = all.source; destination = all.destination; many = all.many }) (λ sent rest is full started up free early.
-    let new = frame_all sent.frame sent.epoch rest world kept up is all in record { source = all.source; destination = new.0; many = new.1 })
-waits_answer world (Step.DeliverBack n) kept all =
-    made-deliver_back _ world n (λ sent rest is short. record { source = all.source; destination = all.destination; many = all.many }) (λ sent rest is full started up.
-    let new = source_like world _ (took_like sent.frame world.source) all in record { source = new.0; destination = all.destination; many = new.1 })
-waits_answer world Step.DestRead kept all =
-    made-dest_read _ world (λ noted is ran.
-    let new = destination_like world _ (read_like world.destination.guest noted.cpu noted.message) all in record { source = all.source; destination = new.0; many = new.1 })
-waits_answer world Step.DestAct kept all =
-    made-dest_act _ world (λ fault rest is ran quiet.
-    let new = destination_like world _ (destination_act_like (destination_act world.destination fault) world.destination fault.page) all in record { source = all.source; destination = new.0; many = new.1 })
-waits_answer world Step.Install kept all =
-    made-install _ world (λ copy rest is ran quiet.
-    let new = destination_like world _ (install_like (home world.destination.owed copy.page) world.destination copy rest) all in record { source = all.source; destination = new.0; many = new.1 })
-waits_answer world (Step.Push ticket) kept all = made-push _ world ticket (λ stopped up own present remains. record { source = all.source; destination = all.destination; many = all.many })
-waits_answer world (Step.PushUrgent ticket) kept all = made-push_urgent _ world ticket (λ stopped up own present remains. record { source = all.source; destination = all.destination; many = all.many })
-waits_answer world (Step.DeliverUrgent n) kept all = made-deliver_urgent _ world n (λ sent rest is short. record { source = all.source; destination = all.destination; many = all.many }) (λ sent rest is full ran up. let new = destination_like world _ (urgent_like sent.frame world.destination) all in record { source = all.source; destination = new.0; many = new.1 })
-waits_answer world Step.Serve kept all = made-serve _ world (λ page pages is stopped up. record { source = all.source; destination = all.destination; many = all.many })
-waits_answer world Step.End kept all = made-end _ world (λ stopped other up none. record { source = all.source; destination = all.destination; many = all.many })
-waits_answer world Step.Break kept all = made-break _ world (λ started unreleased up. record { source = all.source; destination = all.destination; many = all.many })
-waits_answer world (Step.Notice Side.Source) kept all = made-notice _ world Side.Source (λ started unreleased down. record { source = all.source; destination = all.destination; many = all.many })
-waits_answer world (Step.Notice Side.Destination) kept all = made-notice _ world Side.Destination (λ started unreleased down. record { source = all.source; destination = all.destination; many = all.many })
-waits_answer world Step.Resume kept all = made-resume _ world (λ from to down. record { source = all.source; destination = all.destination; many = all.many })
-
-idle_all : (count : ℕ) → AllAccess (idle_processors count)
-idle_all zero k command h = absurd (none-some command h)
-idle_all (suc count) zero command h = absurd (none-some command h)
-idle_all (suc count) (suc k) command h = idle_all count k command h
+taken_all : (frame : Frame) (epoch : ℕ) (rest : List Sent) (world : World) → IsSoundWorld world → world.up ≡ true → world.forward.frames ≡ record { epoch = epoch; frame = frame } ∷ rest → Wait world →
+    Wait (after_deliver world (record { epoch = epoch; frame = frame }) rest)
+taken_all (Package areas owed commands) epoch rest world kept up first all =
+    let told = (package_next epoch areas owed commands rest world up first kept).0 in
+    let processors = world.source.guest.cpus in
+    record {
+      source = all.source;
+      destination = subst (λ cs. AllAccess (map taken_over cs)) (sym told) (all_like processors _ (taken_keeps processors) all.source);
+      many = ap (λ cs. length (map taken_over cs)) told ∙ length-map (commands_of processors) taken_over ∙ length-map processors outstanding;
+    }
+taken_all frame epoch rest world kept up first all =
+    let w = (takes frame world.destination epoch refl).node.guest.woken in
+    record { source = all.source; destination = all_like _ _ (woken_waits _ _ w) all.destination; many = woken_many _ _ w ∙ all.many }
 
 next_all : (world : World) (step : Step) → IsSoundWorld world → Wait world → Wait (next world step)
-next_all world step kept all = leaves-next Wait world step all (waits_answer world step kept all)
+next_all world (Step.Issue cpu command) kept all = made-next Wait world (Step.Issue cpu command) all (λ there idle may. tried_all world cpu command all)
+next_all world (Step.Retry cpu) kept all = made-next Wait world (Step.Retry cpu) all (λ command waits woken may. tried_all world cpu command all)
+next_all world Step.SourceRead kept all =
+    made-next Wait world Step.SourceRead all (λ noted is started unswitched.
+    let guest = world.source.guest in
+    record { source = all_like guest.cpus _ (waits_read guest noted.cpu noted.message) all.source; destination = all.destination; many = all.many ∙ sym (read_many guest noted.cpu noted.message) })
+next_all world Step.DestRead kept all =
+    made-next Wait world Step.DestRead all (λ noted is ran.
+    let guest = world.destination.guest in
+    record { source = all.source; destination = all_like guest.cpus _ (waits_read guest noted.cpu noted.message) all.destination; many = read_many guest noted.cpu noted.message ∙ all.many })
+next_all world (Step.Deliver n) kept all = made-next Wait world (Step.Deliver n) all ((assumption), (λ sent rest is full started up free early. taken_all sent.frame sent.epoch rest world kept up is all))
+next_all world step kept all =
+    let wakes = wakes-next world step kept refl in
+    record {
+      source = all_like _ _ (woken_waits _ _ wakes.source.woken) all.source;
+      destination = all_like _ _ (woken_waits _ _ wakes.node.guest.woken) all.destination;
+      many = woken_many _ _ wakes.node.guest.woken ∙ all.many ∙ sym (woken_many _ _ wakes.source.woken);
+    }
 
-steps_all : (world : World) (steps : List Step) → IsSoundWorld world → AreSoundUrgent world → Wait world → Wait (after_steps world steps)
-steps_all world [] kept urgent all = all
-steps_all world (step ∷ steps) kept urgent all = steps_all (next world step) steps (kept-next world step kept urgent) (urgent-next world step kept urgent) (next_all world step kept all)
+idle_all : (count : ℕ) → AllAccess (idle_processors count)
+idle_all count k command h = absurd (none-some command (sym (ap outstanding (idle_at count k)) ∙ h))
 
 waits : (world : World) → IsReached world → Wait world
 waits world reached =
-    subst Wait (sym reached.is)
-    (steps_all (first_world_with reached.cpus reached.epoch reached.rounds) reached.steps (kept-first reached.cpus reached.epoch reached.rounds) (urgent-first reached.cpus reached.epoch reached.rounds)
-    (record { source = idle_all reached.cpus; destination = idle_all reached.cpus; many = refl }))
+    by_reached Wait (λ old step kept urgent all. next_all old step kept all) (λ cpus epoch rounds. record { source = idle_all cpus; destination = idle_all cpus; many = refl }) world reached
 
 pub are_accesses : (world : World) → IsReached world → AreAccesses world
 are_accesses world reached = let all = waits world reached in record { source = all.source; destination = all.destination }

@@ -1,5 +1,5 @@
 -- A command that waits is changed by no step but the Retry that answers it.
-use Rattle.std.proofs.Common.{◌≡◌, ℕ, zero, suc, Bool, true, false, eqb, Option, Some, None, List, [], ◌∷◌, refl, sym, ap, ◌∙◌, subst, arith, if◌then◌else◌, IsOk, ◌⊎◌, inl, inr, ⊎_elim, not, ltb, length}
+use Rattle.std.proofs.Common.{◌≡◌, ℕ, zero, suc, Bool, true, false, Option, Some, None, List, [], ◌∷◌, refl, sym, ap, ◌∙◌, subst, arith, if◌then◌else◌, IsOk, ◌⊎◌, inl, inr, ⊎_elim, not, ltb, length}
 use Rattle.std.specs.Prelude.{map, set}
 use Rattle.std.specs.Ordering.{nat_cmp}
 use Rattle.std.specs.FinMap.{FinMap}
@@ -9,38 +9,29 @@ use Rattle.std.proofs.lemmas.Bool.{false≢true, eq-eqb}
 use Rattle.std.proofs.lemmas.Option.{none-some}
 use Rattle.mig_base.specs.declared.cpu_state.CpuState.{CpuState}
 use Rattle.mig_base.specs.declared.phase.DestPhase.{DestPhase}
-use Rattle.mig_base.specs.declared.phase.Received.{Received}
 use Rattle.mig_base.specs.declared.phase.SourcePhase.{SourcePhase}
-use Rattle.mig_base.specs.declared.schedule.Side.{Side}
 use Rattle.mig_base.specs.declared.schedule.Step.{Step}
 use Rattle.mig_base.specs.declared.Prot.{Prot}
 use Rattle.mig_base.specs.declared.command.Command.{Command}
 use Rattle.mig_base.specs.declared.message.Message.{Message}
-use Rattle.mig_base.specs.declared.message.Message.TheVariants.{PageFault, Remap, Remove, Unmap}
+use Rattle.mig_base.specs.declared.message.Message.TheVariants.{PageFault}
 use Rattle.mig_base.specs.Commands.{is_access, page_of}
-use Rattle.mig_model.specs.Guest.{Guest, Fault, is_left_by, read_guest, took_by, tried, Act}
+use Rattle.mig_model.specs.Guest.{Guest, is_left_by, read_guest, took_by, tried}
 use Rattle.mig_model.specs.Cpus.Took.{Sleep, Call}
-use Rattle.mig_model.specs.Wire.{Frame, Sent, Copy}
-use Rattle.mig_model.specs.Wire.Frame.{Advise, Page, Zero, Run, Discard, Package, End, Resume, Request, Recv, Done}
-use Rattle.mig_model.specs.Guest.Act.{Unprotected, Zeroed, Woke, Forgot, Requested}
-use Rattle.mig_model.specs.Migration.{World, next, guest_by, guest_of, with_guest_by, after_command, after_dest_act, after_install, answer, outcome, start}
-use Rattle.mig_model.specs.Invariant.{IsSoundWorld, is_package}
+use Rattle.mig_model.specs.Wire.{Frame, Sent}
+use Rattle.mig_model.specs.Wire.Frame.{Package}
+use Rattle.mig_model.specs.Migration.{World, next, guest_by, guest_of, with_guest_by, after_command, after_deliver, outcome}
+use Rattle.mig_model.specs.Invariant.{IsSoundWorld}
 use Rattle.mig_model.specs.Promises.{is_retry_of, Slept}
 use Rattle.mig_model.proofs.FirstFrame.{comes, first_in_place, delivered}
 use Rattle.mig_model.proofs.FramesTaken.{with_first, commands_in}
-use Rattle.mig_model.proofs.StepLemmas.{Leaves, leaves-next, leaves-ok}
-use Rattle.mig_model.proofs.StepCases.{made-break, made-deliver, made-deliver_back, made-dest_act, made-dest_read, made-end, made-install, made-issue, made-notice, made-push, made-resume, made-retry, made-round, made-send, made-send_run, made-serve, made-source_act, made-source_read, made-start, made-switch, made-deliver_urgent, made-push_urgent}
-use Rattle.mig_model.specs.Cpus.{all_woken, is_idle, message_less, outstanding, processor_after, processor_at, taken_over, woken_if, Took}
-use Rattle.mig_model.specs.Owed.{home}
-use Rattle.mig_model.specs.Source.{Source, commands_of, source_act, source_acted_by, source_took}
-use Rattle.mig_model.specs.Destination.{Destination, copy_came, destination_act, destination_acted, destination_acted_by, destination_read, destination_took, install_by, received_of, resumed_by, urgent_took}
+use Rattle.mig_model.proofs.StepCases.{made-next, made-ok}
+use Rattle.mig_model.proofs.WokenSteps.{IsWoken, guest_woken, wakes-next, wakes-taken}
+use Rattle.mig_model.specs.Cpus.{idle_processors, all_woken, is_idle, message_less, outstanding, processor_after, processor_at, taken_over, woken_if, Took}
+use Rattle.mig_model.specs.Source.{is_stopped, commands_of}
 use Rattle.mig_model.proofs.Facts.{some_command}
 
 -- Processors
-
--- what the processor of a number still has to make
-pub waits_at : List CpuState → ℕ → Option Command
-waits_at processors k = outstanding (processor_at processors k)
 
 pub set_same : (processors : List CpuState) (i : ℕ) (new : CpuState) → outstanding new ≡ outstanding (processor_at processors i) → (k : ℕ) →
     outstanding (processor_at (set processors i new) k) ≡ outstanding (processor_at processors k)
@@ -49,6 +40,11 @@ set_same (p ∷ ps) zero new same zero = same
 set_same (p ∷ ps) zero new same (suc k) = refl
 set_same (p ∷ ps) (suc i) new same zero = refl
 set_same (p ∷ ps) (suc i) new same (suc k) = set_same ps i new same k
+
+pub idle_at : (count k : ℕ) → processor_at (idle_processors count) k ≡ CpuState.Idle
+idle_at zero k = refl
+idle_at (suc count) zero = refl
+idle_at (suc count) (suc k) = idle_at count k
 
 pub map_at : (f : CpuState → CpuState) (ps : List CpuState) (k : ℕ) → f CpuState.Idle ≡ CpuState.Idle → processor_at (map f ps) k ≡ f (processor_at ps k)
 map_at f [] k idle = sym idle
@@ -99,9 +95,7 @@ read_same guest cpu message k =
 
 pub waits_read : (guest : Guest) (cpu : ℕ) (message : Message) → SameWaits guest (read_guest guest cpu message)
 waits_read guest cpu (PageFault addr write wp tid) k = refl
-waits_read guest cpu (Remap from to len) k = read_same guest cpu (Remap from to len) k
-waits_read guest cpu (Remove start end) k = read_same guest cpu (Remove start end) k
-waits_read guest cpu (Unmap start end) k = read_same guest cpu (Unmap start end) k
+waits_read guest cpu message k = read_same guest cpu message k
 
 -- where the guest runs, by the node that changes
 pub waits_source : (ran : Bool) (old new to : Guest) → SameWaits old new → SameWaits (guest_by ran old to) (guest_by ran new to)
@@ -111,20 +105,6 @@ waits_source false old new to same k = same k
 pub waits_destination : (ran : Bool) (from old new : Guest) → SameWaits old new → SameWaits (guest_by ran from old) (guest_by ran from new)
 waits_destination true from old new same k = same k
 waits_destination false from old new same k = refl
-
--- the steps of the nodes
-
-pub waits_source_act : (act : Act) (node : Source) (page : ℕ) → SameWaits node.guest (source_acted_by act node page).guest
-waits_source_act Unprotected node page k = woken_keeps (λ q. eqb q page) node.guest.cpus k
-waits_source_act _ node page k = woken_keeps (λ q. eqb q page) node.guest.cpus k
-
-pub waits_destination_act : (act : Act) (node : Destination) (page : ℕ) → SameWaits node.guest (destination_acted_by act node page).guest
-waits_destination_act (Requested source) node page k = refl
-waits_destination_act _ node page k = woken_keeps (λ q. eqb q page) node.guest.cpus k
-
-install_waits : (o : Option ℕ) (node : Destination) (copy : Copy) (rest : List Copy) → SameWaits node.guest (install_by o node copy rest).guest
-install_waits None node copy rest k = refl
-install_waits (Some page) node copy rest k = woken_keeps (λ q. eqb q page) node.guest.cpus k
 
 -- Steps
 
@@ -160,102 +140,35 @@ idle_none : (p : CpuState) (command : Command) → is_idle p ≡ true → outsta
 idle_none CpuState.Idle command h e = none-some command e
 idle_none _ command h e = false≢true h
 
-pub acted_ran : (act : Act) (node : Destination) (page : ℕ) → (destination_acted_by act node page).has_run ≡ node.has_run
-acted_ran Unprotected node page = refl
-acted_ran _ node page = refl
-
-pub installed_ran : (o : Option ℕ) (node : Destination) (copy : Copy) (rest : List Copy) → (install_by o node copy rest).has_run ≡ node.has_run
-installed_ran None node copy rest = refl
-installed_ran (Some page) node copy rest = refl
-
-installed_same : (copy : Copy) (rest : List Copy) (world : World) → SameWaits (guest_of world) (guest_of (after_install world copy rest))
-installed_same copy rest world k =
-    let o = home world.destination.owed copy.page in
-    ap (λ b. outstanding (processor_at (guest_by b world.source.guest (install_by o world.destination copy rest).guest).cpus k)) (installed_ran o world.destination copy rest)
-    ∙ waits_destination world.destination.has_run world.source.guest world.destination.guest (install_by o world.destination copy rest).guest (install_waits o world.destination copy rest) k
-
-acted_same : (fault : Fault) (world : World) → SameWaits (guest_of world) (guest_of (after_dest_act world fault))
-acted_same fault world k =
-    ap (λ b. outstanding (processor_at (guest_by b world.source.guest (destination_acted world.destination fault).guest).cpus k)) (acted_ran (destination_act world.destination fault) world.destination fault.page)
-    ∙ waits_destination world.destination.has_run world.source.guest world.destination.guest (destination_acted world.destination fault).guest (waits_destination_act (destination_act world.destination fault) world.destination fault.page) k
-
 -- Deliveries
 
--- a destination with the same guest, which runs if it ran
-pub record IsSame (old new : Destination) : Type 0 where
-  pub guest : new.guest ≡ old.guest
-  pub ran : new.has_run ≡ old.has_run
-
-same_came : (ran : Bool) (node : Destination) (copy : Copy) → IsSame node (copy_came ran node copy)
-same_came true node copy = record { guest = refl; ran = refl }
-same_came false node copy = record { guest = refl; ran = refl }
-
-same_resumed : (state : Received) (node new : Destination) → IsSame node new → IsSame node (resumed_by state new)
-same_resumed Received.NotRun node new is = record { guest = is.guest; ran = is.ran }
-same_resumed _ node new is = record { guest = is.guest; ran = is.ran }
-
-pub same_took : (frame : Frame) (node : Destination) (epoch : ℕ) → is_package frame ≡ false → IsSame node (destination_took node epoch frame)
-same_took (Page page bytes) node epoch h = same_came node.has_run node _
-same_took (Zero page) node epoch h = same_came node.has_run node _
-same_took (Package areas owed commands) node epoch h = absurd (false≢true (sym h))
-same_took Resume node epoch h = same_resumed (received_of node) node _ (record { guest = refl; ran = refl })
-same_took _ node epoch h = record { guest = refl; ran = refl }
-
-pub same_urgent : (frame : Frame) (node : Destination) → IsSame node (urgent_took node frame)
-same_urgent (Page page bytes) node = record { guest = refl; ran = refl }
-same_urgent _ node = record { guest = refl; ran = refl }
-
--- a Package that comes next has the outstanding commands of the source, and the destination has not run
-pub package_told : (from : SourcePhase) (to : DestPhase) (epoch : ℕ) (areas : FinMap nat_cmp Prot) (owed : FinSet nat_cmp) (commands : List (Option Command)) (rest : List Sent) (world : World) →
+-- a Package that comes next has the outstanding commands of the source, which has stopped, and the destination has not run
+package_told : (from : SourcePhase) (to : DestPhase) (epoch : ℕ) (areas : FinMap nat_cmp Prot) (owed : FinSet nat_cmp) (commands : List (Option Command)) (rest : List Sent) (world : World) →
     comes from to (Package areas owed commands) ≡ true → world.up ≡ true → IsSoundWorld (with_first from to epoch (Package areas owed commands) rest world) →
-    (commands ≡ commands_of world.source.guest.cpus) × (world.destination.has_run ≡ false)
+    (commands ≡ commands_of world.source.guest.cpus) × (world.destination.has_run ≡ false) × (is_stopped from ≡ true)
 unfolding commands_in
 package_told SourcePhase.Stopped DestPhase.Discarding epoch areas owed commands rest world is up kept =
     let told = (kept.flight.wires up).2 in
-    (ap (λ o. elim o [ None ↦ commands | Some frame ↦ commands_in frame commands ]) told.plan, kept.phases.destination_phase)
+    (ap (λ o. elim o [ None ↦ commands | Some frame ↦ commands_in frame commands ]) told.plan, kept.phases.destination_phase, refl)
 package_told SourcePhase.Precopy DestPhase.Idle epoch areas owed commands rest world is up kept = absurd (false≢true is)
 package_told SourcePhase.Paused DestPhase.Paused epoch areas owed commands rest world is up kept = absurd (false≢true is)
 package_told _ _ epoch areas owed commands rest world is up kept = absurd (false≢true is)
 
-package_same : (epoch : ℕ) (areas : FinMap nat_cmp Prot) (owed : FinSet nat_cmp) (commands : List (Option Command)) (rest : List Sent) (world : World) → world.up ≡ true → world.forward.frames ≡ record { epoch = epoch; frame = Package areas owed commands } ∷ rest → IsSoundWorld world →
-    SameWaits (guest_of world) (guest_of (delivered world (record { epoch = epoch; frame = Package areas owed commands } ∷ rest)))
-package_same epoch areas owed commands rest world up first kept k =
+pub package_next : (epoch : ℕ) (areas : FinMap nat_cmp Prot) (owed : FinSet nat_cmp) (commands : List (Option Command)) (rest : List Sent) (world : World) → world.up ≡ true → world.forward.frames ≡ record { epoch = epoch; frame = Package areas owed commands } ∷ rest → IsSoundWorld world →
+    (commands ≡ commands_of world.source.guest.cpus) × (world.destination.has_run ≡ false) × (is_stopped world.source.phase ≡ true)
+package_next epoch areas owed commands rest world up first kept =
     let again = subst (λ w. IsSoundWorld (record world { forward = record world.forward { frames = w } })) first kept in
     let old = with_first world.source.phase world.destination.phase epoch (Package areas owed commands) rest world in
     let is = first_in_place old.source old.destination (record { epoch = epoch; frame = Package areas owed commands }) rest old.back.frames old.urgent.frames (again.flight.wires up) in
-    let told = package_told world.source.phase world.destination.phase epoch areas owed commands rest world is up again in
+    package_told world.source.phase world.destination.phase epoch areas owed commands rest world is up again
+
+package_same : (epoch : ℕ) (areas : FinMap nat_cmp Prot) (owed : FinSet nat_cmp) (commands : List (Option Command)) (rest : List Sent) (world : World) → world.up ≡ true → world.forward.frames ≡ record { epoch = epoch; frame = Package areas owed commands } ∷ rest → IsSoundWorld world →
+    SameWaits (guest_of world) (guest_of (delivered world (record { epoch = epoch; frame = Package areas owed commands } ∷ rest)))
+package_same epoch areas owed commands rest world up first kept k =
+    let told = package_next epoch areas owed commands rest world up first kept in
     ap (λ cs. outstanding (processor_at (map taken_over cs) k)) told.0
     ∙ taken_keeps world.source.guest.cpus k
     ∙ ap (λ b. outstanding (processor_at (guest_by b world.source.guest world.destination.guest).cpus k)) (sym told.1)
-
-same_node_waits : (world : World) (new : Destination) → IsSame world.destination new → SameWaits (guest_of world) (guest_by new.has_run world.source.guest new.guest)
-same_node_waits world new is k =
-    ap (λ b. outstanding (processor_at (guest_by b world.source.guest new.guest).cpus k)) is.ran
-    ∙ ap (λ g. outstanding (processor_at (guest_by world.destination.has_run world.source.guest g).cpus k)) is.guest
-
-delivered_first : (epoch : ℕ) (frame : Frame) (rest : List Sent) (world : World) → world.up ≡ true → world.forward.frames ≡ record { epoch = epoch; frame = frame } ∷ rest → IsSoundWorld world → SameWaits (guest_of world) (guest_of (delivered world (record { epoch = epoch; frame = frame } ∷ rest)))
-delivered_first epoch (Package areas owed commands) rest world up first kept k = package_same epoch areas owed commands rest world up first kept k
-delivered_first epoch Advise rest world up first kept k = same_node_waits world _ (same_took Advise world.destination epoch refl) k
-delivered_first epoch (Page page bytes) rest world up first kept k = same_node_waits world _ (same_took (Page page bytes) world.destination epoch refl) k
-delivered_first epoch (Zero page) rest world up first kept k = same_node_waits world _ (same_took (Zero page) world.destination epoch refl) k
-delivered_first epoch (Run from pages) rest world up first kept k = same_node_waits world _ (same_took (Run from pages) world.destination epoch refl) k
-delivered_first epoch (Discard pages) rest world up first kept k = same_node_waits world _ (same_took (Discard pages) world.destination epoch refl) k
-delivered_first epoch (End count) rest world up first kept k = same_node_waits world _ (same_took (End count) world.destination epoch refl) k
-delivered_first epoch Resume rest world up first kept k = same_node_waits world _ (same_took Resume world.destination epoch refl) k
-delivered_first epoch (Request page) rest world up first kept k = same_node_waits world _ (same_took (Request page) world.destination epoch refl) k
-delivered_first epoch (Recv state owed) rest world up first kept k = same_node_waits world _ (same_took (Recv state owed) world.destination epoch refl) k
-delivered_first epoch Done rest world up first kept k = same_node_waits world _ (same_took Done world.destination epoch refl) k
-
-rebuilt_by : (switched : Bool) (a b node : Source) → SameWaits node.guest a.guest → SameWaits node.guest b.guest → SameWaits node.guest (if switched then a else b).guest
-rebuilt_by true a b node one two = one
-rebuilt_by false a b node one two = two
-
-took_same : (frame : Frame) (node : Source) → SameWaits node.guest (source_took node frame).guest
-took_same (Recv Received.NotRun owed) node k = rebuilt_by node.switched _ _ node (λ i. refl) (λ i. refl) k
-took_same _ node k = refl
-
-same_source : (world : World) (new : Guest) → SameWaits world.source.guest new → SameWaits (guest_of world) (guest_by world.destination.has_run new world.destination.guest)
-same_source world new same k = waits_source world.destination.has_run world.source.guest new world.destination.guest same k
 
 -- every step but an Issue and a Retry leaves what each processor has to make
 abbrev pub WaitsAs : World → World → Type 0
@@ -266,35 +179,26 @@ is_try (Step.Issue cpu command) = true
 is_try (Step.Retry cpu) = true
 is_try step = false
 
-pub same_answer : (world : World) (step : Step) → IsSoundWorld world → is_try step ≡ false → Leaves (WaitsAs world) (answer world step)
-same_answer world (Step.Issue cpu tries) kept other = absurd (false≢true (sym other))
-same_answer world (Step.Retry cpu) kept other = absurd (false≢true (sym other))
-same_answer world Step.Start kept other = made-start _ world (λ idle. same_source world _ (λ i. refl))
-same_answer world Step.Round kept other = made-round _ world (λ precopy quiet. same_source world _ (λ i. refl))
-same_answer world Step.Send kept other = made-send _ world (λ page is precopy up quiet. same_source world _ (λ i. refl))
-same_answer world (Step.SendRun count) kept other = made-send_run _ world count (λ first number is many precopy up quiet. same_source world _ (λ i. refl))
-same_answer world Step.SourceRead kept other = made-source_read _ world (λ noted is started unswitched. same_source world _ (waits_read world.source.guest noted.cpu noted.message))
-same_answer world Step.SourceAct kept other = made-source_act _ world (λ fault rest is started unswitched quiet. same_source world _ (waits_source_act (source_act world.source fault) world.source fault.page))
-same_answer world Step.Switch kept other = made-switch _ world (λ precopy up quiet. same_source world _ (λ i. refl))
-same_answer world (Step.Deliver n) kept other = made-deliver _ world n (λ sent rest is short k. refl) (λ sent rest is full started up free early. delivered_first sent.epoch sent.frame rest world up is kept)
-same_answer world (Step.DeliverBack n) kept other = made-deliver_back _ world n (λ sent rest is short k. refl) (λ sent rest is full started up. same_source world _ (took_same sent.frame world.source))
-same_answer world Step.DestRead kept other =
-    made-dest_read _ world (λ noted is ran.
-    waits_destination world.destination.has_run world.source.guest world.destination.guest (destination_read world.destination noted).guest (waits_read world.destination.guest noted.cpu noted.message))
-same_answer world Step.DestAct kept other = made-dest_act _ world (λ fault rest is ran quiet. acted_same fault world)
-same_answer world Step.Install kept other = made-install _ world (λ copy rest is ran quiet. installed_same copy rest world)
-same_answer world (Step.Push ticket) kept other = made-push _ world ticket (λ stopped up own present remains. same_source world _ (λ i. refl))
-same_answer world (Step.PushUrgent ticket) kept other = made-push_urgent _ world ticket (λ stopped up own present remains. same_source world _ (λ i. refl))
-same_answer world (Step.DeliverUrgent n) kept other = made-deliver_urgent _ world n (λ sent rest is short. λ k. refl) (λ sent rest is full ran up. same_node_waits world _ (same_urgent sent.frame world.destination))
-same_answer world Step.Serve kept other = made-serve _ world (λ page pages is stopped up. same_source world _ (λ i. refl))
-same_answer world Step.End kept other = made-end _ world (λ stopped ended up none. same_source world _ (λ i. refl))
-same_answer world Step.Break kept other = made-break _ world (λ started unreleased up k. refl)
-same_answer world (Step.Notice Side.Source) kept other = made-notice _ world Side.Source (λ started unreleased down k. refl)
-same_answer world (Step.Notice Side.Destination) kept other = made-notice _ world Side.Destination (λ started unreleased down k. refl)
-same_answer world Step.Resume kept other = made-resume _ world (λ from to down. same_source world _ (λ i. refl))
+-- waking leaves what waits
+pub woken_waits : (old new : List CpuState) → IsWoken old new → (k : ℕ) → outstanding (processor_at new k) ≡ outstanding (processor_at old k)
+woken_waits old new w k = ap (λ ps. outstanding (processor_at ps k)) w.is ∙ woken_keeps w.test old k
+
+taken_same : (frame : Frame) (epoch : ℕ) (rest : List Sent) (world : World) → world.up ≡ true → world.forward.frames ≡ record { epoch = epoch; frame = frame } ∷ rest → IsSoundWorld world → WaitsAs world (after_deliver world (record { epoch = epoch; frame = frame }) rest)
+taken_same (Package areas owed commands) epoch rest world up first kept k = package_same epoch areas owed commands rest world up first kept k
+taken_same frame epoch rest world up first kept k = woken_waits _ _ (guest_woken world _ (wakes-taken world (record { epoch = epoch; frame = frame }) rest refl)) k
 
 pub same_waits : (world : World) (step : Step) → IsSoundWorld world → is_try step ≡ false → WaitsAs world (next world step)
-same_waits world step kept other = leaves-next (WaitsAs world) world step (λ k. refl) (same_answer world step kept other)
+same_waits world (Step.Issue cpu tries) kept other = absurd (false≢true (sym other))
+same_waits world (Step.Retry cpu) kept other = absurd (false≢true (sym other))
+same_waits world Step.SourceRead kept other =
+    made-next (WaitsAs world) world Step.SourceRead (λ k. refl)
+    (λ noted is started unswitched. waits_source world.destination.has_run world.source.guest _ world.destination.guest (waits_read world.source.guest noted.cpu noted.message))
+same_waits world Step.DestRead kept other =
+    made-next (WaitsAs world) world Step.DestRead (λ k. refl)
+    (λ noted is ran. waits_destination world.destination.has_run world.source.guest world.destination.guest _ (waits_read world.destination.guest noted.cpu noted.message))
+same_waits world (Step.Deliver n) kept other =
+    made-next (WaitsAs world) world (Step.Deliver n) (λ k. refl) ((λ sent rest is short k. refl), (λ sent rest is full started up free early. taken_same sent.frame sent.epoch rest world up is kept))
+same_waits world step kept other = woken_waits _ _ (guest_woken world _ (wakes-next world step kept refl))
 
 -- a processor of a number still has to make its command
 abbrev WaitsIn : ℕ → Command → World → Type 0
@@ -303,11 +207,11 @@ WaitsIn k command world = outstanding (processor_at (guest_of world).cpus k) ≡
 pub waiting_command : (world : World) (step : Step) (k : ℕ) (command : Command) → IsSoundWorld world → is_retry_of step k ≡ false → outstanding (processor_at (guest_of world).cpus k) ≡ Some command →
     outstanding (processor_at (guest_of (next world step)).cpus k) ≡ Some command
 waiting_command world (Step.Issue cpu tries) k command kept other h =
-    leaves-next (WaitsIn k command) world (Step.Issue cpu tries) h
-    (made-issue _ world cpu tries (λ there idle may.
-    tried_other world cpu tries k (λ e. idle_none (processor_at (guest_of world).cpus cpu) command idle (ap (λ i. outstanding (processor_at (guest_of world).cpus i)) e ∙ h)) ∙ h))
+    made-next (WaitsIn k command) world (Step.Issue cpu tries) h
+    (λ there idle may.
+    tried_other world cpu tries k (λ e. idle_none (processor_at (guest_of world).cpus cpu) command idle (ap (λ i. outstanding (processor_at (guest_of world).cpus i)) e ∙ h)) ∙ h)
 waiting_command world (Step.Retry cpu) k command kept other h =
-    leaves-next (WaitsIn k command) world (Step.Retry cpu) h (made-retry _ world cpu (λ tries is woken may. tried_other world cpu tries k (λ e. false≢true (sym other ∙ eq-eqb cpu k e)) ∙ h))
+    made-next (WaitsIn k command) world (Step.Retry cpu) h (λ tries is woken may. tried_other world cpu tries k (λ e. false≢true (sym other ∙ eq-eqb cpu k e)) ∙ h)
 waiting_command world step k command kept other h = same_waits world step kept refl k ∙ h
 
 -- Who comes to wait
@@ -344,19 +248,19 @@ issue_same cpu k tries command a b = ap (λ i. Step.Issue i tries) a ∙ ap (λ 
 
 pub waits_arise : (world : World) (step : Step) (k : ℕ) (command : Command) → IsSoundWorld world → WaitsIn k command (next world step) → WaitsIn k command world ⊎ Slept world step k command
 waits_arise world (Step.Issue cpu tries) k command kept =
-    leaves-next (ArisesIn world (Step.Issue cpu tries) k command) world (Step.Issue cpu tries) (λ h. inl h)
-    (made-issue _ world cpu tries (λ there idle may h.
+    made-next (ArisesIn world (Step.Issue cpu tries) k command) world (Step.Issue cpu tries) (λ h. inl h)
+    (λ there idle may h.
     ⊎_elim
     (λ (one : (cpu ≡ k) × (tries ≡ command) × (took_by (is_access tries) (guest_of world).space tries ≡ Sleep)).
     inr (record { step_is = issue_same cpu k tries command one.0 one.1; sleeps = subst (λ c. took_by (is_access c) (guest_of world).space c ≡ Sleep) one.1 one.2 }))
-    (λ (two : WaitsIn k command world). inl two) (tried_waits world cpu tries k command h)))
+    (λ (two : WaitsIn k command world). inl two) (tried_waits world cpu tries k command h))
 waits_arise world (Step.Retry cpu) k command kept =
-    leaves-next (ArisesIn world (Step.Retry cpu) k command) world (Step.Retry cpu) (λ h. inl h)
-    (made-retry _ world cpu (λ tries is woken may h.
+    made-next (ArisesIn world (Step.Retry cpu) k command) world (Step.Retry cpu) (λ h. inl h)
+    (λ tries is woken may h.
     ⊎_elim
     (λ (one : (cpu ≡ k) × (tries ≡ command) × (took_by (is_access tries) (guest_of world).space tries ≡ Sleep)).
     inl (ap (λ i. outstanding (processor_at (guest_of world).cpus i)) (sym one.0) ∙ is ∙ ap (λ c. Some c) one.1))
-    (λ (two : WaitsIn k command world). inl two) (tried_waits world cpu tries k command h)))
+    (λ (two : WaitsIn k command world). inl two) (tried_waits world cpu tries k command h))
 waits_arise world step k command kept = λ h. inl (sym (same_waits world step kept refl k) ∙ h)
 
 -- What a try makes of its processor
@@ -369,12 +273,12 @@ set_here (p ∷ ps) (suc i) new command h = set_here ps i new command h
 pub retried_at : (world : World) (cpu : ℕ) (command : Command) → IsOk (outcome world (Step.Retry cpu)) → outstanding (processor_at (guest_of world).cpus cpu) ≡ Some command →
     processor_at (guest_of (next world (Step.Retry cpu))).cpus cpu ≡ processor_after command (took_by (is_access command) (guest_of world).space command)
 retried_at world cpu command ok waits =
-    leaves-ok (λ new. processor_at (guest_of new).cpus cpu ≡ processor_after command (took_by (is_access command) (guest_of world).space command)) world (Step.Retry cpu)
-    (made-retry _ world cpu (λ other is woken may.
+    made-ok (λ new. processor_at (guest_of new).cpus cpu ≡ processor_after command (took_by (is_access command) (guest_of world).space command)) world (Step.Retry cpu)
+    (λ other is woken may.
     let same = some_command other command (sym is ∙ waits) in
     ap (λ g. processor_at g.cpus cpu) (tried_guest world cpu other)
     ∙ set_here (guest_of world).cpus cpu (processor_after other (took_by (is_access other) (guest_of world).space other)) command waits
-    ∙ ap (λ c. processor_after c (took_by (is_access c) (guest_of world).space c)) same)) ok
+    ∙ ap (λ c. processor_after c (took_by (is_access c) (guest_of world).space c)) same) ok
 
 no_place : (i : ℕ) → not (ltb i 0) ≡ false → ⊥
 no_place i h = grind (arith, nat_tests)
@@ -390,6 +294,6 @@ set_there (p ∷ ps) (suc i) new h = set_there ps i new (fewer i (length ps) h)
 pub issued_at : (world : World) (cpu : ℕ) (command : Command) → IsOk (outcome world (Step.Issue cpu command)) →
     processor_at (guest_of (next world (Step.Issue cpu command))).cpus cpu ≡ processor_after command (took_by (is_access command) (guest_of world).space command)
 issued_at world cpu command ok =
-    leaves-ok (λ new. processor_at (guest_of new).cpus cpu ≡ processor_after command (took_by (is_access command) (guest_of world).space command)) world (Step.Issue cpu command)
-    (made-issue _ world cpu command (λ there idle may.
-    ap (λ g. processor_at g.cpus cpu) (tried_guest world cpu command) ∙ set_there (guest_of world).cpus cpu (processor_after command (took_by (is_access command) (guest_of world).space command)) there)) ok
+    made-ok (λ new. processor_at (guest_of new).cpus cpu ≡ processor_after command (took_by (is_access command) (guest_of world).space command)) world (Step.Issue cpu command)
+    (λ there idle may.
+    ap (λ g. processor_at g.cpus cpu) (tried_guest world cpu command) ∙ set_there (guest_of world).cpus cpu (processor_after command (took_by (is_access command) (guest_of world).space command)) there) ok

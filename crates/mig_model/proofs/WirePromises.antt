@@ -1,5 +1,5 @@
 -- What deliveries, installs and breaks take from the wires and the arrivals, and by which frames a migration completes.
-use Rattle.std.proofs.Common.{◌≡◌, ◌≢◌, ℕ, ◌*◌, Bool, true, false, Option, Some, None, List, [], ◌∷◌, refl, sym, ap, ◌∙◌, subst, if◌then◌else◌, IsOk}
+use Rattle.std.proofs.Common.{◌≡◌, ◌≢◌, ℕ, ◌*◌, Bool, true, false, Option, Some, None, List, ◌∷◌, refl, sym, ap, ◌∙◌, subst, if◌then◌else◌, IsOk}
 use Rattle.std.specs.Prelude.{Ok}
 use Rattle.std.specs.FinMap.{get}
 use Rattle.std.specs.FinSet.{contains}
@@ -10,110 +10,79 @@ use Rattle.mig_base.specs.declared.phase.SourcePhase.{SourcePhase}
 use Rattle.mig_base.specs.declared.schedule.Side.{Side}
 use Rattle.mig_base.specs.declared.schedule.Step.{Step}
 use Rattle.mig_model.specs.Wire.{Frame, Sent, Copy, Wire, empty_wire, wire_if}
-use Rattle.mig_model.specs.Wire.Frame.{Advise, Page, Zero, Run, Discard, Package, End, Resume, Request, Recv, Done}
+use Rattle.mig_model.specs.Wire.Frame.{Recv, Done}
 use Rattle.mig_model.specs.Owed.{home, Owed}
 use Rattle.mig_model.specs.Source.{Source, is_released, source_act, source_took}
 use Rattle.mig_model.specs.Destination.{Destination, destination_took, destination_answers, install_by}
-use Rattle.mig_model.specs.Migration.{World, answer, outcome, next, install_effect, after_deliver, after_deliver_back, after_move, after_move_back, is_short, after_deliver_urgent, after_move_urgent}
+use Rattle.mig_model.specs.Migration.{World, outcome, next, install_effect, after_deliver, after_deliver_back, after_move, after_move_back, is_short, after_deliver_urgent, after_move_urgent}
 use Rattle.mig_model.specs.Invariant.{IsSoundWorld}
 use Rattle.mig_model.specs.Parts.{Grows}
 use Rattle.mig_model.specs.Promises.{IsComplete, IsDelivered, IsDeliveredBack, Completes, takes_forward, takes_back, is_break, is_recv, is_last, IsDeliveredUrgent, takes_urgent}
 use Rattle.mig_model.proofs.SettledLemmas.{home-is, home_tells}
-use Rattle.mig_model.proofs.StepLemmas.{Leaves, leaves-next, leaves-ok, outcome-ok}
-use Rattle.mig_model.proofs.StepCases.{made-issue, made-retry, made-start, made-round, made-send, made-send_run, made-source_read, made-source_act, made-switch, made-push, made-serve, made-end, made-deliver, made-deliver_back, made-dest_read, made-dest_act, made-install, made-break, made-notice, made-resume, made-deliver_urgent, made-push_urgent}
+use Rattle.mig_model.proofs.StepCases.{MakesWorld, made-next, made-ok, made-outcome}
 use Rattle.mig_model.proofs.StaysComplete.{worked_phase, command_phase}
 use Rattle.mig_model.proofs.PartsChanged.{changes_parts}
 use Rattle.mig_model.proofs.Facts.{no_page, as_it_was, tried_up}
 
 -- Deliveries
 
--- the first frame of a wire was delivered, whatever it is called
-abbrev FirstDelivered : World → World → List Sent → Type 0
-FirstDelivered old new [] = ⊥
-FirstDelivered old new (sent ∷ rest) = IsDelivered old new sent rest
+-- the first frame of a wire, whatever it is called
+the_first : {A : Type 0} {wire : List A} {other sent : A} {more rest : List A} → wire ≡ other ∷ more → wire ≡ sent ∷ rest → (other ≡ sent) × (more ≡ rest)
+the_first is first = (cc, cc)
 
-first_is : (world : World) (sent : Sent) (rest wire : List Sent) → sent ∷ rest ≡ wire → world.up ≡ true → FirstDelivered world (after_deliver world sent rest) wire
-first_is world sent rest wire same up =
-    subst (FirstDelivered world (after_deliver world sent rest)) same
-    (record {
-      destination = refl;
-      forward = refl;
-      back = ap (λ u. wire_if u world.back (destination_took world.destination sent.epoch sent.frame).epoch (destination_answers world.destination sent.frame)) up;
-    })
-
-first_frame : (sent other : Sent) (rest more : List Sent) → sent ∷ rest ≡ other ∷ more → sent ≡ other
-first_frame sent other rest more same = ap (λ (l : List Sent). elim l [ [] ↦ sent | first ∷ _ ↦ first ]) same
+as_first : {other sent : Sent} {more rest : List Sent} (P : Sent → List Sent → Type 0) → (other ≡ sent) × (more ≡ rest) → P sent rest → P other more
+as_first {other} {sent} {more} {rest} P same h = subst (λ s. P s more) (sym same.0) (subst (P sent) (sym same.1) h)
 
 -- what is short for one frame is not full for it
-short_not : {A : Type 0} (wire : Wire) (n : ℕ) (sent other : Sent) → sent ≡ other → is_short wire sent.frame n ≡ true → is_short wire other.frame n ≡ false → A
-short_not wire n sent other same short full = absurd (false≢true (sym full ∙ sym (ap (λ (s : Sent). is_short wire s.frame n) same) ∙ short))
+short_not : {A : Type 0} (wire : Wire) (n : ℕ) {sent other : Sent} → sent ≡ other → is_short wire sent.frame n ≡ true → is_short wire other.frame n ≡ false → A
+short_not wire n same short full = absurd (false≢true (sym full ∙ sym (ap (λ (s : Sent). is_short wire s.frame n) same) ∙ short))
 
 pub delivered_first : (world : World) (n : ℕ) (sent : Sent) (rest : List Sent) → IsOk (outcome world (Step.Deliver n)) → world.forward.frames ≡ sent ∷ rest → is_short world.forward sent.frame n ≡ false →
     IsDelivered world (next world (Step.Deliver n)) sent rest
 delivered_first world n sent rest ok first full =
-    leaves-ok (λ new. IsDelivered world new sent rest) world (Step.Deliver n)
-    (made-deliver _ world n (λ other more is short. short_not world.forward n other sent (first_frame other sent more rest (sym is ∙ first)) short full)
-    (λ other more is whole started up free early. first_is world other more (sent ∷ rest) (sym is ∙ first) up)) ok
+    made-ok (λ new. IsDelivered world new sent rest) world (Step.Deliver n) (
+      (λ other more is short. short_not world.forward n (the_first is first).0 short full),
+      (λ other more is whole started up free early. as_first (λ s r. IsDelivered world (after_deliver world s r) sent rest) (the_first is first)
+          (record { destination = refl; forward = refl; back = ap (λ u. wire_if u world.back (destination_took world.destination sent.epoch sent.frame).epoch (destination_answers world.destination sent.frame)) up })),
+    ) ok
 
 pub moved_short : (world : World) (n : ℕ) (sent : Sent) (rest : List Sent) → IsOk (outcome world (Step.Deliver n)) → world.forward.frames ≡ sent ∷ rest → is_short world.forward sent.frame n ≡ true →
     (outcome world (Step.Deliver n) ≡ Ok (Effect.Moved n)) × (next world (Step.Deliver n) ≡ after_move world n)
 moved_short world n sent rest ok first short = (
-  outcome-ok (Effect.Moved n) world (Step.Deliver n)
-      (made-deliver _ world n (λ other more is one. refl) (λ other more is whole started up free early. short_not world.forward n sent other (sym (first_frame other sent more rest (sym is ∙ first))) short whole)) ok,
-  leaves-ok (λ new. new ≡ after_move world n) world (Step.Deliver n)
-      (made-deliver _ world n (λ other more is one. refl) (λ other more is whole started up free early. short_not world.forward n sent other (sym (first_frame other sent more rest (sym is ∙ first))) short whole)) ok,
+  made-outcome (Effect.Moved n) world (Step.Deliver n) ((λ other more is one. refl), (λ other more is whole started up free early. short_not world.forward n (sym (the_first is first).0) short whole)) ok,
+  made-ok (λ new. new ≡ after_move world n) world (Step.Deliver n) ((λ other more is one. refl), (λ other more is whole started up free early. short_not world.forward n (sym (the_first is first).0) short whole)) ok,
 )
-
-abbrev FirstDeliveredBack : World → World → List Sent → Type 0
-FirstDeliveredBack old new [] = ⊥
-FirstDeliveredBack old new (sent ∷ rest) = IsDeliveredBack old new sent rest
-
-first_back_is : (world : World) (sent : Sent) (rest wire : List Sent) → sent ∷ rest ≡ wire → FirstDeliveredBack world (after_deliver_back world sent rest) wire
-first_back_is world sent rest wire same = subst (FirstDeliveredBack world (after_deliver_back world sent rest)) same (record { source = refl; back = refl; forward = refl })
 
 pub delivered_back_first : (world : World) (n : ℕ) (sent : Sent) (rest : List Sent) → IsOk (outcome world (Step.DeliverBack n)) → world.back.frames ≡ sent ∷ rest → is_short world.back sent.frame n ≡ false →
     IsDeliveredBack world (next world (Step.DeliverBack n)) sent rest
 delivered_back_first world n sent rest ok first full =
-    leaves-ok (λ new. IsDeliveredBack world new sent rest) world (Step.DeliverBack n)
-    (made-deliver_back _ world n (λ other more is short. short_not world.back n other sent (first_frame other sent more rest (sym is ∙ first)) short full)
-    (λ other more is whole started up. first_back_is world other more (sent ∷ rest) (sym is ∙ first))) ok
+    made-ok (λ new. IsDeliveredBack world new sent rest) world (Step.DeliverBack n)
+    ((λ other more is short. short_not world.back n (the_first is first).0 short full), (λ other more is whole started up. as_first (λ s r. IsDeliveredBack world (after_deliver_back world s r) sent rest) (the_first is first) (record { source = refl; back = refl; forward = refl }))) ok
 
 pub moved_back_short : (world : World) (n : ℕ) (sent : Sent) (rest : List Sent) → IsOk (outcome world (Step.DeliverBack n)) → world.back.frames ≡ sent ∷ rest → is_short world.back sent.frame n ≡ true →
     (outcome world (Step.DeliverBack n) ≡ Ok (Effect.Moved n)) × (next world (Step.DeliverBack n) ≡ after_move_back world n)
 moved_back_short world n sent rest ok first short = (
-  outcome-ok (Effect.Moved n) world (Step.DeliverBack n)
-      (made-deliver_back _ world n (λ other more is one. refl) (λ other more is whole started up. short_not world.back n sent other (sym (first_frame other sent more rest (sym is ∙ first))) short whole)) ok,
-  leaves-ok (λ new. new ≡ after_move_back world n) world (Step.DeliverBack n)
-      (made-deliver_back _ world n (λ other more is one. refl) (λ other more is whole started up. short_not world.back n sent other (sym (first_frame other sent more rest (sym is ∙ first))) short whole)) ok,
+  made-outcome (Effect.Moved n) world (Step.DeliverBack n) ((λ other more is one. refl), (λ other more is whole started up. short_not world.back n (sym (the_first is first).0) short whole)) ok,
+  made-ok (λ new. new ≡ after_move_back world n) world (Step.DeliverBack n) ((λ other more is one. refl), (λ other more is whole started up. short_not world.back n (sym (the_first is first).0) short whole)) ok,
 )
-
-abbrev FirstDeliveredUrgent : World → World → List Sent → Type 0
-FirstDeliveredUrgent old new [] = ⊥
-FirstDeliveredUrgent old new (sent ∷ rest) = IsDeliveredUrgent old new sent rest
-
-first_urgent_is : (world : World) (sent : Sent) (rest wire : List Sent) → sent ∷ rest ≡ wire → FirstDeliveredUrgent world (after_deliver_urgent world sent rest) wire
-first_urgent_is world sent rest wire same = subst (FirstDeliveredUrgent world (after_deliver_urgent world sent rest)) same (record { destination = refl; urgent = refl })
 
 pub delivered_urgent_first : (world : World) (n : ℕ) (sent : Sent) (rest : List Sent) → IsOk (outcome world (Step.DeliverUrgent n)) → world.urgent.frames ≡ sent ∷ rest → is_short world.urgent sent.frame n ≡ false →
     IsDeliveredUrgent world (next world (Step.DeliverUrgent n)) sent rest
 delivered_urgent_first world n sent rest ok first full =
-    leaves-ok (λ new. IsDeliveredUrgent world new sent rest) world (Step.DeliverUrgent n)
-    (made-deliver_urgent _ world n (λ other more is short. short_not world.urgent n other sent (first_frame other sent more rest (sym is ∙ first)) short full)
-    (λ other more is whole ran up. first_urgent_is world other more (sent ∷ rest) (sym is ∙ first))) ok
+    made-ok (λ new. IsDeliveredUrgent world new sent rest) world (Step.DeliverUrgent n)
+    ((λ other more is short. short_not world.urgent n (the_first is first).0 short full), (λ other more is whole ran up. as_first (λ s r. IsDeliveredUrgent world (after_deliver_urgent world s r) sent rest) (the_first is first) (record { destination = refl; urgent = refl }))) ok
 
 pub moved_urgent_short : (world : World) (n : ℕ) (sent : Sent) (rest : List Sent) → IsOk (outcome world (Step.DeliverUrgent n)) → world.urgent.frames ≡ sent ∷ rest → is_short world.urgent sent.frame n ≡ true →
     (outcome world (Step.DeliverUrgent n) ≡ Ok (Effect.Moved n)) × (next world (Step.DeliverUrgent n) ≡ after_move_urgent world n)
 moved_urgent_short world n sent rest ok first short = (
-  outcome-ok (Effect.Moved n) world (Step.DeliverUrgent n)
-      (made-deliver_urgent _ world n (λ other more is one. refl) (λ other more is whole ran up. short_not world.urgent n sent other (sym (first_frame other sent more rest (sym is ∙ first))) short whole)) ok,
-  leaves-ok (λ new. new ≡ after_move_urgent world n) world (Step.DeliverUrgent n)
-      (made-deliver_urgent _ world n (λ other more is one. refl) (λ other more is whole ran up. short_not world.urgent n sent other (sym (first_frame other sent more rest (sym is ∙ first))) short whole)) ok,
+  made-outcome (Effect.Moved n) world (Step.DeliverUrgent n) ((λ other more is one. refl), (λ other more is whole ran up. short_not world.urgent n (sym (the_first is first).0) short whole)) ok,
+  made-ok (λ new. new ≡ after_move_urgent world n) world (Step.DeliverUrgent n) ((λ other more is one. refl), (λ other more is whole ran up. short_not world.urgent n (sym (the_first is first).0) short whole)) ok,
 )
 
 -- The wires
 
 pub wires_broken : (world : World) → IsOk (outcome world Step.Break) → ((next world Step.Break).forward ≡ empty_wire) × ((next world Step.Break).back ≡ empty_wire) × ((next world Step.Break).urgent ≡ empty_wire) × ((next world Step.Break).up ≡ false)
-wires_broken world ok = leaves-ok (λ new. (new.forward ≡ empty_wire) × (new.back ≡ empty_wire) × (new.urgent ≡ empty_wire) × (new.up ≡ false)) world Step.Break (made-break _ world (λ started unreleased up. (refl, refl, refl, refl))) ok
+wires_broken world ok = made-ok (λ new. (new.forward ≡ empty_wire) × (new.back ≡ empty_wire) × (new.urgent ≡ empty_wire) × (new.up ≡ false)) world Step.Break (λ started unreleased up. (refl, refl, refl, refl)) ok
 
 same_wire : (old new : Wire) → new ≡ old → Grows old old → Grows old new
 same_wire old new same grows = record { more = grows.more; is = same ∙ grows.is }
@@ -121,109 +90,50 @@ same_wire old new same grows = record { more = grows.more; is = same ∙ grows.i
 pub forward_grows : (world : World) (step : Step) → takes_forward step ≡ false → Grows world.forward (next world step).forward
 forward_grows world (Step.Issue cpu command) h = same_wire _ _ (changes_parts world (Step.Issue cpu command)).forward (as_it_was world.forward)
 forward_grows world (Step.Retry cpu) h = same_wire _ _ (changes_parts world (Step.Retry cpu)).forward (as_it_was world.forward)
-forward_grows world Step.Start h = (changes_parts world Step.Start).forward
-forward_grows world Step.Round h = (changes_parts world Step.Round).forward
-forward_grows world Step.Send h = (changes_parts world Step.Send).forward
-forward_grows world (Step.SendRun count) h = (changes_parts world (Step.SendRun count)).forward
-forward_grows world Step.SourceRead h = (changes_parts world Step.SourceRead).forward
-forward_grows world Step.SourceAct h = (changes_parts world Step.SourceAct).forward
-forward_grows world Step.Switch h = (changes_parts world Step.Switch).forward
 forward_grows world (Step.Deliver n) h = absurd (false≢true (sym h))
-forward_grows world (Step.DeliverBack n) h = (changes_parts world (Step.DeliverBack n)).forward
 forward_grows world Step.DestRead h = same_wire _ _ (changes_parts world Step.DestRead).forward (as_it_was world.forward)
 forward_grows world Step.DestAct h = same_wire _ _ (changes_parts world Step.DestAct).forward (as_it_was world.forward)
 forward_grows world Step.Install h = same_wire _ _ (changes_parts world Step.Install).forward (as_it_was world.forward)
-forward_grows world (Step.Push ticket) h = (changes_parts world (Step.Push ticket)).forward
 forward_grows world (Step.PushUrgent ticket) h = same_wire _ _ (changes_parts world (Step.PushUrgent ticket)).forward (as_it_was world.forward)
 forward_grows world (Step.DeliverUrgent n) h = same_wire _ _ (changes_parts world (Step.DeliverUrgent n)).forward (as_it_was world.forward)
-forward_grows world Step.Serve h = (changes_parts world Step.Serve).forward
-forward_grows world Step.End h = (changes_parts world Step.End).forward
 forward_grows world Step.Break h = absurd (false≢true (sym h))
 forward_grows world (Step.Notice Side.Source) h = same_wire _ _ (ap (λ w. w.forward) (changes_parts world (Step.Notice Side.Source)).is) (as_it_was world.forward)
 forward_grows world (Step.Notice Side.Destination) h = same_wire _ _ (ap (λ w. w.forward) (changes_parts world (Step.Notice Side.Destination)).is) (as_it_was world.forward)
-forward_grows world Step.Resume h = (changes_parts world Step.Resume).forward
+forward_grows world step h = (changes_parts world step).forward
 
 pub back_grows : (world : World) (step : Step) → takes_back step ≡ false → Grows world.back (next world step).back
-back_grows world (Step.Issue cpu command) h = same_wire _ _ (changes_parts world (Step.Issue cpu command)).back (as_it_was world.back)
-back_grows world (Step.Retry cpu) h = same_wire _ _ (changes_parts world (Step.Retry cpu)).back (as_it_was world.back)
-back_grows world Step.Start h = same_wire _ _ (changes_parts world Step.Start).back (as_it_was world.back)
-back_grows world Step.Round h = same_wire _ _ (changes_parts world Step.Round).back (as_it_was world.back)
-back_grows world Step.Send h = same_wire _ _ (changes_parts world Step.Send).back (as_it_was world.back)
-back_grows world (Step.SendRun count) h = same_wire _ _ (changes_parts world (Step.SendRun count)).back (as_it_was world.back)
-back_grows world Step.SourceRead h = same_wire _ _ (changes_parts world Step.SourceRead).back (as_it_was world.back)
-back_grows world Step.SourceAct h = same_wire _ _ (changes_parts world Step.SourceAct).back (as_it_was world.back)
-back_grows world Step.Switch h = same_wire _ _ (changes_parts world Step.Switch).back (as_it_was world.back)
 back_grows world (Step.Deliver n) h = (changes_parts world (Step.Deliver n)).back
 back_grows world (Step.DeliverBack n) h = absurd (false≢true (sym h))
 back_grows world Step.DestRead h = (changes_parts world Step.DestRead).back
 back_grows world Step.DestAct h = (changes_parts world Step.DestAct).back
 back_grows world Step.Install h = (changes_parts world Step.Install).back
-back_grows world (Step.Push ticket) h = same_wire _ _ (changes_parts world (Step.Push ticket)).back (as_it_was world.back)
-back_grows world (Step.PushUrgent ticket) h = same_wire _ _ (changes_parts world (Step.PushUrgent ticket)).back (as_it_was world.back)
-back_grows world (Step.DeliverUrgent n) h = same_wire _ _ (changes_parts world (Step.DeliverUrgent n)).back (as_it_was world.back)
-back_grows world Step.Serve h = same_wire _ _ (changes_parts world Step.Serve).back (as_it_was world.back)
-back_grows world Step.End h = same_wire _ _ (changes_parts world Step.End).back (as_it_was world.back)
 back_grows world Step.Break h = absurd (false≢true (sym h))
 back_grows world (Step.Notice Side.Source) h = same_wire _ _ (ap (λ w. w.back) (changes_parts world (Step.Notice Side.Source)).is) (as_it_was world.back)
 back_grows world (Step.Notice Side.Destination) h = same_wire _ _ (ap (λ w. w.back) (changes_parts world (Step.Notice Side.Destination)).is) (as_it_was world.back)
-back_grows world Step.Resume h = same_wire _ _ (changes_parts world Step.Resume).back (as_it_was world.back)
+back_grows world step h = same_wire _ _ (changes_parts world step).back (as_it_was world.back)
 
 pub urgent_grows : (world : World) (step : Step) → takes_urgent step ≡ false → Grows world.urgent (next world step).urgent
-urgent_grows world (Step.Issue cpu command) h = same_wire _ _ (changes_parts world (Step.Issue cpu command)).urgent (as_it_was world.urgent)
-urgent_grows world (Step.Retry cpu) h = same_wire _ _ (changes_parts world (Step.Retry cpu)).urgent (as_it_was world.urgent)
-urgent_grows world Step.Start h = same_wire _ _ (changes_parts world Step.Start).urgent (as_it_was world.urgent)
-urgent_grows world Step.Round h = same_wire _ _ (changes_parts world Step.Round).urgent (as_it_was world.urgent)
-urgent_grows world Step.Send h = same_wire _ _ (changes_parts world Step.Send).urgent (as_it_was world.urgent)
-urgent_grows world (Step.SendRun count) h = same_wire _ _ (changes_parts world (Step.SendRun count)).urgent (as_it_was world.urgent)
-urgent_grows world Step.SourceRead h = same_wire _ _ (changes_parts world Step.SourceRead).urgent (as_it_was world.urgent)
-urgent_grows world Step.SourceAct h = same_wire _ _ (changes_parts world Step.SourceAct).urgent (as_it_was world.urgent)
-urgent_grows world Step.Switch h = same_wire _ _ (changes_parts world Step.Switch).urgent (as_it_was world.urgent)
-urgent_grows world (Step.Deliver n) h = same_wire _ _ (changes_parts world (Step.Deliver n)).urgent (as_it_was world.urgent)
-urgent_grows world (Step.DeliverBack n) h = same_wire _ _ (changes_parts world (Step.DeliverBack n)).urgent (as_it_was world.urgent)
-urgent_grows world Step.DestRead h = same_wire _ _ (changes_parts world Step.DestRead).urgent (as_it_was world.urgent)
-urgent_grows world Step.DestAct h = same_wire _ _ (changes_parts world Step.DestAct).urgent (as_it_was world.urgent)
-urgent_grows world Step.Install h = same_wire _ _ (changes_parts world Step.Install).urgent (as_it_was world.urgent)
-urgent_grows world (Step.Push ticket) h = same_wire _ _ (changes_parts world (Step.Push ticket)).urgent (as_it_was world.urgent)
 urgent_grows world (Step.PushUrgent ticket) h = (changes_parts world (Step.PushUrgent ticket)).urgent
 urgent_grows world (Step.DeliverUrgent n) h = absurd (false≢true (sym h))
-urgent_grows world Step.Serve h = same_wire _ _ (changes_parts world Step.Serve).urgent (as_it_was world.urgent)
-urgent_grows world Step.End h = same_wire _ _ (changes_parts world Step.End).urgent (as_it_was world.urgent)
 urgent_grows world Step.Break h = absurd (false≢true (sym h))
 urgent_grows world (Step.Notice Side.Source) h = same_wire _ _ (ap (λ w. w.urgent) (changes_parts world (Step.Notice Side.Source)).is) (as_it_was world.urgent)
 urgent_grows world (Step.Notice Side.Destination) h = same_wire _ _ (ap (λ w. w.urgent) (changes_parts world (Step.Notice Side.Destination)).is) (as_it_was world.urgent)
-urgent_grows world Step.Resume h = same_wire _ _ (changes_parts world Step.Resume).urgent (as_it_was world.urgent)
+urgent_grows world step h = same_wire _ _ (changes_parts world step).urgent (as_it_was world.urgent)
 
 -- the link is up
 abbrev IsUp : World → Type 0
 IsUp world = world.up ≡ true
 
-up_answer : (world : World) (step : Step) → is_break step ≡ false → IsUp world → Leaves IsUp (answer world step)
-up_answer world (Step.Issue cpu command) h up = made-issue _ world cpu command (λ there idle may. tried_up world.destination.has_run world _ ∙ up)
-up_answer world (Step.Retry cpu) h up = made-retry _ world cpu (λ command waits woken may. tried_up world.destination.has_run world _ ∙ up)
-up_answer world Step.Start h up = made-start _ world (λ idle. up)
-up_answer world Step.Round h up = made-round _ world (λ precopy quiet. up)
-up_answer world Step.Send h up = made-send _ world (λ page is precopy linked quiet. up)
-up_answer world (Step.SendRun count) h up = made-send_run _ world count (λ first number is many precopy linked quiet. up)
-up_answer world Step.SourceRead h up = made-source_read _ world (λ noted is started unswitched. up)
-up_answer world Step.SourceAct h up = made-source_act _ world (λ fault rest is started unswitched quiet. up)
-up_answer world Step.Switch h up = made-switch _ world (λ precopy linked quiet. up)
-up_answer world (Step.Deliver n) h up = made-deliver _ world n (λ sent rest is short. up) (λ sent rest is full started linked free early. up)
-up_answer world (Step.DeliverBack n) h up = made-deliver_back _ world n (λ sent rest is short. up) (λ sent rest is full started linked. up)
-up_answer world Step.DestRead h up = made-dest_read _ world (λ noted is ran. up)
-up_answer world Step.DestAct h up = made-dest_act _ world (λ fault rest is ran quiet. up)
-up_answer world Step.Install h up = made-install _ world (λ copy rest is ran quiet. up)
-up_answer world (Step.Push ticket) h up = made-push _ world ticket (λ stopped linked own present remains. up)
-up_answer world (Step.PushUrgent ticket) h up = made-push_urgent _ world ticket (λ stopped linked own present remains. up)
-up_answer world (Step.DeliverUrgent n) h up = made-deliver_urgent _ world n (λ sent rest is short. up) (λ sent rest is full ran linked. up)
-up_answer world Step.Serve h up = made-serve _ world (λ page pages is stopped linked. up)
-up_answer world Step.End h up = made-end _ world (λ stopped other linked none. up)
+up_answer : (world : World) (step : Step) → is_break step ≡ false → IsUp world → MakesWorld IsUp world step
+up_answer world (Step.Issue cpu command) h up = λ there idle may. tried_up world.destination.has_run world _ ∙ up
+up_answer world (Step.Retry cpu) h up = λ command waits woken may. tried_up world.destination.has_run world _ ∙ up
 up_answer world Step.Break h up = absurd (false≢true (sym h))
-up_answer world (Step.Notice Side.Source) h up = made-notice _ world Side.Source (λ started unreleased down. up)
-up_answer world (Step.Notice Side.Destination) h up = made-notice _ world Side.Destination (λ started unreleased down. up)
-up_answer world Step.Resume h up = made-resume _ world (λ from to down. refl)
+up_answer world Step.Resume h up = λ from to down unused. refl
+up_answer world (Step.Notice Side.Source) h up = assumption
+up_answer world _ h up = assumption
 
 pub stays_up : (world : World) (step : Step) → is_break step ≡ false → world.up ≡ true → (next world step).up ≡ true
-stays_up world step h up = leaves-next IsUp world step up (up_answer world step h up)
+stays_up world step h up = made-next IsUp world step up (up_answer world step h up)
 
 -- Installs
 
@@ -231,22 +141,18 @@ arrivals_by : (o : Option ℕ) (node : Destination) (copy : Copy) (rest : List C
 arrivals_by None node copy rest = refl
 arrivals_by (Some page) node copy rest = refl
 
-first_copy : (copy other : Copy) (rest more : List Copy) → copy ∷ rest ≡ other ∷ more → (copy ≡ other) × (rest ≡ more)
-first_copy copy other rest more same =
-    (ap (λ (l : List Copy). elim l [ [] ↦ copy | first ∷ _ ↦ first ]) same, ap (λ (l : List Copy). elim l [ [] ↦ rest | _ ∷ tail ↦ tail ]) same)
-
 pub arrivals_after : (world : World) (copy : Copy) (rest : List Copy) → IsOk (outcome world Step.Install) → world.destination.arrivals ≡ copy ∷ rest → (next world Step.Install).destination.arrivals ≡ rest
 arrivals_after world copy rest ok first =
-    leaves-ok (λ new. new.destination.arrivals ≡ rest) world Step.Install
-    (made-install _ world (λ other more is ran quiet. arrivals_by (home world.destination.owed other.page) world.destination other more ∙ (first_copy other copy more rest (sym is ∙ first)).1)) ok
+    made-ok (λ new. new.destination.arrivals ≡ rest) world Step.Install
+    (λ other more is ran quiet. arrivals_by (home world.destination.owed other.page) world.destination other more ∙ (the_first is first).1) ok
 
 pub installed_where : (world : World) (copy : Copy) (rest : List Copy) (page : ℕ) → IsSoundWorld world → IsOk (outcome world Step.Install) → world.destination.arrivals ≡ copy ∷ rest → get world.destination.owed page ≡ Some copy.page →
     outcome world Step.Install ≡ Ok (Effect.Installed (4096 * page) (4096 * copy.page))
 installed_where world copy rest page kept ok first owes =
     let found = home-is world.destination.owed copy.page page kept.owing.one_to_one (kept.owing.owed_below page copy.page owes) owes in
-    outcome-ok (Effect.Installed (4096 * page) (4096 * copy.page)) world Step.Install
-    (made-install _ world (λ other more is ran quiet.
-    ap (λ (c : Copy). install_effect (home world.destination.owed c.page) c.page) (first_copy other copy more rest (sym is ∙ first)).0 ∙ ap (λ o. install_effect o copy.page) found)) ok
+    made-outcome (Effect.Installed (4096 * page) (4096 * copy.page)) world Step.Install
+    (λ other more is ran quiet.
+    ap (λ (c : Copy). install_effect (home world.destination.owed c.page) c.page) (the_first is first).0 ∙ ap (λ o. install_effect o copy.page) found) ok
 
 no_home : (o : Option ℕ) (owed : Owed) (origin : ℕ) → home owed origin ≡ o → ((page : ℕ) → get owed page ≢ Some origin) → o ≡ None
 no_home None owed origin found none = refl
@@ -256,15 +162,11 @@ pub given_up_where : (world : World) (copy : Copy) (rest : List Copy) → IsOk (
     outcome world Step.Install ≡ Ok (Effect.Dropped (4096 * copy.page))
 given_up_where world copy rest ok first none =
     let lost = no_home (home world.destination.owed copy.page) world.destination.owed copy.page refl none in
-    outcome-ok (Effect.Dropped (4096 * copy.page)) world Step.Install
-    (made-install _ world (λ other more is ran quiet.
-    ap (λ (c : Copy). install_effect (home world.destination.owed c.page) c.page) (first_copy other copy more rest (sym is ∙ first)).0 ∙ ap (λ o. install_effect o copy.page) lost)) ok
+    made-outcome (Effect.Dropped (4096 * copy.page)) world Step.Install
+    (λ other more is ran quiet.
+    ap (λ (c : Copy). install_effect (home world.destination.owed c.page) c.page) (the_first is first).0 ∙ ap (λ o. install_effect o copy.page) lost) ok
 
 -- What remains
-
-rebuilt_remains : (switched : Bool) (a b : Source) (P : Source → Type 0) → P a → P b → P (if switched then a else b)
-rebuilt_remains true a b P one two = one
-rebuilt_remains false a b P one two = two
 
 taken_remains : (frame : Frame) (node : Source) (q : ℕ) → is_recv frame ≡ false → contains (source_took node frame).remaining q ≡ true → contains node.remaining q ≡ true
 taken_remains (Recv state owed) node q h is = absurd (false≢true (sym h))
@@ -273,25 +175,24 @@ taken_remains _ node q h is = is
 
 pub remaining_back : (world : World) (n : ℕ) (sent : Sent) (rest : List Sent) (q : ℕ) → world.back.frames ≡ sent ∷ rest → is_recv sent.frame ≡ false → contains (next world (Step.DeliverBack n)).source.remaining q ≡ true → contains world.source.remaining q ≡ true
 remaining_back world n sent rest q first plain =
-    leaves-next (λ new. contains new.source.remaining q ≡ true → contains world.source.remaining q ≡ true) world (Step.DeliverBack n) (λ h. h)
-    (made-deliver_back _ world n (λ other more is short h. h) (λ other more is full started up h.
-    taken_remains other.frame world.source q (ap (λ (s : Sent). is_recv s.frame) (first_frame other sent more rest (sym is ∙ first)) ∙ plain) h))
+    made-next (λ new. contains new.source.remaining q ≡ true → contains world.source.remaining q ≡ true) world (Step.DeliverBack n) (λ h. h) (
+      (λ other more is short h. h),
+      (λ other more is full started up h.
+          taken_remains other.frame world.source q (ap (λ (s : Sent). is_recv s.frame) (the_first is first).0 ∙ plain) h),
+    )
 
 -- Completion
 
 last_releases : (frame : Frame) (node : Source) → is_last frame ≡ true → is_released (source_took node frame).phase ≡ true
 last_releases Done node h = refl
 last_releases (Recv Received.Ended owed) node h = refl
-last_releases (Recv Received.NotRun owed) node h = absurd (false≢true h)
-last_releases (Recv Received.Running owed) node h = absurd (false≢true h)
 last_releases _ node h = absurd (false≢true h)
 
 pub completes_by : (world : World) (n : ℕ) (sent : Sent) (rest : List Sent) → IsOk (outcome world (Step.DeliverBack n)) → world.back.frames ≡ sent ∷ rest → is_short world.back sent.frame n ≡ false → is_last sent.frame ≡ true →
     IsComplete (next world (Step.DeliverBack n))
 completes_by world n sent rest ok first full last =
-    leaves-ok IsComplete world (Step.DeliverBack n)
-    (made-deliver_back _ world n (λ other more is short. short_not world.back n other sent (first_frame other sent more rest (sym is ∙ first)) short full)
-    (λ other more is whole started up. last_releases other.frame world.source (ap (λ (s : Sent). is_last s.frame) (first_frame other sent more rest (sym is ∙ first)) ∙ last))) ok
+    made-ok IsComplete world (Step.DeliverBack n)
+    ((λ other more is short. short_not world.back n (the_first is first).0 short full), (λ other more is whole started up. last_releases other.frame world.source (ap (λ (s : Sent). is_last s.frame) (the_first is first).0 ∙ last))) ok
 
 rebuilt_phase : (switched : Bool) (a b : Source) → is_released a.phase ≡ false → is_released b.phase ≡ false → is_released (if switched then a else b).phase ≡ true → false ≡ true
 rebuilt_phase true a b one two h = sym one ∙ h
@@ -311,33 +212,17 @@ CompletesTo world step new = IsComplete new → Completes world step
 still_not : {A : Type 0} (old new : SourcePhase) → new ≡ old → is_released old ≡ false → is_released new ≡ true → A
 still_not old new same not h = absurd (false≢true (sym not ∙ sym (ap is_released same) ∙ h))
 
-completes_answer : (world : World) (step : Step) → is_released world.source.phase ≡ false → Leaves (CompletesTo world step) (answer world step)
-completes_answer world (Step.Issue cpu command) not = made-issue _ world cpu command (λ there idle may h. still_not world.source.phase _ (command_phase world cpu command) not h)
-completes_answer world (Step.Retry cpu) not = made-retry _ world cpu (λ command waits woken may h. still_not world.source.phase _ (command_phase world cpu command) not h)
-completes_answer world Step.Start not = made-start _ world (λ idle h. absurd (false≢true h))
-completes_answer world Step.Round not = made-round _ world (λ precopy quiet h. absurd (false≢true (sym not ∙ h)))
-completes_answer world Step.Send not = made-send _ world (λ page is precopy up quiet h. absurd (false≢true (sym not ∙ h)))
-completes_answer world (Step.SendRun count) not = made-send_run _ world count (λ first number is many precopy up quiet h. absurd (false≢true (sym not ∙ h)))
-completes_answer world Step.SourceRead not = made-source_read _ world (λ noted is started unswitched h. absurd (false≢true (sym not ∙ h)))
+completes_answer : (world : World) (step : Step) → is_released world.source.phase ≡ false → MakesWorld (CompletesTo world step) world step
+completes_answer world (Step.Issue cpu command) not = λ there idle may h. still_not world.source.phase _ (command_phase world cpu command) not h
+completes_answer world (Step.Retry cpu) not = λ command waits woken may h. still_not world.source.phase _ (command_phase world cpu command) not h
+completes_answer world Step.Start not = λ idle unused h. absurd (false≢true h)
 completes_answer world Step.SourceAct not =
-    made-source_act _ world (λ fault rest is started unswitched quiet h. still_not world.source.phase _ (worked_phase (source_act world.source fault) world fault.page) not h)
-completes_answer world Step.Switch not = made-switch _ world (λ precopy up quiet h. absurd (false≢true h))
-completes_answer world (Step.Deliver n) not = made-deliver _ world n (λ sent rest is short h. absurd (false≢true (sym not ∙ h))) (λ sent rest is full started up free early h. absurd (false≢true (sym not ∙ h)))
+    λ fault rest is started unswitched quiet h. still_not world.source.phase _ (worked_phase (source_act world.source fault) world fault.page) not h
+completes_answer world Step.Switch not = λ precopy up quiet h. absurd (false≢true h)
 completes_answer world (Step.DeliverBack n) not =
-    made-deliver_back _ world n (λ sent rest is short h. absurd (false≢true (sym not ∙ h)))
-    (λ one more is full started up h. record { n = n; step_is = refl; sent = one; rest = more; first = is; last = released_by one.frame world.source not h })
-completes_answer world Step.DestRead not = made-dest_read _ world (λ noted is ran h. absurd (false≢true (sym not ∙ h)))
-completes_answer world Step.DestAct not = made-dest_act _ world (λ fault rest is ran quiet h. absurd (false≢true (sym not ∙ h)))
-completes_answer world Step.Install not = made-install _ world (λ copy rest is ran quiet h. absurd (false≢true (sym not ∙ h)))
-completes_answer world (Step.Push ticket) not = made-push _ world ticket (λ stopped up own present remains h. absurd (false≢true (sym not ∙ h)))
-completes_answer world (Step.PushUrgent ticket) not = made-push_urgent _ world ticket (λ stopped up own present remains h. absurd (false≢true (sym not ∙ h)))
-completes_answer world (Step.DeliverUrgent n) not = made-deliver_urgent _ world n (λ sent rest is short h. absurd (false≢true (sym not ∙ h))) (λ sent rest is full ran up h. absurd (false≢true (sym not ∙ h)))
-completes_answer world Step.Serve not = made-serve _ world (λ page pages is stopped up h. absurd (false≢true (sym not ∙ h)))
-completes_answer world Step.End not = made-end _ world (λ stopped other up none h. absurd (false≢true (sym not ∙ h)))
-completes_answer world Step.Break not = made-break _ world (λ started unreleased up h. absurd (false≢true (sym not ∙ h)))
-completes_answer world (Step.Notice Side.Source) not = made-notice _ world Side.Source (λ started unreleased down h. absurd (false≢true h))
-completes_answer world (Step.Notice Side.Destination) not = made-notice _ world Side.Destination (λ started unreleased down h. absurd (false≢true (sym not ∙ h)))
-completes_answer world Step.Resume not = made-resume _ world (λ from to down h. absurd (false≢true (sym not ∙ h)))
+    ((λ sent rest is short h. absurd (false≢true (sym not ∙ h))), (λ one more is full started up h. record { n = n; step_is = refl; sent = one; rest = more; first = is; last = released_by one.frame world.source not h }))
+completes_answer world (Step.Notice Side.Source) not = λ started unreleased down h. absurd (false≢true h)
+completes_answer world step not = assumption (λ (h : is_released world.source.phase ≡ true). absurd {A = Completes world step} (false≢true (sym not ∙ h)))
 
 pub completes_only : (world : World) (step : Step) → is_released world.source.phase ≡ false → IsComplete (next world step) → Completes world step
-completes_only world step not = leaves-next (CompletesTo world step) world step (λ h. absurd (false≢true (sym not ∙ h))) (completes_answer world step not)
+completes_only world step not = made-next (CompletesTo world step) world step (λ h. absurd (false≢true (sym not ∙ h))) (completes_answer world step not)
