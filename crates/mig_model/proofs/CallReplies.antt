@@ -1,5 +1,5 @@
 -- A processor in a call has the reply of its last entry, until its last message is read.
-use Rattle.std.proofs.Common.{◌≡◌, ℕ, zero, suc, ◌<◌, Bool, true, false, eqb, Option, Some, None, List, [], ◌∷◌, ◌++◌, refl, sym, ap, ◌∙◌, subst, ◌⊎◌, inl, inr, ⊎_elim, arith, if◌then◌else◌, not}
+use Rattle.std.proofs.Common.{◌≡◌, ℕ, zero, suc, ◌<◌, Bool, true, false, eqb, Option, Some, None, List, [], ◌∷◌, ◌++◌, refl, sym, ap, ◌∙◌, subst, ◌⊎◌, inl, inr, ⊎_elim, arith, if◌then◌else◌, not, append-nil}
 use Rattle.std.specs.Prelude.{set, map, Ok, Err}
 use Rattle.std.specs.Ordering.{nat_cmp}
 use Rattle.std.specs.FinMap.{FinMap}
@@ -44,7 +44,6 @@ use Rattle.mig_model.proofs.ReachedLemmas.{reached-next}
 use Rattle.mig_model.proofs.SourceHandler.{has_not_run}
 use Rattle.mig_model.proofs.StepCases.{made-break, made-deliver, made-deliver_back, made-dest_act, made-dest_read, made-end, made-install, made-issue, made-notice, made-push, made-resume, made-retry, made-round, made-send, made-send_run, made-serve, made-source_act, made-source_read, made-start, made-switch, made-deliver_urgent, made-push_urgent}
 use Rattle.mig_model.proofs.StepLemmas.{Holds, Leaves, holds-effect, leaves-next}
-use Rattle.mig_model.proofs.Stopping.{append-nil}
 use Rattle.mig_model.proofs.WaitingCommands.{IsSame, acted_ran, installed_ran, is_try, map_at, package_told, same_took, same_urgent, set_other, set_there, tried_guest}
 
 -- The last entry of a processor

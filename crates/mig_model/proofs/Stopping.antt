@@ -1,5 +1,5 @@
 -- Push, Serve and End keep what every world of the whole migration keeps: a stopped source sends.
-use Rattle.std.proofs.Common.{◌≡◌, ◌≢◌, ℕ, zero, suc, ◌<◌, ◌&&◌, ◌||◌, Bool, true, false, cond, not, eqb, Option, Some, None, List, [], ◌∷◌, ◌++◌, refl, sym, ap, ◌∙◌, subst, ◌⊎◌, inl, inr, ⊎_elim, arith, length, is_some, unwrap_or}
+use Rattle.std.proofs.Common.{◌≡◌, ◌≢◌, ℕ, zero, suc, ◌<◌, ◌&&◌, ◌||◌, Bool, true, false, cond, not, eqb, Option, Some, None, List, [], ◌∷◌, ◌++◌, refl, sym, ap, ◌∙◌, subst, ◌⊎◌, inl, inr, ⊎_elim, arith, append-nil, length, is_some, unwrap_or, ◌≤◌}
 use Rattle.std.specs.Ordering.{nat_cmp}
 use Rattle.std.specs.FinMap.{FinMap, get}
 use Rattle.std.specs.FinSet as finset
@@ -17,12 +17,13 @@ use Rattle.mig_model.specs.Wire.{Sent, Copy, page_frame}
 use Rattle.mig_model.specs.Wire.Frame.{End}
 use Rattle.mig_model.specs.Guest.{is_present}
 use Rattle.mig_model.specs.Migration.{World, after_end, after_push, after_serve}
-use Rattle.mig_model.specs.Invariant.{IsSoundWorld, StoppedWires, IsSwitching, Flow, flow_after, flow_of, copies_of, has_copy, AreFaithful, AreWhole, behind, is_urgent_or_left}
+use Rattle.mig_model.specs.Invariant.{IsSoundWorld, IsSoundPushing, Wires, StoppedWires, IsSwitching, Flow, flow_after, flow_of, copies_of, has_copy, AreFaithful, AreWhole, behind, is_urgent_or_left}
 use Rattle.mig_model.specs.Invariant.Flow.{BeforeAdvise, Copies, BeforePackage, Pushed, AfterEnd}
 use Rattle.mig_model.proofs.SendingLemmas.{flow_sent, has_copy-append, has_package, copies_of-page, page_flow}
 use Rattle.mig_model.specs.Log.{least_of, no_pages, present}
 use Rattle.mig_model.specs.Source.{Source, bytes_of, is_stopped, page_pushed, request_served, space_of}
 use Rattle.mig_model.proofs.HeldLemmas.{fits-more}
+use Rattle.mig_model.proofs.WireLemmas.{flight_up}
 use Rattle.mig_model.proofs.Facts.{none_absurd, eqb-self, eqb_other, same_or_other, low_or, copies_of-append, AreWhole-append, AreFaithful-append, AreOf-one, below_or_at}
 
 -- a world in these phases
@@ -143,6 +144,23 @@ pushed_wires DestPhase.Ended world page held whole other flows old = absurd (oth
 pub stopped_not_released : SourcePhase.Stopped ≢ SourcePhase.Released
 stopped_not_released h = cc
 
+pub stopped_not_paused : SourcePhase.Stopped ≢ SourcePhase.Paused
+stopped_not_paused h = cc
+
+-- once Switch was made, and the source is stopped
+pub pushing_stopped : (source : Source) (up : Bool) → source.switched ≡ true → (source.end_epoch ≡ source.epoch → source.remaining ≡ no_pages) →
+    ((page : ℕ) → contains source.remaining page ≡ true → is_present (space_of source) page ≡ true) → source.end_epoch ≤ source.epoch →
+    IsSoundPushing SourcePhase.Stopped source.switched up source.epoch source.end_epoch (space_of source) source.remaining
+pushing_stopped source up switched end_sent present before =
+    record {
+      before_switch = λ h. absurd (false≢true (sym h ∙ switched));
+      end_sent = end_sent;
+      remaining_present = present;
+      ended_before = before;
+      paused_fresh = λ h paused. absurd (stopped_not_paused paused);
+      released_empty = λ h. absurd (stopped_not_released h);
+    }
+
 both_true : (a b : Bool) → (not a && b) ≡ true → b ≡ true
 both_true true b h = none_absurd h
 both_true false b h = h
@@ -153,6 +171,7 @@ was_there remaining page q h = both_true (eqb q page) (contains remaining q) (sy
 pushed_in : (from : SourcePhase) (to : DestPhase) (world : World) (page : ℕ) → is_stopped from ≡ true → world.up ≡ true → is_present (space_of world.source) page ≡ true → contains world.source.remaining page ≡ true →
     IsSoundWorld (in_phases from to world) → IsSoundWorld (after_push (in_phases from to world) page)
 pushed_in SourcePhase.Stopped to world page stopped up present remains kept =
+    let new : World = after_push (stopped_at to world) page in
     let source = world.source in
     let bytes = (space_of source).host.bytes in
     let more = pushed_frame source page ∷ [] in
@@ -163,40 +182,14 @@ pushed_in SourcePhase.Stopped to world page stopped up present remains kept =
     let copies : copies_of (world.forward.frames ++ more) ≡ copies_of world.forward.frames ++ record { page = page; bytes = bytes_of source page } ∷ [] =
     copies_of-append world.forward.frames more ∙ ap (λ c. copies_of world.forward.frames ++ c) (copies_of-page source.epoch page (bytes_of source page) whole) in
     let flows = λ (flow : Flow) (h : flow_after flow world.forward.frames ≡ Some (flow_of source)). flow_sent flow Pushed Pushed world.forward.frames (pushed_frame source page) (h ∙ ap (λ f. Some f) still) (page_flow page (bytes_of source page)).1 ∙ ap (λ f. Some f) (sym still) in
-    record {
-      memory = kept.memory;
-      spaces = kept.spaces;
-      phases = kept.phases;
-      precopy = kept.precopy;
-      pushing = record {
-        before_switch = λ h. absurd (false≢true (sym h ∙ kept.phases.source_phase));
-        end_sent = λ h. absurd (other h);
-        remaining_present = λ q h. kept.pushing.remaining_present q (was_there source.remaining page q h);
-        ended_before = kept.pushing.ended_before;
-        paused_fresh = kept.pushing.paused_fresh;
-        released_empty = λ h. absurd (stopped_not_released h);
-      };
-      copies = record {
-        kept_none = kept.copies.kept_none;
-        kept_advised = kept.copies.kept_advised;
-        kept_whole = kept.copies.kept_whole;
-        copies_whole = subst AreWhole (sym copies) (AreWhole-append (copies_of world.forward.frames) _ kept.copies.copies_whole (whole, tt));
-      };
-      owing = kept.owing;
-      flight = record {
-        flight_faithful = λ ran. subst (λ c. AreFaithful bytes c) (sym copies) (AreFaithful-append bytes (copies_of world.forward.frames) _ (kept.flight.flight_faithful ran) (held, tt));
-        down = λ h. absurd (false≢true (sym h ∙ up));
-        wires = λ h. pushed_wires to world page held whole other flows (kept.flight.wires h);
-      };
-      epochs = record {
-        forward_epoch = AreOf-one source.epoch world.forward.frames (page_frame page (bytes_of source page)) kept.epochs.forward_epoch;
-        back_epoch = kept.epochs.back_epoch;
-        not_ahead = kept.epochs.not_ahead;
-        epoch_at = kept.epochs.epoch_at;
-      };
-      held = record { forward_held = fits-more world.forward.frames world.forward.held source.epoch (page_frame page (bytes_of source page) ∷ []) kept.held.forward_held; back_held = kept.held.back_held };
-    }
-pushed_in SourcePhase.Idle to world page stopped up present remains kept = none_absurd stopped
+    let pushing = pushing_stopped new.source new.up kept.phases.source_phase (λ h. absurd (other h)) (λ q h. kept.pushing.remaining_present q (was_there source.remaining page q h)) kept.pushing.ended_before in
+    let copies_whole = subst AreWhole (sym copies) (AreWhole-append (copies_of world.forward.frames) _ kept.copies.copies_whole (whole, tt)) in
+    let flight = flight_up new up
+    (λ ran. subst (λ c. AreFaithful bytes c) (sym copies) (AreFaithful-append bytes (copies_of world.forward.frames) _ (kept.flight.flight_faithful ran) (held, tt)))
+    (pushed_wires to world page held whole other flows (kept.flight.wires up)) in
+    let forward_epoch = AreOf-one source.epoch world.forward.frames (page_frame page (bytes_of source page)) kept.epochs.forward_epoch in
+    let forward_held = fits-more world.forward.frames world.forward.held source.epoch (page_frame page (bytes_of source page) ∷ []) kept.held.forward_held in
+    assumption
 pushed_in _ to world page stopped up present remains kept = none_absurd stopped
 
 pub kept-push : (world : World) (page : ℕ) → IsSoundWorld world → is_stopped world.source.phase ≡ true → world.up ≡ true → is_present (space_of world.source) page ≡ true → contains world.source.remaining page ≡ true → IsSoundWorld (after_push world page)
@@ -213,23 +206,9 @@ served_wires _ world pages old = (old.0, old.1, record { owed = old.2.owed; plan
 
 served_in : (from : SourcePhase) (to : DestPhase) (world : World) (pages : List ℕ) → is_stopped from ≡ true → IsSoundWorld (in_phases from to world) → IsSoundWorld (after_serve (in_phases from to world) pages)
 served_in SourcePhase.Stopped to world pages stopped kept =
-    record {
-      memory = kept.memory;
-      spaces = kept.spaces;
-      phases = kept.phases;
-      precopy = kept.precopy;
-      pushing = kept.pushing;
-      copies = kept.copies;
-      owing = kept.owing;
-      flight = record {
-        flight_faithful = kept.flight.flight_faithful;
-        down = kept.flight.down;
-        wires = λ up. served_wires to world pages (kept.flight.wires up);
-      };
-      epochs = kept.epochs;
-      held = kept.held;
-    }
-served_in SourcePhase.Idle to world pages stopped kept = none_absurd stopped
+    let new : World = after_serve (stopped_at to world) pages in
+    let wires : new.up ≡ true → Wires new.source new.destination new.forward.frames new.back.frames new.urgent.frames = λ up. served_wires to world pages (kept.flight.wires up) in
+    assumption
 served_in _ to world pages stopped kept = none_absurd stopped
 
 pub kept-serve : (world : World) (pages : List ℕ) → IsSoundWorld world → is_stopped world.source.phase ≡ true → IsSoundWorld (after_serve world pages)
@@ -242,13 +221,6 @@ end_frame source = record { epoch = source.epoch; frame = End source.urgent_sent
 
 abbrev end_sent_by : Source → Source
 end_sent_by source = record source { end_epoch = source.epoch }
-
-pub stopped_not_paused : SourcePhase.Stopped ≢ SourcePhase.Paused
-stopped_not_paused h = cc
-
-pub append-nil : {A : Type 0} (xs : List A) → xs ++ [] ≡ xs
-append-nil [] = refl
-append-nil (x ∷ xs) = ap (λ l. x ∷ l) (append-nil xs)
 
 found_step : (o : Option ℕ) (here : Bool) (bound : ℕ) → (is_some o ≡ true) ⊎ (here ≡ true) → is_some (elim o [ Some least ↦ Some least | None ↦ cond here (Some bound) None ]) ≡ true
 found_step (Some least) here bound h = refl
@@ -267,10 +239,6 @@ some_least test bound q l h none = false≢true (sym (ap is_some none) ∙ least
 
 pub present_below : (space : Space) (page : ℕ) → IsSound space.host → is_present space page ≡ true → page < HIGH_PAGE
 present_below space page sound present = low_or (λ past. false≢true (sym (ap is_some (sound.mapped page (sound.bound page past))) ∙ present))
-
-found_some : (o : Option ℕ) → is_some o ≡ false → o ≡ None
-found_some None h = refl
-found_some (Some page) h = none_absurd (sym h)
 
 nothing_remains : (world : World) → IsSoundWorld world → least_of world.source.remaining ≡ None → world.source.remaining ≡ no_pages
 nothing_remains world kept none =
@@ -312,6 +280,7 @@ ended_wires DestPhase.Ended world other flows old = absurd (false≢true (sym ot
 
 ended_in : (from : SourcePhase) (to : DestPhase) (world : World) → is_stopped from ≡ true → world.up ≡ true → eqb world.source.end_epoch world.source.epoch ≡ false → least_of world.source.remaining ≡ None → IsSoundWorld (in_phases from to world) → IsSoundWorld (after_end (in_phases from to world))
 ended_in SourcePhase.Stopped to world stopped up other none kept =
+    let new : World = after_end (stopped_at to world) in
     let source = world.source in
     let bytes = (space_of source).host.bytes in
     let nothing = nothing_remains (in_phases SourcePhase.Stopped to world) kept none in
@@ -319,40 +288,12 @@ ended_in SourcePhase.Stopped to world stopped up other none kept =
     let after : flow_of (end_sent_by source) ≡ AfterEnd = ap (λ b. cond b AfterEnd Pushed) (eqb-self source.epoch) in
     let copies : copies_of (world.forward.frames ++ end_frame source ∷ []) ≡ copies_of world.forward.frames = copies_of-append world.forward.frames (end_frame source ∷ []) ∙ append-nil (copies_of world.forward.frames) in
     let flows = λ (flow : Flow) (h : flow_after flow world.forward.frames ≡ Some (flow_of source)). flow_sent flow Pushed AfterEnd world.forward.frames (end_frame source) (h ∙ ap (λ f. Some f) before) refl ∙ ap (λ f. Some f) (sym after) in
-    record {
-      memory = kept.memory;
-      spaces = kept.spaces;
-      phases = kept.phases;
-      precopy = kept.precopy;
-      pushing = record {
-        before_switch = λ h. absurd (false≢true (sym h ∙ kept.phases.source_phase));
-        end_sent = λ h. nothing;
-        remaining_present = kept.pushing.remaining_present;
-        ended_before = omega arith;
-        paused_fresh = λ h paused. absurd (stopped_not_paused paused);
-        released_empty = λ h. absurd (stopped_not_released h);
-      };
-      copies = record {
-        kept_none = kept.copies.kept_none;
-        kept_advised = kept.copies.kept_advised;
-        kept_whole = kept.copies.kept_whole;
-        copies_whole = subst AreWhole (sym copies) kept.copies.copies_whole;
-      };
-      owing = kept.owing;
-      flight = record {
-        flight_faithful = λ ran. subst (λ c. AreFaithful bytes c) (sym copies) (kept.flight.flight_faithful ran);
-        down = λ h. absurd (false≢true (sym h ∙ up));
-        wires = λ h. ended_wires to world other flows (kept.flight.wires h);
-      };
-      epochs = record {
-        forward_epoch = AreOf-one source.epoch world.forward.frames (End source.urgent_sent) kept.epochs.forward_epoch;
-        back_epoch = kept.epochs.back_epoch;
-        not_ahead = kept.epochs.not_ahead;
-        epoch_at = kept.epochs.epoch_at;
-      };
-      held = record { forward_held = fits-more world.forward.frames world.forward.held source.epoch (End source.urgent_sent ∷ []) kept.held.forward_held; back_held = kept.held.back_held };
-    }
-ended_in SourcePhase.Idle to world stopped up other none kept = none_absurd stopped
+    let pushing = pushing_stopped new.source new.up kept.phases.source_phase (λ h. nothing) kept.pushing.remaining_present (omega arith) in
+    let copies_whole = subst AreWhole (sym copies) kept.copies.copies_whole in
+    let flight = flight_up new up (λ ran. subst (λ c. AreFaithful bytes c) (sym copies) (kept.flight.flight_faithful ran)) (ended_wires to world other flows (kept.flight.wires up)) in
+    let forward_epoch = AreOf-one source.epoch world.forward.frames (End source.urgent_sent) kept.epochs.forward_epoch in
+    let forward_held = fits-more world.forward.frames world.forward.held source.epoch (End source.urgent_sent ∷ []) kept.held.forward_held in
+    assumption
 ended_in _ to world stopped up other none kept = none_absurd stopped
 
 pub kept-end : (world : World) → IsSoundWorld world → is_stopped world.source.phase ≡ true → world.up ≡ true → eqb world.source.end_epoch world.source.epoch ≡ false → least_of world.source.remaining ≡ None → IsSoundWorld (after_end world)

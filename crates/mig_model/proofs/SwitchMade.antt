@@ -1,11 +1,11 @@
 -- Switch keeps what every world of the whole migration keeps: what is owed is what is present and not clean, and what was sent and is
 -- not clean is discarded.
-use Rattle.std.proofs.Common.{◌≡◌, ◌≢◌, ℕ, suc, ◌<◌, ◌&&◌, ◌||◌, Bool, true, false, cond, not, ltb, Option, Some, None, List, [], ◌∷◌, ◌++◌, refl, sym, ap, ◌∙◌, subst, ◌⊎◌, ⊎_elim, arith, is_some}
+use Rattle.std.proofs.Common.{◌≡◌, ◌≢◌, ℕ, suc, ◌<◌, ◌&&◌, ◌||◌, Bool, true, false, cond, not, ltb, Option, Some, None, List, [], ◌∷◌, ◌++◌, refl, sym, ap, ◌∙◌, subst, ◌⊎◌, ⊎_elim, arith, is_some, append-nil}
 use Rattle.std.specs.Ordering.{nat_cmp}
 use Rattle.std.specs.FinMap.{FinMap, get, get-retain_keys, nat_cmp-IsAntisymmetric}
 use Rattle.std.specs.FinSet.{FinSet, contains, contains-retain}
 use Rattle.std.proofs.lemmas.Bool.Decides.{nat_tests}
-use Rattle.std.proofs.lemmas.Bool.{false≢true}
+use Rattle.std.proofs.lemmas.Bool.{false≢true, lt-ltb}
 use Rattle.std.proofs.lemmas.List.{append_assoc}
 use Rattle.mig_base.specs.declared.phase.DestPhase.{DestPhase}
 use Rattle.mig_base.specs.declared.phase.SourcePhase.{SourcePhase}
@@ -15,14 +15,15 @@ use Rattle.mig_model.specs.Wire.{Sent, kept_after}
 use Rattle.mig_model.specs.Wire.Frame.{Discard, Package}
 use Rattle.mig_model.specs.Guest.{is_present}
 use Rattle.mig_model.specs.Migration.{World, after_switch, is_changing}
-use Rattle.mig_model.specs.Invariant.{IsSoundWorld, PrecopyWires, StoppedWires, IsPrecopying, IsSwitching, Flow, flow_after, flow_of, copies_of, has_copy, AreFaithful, AreWhole, is_unread, kept_by, behind, package_in}
+use Rattle.mig_model.specs.Invariant.{IsSoundWorld, AreSoundPhases, IsSoundLog, PrecopyWires, StoppedWires, IsPrecopying, IsSwitching, Flow, flow_after, flow_of, copies_of, has_copy, AreFaithful, AreWhole, is_unread, kept_by, behind, package_in}
 use Rattle.mig_model.specs.Invariant.Flow.{BeforeAdvise, Copies, BeforePackage, Pushed}
 use Rattle.mig_model.proofs.SendingLemmas.{flow_sent, has_no_package}
-use Rattle.mig_model.proofs.Stopping.{in_phases, flow_open, append-nil, present_below, stopped_not_paused, stopped_not_released}
+use Rattle.mig_model.proofs.Stopping.{in_phases, flow_open, present_below, pushing_stopped}
 use Rattle.mig_model.specs.Log.{less, present}
 use Rattle.mig_model.specs.Source.{Source, commands_of, is_precopy, not_clean, space_of, switch_made, switch_frames}
 use Rattle.mig_model.proofs.HeldLemmas.{fits-more}
-use Rattle.mig_model.proofs.Facts.{none_absurd, and_second, and_left, and_false, missing_none, copies_of-append, AreOf-one, no_event, and_true}
+use Rattle.mig_model.proofs.WireLemmas.{flight_up}
+use Rattle.mig_model.proofs.Facts.{none_absurd, and_second, and_left, and_false, missing_none, copies_of-append, AreOf-one, no_event, and_true, member_not_clean as clean_present}
 
 pub member_less : (set other : FinSet nat_cmp) (q : ℕ) → contains (less set other) q ≡ (contains set q && not (contains other q))
 member_less set other q = contains-retain set (λ page. not (contains other page)) q (λ x e. ap (λ k. not (contains other k)) (sym (nat_cmp-IsAntisymmetric q x e)))
@@ -55,9 +56,6 @@ rest_of true sent low present k bytes same was is below =
 rest_of false sent low present k bytes same was is below =
     ap (λ b. cond b None k) (and_true sent) ∙ gone_or_none sent k was ∙ owed_or_none low present bytes is below ∙ sym (ap (λ b. cond b None bytes) (and_true (low && present)))
 
-some_above : (n : ℕ) → ltb 0 (suc n) ≡ true
-some_above n = grind (arith, nat_tests)
-
 -- the two frames of a switch
 abbrev discard_frame : Source → Sent
 discard_frame source = record { epoch = source.epoch; frame = Discard (less source.log.sent source.log.clean) }
@@ -68,14 +66,8 @@ package_frame source = record { epoch = source.epoch; frame = Package (space_of 
 abbrev switched_wire : Source → List Sent → List Sent
 switched_wire source forward = (forward ++ discard_frame source ∷ []) ++ package_frame source ∷ []
 
-low_true : (page : ℕ) → page < HIGH_PAGE → ltb page HIGH_PAGE ≡ true
-low_true page l = grind (arith, nat_tests)
-
 pub member_not_clean : (source : Source) (page : ℕ) → contains (not_clean source) page ≡ ((ltb page HIGH_PAGE && is_present (space_of source) page) && not (contains source.log.clean page))
 member_not_clean source page = member_less (present (space_of source)) source.log.clean page ∙ ap (λ b. b && not (contains source.log.clean page)) (member_below (λ q. is_present (space_of source) q) HIGH_PAGE page)
-
-owed_is_present : (source : Source) (page : ℕ) → contains (not_clean source) page ≡ true → is_present (space_of source) page ≡ true
-owed_is_present source page h = and_second (ltb page HIGH_PAGE) _ (and_left (ltb page HIGH_PAGE && is_present (space_of source) page) _ (sym (member_not_clean source page) ∙ h))
 
 switching : (flow : Flow) (world : World) → IsSoundWorld world → (space_of world.source).object.events ≡ [] → flow_after flow world.forward.frames ≡ Some Copies → IsPrecopying world.source world.destination.kept world.forward.frames →
     IsSwitching (switch_made world.source) world.destination.kept (switched_wire world.source world.forward.frames) world.urgent.frames
@@ -88,7 +80,7 @@ switching flow world kept quiet flows old =
     record {
       owed = not_clean source;
       plan = ap package_in joined ∙ there.plan;
-      owed_present = λ page h. owed_is_present source page h;
+      owed_present = λ page h. clean_present source page h;
       kept_rest = λ page.
           ap (λ w. get (kept_by world.destination.kept w) page) joined
           ∙ ap (λ k. get k page) there.kept_then
@@ -96,7 +88,7 @@ switching flow world kept quiet flows old =
           ∙ ap (λ b. cond b None (get (kept_by world.destination.kept world.forward.frames) page)) (member_less source.log.sent source.log.clean page)
           ∙ rest_of (contains source.log.clean page) (contains source.log.sent page) (ltb page HIGH_PAGE) (is_present (space_of source) page) (get (kept_by world.destination.kept world.forward.frames) page) (get (space_of source).host.bytes page)
           (λ clean. old.clean_copy page clean (ap (λ e. is_unread e page) quiet)) (old.copies_sent page) refl
-          (λ is. low_true page (present_below (space_of source) page kept.spaces.source_space.host is))
+          (λ is. lt-ltb page HIGH_PAGE (present_below (space_of source) page kept.spaces.source_space.host is))
           ∙ sym (ap (λ b. cond b None (get (space_of source).host.bytes page)) (member_not_clean source page));
       whereabouts = λ page h. ap (λ b. (b || has_copy (copies_of world.urgent.frames) page) || has_copy (copies_of (behind (switched_wire source world.forward.frames))) page) h;
       faithful = subst (λ c. AreFaithful (space_of source).host.bytes c) (sym nothing_behind) tt;
@@ -133,60 +125,17 @@ switched_in SourcePhase.Precopy to world precopy up quiet kept =
     let copies : copies_of (switched_wire source world.forward.frames) ≡ copies_of world.forward.frames =
     copies_of-append (world.forward.frames ++ discard_frame source ∷ []) (package_frame source ∷ []) ∙ append-nil (copies_of (world.forward.frames ++ discard_frame source ∷ []))
     ∙ copies_of-append world.forward.frames (discard_frame source ∷ []) ∙ append-nil (copies_of world.forward.frames) in
-    let sound = kept.spaces.source_space in
-    record {
-      memory = kept.memory;
-      spaces = record {
-        source_space = record { host = sound.host; mapped = sound.mapped; present = sound.present; watched = sound.watched };
-        destination_space = kept.spaces.destination_space;
-        both_modes = kept.spaces.both_modes;
-        unprotected = kept.spaces.unprotected;
-        only_missing = kept.spaces.only_missing;
-        source_events = kept.spaces.source_events;
-        destination_events = kept.spaces.destination_events;
-        destination_faults = kept.spaces.destination_faults;
-      };
-      phases = record {
-        source_phase = refl;
-        destination_phase = kept.phases.destination_phase;
-        ran_after_switch = λ ran. refl;
-        ended_after_run = kept.phases.ended_after_run;
-        source_quiet = λ h. quiet;
-      };
-      precopy = record {
-        idle_source = λ h. absurd (stopped_not_idle h);
-        clean_protected = λ h. absurd (false≢true (sym h));
-        todo_sendable = λ h. absurd (false≢true (sym h));
-      };
-      pushing = record {
-        before_switch = λ h. absurd (false≢true (sym h));
-        end_sent = λ h. absurd (other h);
-        remaining_present = λ page h. owed_is_present source page h;
-        ended_before = kept.pushing.ended_before;
-        paused_fresh = λ h paused. absurd (stopped_not_paused paused);
-        released_empty = λ h. absurd (stopped_not_released h);
-      };
-      copies = record {
-        kept_none = kept.copies.kept_none;
-        kept_advised = kept.copies.kept_advised;
-        kept_whole = kept.copies.kept_whole;
-        copies_whole = subst AreWhole (sym copies) kept.copies.copies_whole;
-      };
-      owing = kept.owing;
-      flight = record {
-        flight_faithful = λ ran. absurd (false≢true (sym kept.phases.source_phase ∙ kept.phases.ran_after_switch ran));
-        down = λ h. absurd (false≢true (sym h ∙ up));
-        wires = λ h. switched_wires to world kept quiet other (kept.flight.wires h);
-      };
-      epochs = record {
-        forward_epoch = AreOf-one source.epoch (world.forward.frames ++ discard_frame source ∷ []) (package_frame source).frame (AreOf-one source.epoch world.forward.frames (discard_frame source).frame kept.epochs.forward_epoch);
-        back_epoch = kept.epochs.back_epoch;
-        not_ahead = kept.epochs.not_ahead;
-        epoch_at = kept.epochs.epoch_at;
-      };
-      held = record { forward_held = fits-more world.forward.frames world.forward.held source.epoch (switch_frames source) kept.held.forward_held; back_held = kept.held.back_held };
-    }
-switched_in SourcePhase.Idle to world precopy up quiet kept = none_absurd precopy
+    let new : World = after_switch (in_phases SourcePhase.Precopy to world) in
+    let phases : AreSoundPhases new.source.phase new.source.switched new.destination.phase new.destination.has_run new.destination.ended (space_of new.source).object.events =
+    record { source_phase = refl; destination_phase = kept.phases.destination_phase; ran_after_switch = λ ran. refl; ended_after_run = kept.phases.ended_after_run; source_quiet = λ h. quiet } in
+    let precopy : IsSoundLog new.source.phase new.source.switched (space_of new.source) new.source.log.clean new.source.log.todo new.source.log.sent =
+    record { idle_source = λ h. absurd (stopped_not_idle h); clean_protected = λ h. absurd (false≢true (sym h)); todo_sendable = λ h. absurd (false≢true (sym h)) } in
+    let pushing = pushing_stopped new.source new.up refl (λ h. absurd (other h)) (λ page h. clean_present source page h) kept.pushing.ended_before in
+    let copies_whole = subst AreWhole (sym copies) kept.copies.copies_whole in
+    let flight = flight_up new up (λ ran. absurd (false≢true (sym kept.phases.source_phase ∙ kept.phases.ran_after_switch ran))) (switched_wires to world kept quiet other (kept.flight.wires up)) in
+    let forward_epoch = AreOf-one source.epoch (world.forward.frames ++ discard_frame source ∷ []) (package_frame source).frame (AreOf-one source.epoch world.forward.frames (discard_frame source).frame kept.epochs.forward_epoch) in
+    let forward_held = fits-more world.forward.frames world.forward.held source.epoch (switch_frames source) kept.held.forward_held in
+    assumption
 switched_in _ to world precopy up quiet kept = none_absurd precopy
 
 pub kept-switch : (world : World) → IsSoundWorld world → is_precopy world.source.phase ≡ true → world.up ≡ true → is_changing world.source.guest ≡ false → IsSoundWorld (after_switch world)

@@ -6,8 +6,10 @@ use Rattle.std.specs.FinMap.{FinMap}
 use Rattle.std.proofs.lemmas.Bool.{false≢true}
 use Rattle.mig_model.specs.Wire.{Frame, Sent, Copy, kept_after, sending}
 use Rattle.mig_model.specs.Wire.Frame.{Request}
-use Rattle.mig_model.specs.Invariant.{Flow, flow_next, flow_after, has_copy, is_package, kept_by, behind, package_in, AreOf, is_request, is_done, are_requests, are_requests_and_done}
-use Rattle.mig_model.proofs.Facts.{or_assoc}
+use Rattle.mig_model.specs.Invariant.{Flow, flow_next, flow_after, has_copy, is_package, kept_by, behind, package_in, copies_of, AreOf, AreFaithful, Wires, IsSoundFlight, is_request, is_done, are_requests, are_requests_and_done}
+use Rattle.mig_model.specs.Migration.{World}
+use Rattle.mig_model.specs.Source.{space_of}
+use Rattle.mig_model.proofs.Facts.{or_assoc, up_not_down}
 
 -- Frames that are sent stand behind those in flight
 
@@ -105,3 +107,10 @@ are_requests-sending epoch wire [] h = h
 are_requests-sending epoch wire (page ∷ pages) h =
     let one : Sent = record { epoch = epoch; frame = Request page } in
     are_requests-sending epoch (wire ++ one ∷ []) pages (are_requests-append wire (one ∷ []) ∙ ap (λ t. t && true) h)
+
+-- What is in flight while the link is up
+
+pub flight_up : (world : World) → world.up ≡ true → (world.destination.has_run ≡ true → AreFaithful (space_of world.source).host.bytes (copies_of world.forward.frames)) →
+    Wires world.source world.destination world.forward.frames world.back.frames world.urgent.frames →
+    IsSoundFlight world.source world.destination world.forward.frames world.back.frames world.urgent.frames world.up
+flight_up world up faithful wires = record { flight_faithful = faithful; down = λ down. up_not_down world.up up down; wires = λ h. wires }
