@@ -13,8 +13,7 @@ use Rattle.mig_model.proofs.FirstWorld.{kept-first}
 use Rattle.mig_model.proofs.DestinationCommands.{kept-command_at_destination}
 use Rattle.mig_model.proofs.SourceCommands.{kept-command_at_source}
 use Rattle.mig_model.proofs.SourceRounds.{kept-start, kept-round}
-use Rattle.mig_model.proofs.SourceSending.{kept-send}
-use Rattle.mig_model.proofs.SourceRuns.{kept-run}
+use Rattle.mig_model.proofs.SourceSending.{kept-run, kept-send}
 use Rattle.mig_model.proofs.SourceHandler.{kept-source_read, kept-source_act}
 use Rattle.mig_model.proofs.Delivery.{kept-deliver}
 use Rattle.mig_model.proofs.DeliveryBack.{kept-deliver_back}

@@ -45,7 +45,6 @@ pub mod SourceCommands
 pub mod SourceZeros
 pub mod SourceHandler
 pub mod SourceRounds
-pub mod SourceRuns
 pub mod SourceSending
 pub mod PartsChanged
 pub mod PromiseLemmas

@@ -109,7 +109,7 @@ answered_changed world cpu command reply processors kept bare unswitched access 
       space = subst (λ a. IsSoundSpace (accessed_by a space cpu command)) answered (IsSoundSpace-accessed space cpu command access sound);
       modes = kept.spaces.both_modes;
       events = kept.spaces.source_events;
-      idle = λ h. let was = kept.precopy.idle_source h in (was.0, was.1, was.3, was.4);
+      idle = kept.precopy.idle_source;
       protected = λ page h u. kept.precopy.clean_protected unswitched page h u;
       sendable = λ page h u. let was = kept.precopy.todo_sendable unswitched page h u in (present_after space.host command (reply_of (memory space.host) command) page access was.0, was.1);
       copies = λ page h u.
@@ -145,7 +145,7 @@ slept_changed world processors object kept bare unswitched alike sound =
       space = sound;
       modes = λ page. ap (λ s. contains s page) alike.missing ∙ kept.spaces.both_modes page ∙ sym (ap (λ s. contains s page) alike.protect);
       events = subst AreRight (sym events) kept.spaces.source_events;
-      idle = λ h. let was = kept.precopy.idle_source h in (was.0, was.1, events ∙ was.3, λ page. ap (λ s. contains s page) alike.missing ∙ was.4 page);
+      idle = λ h. let was = kept.precopy.idle_source h in (was.0, was.1, was.2, events ∙ was.3, λ page. ap (λ s. contains s page) alike.missing ∙ was.4 page);
       protected = λ page h u. kept.precopy.clean_protected unswitched page h (unread page u);
       sendable = λ page h u. let was = kept.precopy.todo_sendable unswitched page h (unread page u) in (was.0, ap (λ s. contains s page) alike.protect ∙ was.1);
       copies = λ page h u. (h, unread page u, refl);
@@ -195,7 +195,7 @@ call_changed world cpu command processors kept bare unswitched call =
           let was = kept.precopy.idle_source h in
           let none : IsUnregistered space.object = λ page. ap (λ b. b || contains space.object.protect page) (was.4 page) ∙ sym (kept.spaces.both_modes page) ∙ was.4 page in
           let nothing : messages ≡ [] = no_messages space.object command reply none in
-          (was.0, was.1, events ∙ ap (λ m. space.object.events ++ noted_all m cpu) nothing ∙ ap (λ e. e ++ []) was.3, λ page. ap (λ s. contains s page) missing ∙ none_missing space.object command reply was.4 page);
+          (was.0, was.1, was.2, events ∙ ap (λ m. space.object.events ++ noted_all m cpu) nothing ∙ ap (λ e. e ++ []) was.3, λ page. ap (λ s. contains s page) missing ∙ none_missing space.object command reply was.4 page);
       protected = λ page h u.
           let was = kept.precopy.clean_protected unswitched page h (unread page u).0 in
           (same page (sound.watched page was) u).protected ∙ was;

@@ -22,7 +22,7 @@ use Rattle.mig_model.specs.Guest.Act.{Unprotected, Zeroed, Woke, Forgot, Request
 use Rattle.mig_model.specs.Migration.{World, after_source_act, after_source_read, next, start}
 use Rattle.mig_model.specs.Invariant.{IsSoundWorld, AreRight, is_unread}
 use Rattle.mig_model.proofs.IoctlLemmas.{IsSoundSpace-read, IsSoundSpace-protected, IsSoundSpace-installed, CanPut}
-use Rattle.mig_model.proofs.SourceKept.{source_holds, IsChanged, changed}
+use Rattle.mig_model.proofs.SourceKept.{source_holds, IsChanged, CopiesStay, changed, never_idle}
 use Rattle.mig_model.proofs.SourceCalls.{registered_below}
 use Rattle.mig_model.proofs.SourceZeros.{memory_zeroed, missing_none, more_present, elsewhere}
 use Rattle.mig_model.proofs.SourceTests.{in_one_is}
@@ -31,9 +31,6 @@ use Rattle.mig_model.specs.Source.{is_source_idle, source_act, source_act_by, so
 use Rattle.mig_model.proofs.Facts.{none_absurd, some_is}
 
 -- The tests of both steps
-
-never_idle : {A : Type 0} (phase : SourcePhase) → not (is_source_idle phase) ≡ true → phase ≡ SourcePhase.Idle → A
-never_idle phase h idle = none_absurd (sym (not-true (is_source_idle phase) h) ∙ ap is_source_idle idle)
 
 -- a destination has run only once the source has stopped
 pub has_not_run : (world : World) → IsSoundWorld world → world.source.switched ≡ false → world.destination.has_run ≡ false
@@ -65,34 +62,33 @@ member_unchanged s message page h =
     (sym (contains-retain s (λ q. not (is_changed_by message q)) page (λ x e. ap (λ q. not (is_changed_by message q)) (sym (nat_cmp-IsAntisymmetric page x e)))) ∙ h) in
     (both.0, not-true (is_changed_by message page) both.1)
 
-read_changed : (world : World) (noted : Noted) (processors : List CpuState) → IsSoundWorld world → world.source.switched ≡ false → not (is_source_idle world.source.phase) ≡ true →
+read_changed : (world : World) (noted : Noted) (processors : List CpuState) → IsSoundWorld world → world.source.switched ≡ false → is_source_idle world.source.phase ≡ false →
     next_message (space_of world.source).object ≡ Some noted →
     IsChanged world.source (record { space = record (space_of world.source) { object = message_read (space_of world.source).object }; cpus = processors })
     (unchanged world.source.log.clean noted.message) (unchanged world.source.log.todo noted.message) world.transcript
 read_changed world noted processors kept unswitched started next =
     let space = space_of world.source in
     let read : IsRead space.object (message_read space.object) noted.message = is_read space.object.faults space.object.events space.object noted next in
-    record {
-      flat = kept.memory.flat;
-      holds = source_holds world kept (has_not_run world kept unswitched);
-      space = IsSoundSpace-read space kept.spaces.source_space;
-      modes = λ page. ap (λ s. contains s page) read.missing ∙ kept.spaces.both_modes page ∙ sym (ap (λ s. contains s page) read.protect);
-      events = read.right kept.spaces.source_events;
-      idle = λ h. never_idle world.source.phase started h;
-      protected = λ page h u.
-          let was = member_unchanged world.source.log.clean noted.message page h in
-          kept.precopy.clean_protected unswitched page was.0 (read.unread page was.1 u);
-      sendable = λ page h u.
-          let was = member_unchanged world.source.log.todo noted.message page h in
-          let sendable = kept.precopy.todo_sendable unswitched page was.0 (read.unread page was.1 u) in
-          (sendable.0, ap (λ s. contains s page) read.protect ∙ sendable.1);
-      copies = λ page h u.
-          let was = member_unchanged world.source.log.clean noted.message page h in
-          (was.0, read.unread page was.1 u, refl);
-    }
+    let new : Space = record space { object = message_read space.object } in
+    let holds = source_holds world kept (has_not_run world kept unswitched) in
+    let sound = IsSoundSpace-read space kept.spaces.source_space in
+    let modes = λ (page : ℕ). ap (λ s. contains s page) read.missing ∙ kept.spaces.both_modes page ∙ sym (ap (λ s. contains s page) read.protect) in
+    let events = read.right kept.spaces.source_events in
+    let idle = never_idle world.source.phase new (unchanged world.source.log.clean noted.message) (unchanged world.source.log.todo noted.message) world.source.log.sent started in
+    let protected = λ (page : ℕ) (h : contains (unchanged world.source.log.clean noted.message) page ≡ true) (u : is_unread new.object.events page ≡ false).
+    let was = member_unchanged world.source.log.clean noted.message page h in
+    kept.precopy.clean_protected unswitched page was.0 (read.unread page was.1 u) in
+    let sendable : (page : ℕ) → contains (unchanged world.source.log.todo noted.message) page ≡ true → is_unread new.object.events page ≡ false → (is_present space page ≡ true) × (contains new.object.protect page ≡ true) = λ page h u.
+    let was = member_unchanged world.source.log.todo noted.message page h in
+    let sendable = kept.precopy.todo_sendable unswitched page was.0 (read.unread page was.1 u) in
+    (sendable.0, ap (λ s. contains s page) read.protect ∙ sendable.1) in
+    let copies : CopiesStay world.source (record { space = new; cpus = processors }) (unchanged world.source.log.clean noted.message) = λ page h u.
+    let was = member_unchanged world.source.log.clean noted.message page h in
+    (was.0, read.unread page was.1 u, refl) in
+    assumption
 
 -- whatever the message is
-read_by_message : (world : World) (noted : Noted) (message : Message) → IsSoundWorld world → world.source.switched ≡ false → not (is_source_idle world.source.phase) ≡ true → next_message (space_of world.source).object ≡ Some noted →
+read_by_message : (world : World) (noted : Noted) (message : Message) → IsSoundWorld world → world.source.switched ≡ false → is_source_idle world.source.phase ≡ false → next_message (space_of world.source).object ≡ Some noted →
     IsChanged world.source (read_guest world.source.guest noted.cpu message) (unchanged world.source.log.clean noted.message) (unchanged world.source.log.todo noted.message) world.transcript
 read_by_message world noted (PageFault addr write wp tid) kept unswitched started next = read_changed world noted _ kept unswitched started next
 read_by_message world noted _ kept unswitched started next = read_changed world noted _ kept unswitched started next
@@ -100,7 +96,7 @@ read_by_message world noted _ kept unswitched started next = read_changed world 
 pub kept-source_read : (world : World) (noted : Noted) → IsSoundWorld world → next_message (space_of world.source).object ≡ Some noted → is_source_idle world.source.phase ≡ false → world.source.switched ≡ false → IsSoundWorld (after_source_read world noted)
 kept-source_read world noted kept is started unswitched =
     changed world (read_guest world.source.guest noted.cpu noted.message) (unchanged world.source.log.clean noted.message) (unchanged world.source.log.todo noted.message) _ world.source.rounds _ world.transcript
-    kept (has_not_run world kept unswitched) unswitched (read_by_message world noted noted.message kept unswitched (ap not started) is)
+    kept (has_not_run world kept unswitched) unswitched (read_by_message world noted noted.message kept unswitched started is)
 
 -- A fault is worked
 
@@ -138,42 +134,30 @@ not_in_one page q h = grind (arith, nat_tests)
 same_changed : (world : World) (processors : List CpuState) → IsSoundWorld world → world.source.switched ≡ false →
     IsChanged world.source (record { space = space_of world.source; cpus = processors }) world.source.log.clean world.source.log.todo world.transcript
 same_changed world processors kept unswitched =
-    record {
-      flat = kept.memory.flat;
-      holds = source_holds world kept (has_not_run world kept unswitched);
-      space = kept.spaces.source_space;
-      modes = kept.spaces.both_modes;
-      events = kept.spaces.source_events;
-      idle = λ h. let was = kept.precopy.idle_source h in (was.0, was.1, was.3, was.4);
-      protected = λ page h u. kept.precopy.clean_protected unswitched page h u;
-      sendable = λ page h u. kept.precopy.todo_sendable unswitched page h u;
-      copies = λ page h u. (h, u, refl);
-    }
+    let holds = source_holds world kept (has_not_run world kept unswitched) in
+    let copies : CopiesStay world.source (record { space = space_of world.source; cpus = processors }) world.source.log.clean = λ page h u. (h, u, refl) in
+    assumption (holds, kept.precopy.clean_protected unswitched, kept.precopy.todo_sendable unswitched)
 
 protected_below : (space : Space) (page : ℕ) → IsSoundSpace space → contains space.protected page ≡ true → ltb page HIGH_PAGE ≡ true
 protected_below space page sound h =
     lt-ltb page HIGH_PAGE (registered_below space page sound (or_right (contains space.object.missing page) (contains space.object.protect page) (sound.watched page h)))
 
-unprotected_changed : (world : World) (page : ℕ) (processors : List CpuState) → IsSoundWorld world → world.source.switched ≡ false → not (is_source_idle world.source.phase) ≡ true → IsWatched (space_of world.source) page →
+unprotected_changed : (world : World) (page : ℕ) (processors : List CpuState) → IsSoundWorld world → world.source.switched ≡ false → is_source_idle world.source.phase ≡ false → IsWatched (space_of world.source) page →
     IsChanged world.source (record { space = protected_in (space_of world.source) page 1 false; cpus = processors }) (remove world.source.log.clean page) world.source.log.todo world.transcript
 unprotected_changed world page processors kept unswitched started watched =
     let space = space_of world.source in
     let removed = λ (q : ℕ) (h : contains (remove world.source.log.clean page) q ≡ true). and_parts (not (eqb q page)) (contains world.source.log.clean q) (sym (member_removed world.source.log.clean page q) ∙ h) in
-    record {
-      flat = kept.memory.flat;
-      holds = source_holds world kept (has_not_run world kept unswitched);
-      space = IsSoundSpace-protected space page 1 false (λ q h. ap (contains space.object.protect) (in_one_is page q h) ∙ watched.protect) kept.spaces.source_space;
-      modes = kept.spaces.both_modes;
-      events = kept.spaces.source_events;
-      idle = λ h. never_idle world.source.phase started h;
-      protected = λ q h u.
-          let was = kept.precopy.clean_protected unswitched q (removed q h).1 u in
-          member_below _ HIGH_PAGE q ∙ rw (protected_below space q kept.spaces.source_space was, not_in_one page q (not-true (eqb q page) (removed q h).0)) was;
-      sendable = λ q h u. kept.precopy.todo_sendable unswitched q h u;
-      copies = λ q h u. ((removed q h).1, u, refl);
-    }
+    let new : Space = protected_in space page 1 false in
+    let holds = source_holds world kept (has_not_run world kept unswitched) in
+    let sound = IsSoundSpace-protected space page 1 false (λ q h. ap (contains space.object.protect) (in_one_is page q h) ∙ watched.protect) kept.spaces.source_space in
+    let idle = never_idle world.source.phase new (remove world.source.log.clean page) world.source.log.todo world.source.log.sent started in
+    let protected : (q : ℕ) → contains (remove world.source.log.clean page) q ≡ true → is_unread space.object.events q ≡ false → contains new.protected q ≡ true = λ q h u.
+    let was = kept.precopy.clean_protected unswitched q (removed q h).1 u in
+    member_below _ HIGH_PAGE q ∙ rw (protected_below space q kept.spaces.source_space was, not_in_one page q (not-true (eqb q page) (removed q h).0)) was in
+    let copies : CopiesStay world.source (record { space = new; cpus = processors }) (remove world.source.log.clean page) = λ q h u. ((removed q h).1, u, refl) in
+    assumption (idle, kept.precopy.todo_sendable unswitched)
 
-zeroed_changed : (world : World) (page : ℕ) (processors : List CpuState) → IsSoundWorld world → world.source.switched ≡ false → not (is_source_idle world.source.phase) ≡ true → IsWatched (space_of world.source) page →
+zeroed_changed : (world : World) (page : ℕ) (processors : List CpuState) → IsSoundWorld world → world.source.switched ≡ false → is_source_idle world.source.phase ≡ false → IsWatched (space_of world.source) page →
     is_present (space_of world.source) page ≡ false →
     IsChanged world.source (record { space = zero_installed (space_of world.source) page; cpus = processors }) world.source.log.clean world.source.log.todo world.transcript
 zeroed_changed world page processors kept unswitched started watched missing =
@@ -181,23 +165,23 @@ zeroed_changed world page processors kept unswitched started watched missing =
     let sound = kept.spaces.source_space in
     let can : CanPut space page 1 (λ i. zero_page) false =
     record { mapped = λ q h. ap (contains_key space.host.areas) (in_one_is page q h) ∙ watched.mapped; whole = λ i l. length-zero_page; watched = λ e q h. none_absurd e } in
-    record {
-      flat = kept.memory.flat;
-      holds = memory_zeroed space.host page (missing_none (get space.host.bytes page) missing) ∙ source_holds world kept (has_not_run world kept unswitched);
-      space = IsSoundSpace-installed space page 1 (λ i. zero_page) false can sound;
-      modes = kept.spaces.both_modes;
-      events = kept.spaces.source_events;
-      idle = λ h. never_idle world.source.phase started h;
-      protected = λ q h u.
-          let was = kept.precopy.clean_protected unswitched q h u in
-          member_below _ HIGH_PAGE q ∙ rw (protected_below space q sound was) (or_left (contains space.protected q) _ was);
-      sendable = λ q h u. let was = kept.precopy.todo_sendable unswitched q h u in (more_present space page q was.0, was.1);
-      copies = λ q h u. (h, u, elsewhere space page q missing (sound.present q (kept.precopy.clean_protected unswitched q h u)));
-    }
+    let new : Space = zero_installed space page in
+    let holds = memory_zeroed space.host page (missing_none (get space.host.bytes page) missing) ∙ source_holds world kept (has_not_run world kept unswitched) in
+    let installed = IsSoundSpace-installed space page 1 (λ i. zero_page) false can sound in
+    let idle = never_idle world.source.phase new world.source.log.clean world.source.log.todo world.source.log.sent started in
+    let protected : (q : ℕ) → contains world.source.log.clean q ≡ true → is_unread space.object.events q ≡ false → contains new.protected q ≡ true = λ q h u.
+    let was = kept.precopy.clean_protected unswitched q h u in
+    member_below _ HIGH_PAGE q ∙ rw (protected_below space q sound was) (or_left (contains space.protected q) _ was) in
+    let sendable : (q : ℕ) → contains world.source.log.todo q ≡ true → is_unread space.object.events q ≡ false → (is_present new q ≡ true) × (contains space.object.protect q ≡ true) = λ q h u.
+    let was = kept.precopy.todo_sendable unswitched q h u in
+    (more_present space page q was.0, was.1) in
+    let copies : CopiesStay world.source (record { space = new; cpus = processors }) world.source.log.clean = λ q h u.
+    (h, u, elsewhere space page q missing (sound.present q (kept.precopy.clean_protected unswitched q h u))) in
+    assumption
 
 -- Every act
 
-acted : (world : World) (fault : Fault) (act : Act) → IsSoundWorld world → world.source.switched ≡ false → not (is_source_idle world.source.phase) ≡ true → source_act world.source fault ≡ act →
+acted : (world : World) (fault : Fault) (act : Act) → IsSoundWorld world → world.source.switched ≡ false → is_source_idle world.source.phase ≡ false → source_act world.source fault ≡ act →
     IsSoundWorld (record world { source = source_acted_by act world.source fault.page })
 acted world fault Unprotected kept unswitched started is =
     let space = space_of world.source in
@@ -208,12 +192,8 @@ acted world fault Zeroed kept unswitched started is =
     let told = zeroed_is (is_forgotten space fault.page) (is_present space fault.page) (contains space.protected fault.page && fault.wp) is in
     let watched = is_watched space fault.page (kept.spaces.both_modes fault.page) told.0 in
     changed world _ _ _ _ world.source.rounds world.source.faults world.transcript kept (has_not_run world kept unswitched) unswitched (zeroed_changed world fault.page _ kept unswitched started watched told.1)
-acted world fault Woke kept unswitched started is =
-    changed world _ _ _ _ world.source.rounds world.source.faults world.transcript kept (has_not_run world kept unswitched) unswitched (same_changed world _ kept unswitched)
-acted world fault Forgot kept unswitched started is =
-    changed world _ _ _ _ world.source.rounds world.source.faults world.transcript kept (has_not_run world kept unswitched) unswitched (same_changed world _ kept unswitched)
-acted world fault (Requested source) kept unswitched started is =
+acted world fault _ kept unswitched started is =
     changed world _ _ _ _ world.source.rounds world.source.faults world.transcript kept (has_not_run world kept unswitched) unswitched (same_changed world _ kept unswitched)
 
 pub kept-source_act : (world : World) (fault : Fault) → IsSoundWorld world → is_source_idle world.source.phase ≡ false → world.source.switched ≡ false → IsSoundWorld (after_source_act world fault)
-kept-source_act world fault kept started unswitched = acted world fault (source_act world.source fault) kept unswitched (ap not started) refl
+kept-source_act world fault kept started unswitched = acted world fault (source_act world.source fault) kept unswitched started refl
