@@ -25,7 +25,7 @@ use Rattle.mig_model.specs.Guest.Act.{Zeroed, Woke, Forgot, Requested}
 use Rattle.mig_model.specs.Migration.{World, destination_sends, after_dest_act, is_changing, runs}
 use Rattle.mig_model.specs.Invariant.{IsSoundWorld, Wires, AreOf, EpochAt, are_requests, is_request, seen_host, seen_bytes, HeldFits}
 use Rattle.mig_model.proofs.HostLemmas.{memory-at, same_memory}
-use Rattle.mig_model.proofs.DestinationRead.{kept-handled}
+use Rattle.mig_model.proofs.DestinationRead.{kept-handled, same_pairs}
 use Rattle.mig_model.proofs.Installing.{seen_by, get-put_one, put-unprotected, put-sound, put-missing, none_changing}
 use Rattle.mig_model.specs.Cpus.{all_woken}
 use Rattle.mig_model.specs.Log.{present}
@@ -34,6 +34,8 @@ use Rattle.mig_model.specs.Source.{Source, space_of}
 use Rattle.mig_model.specs.Destination.{Destination, act_frames, destination_act_by, destination_acted_by, is_running}
 use Rattle.mig_model.proofs.HeldLemmas.{fits-append}
 use Rattle.mig_model.proofs.Facts.{none_absurd, up_not_down, missing_none}
+use Rattle.mig_model.proofs.WireLemmas.{AreOf-append, are_requests-append, flight_up}
+use Rattle.std.specs.FinSet.{contains}
 
 -- A page of zeros
 
@@ -73,28 +75,11 @@ memory-zero here there owed page none nothing =
 
 -- A request
 
-one_more : (first old new : Bool) → (old ≡ true → new ≡ true) → (first && old) ≡ true → (first && new) ≡ true
-one_more true old new step h = step h
-one_more false old new step h = h
-
 are_requests-push : (back : List Sent) (sent : Sent) → is_request sent.frame ≡ true → are_requests back ≡ true → are_requests (back ++ sent ∷ []) ≡ true
-are_requests-push [] sent is are = ap (λ b. b && true) is
-are_requests-push (first ∷ back) sent is are = one_more (is_request first.frame) (are_requests back) (are_requests (back ++ sent ∷ [])) (are_requests-push back sent is) are
-
-AreOf-push : (epoch : ℕ) (wire : List Sent) (sent : Sent) → sent.epoch ≡ epoch → AreOf epoch wire → AreOf epoch (wire ++ sent ∷ [])
-AreOf-push epoch [] sent is are = (is, tt)
-AreOf-push epoch (first ∷ wire) sent is are = (are.0, AreOf-push epoch wire sent is are.1)
-
-runs_not_advised : {A : Type 0} → DestPhase.Running ≡ DestPhase.Idle → A
-runs_not_advised h = absurd (cc)
-
-runs_not_ended : {A : Type 0} → DestPhase.Running ≡ DestPhase.Ended → A
-runs_not_ended h = absurd (cc)
+are_requests-push back sent is are = are_requests-append back (sent ∷ []) ∙ rw (are, is) refl
 
 request_wires : (from : SourcePhase) (to : DestPhase) (source : Source) (node : Destination) (forward back urgent : List Sent) (sent : Sent) → is_request sent.frame ≡ true → is_running to ≡ true →
     Wires (record source { phase = from }) (record node { phase = to }) forward back urgent → Wires (record source { phase = from }) (record node { phase = to }) forward (back ++ sent ∷ []) urgent
-request_wires SourcePhase.Idle DestPhase.Running source node forward back urgent sent is runs w = runs_not_advised w.0
-request_wires SourcePhase.Precopy DestPhase.Running source node forward back urgent sent is runs w = w
 request_wires SourcePhase.Stopped DestPhase.Running source node forward back urgent sent is runs w = (w.0, are_requests-push back sent is w.1, w.2)
 request_wires SourcePhase.Paused DestPhase.Running source node forward back urgent sent is runs w =
     let old = w.1 in (
@@ -111,8 +96,9 @@ request_wires SourcePhase.Paused DestPhase.Running source node forward back urge
         owed_present = old.owed_present;
       },
     )
-request_wires SourcePhase.Released DestPhase.Running source node forward back urgent sent is runs w = runs_not_ended w.0
-request_wires from DestPhase.Idle source node forward back urgent sent is runs w = none_absurd runs
+request_wires SourcePhase.Idle DestPhase.Running source node forward back urgent sent is runs w = absurd (let e : DestPhase.Running ≡ DestPhase.Idle = w.0 in cc)
+request_wires SourcePhase.Precopy DestPhase.Running source node forward back urgent sent is runs w = w
+request_wires SourcePhase.Released DestPhase.Running source node forward back urgent sent is runs w = absurd (let e : DestPhase.Running ≡ DestPhase.Ended = w.0 in cc)
 request_wires from _ source node forward back urgent sent is runs w = none_absurd runs
 
 running_epoch : (to : DestPhase) (epoch source_epoch : ℕ) → is_running to ≡ true → EpochAt to epoch source_epoch → epoch ≡ source_epoch
@@ -122,27 +108,8 @@ running_epoch _ epoch source_epoch runs at = none_absurd runs
 -- only the wire back has changed
 pub kept-back : (world : World) (back : List Sent) → world.up ≡ true → AreOf world.source.epoch back → Wires world.source world.destination world.forward.frames back world.urgent.frames → HeldFits back world.back.held → IsSoundWorld world → IsSoundWorld (record world { back = record world.back { frames = back } })
 kept-back world back up epoch wires fits kept =
-    record {
-      memory = kept.memory;
-      spaces = kept.spaces;
-      phases = kept.phases;
-      precopy = kept.precopy;
-      pushing = kept.pushing;
-      copies = kept.copies;
-      owing = kept.owing;
-      flight = record {
-        flight_faithful = kept.flight.flight_faithful;
-        down = λ h. up_not_down world.up up h;
-        wires = λ h. wires;
-      };
-      epochs = record {
-        forward_epoch = kept.epochs.forward_epoch;
-        back_epoch = epoch;
-        not_ahead = kept.epochs.not_ahead;
-        epoch_at = kept.epochs.epoch_at;
-      };
-      held = record { forward_held = kept.held.forward_held; back_held = fits };
-    }
+    let new : World = record world { back = record world.back { frames = back } } in
+    assumption (flight_up new up kept.flight.flight_faithful wires)
 
 -- a request is sent where the destination runs and the page was not asked for yet, and is lost where the link is down
 sent_back : (up asked runs : Bool) (world : World) (source : ℕ) → world.up ≡ up → is_running world.destination.phase ≡ runs → IsSoundWorld world →
@@ -153,7 +120,7 @@ sent_back true false false world source up running kept = kept
 sent_back true false true world source up running kept =
     let sent : Sent = record { epoch = world.destination.epoch; frame = Request source } in
     kept-back world (world.back.frames ++ sent ∷ []) up
-    (AreOf-push world.source.epoch world.back.frames sent (running_epoch world.destination.phase world.destination.epoch world.source.epoch running (kept.epochs.epoch_at up)) kept.epochs.back_epoch)
+    (AreOf-append world.source.epoch world.back.frames (sent ∷ []) kept.epochs.back_epoch (running_epoch world.destination.phase world.destination.epoch world.source.epoch running (kept.epochs.epoch_at up), tt))
     (request_wires world.source.phase world.destination.phase world.source world.destination world.forward.frames world.back.frames world.urgent.frames sent refl running (kept.flight.wires up))
     (fits-append world.back.frames (sent ∷ []) world.back.held kept.held.back_held) kept
 
@@ -179,21 +146,7 @@ only_woken : (world : World) (processors : List CpuState) (held : List Fault) (r
     IsSoundWorld (record world { destination = record world.destination { guest = record world.destination.guest { cpus = processors }; held = held; requests = requests } })
 only_woken world processors held requests kept runs =
     kept-handled world (record world.destination.guest { cpus = processors }) held world.destination.owed requests world.destination.arrivals world.destination.installed world.destination.dropped world.destination.faults kept runs
-    (record {
-      space = kept.spaces.destination_space;
-      unprotected = kept.spaces.unprotected;
-      only_missing = kept.spaces.only_missing;
-      events = kept.spaces.destination_events;
-      faults = kept.spaces.destination_faults;
-      same_memory = refl;
-      values = λ q origin h. (q, h);
-      one_to_one = kept.owing.one_to_one;
-      below = kept.owing.owed_below;
-      copies = λ q origin h k. k;
-      missing = kept.owing.pairs_missing;
-      faithful = kept.owing.arrivals_faithful runs;
-      ended = kept.owing.ended_empty;
-    })
+    (assumption (same_pairs world.destination.owed, kept.owing.arrivals_faithful runs))
 
 other_page : (here : Bool) (o : Option ℕ) (origin : ℕ) → (here ≡ true → o ≡ None) → o ≡ Some origin → here ≡ false
 other_page true o origin none h = absurd (none-some origin (sym (none refl) ∙ h))
@@ -208,24 +161,14 @@ zeros_put fault rest world kept runs mapped missing nothing =
     let page : ℕ = fault.page in
     let space : Space = old.destination.guest.space in
     let owed : FinMap nat_cmp ℕ = world.destination.owed in
+    let sound = put-sound space page zero_page mapped length-zero_page kept.spaces.destination_space in
+    let unprotected = put-unprotected space page zero_page kept.spaces.unprotected in
+    let same_memory = memory-zero space.host (space_of world.source).host (get owed) page (missing_none (get space.host.bytes page) missing) nothing in
+    let still : (q origin : ℕ) → get owed q ≡ Some origin → (contains space.object.missing q ≡ true) × (is_present (zero_installed space page) q ≡ false) = λ q origin h.
+    let alone = kept.owing.pairs_missing q origin h in
+    (alone.0, put-missing space page q zero_page (other_page (eqb q page) (get owed q) origin (λ e. ap (get owed) (eqb-true q page e) ∙ nothing) h) alone.1) in
     kept-handled old (resolved old.destination.guest page (zero_installed space page)) rest owed world.destination.requests world.destination.arrivals world.destination.installed world.destination.dropped world.destination.faults kept runs
-    (record {
-      space = put-sound space page zero_page mapped length-zero_page kept.spaces.destination_space;
-      unprotected = put-unprotected space page zero_page kept.spaces.unprotected;
-      only_missing = kept.spaces.only_missing;
-      events = tt;
-      faults = kept.spaces.destination_faults;
-      same_memory = memory-zero space.host (space_of world.source).host (get owed) page (missing_none (get space.host.bytes page) missing) nothing;
-      values = λ q origin h. (q, h);
-      one_to_one = kept.owing.one_to_one;
-      below = kept.owing.owed_below;
-      copies = λ q origin h k. k;
-      missing = λ q origin h.
-          let alone = kept.owing.pairs_missing q origin h in
-          (alone.0, put-missing space page q zero_page (other_page (eqb q page) (get owed q) origin (λ e. ap (get owed) (eqb-true q page e) ∙ nothing) h) alone.1);
-      faithful = kept.owing.arrivals_faithful runs;
-      ended = kept.owing.ended_empty;
-    })
+    (assumption (same_pairs owed, kept.owing.arrivals_faithful runs))
 
 not_or : (a b : Bool) → (not a || not b) ≡ false → a ≡ true
 not_or true b h = refl

@@ -26,6 +26,7 @@ use Rattle.mig_model.proofs.TriedLemmas.IsEntered.{Silent, Entered}
 use Rattle.mig_model.specs.Cpus.{Took, entries_of}
 use Rattle.mig_model.specs.Source.{Source, space_of}
 use Rattle.mig_model.specs.Destination.{Destination, settled}
+use Rattle.mig_model.proofs.DestinationRead.{same_pairs, wires_handled}
 
 -- The transcript
 
@@ -46,29 +47,9 @@ entered_one old new transcript cpu command took (Entered one then) sound holds f
 
 -- The wires do not depend on the destination's guest
 
-receiving : (from : Source) (to : Destination) (guest : Guest) (state : Received) (back : List Sent) → IsReceiving from to state back → IsReceiving from (record to { guest = guest }) state back
-receiving from to guest state back is = record { owed = is.owed; epoch = is.epoch; rest = is.rest; first = is.first; requests = is.requests; alone = is.alone; none_listed = is.none_listed; needed = is.needed; owed_present = is.owed_present }
-
-wires_in : (at : SourcePhase) (phase : DestPhase) (from : Source) (to : Destination) (guest : Guest) (forward back urgent : List Sent) →
-    Wires (record from { phase = at }) (record to { phase = phase }) forward back urgent → Wires (record from { phase = at }) (record to { phase = phase; guest = guest }) forward back urgent
-wires_in SourcePhase.Stopped DestPhase.Running from to guest forward back urgent w = (w.0, w.1, record { whereabouts = w.2.whereabouts })
-wires_in SourcePhase.Stopped DestPhase.Idle from to guest forward back urgent w = w
-wires_in SourcePhase.Stopped DestPhase.Advised from to guest forward back urgent w = w
-wires_in SourcePhase.Stopped DestPhase.Discarding from to guest forward back urgent w = w
-wires_in SourcePhase.Stopped DestPhase.Paused from to guest forward back urgent w = w
-wires_in SourcePhase.Stopped DestPhase.Ended from to guest forward back urgent w = w
-wires_in SourcePhase.Paused DestPhase.Advised from to guest forward back urgent w = w
-wires_in SourcePhase.Paused DestPhase.Running from to guest forward back urgent w = (w.0, receiving (record from { phase = SourcePhase.Paused }) (record to { phase = DestPhase.Running }) guest _ back w.1)
-wires_in SourcePhase.Paused DestPhase.Ended from to guest forward back urgent w = (w.0, receiving (record from { phase = SourcePhase.Paused }) (record to { phase = DestPhase.Ended }) guest _ back w.1)
-wires_in SourcePhase.Paused DestPhase.Idle from to guest forward back urgent w = w
-wires_in SourcePhase.Paused DestPhase.Discarding from to guest forward back urgent w = w
-wires_in SourcePhase.Paused DestPhase.Paused from to guest forward back urgent w = w
-wires_in SourcePhase.Idle phase from to guest forward back urgent w = w
-wires_in SourcePhase.Precopy phase from to guest forward back urgent w = w
-wires_in SourcePhase.Released phase from to guest forward back urgent w = w
-
 pub wires-with_guest : (from : Source) (to : Destination) (guest : Guest) (forward back urgent : List Sent) → Wires from to forward back urgent → Wires from (record to { guest = guest }) forward back urgent
-wires-with_guest from to guest forward back urgent w = wires_in from.phase to.phase from to guest forward back urgent w
+wires-with_guest from to guest forward back urgent w =
+    wires_handled from.phase to.phase from to forward back urgent guest to.held to.owed to.requests to.arrivals to.installed to.dropped to.faults (same_pairs to.owed) (λ page origin h k. k) w
 
 -- The world
 

@@ -12,10 +12,11 @@ use Rattle.mig_base.specs.declared.phase.SourcePhase.{SourcePhase}
 use Rattle.mig_base.specs.declared.TheConstants.{HIGH_PAGE}
 use Rattle.mig_base.specs.declared.message.Message.{Message}
 use Rattle.mig_base.specs.declared.message.Message.TheVariants.{PageFault, Remap, Remove, Unmap}
+use Rattle.mig_base.specs.Flat.{memory_of}
 use Rattle.mig_base.proofs.PageLemmas.{same_pages}
 use Rattle.mig_model.specs.Host.{memory}
 use Rattle.mig_model.specs.Userfault.{Noted, next_message, next_of}
-use Rattle.mig_model.specs.Space.{IsSoundSpace}
+use Rattle.mig_model.specs.Space.{IsSoundSpace, fresh_space}
 use Rattle.mig_model.specs.Guest.{Guest, Fault, is_left_by, is_present}
 use Rattle.mig_model.specs.Wire.{Sent, Copy}
 use Rattle.mig_model.specs.Migration.{World, after_dest_read, runs, start}
@@ -32,6 +33,10 @@ use Rattle.mig_model.proofs.Facts.{up_not_down, some_is}
 abbrev pub handled : Destination → Guest → List Fault → FinMap nat_cmp ℕ → List ℕ → List Copy → ℕ → ℕ → ℕ → Destination
 handled node guest held owed requests arrivals installed dropped faults =
     record node { guest = guest; held = held; owed = owed; requests = requests; arrivals = arrivals; installed = installed; dropped = dropped; faults = faults }
+
+-- each page that is owed was owed before
+pub same_pairs : (owed : FinMap nat_cmp ℕ) (page origin : ℕ) → get owed page ≡ Some origin → (other : ℕ) × (get owed other ≡ Some origin)
+same_pairs owed page origin h = (page, h)
 
 -- what such a destination has to keep
 pub record IsHandled (world : World) (guest : Guest) (owed : FinMap nat_cmp ℕ) (arrivals : List Copy) : Type 0 where
@@ -83,37 +88,21 @@ still_flowing source node new forward urgent values copies old =
           last_of_three (is_urgent_or_left source.remaining urgent origin) (has_copy (copies_of forward) origin) (has_copy node.arrivals origin) (has_copy new.arrivals origin) (copies page origin h) (old.whereabouts was.0 origin was.1);
     }
 
-wires_handled : (from : SourcePhase) (to : DestPhase) (source : Source) (node : Destination) (forward back urgent : List Sent) (guest : Guest) (held : List Fault) (owed : FinMap nat_cmp ℕ) (requests : List ℕ) (arrivals : List Copy) (installed dropped faults : ℕ) →
+pub wires_handled : (from : SourcePhase) (to : DestPhase) (source : Source) (node : Destination) (forward back urgent : List Sent) (guest : Guest) (held : List Fault) (owed : FinMap nat_cmp ℕ) (requests : List ℕ) (arrivals : List Copy) (installed dropped faults : ℕ) →
     ((page origin : ℕ) → get owed page ≡ Some origin → (other : ℕ) × (get node.owed other ≡ Some origin)) →
     ((page origin : ℕ) → get owed page ≡ Some origin → has_copy node.arrivals origin ≡ true → has_copy arrivals origin ≡ true) →
     Wires (record source { phase = from }) (record node { phase = to }) forward back urgent →
     Wires (record source { phase = from }) (handled (record node { phase = to }) guest held owed requests arrivals installed dropped faults) forward back urgent
-wires_handled SourcePhase.Idle to source node forward back urgent guest held owed requests arrivals installed dropped faults values copies w = w
-wires_handled SourcePhase.Released to source node forward back urgent guest held owed requests arrivals installed dropped faults values copies w = w
-wires_handled SourcePhase.Precopy DestPhase.Idle source node forward back urgent guest held owed requests arrivals installed dropped faults values copies w = w
-wires_handled SourcePhase.Precopy DestPhase.Advised source node forward back urgent guest held owed requests arrivals installed dropped faults values copies w = w
-wires_handled SourcePhase.Precopy DestPhase.Discarding source node forward back urgent guest held owed requests arrivals installed dropped faults values copies w = w
-wires_handled SourcePhase.Precopy DestPhase.Running source node forward back urgent guest held owed requests arrivals installed dropped faults values copies w = w
-wires_handled SourcePhase.Precopy DestPhase.Paused source node forward back urgent guest held owed requests arrivals installed dropped faults values copies w = w
-wires_handled SourcePhase.Precopy DestPhase.Ended source node forward back urgent guest held owed requests arrivals installed dropped faults values copies w = w
-wires_handled SourcePhase.Stopped DestPhase.Idle source node forward back urgent guest held owed requests arrivals installed dropped faults values copies w = w
-wires_handled SourcePhase.Stopped DestPhase.Advised source node forward back urgent guest held owed requests arrivals installed dropped faults values copies w = w
-wires_handled SourcePhase.Stopped DestPhase.Discarding source node forward back urgent guest held owed requests arrivals installed dropped faults values copies w = w
 wires_handled SourcePhase.Stopped DestPhase.Running source node forward back urgent guest held owed requests arrivals installed dropped faults values copies w =
     let old : Destination = record node { phase = DestPhase.Running } in
     (w.0, w.1, still_flowing (record source { phase = SourcePhase.Stopped }) old (handled old guest held owed requests arrivals installed dropped faults) forward urgent values copies w.2)
-wires_handled SourcePhase.Stopped DestPhase.Paused source node forward back urgent guest held owed requests arrivals installed dropped faults values copies w = w
-wires_handled SourcePhase.Stopped DestPhase.Ended source node forward back urgent guest held owed requests arrivals installed dropped faults values copies w = w
-wires_handled SourcePhase.Paused DestPhase.Idle source node forward back urgent guest held owed requests arrivals installed dropped faults values copies w = w
-wires_handled SourcePhase.Paused DestPhase.Advised source node forward back urgent guest held owed requests arrivals installed dropped faults values copies w = w
-wires_handled SourcePhase.Paused DestPhase.Discarding source node forward back urgent guest held owed requests arrivals installed dropped faults values copies w = w
 wires_handled SourcePhase.Paused DestPhase.Running source node forward back urgent guest held owed requests arrivals installed dropped faults values copies w =
     let old : Destination = record node { phase = DestPhase.Running } in
     (w.0, still_receiving (record source { phase = SourcePhase.Paused }) old (handled old guest held owed requests arrivals installed dropped faults) Received.Running back values w.1)
-wires_handled SourcePhase.Paused DestPhase.Paused source node forward back urgent guest held owed requests arrivals installed dropped faults values copies w = w
 wires_handled SourcePhase.Paused DestPhase.Ended source node forward back urgent guest held owed requests arrivals installed dropped faults values copies w =
     let old : Destination = record node { phase = DestPhase.Ended } in
     (w.0, still_receiving (record source { phase = SourcePhase.Paused }) old (handled old guest held owed requests arrivals installed dropped faults) Received.Ended back values w.1)
+wires_handled _ _ source node forward back urgent guest held owed requests arrivals installed dropped faults values copies w = w
 
 -- The invariant
 
@@ -126,42 +115,14 @@ pub kept-handled : (world : World) (guest : Guest) (held : List Fault) (owed : F
 kept-handled world guest held owed requests arrivals installed dropped faults kept runs new =
     let node : Destination = handled world.destination guest held owed requests arrivals installed dropped faults in
     let next : World = record world { destination = node } in
-    record {
-      memory = record {
-        flat = kept.memory.flat;
-        holds = runs_memory world.destination.has_run next runs ∙ new.same_memory ∙ sym (runs_memory world.destination.has_run world runs) ∙ kept.memory.holds;
-      };
-      spaces = record {
-        source_space = kept.spaces.source_space;
-        destination_space = new.space;
-        both_modes = kept.spaces.both_modes;
-        unprotected = new.unprotected;
-        only_missing = new.only_missing;
-        source_events = kept.spaces.source_events;
-        destination_events = new.events;
-        destination_faults = new.faults;
-      };
-      phases = kept.phases;
-      precopy = kept.precopy;
-      pushing = kept.pushing;
-      copies = kept.copies;
-      owing = record {
-        not_run = λ h. up_not_down world.destination.has_run runs h;
-        one_to_one = new.one_to_one;
-        owed_below = new.below;
-        origins_present = λ page origin h. let was = new.values page origin h in kept.owing.origins_present was.0 origin was.1;
-        pairs_missing = new.missing;
-        arrivals_faithful = λ h. new.faithful;
-        ended_empty = new.ended;
-      };
-      flight = record {
-        flight_faithful = kept.flight.flight_faithful;
-        down = kept.flight.down;
-        wires = λ up. wires_handled world.source.phase world.destination.phase world.source world.destination world.forward.frames world.back.frames world.urgent.frames guest held owed requests arrivals installed dropped faults new.values new.copies (kept.flight.wires up);
-      };
-      epochs = kept.epochs;
-      held = kept.held;
-    }
+    let holds : memory (current_host next) ≡ memory_of next.transcript = runs_memory world.destination.has_run next runs ∙ new.same_memory ∙ sym (runs_memory world.destination.has_run world runs) ∙ kept.memory.holds in
+    let not_run : next.destination.has_run ≡ false → (owed ≡ finmap.empty) × (guest.space ≡ fresh_space) × (arrivals ≡ []) = λ h. up_not_down world.destination.has_run runs h in
+    let origins_present : (page origin : ℕ) → get owed page ≡ Some origin → is_present (space_of world.source) origin ≡ true = λ page origin h.
+    let was = new.values page origin h in
+    kept.owing.origins_present was.0 origin was.1 in
+    let wires : next.up ≡ true → Wires next.source next.destination next.forward.frames next.back.frames next.urgent.frames = λ up.
+    wires_handled world.source.phase world.destination.phase world.source world.destination world.forward.frames world.back.frames world.urgent.frames guest held owed requests arrivals installed dropped faults new.values new.copies (kept.flight.wires up) in
+    assumption
 
 -- A message is read
 
@@ -193,22 +154,17 @@ event_read message cpu events world processors faults kept runs =
     let guest : Guest = record (at_queues [] events world).destination.guest { cpus = processors } in
     let right : AreRight (noted ∷ events) = kept.spaces.destination_events in
     let still : settled_by events (get (owed_table_after message owed)) ≡ settled_by (noted ∷ events) (get owed) = settled_by-applied noted events owed in
+    let before = λ (page origin : ℕ) (h : get (owed_table_after message owed) page ≡ Some origin). sym (get-owed_table_after message owed page) ∙ h in
+    let space = IsSoundSpace-read old.destination.guest.space kept.spaces.destination_space in
+    let same_memory = ap (λ f. memory (seen_host world.destination.guest.space.host (space_of world.source).host f)) still in
+    let values = λ (page origin : ℕ) (h : get (owed_table_after message owed) page ≡ Some origin). values-after message (get owed) page origin (before page origin h) in
+    let one_to_one = λ (page other origin : ℕ) (h : get (owed_table_after message owed) page ≡ Some origin) (k : get (owed_table_after message owed) other ≡ Some origin).
+    IsOneToOne-after message (get owed) kept.owing.one_to_one page other origin (before page origin h) (before other origin k) in
+    let below = λ (page origin : ℕ) (h : get (owed_table_after message owed) page ≡ Some origin). owed_below-after message (get owed) right.0 kept.owing.owed_below page origin (before page origin h) in
+    let missing = λ (page origin : ℕ) (h : settled_by events (get (owed_table_after message owed)) page ≡ Some origin). kept.owing.pairs_missing page origin (sym (ap (λ f. f page) still) ∙ h) in
+    let ended : old.destination.ended ≡ true → (owed_table_after message owed ≡ finmap.empty) × (old.destination.arrivals ≡ []) = λ h. let none = kept.owing.ended_empty h in (empty-after message owed none.0, none.1) in
     kept-handled old guest world.destination.held (owed_table_after message owed) world.destination.requests world.destination.arrivals world.destination.installed world.destination.dropped faults kept runs
-    (record {
-      space = IsSoundSpace-read old.destination.guest.space kept.spaces.destination_space;
-      unprotected = kept.spaces.unprotected;
-      only_missing = kept.spaces.only_missing;
-      events = right.1;
-      faults = kept.spaces.destination_faults;
-      same_memory = ap (λ f. memory (seen_host world.destination.guest.space.host (space_of world.source).host f)) still;
-      values = λ page origin h. values-after message (get owed) page origin (sym (get-owed_table_after message owed page) ∙ h);
-      one_to_one = λ page other origin h k. IsOneToOne-after message (get owed) kept.owing.one_to_one page other origin (sym (get-owed_table_after message owed page) ∙ h) (sym (get-owed_table_after message owed other) ∙ k);
-      below = λ page origin h. owed_below-after message (get owed) right.0 kept.owing.owed_below page origin (sym (get-owed_table_after message owed page) ∙ h);
-      copies = λ page origin h k. k;
-      missing = λ page origin h. kept.owing.pairs_missing page origin (sym (ap (λ f. f page) still) ∙ h);
-      faithful = kept.owing.arrivals_faithful runs;
-      ended = λ h. let none = kept.owing.ended_empty h in (empty-after message owed none.0, none.1);
-    })
+    (assumption (kept.owing.arrivals_faithful runs))
 
 -- a fault is only held
 fault_read : (noted : Noted) (faults events : List Noted) (world : World) (held : List Fault) (count : ℕ) → IsSoundWorld (at_queues (noted ∷ faults) events world) → world.destination.has_run ≡ true →
@@ -216,39 +172,18 @@ fault_read : (noted : Noted) (faults events : List Noted) (world : World) (held 
 fault_read noted faults events world held count kept runs =
     let old : World = at_queues (noted ∷ faults) events world in
     kept-handled old (at_queues faults events world).destination.guest held world.destination.owed world.destination.requests world.destination.arrivals world.destination.installed world.destination.dropped count kept runs
-    (record {
-      space = IsSoundSpace-read old.destination.guest.space kept.spaces.destination_space;
-      unprotected = kept.spaces.unprotected;
-      only_missing = kept.spaces.only_missing;
-      events = kept.spaces.destination_events;
-      faults = kept.spaces.destination_faults.1;
-      same_memory = refl;
-      values = λ page origin h. (page, h);
-      one_to_one = kept.owing.one_to_one;
-      below = kept.owing.owed_below;
-      copies = λ page origin h k. k;
-      missing = kept.owing.pairs_missing;
-      faithful = kept.owing.arrivals_faithful runs;
-      ended = kept.owing.ended_empty;
-    })
+    (assumption (IsSoundSpace-read old.destination.guest.space kept.spaces.destination_space, same_pairs world.destination.owed, kept.owing.arrivals_faithful runs))
 
 event_in : (message : Message) (cpu : ℕ) (events : List Noted) (world : World) → IsSoundWorld (at_queues [] (record { message = message; cpu = cpu } ∷ events) world) → world.destination.has_run ≡ true →
     IsSoundWorld (after_dest_read (at_queues [] (record { message = message; cpu = cpu } ∷ events) world) (record { message = message; cpu = cpu }))
 event_in (PageFault addr write wp tid) cpu events world kept runs = absurd (kept.spaces.destination_events.0)
-event_in (Remap from to len) cpu events world kept runs =
-    event_read (Remap from to len) cpu events world (all_woken (is_left_by (Remap from to len)) (set world.destination.guest.cpus cpu (message_less (processor_at world.destination.guest.cpus cpu)))) (world.destination.faults + 0) kept runs
-event_in (Remove start end) cpu events world kept runs =
-    event_read (Remove start end) cpu events world (all_woken (is_left_by (Remove start end)) (set world.destination.guest.cpus cpu (message_less (processor_at world.destination.guest.cpus cpu)))) (world.destination.faults + 0) kept runs
-event_in (Unmap start end) cpu events world kept runs =
-    event_read (Unmap start end) cpu events world (all_woken (is_left_by (Unmap start end)) (set world.destination.guest.cpus cpu (message_less (processor_at world.destination.guest.cpus cpu)))) (world.destination.faults + 0) kept runs
+event_in message cpu events world kept runs = event_read message cpu events world _ _ kept runs
 
 fault_in : (message : Message) (cpu : ℕ) (faults events : List Noted) (world : World) → IsSoundWorld (at_queues (record { message = message; cpu = cpu } ∷ faults) events world) → world.destination.has_run ≡ true →
     IsSoundWorld (after_dest_read (at_queues (record { message = message; cpu = cpu } ∷ faults) events world) (record { message = message; cpu = cpu }))
 fault_in (PageFault addr write wp tid) cpu faults events world kept runs =
     fault_read (record { message = PageFault addr write wp tid; cpu = cpu }) faults events world (world.destination.held ++ record { page = addr / 4096; wp = wp } ∷ []) (world.destination.faults + 1) kept runs
-fault_in (Remap from to len) cpu faults events world kept runs = absurd kept.spaces.destination_faults.0
-fault_in (Remove start end) cpu faults events world kept runs = absurd kept.spaces.destination_faults.0
-fault_in (Unmap start end) cpu faults events world kept runs = absurd kept.spaces.destination_faults.0
+fault_in _ cpu faults events world kept runs = absurd kept.spaces.destination_faults.0
 
 pub none_is : (b : Noted) → None ≡ Some b → ⊥
 none_is b h = cc

@@ -17,7 +17,6 @@ use Rattle.mig_base.proofs.SetLemmas.{member_below}
 use Rattle.mig_model.specs.Host.{Host, memory}
 use Rattle.mig_model.specs.Userfault.{Noted}
 use Rattle.mig_model.specs.Space.{Space, IsSoundSpace}
-use Rattle.mig_model.specs.Ioctls.{put_pages}
 use Rattle.mig_model.specs.Ioctls.{put_pages, installed as pages_installed}
 use Rattle.mig_model.specs.Guest.{Guest, is_present}
 use Rattle.mig_model.specs.Wire.{Copy}
@@ -26,14 +25,14 @@ use Rattle.mig_model.specs.Invariant.{IsSoundWorld, AreFaithful, has_copy, seen_
 use Rattle.mig_model.specs.Promises.{IsPut}
 use Rattle.mig_model.proofs.IoctlLemmas.{IsSoundSpace-installed, get-put_pages}
 use Rattle.mig_model.proofs.SettledLemmas.{home_tells, home-none}
-use Rattle.mig_model.proofs.DestinationRead.{kept-handled}
+use Rattle.mig_model.proofs.DestinationRead.{kept-handled, same_pairs}
 use Rattle.mig_model.proofs.StepLemmas.{holds-effect}
 use Rattle.mig_model.proofs.StepCases.{made-install}
 use Rattle.mig_model.specs.Cpus.{all_woken}
 use Rattle.mig_model.specs.Owed.{home, without_request}
 use Rattle.mig_model.specs.Source.{space_of}
 use Rattle.mig_model.specs.Destination.{install_by}
-use Rattle.mig_model.proofs.Facts.{none_absurd, eqb-self, only_one, missing_none, dropped_not}
+use Rattle.mig_model.proofs.Facts.{none_absurd, eqb-self, only_one, missing_none, dropped_not, page_again}
 
 -- One page put
 
@@ -147,55 +146,38 @@ put_there copy rest world page kept runs found =
     let guest : Guest = record old.destination.guest { space = new; cpus = all_woken (λ q. eqb q page) world.destination.guest.cpus } in
     let there = has_home copy rest world page kept runs found in
     let faithful : AreFaithful (space_of world.source).host.bytes (copy ∷ rest) = kept.owing.arrivals_faithful runs in
-    kept-handled old guest world.destination.held (finmap.remove owed page) (without_request world.destination.requests copy.page) rest (world.destination.installed + 1) world.destination.dropped world.destination.faults kept runs
-    (record {
-      space = put-sound space page copy.bytes (kept.spaces.destination_space.mapped page (or_left (contains space.object.missing page) (contains space.object.protect page) there.registered)) (kept.spaces.source_space.host.whole copy.page copy.bytes there.same) kept.spaces.destination_space;
-      unprotected = put-unprotected space page copy.bytes kept.spaces.unprotected;
-      only_missing = kept.spaces.only_missing;
-      events = tt;
-      faults = kept.spaces.destination_faults;
-      same_memory = memory-put space.host (space_of world.source).host owed page copy.page copy.bytes (missing_none (get space.host.bytes page) there.missing) there.pair there.same;
-      values = λ q origin h. (q, (left owed page q origin h).1);
-      one_to_one = λ q other origin h k. kept.owing.one_to_one q other origin (left owed page q origin h).1 (left owed page other origin k).1;
-      below = λ q origin h. kept.owing.owed_below q origin (left owed page q origin h).1;
-      copies = λ q origin h k.
-          let was = left owed page q origin h in
-          behind_first (eqb copy.page origin) (has_copy rest origin)
-          (λ e.
-          let here : get owed page ≡ Some origin = there.pair ∙ ap Some (eqb-true copy.page origin e) in
-          let one = kept.owing.one_to_one q page origin was.1 here in
-          false≢true (sym was.0 ∙ ap (λ n. eqb n page) one ∙ eqb-self page)) k;
-      missing = λ q origin h.
-          let was = left owed page q origin h in
-          let alone = kept.owing.pairs_missing q origin was.1 in
-          (alone.0, put-missing space page q copy.bytes was.0 alone.1);
-      faithful = faithful.1;
-      ended = λ h. absurd (some_first copy rest (kept.owing.ended_empty h).1);
-    })
+    let rest_of = finmap.remove owed page in
+    let sound = put-sound space page copy.bytes (kept.spaces.destination_space.mapped page (or_left (contains space.object.missing page) (contains space.object.protect page) there.registered)) (kept.spaces.source_space.host.whole copy.page copy.bytes there.same) kept.spaces.destination_space in
+    let unprotected = put-unprotected space page copy.bytes kept.spaces.unprotected in
+    let same_memory = memory-put space.host (space_of world.source).host owed page copy.page copy.bytes (missing_none (get space.host.bytes page) there.missing) there.pair there.same in
+    let values : (q origin : ℕ) → get rest_of q ≡ Some origin → (other : ℕ) × (get owed other ≡ Some origin) = λ q origin h. (q, (left owed page q origin h).1) in
+    let one_to_one = λ (q other origin : ℕ) (h : get rest_of q ≡ Some origin) (k : get rest_of other ≡ Some origin). kept.owing.one_to_one q other origin (left owed page q origin h).1 (left owed page other origin k).1 in
+    let below = λ (q origin : ℕ) (h : get rest_of q ≡ Some origin). kept.owing.owed_below q origin (left owed page q origin h).1 in
+    let copies = λ (q origin : ℕ) (h : get rest_of q ≡ Some origin) (k : has_copy (copy ∷ rest) origin ≡ true).
+    let was = left owed page q origin h in
+    behind_first (eqb copy.page origin) (has_copy rest origin)
+    (λ e.
+    let one = kept.owing.one_to_one q page origin was.1 (there.pair ∙ ap Some (eqb-true copy.page origin e)) in
+    false≢true (sym was.0 ∙ ap (λ n. eqb n page) one ∙ eqb-self page)) k in
+    let missing : (q origin : ℕ) → get rest_of q ≡ Some origin → (contains space.object.missing q ≡ true) × (is_present new q ≡ false) = λ q origin h.
+    let was = left owed page q origin h in
+    let alone = kept.owing.pairs_missing q origin was.1 in
+    (alone.0, put-missing space page q copy.bytes was.0 alone.1) in
+    let ended : old.destination.ended ≡ true → (rest_of ≡ finmap.empty) × (rest ≡ []) = λ h. absurd (some_first copy rest (kept.owing.ended_empty h).1) in
+    kept-handled old guest world.destination.held rest_of (without_request world.destination.requests copy.page) rest (world.destination.installed + 1) world.destination.dropped world.destination.faults kept runs
+    (assumption faithful.1)
 
 given_up : (copy : Copy) (rest : List Copy) (world : World) → IsSoundWorld (at_copies [] (copy ∷ rest) world) → world.destination.has_run ≡ true → home world.destination.owed copy.page ≡ None →
     IsSoundWorld (record (at_copies [] (copy ∷ rest) world) { destination = install_by None (at_copies [] (copy ∷ rest) world).destination copy rest })
 given_up copy rest world kept runs lost =
     let old : World = at_copies [] (copy ∷ rest) world in
     let faithful : AreFaithful (space_of world.source).host.bytes (copy ∷ rest) = kept.owing.arrivals_faithful runs in
+    let copies = λ (q origin : ℕ) (h : get world.destination.owed q ≡ Some origin) (k : has_copy (copy ∷ rest) origin ≡ true).
+    behind_first (eqb copy.page origin) (has_copy rest origin)
+    (λ e. home-none world.destination.owed copy.page q lost (kept.owing.owed_below q origin h) (h ∙ ap Some (sym (eqb-true copy.page origin e)))) k in
+    let ended : old.destination.ended ≡ true → (world.destination.owed ≡ finmap.empty) × (rest ≡ []) = λ h. absurd (some_first copy rest (kept.owing.ended_empty h).1) in
     kept-handled old old.destination.guest world.destination.held world.destination.owed world.destination.requests rest world.destination.installed (world.destination.dropped + 1) world.destination.faults kept runs
-    (record {
-      space = kept.spaces.destination_space;
-      unprotected = kept.spaces.unprotected;
-      only_missing = kept.spaces.only_missing;
-      events = tt;
-      faults = kept.spaces.destination_faults;
-      same_memory = refl;
-      values = λ q origin h. (q, h);
-      one_to_one = kept.owing.one_to_one;
-      below = kept.owing.owed_below;
-      copies = λ q origin h k.
-          behind_first (eqb copy.page origin) (has_copy rest origin)
-          (λ e. home-none world.destination.owed copy.page q lost (kept.owing.owed_below q origin h) (h ∙ ap Some (sym (eqb-true copy.page origin e)))) k;
-      missing = kept.owing.pairs_missing;
-      faithful = faithful.1;
-      ended = λ h. absurd (some_first copy rest (kept.owing.ended_empty h).1);
-    })
+    (assumption (same_pairs world.destination.owed, faithful.1))
 
 install_at : (o : Option ℕ) (copy : Copy) (rest : List Copy) (world : World) → IsSoundWorld (at_copies [] (copy ∷ rest) world) → world.destination.has_run ≡ true → home world.destination.owed copy.page ≡ o →
     IsSoundWorld (record (at_copies [] (copy ∷ rest) world) { destination = install_by o (at_copies [] (copy ∷ rest) world).destination copy rest })
@@ -220,9 +202,6 @@ kept-install world copy rest kept first runs quiet =
 same_effect : (a b c d : ℕ) → Effect.Installed a b ≡ Effect.Installed c d → (a ≡ c) × (b ≡ d)
 same_effect a b c d h = (cc, cc)
 
-page_again : (addr page : ℕ) → 4096 * page ≡ addr → page ≡ addr / 4096
-page_again addr page h = omega arith
-
 put_at : (o : Option ℕ) (copy : Copy) (rest : List Copy) (world : World) (addr source : ℕ) → IsSoundWorld (at_copies [] (copy ∷ rest) world) → world.destination.has_run ≡ true → home world.destination.owed copy.page ≡ o →
     install_effect o copy.page ≡ Effect.Installed addr source →
     IsPut (at_copies [] (copy ∷ rest) world) (record (at_copies [] (copy ∷ rest) world) { destination = install_by o (at_copies [] (copy ∷ rest) world).destination copy rest }) (addr / 4096) (source / 4096)
@@ -244,7 +223,7 @@ put_at (Some page) copy rest world addr source kept runs found same =
       source = there.same ∙ sym now;
       present = ap is_some now;
     } in
-    subst (λ p. IsPut old new p (source / 4096)) (page_again addr page both.0) (subst (λ p. IsPut old new page p) (page_again source copy.page both.1) put)
+    subst (λ p. IsPut old new p (source / 4096)) (page_again page addr both.0) (subst (λ p. IsPut old new page p) (page_again copy.page source both.1) put)
 
 put_in : (events : List Noted) (copy : Copy) (rest : List Copy) (world : World) (addr source : ℕ) → IsSoundWorld (at_copies events (copy ∷ rest) world) → world.destination.has_run ≡ true → ltb 0 (length events) ≡ false →
     install_effect (home world.destination.owed copy.page) copy.page ≡ Effect.Installed addr source →
