@@ -11,13 +11,13 @@ use Rattle.mig_base.specs.declared.phase.SourcePhase.{SourcePhase}
 use Rattle.mig_base.specs.Bytes.{zero_page}
 use Rattle.mig_base.specs.Tests.{is_empty}
 use Rattle.mig_model.specs.Space.{fresh_space}
-use Rattle.mig_model.specs.Wire.{Frame, Sent, Copy, kept_after, kept_with, run_copies}
+use Rattle.mig_model.specs.Wire.{Frame, Sent, Copy, copies_in, kept_after, kept_with, wire_behind}
 use Rattle.mig_model.specs.Wire.Frame.{Advise, Page, Zero, Run, Discard, Package, End, Resume}
 use Rattle.mig_model.specs.Migration.{World, is_end, after_deliver}
-use Rattle.mig_model.specs.Invariant.{Wires, IsSoundWorld, AreOf, AreWhole, AreFaithful, copies_of, has_copy, flow_of, EpochAt, AreSoundWires, is_urgent_or_left}
-use Rattle.mig_model.specs.Invariant.Flow.{Copies}
+use Rattle.mig_model.specs.Invariant.{Wires, IsSoundWorld, IsSwitching, IsFlowing, RanAt, flow_after, are_requests, behind, kept_by, package_in, AreOf, AreWhole, AreFaithful, copies_of, has_copy, flow_of, EpochAt, AreSoundWires, is_urgent_or_left}
+use Rattle.mig_model.specs.Invariant.Flow.{Copies, Pushed}
 use Rattle.mig_model.proofs.HostLemmas.{get-put}
-use Rattle.mig_model.proofs.WireLemmas.{has_copy-append}
+use Rattle.mig_model.proofs.WireLemmas.{flight_up, has_copy-append}
 use Rattle.mig_model.proofs.FirstFrame.{at_state, first_in_place, ends_late, delivered}
 use Rattle.mig_model.proofs.PackageTaken.{package_taken}
 use Rattle.mig_model.proofs.EndTaken.{end_taken}
@@ -27,78 +27,56 @@ use Rattle.mig_model.specs.Destination.{Destination}
 use Rattle.mig_model.proofs.HeldLemmas.{fits-none}
 use Rattle.mig_model.proofs.Facts.{not_up, put_whole, AreFaithful-append}
 
+-- A frame that is taken before the destination runs
+
+-- its phase, its epoch, its count and the pages that it keeps change alone
+taken_before : (from : SourcePhase) (to next : DestPhase) (ran : Bool) (epoch own count : ℕ) (frame : Frame) (keeps : FinMap nat_cmp (List ℕ)) (rest : List Sent) (world : World) →
+    let old : World = at_state from to ran true (record { epoch = epoch; frame = frame } ∷ rest) world in
+    let new : World = record old { destination = record old.destination { phase = next; epoch = own; kept = keeps; urgent_taken = count }; forward = wire_behind rest } in
+    IsSoundWorld old → ran ≡ false → next ≢ DestPhase.Idle → RanAt next ran world.destination.ended → own ≡ world.source.epoch → EpochAt next own world.source.epoch →
+    ((page : ℕ) (bytes : List ℕ) → get keeps page ≡ Some bytes → length bytes ≡ 4096) → AreWhole (copies_of rest) → Wires new.source new.destination new.forward.frames new.back.frames new.urgent.frames → IsSoundWorld new
+taken_before from to next ran epoch own count frame keeps rest world kept bare advised phase same at whole copies on_wires =
+    let old : World = at_state from to ran true (record { epoch = epoch; frame = frame } ∷ rest) world in
+    let new : World = record old { destination = record old.destination { phase = next; epoch = own; kept = keeps; urgent_taken = count }; forward = wire_behind rest } in
+    let kept_none : ran ≡ true → keeps ≡ finmap.empty = λ h. absurd (false≢true (sym bare ∙ h)) in
+    let kept_advised : next ≡ DestPhase.Idle → keeps ≡ finmap.empty = λ h. absurd (advised h) in
+    let flight = flight_up new refl (λ h. absurd (false≢true (sym bare ∙ h))) on_wires in
+    let forward_epoch : AreOf new.source.epoch rest = kept.epochs.forward_epoch.1 in
+    let not_ahead : own ≤ world.source.epoch = omega (arith, same) in
+    assumption (fits-none rest)
+
 -- Advise: the wires are what they were
 advise_taken : (from : SourcePhase) (ran : Bool) (epoch : ℕ) (rest : List Sent) (world : World) →
     let old : World = at_state from DestPhase.Idle ran true (record { epoch = epoch; frame = Advise } ∷ rest) world in
     let new : World = delivered old old.forward.frames in
     IsSoundWorld old → Wires new.source new.destination new.forward.frames new.back.frames new.urgent.frames → IsSoundWorld new
 advise_taken from ran epoch rest world kept on_wires =
-    let old : World = at_state from DestPhase.Idle ran true (record { epoch = epoch; frame = Advise } ∷ rest) world in
-    let new : World = delivered old old.forward.frames in
-    let kept_advised : new.destination.phase ≡ DestPhase.Idle → new.destination.kept ≡ finmap.empty = λ h. cc in
-    let wires : new.up ≡ true → Wires new.source new.destination new.forward.frames new.back.frames new.urgent.frames = λ u. on_wires in
-    let down : new.up ≡ false → (new.forward.frames ≡ []) × (new.back.frames ≡ []) × (new.source.phase ≢ SourcePhase.Idle) × (new.source.phase ≢ SourcePhase.Released) = λ h. absurd (not_up h) in
-    let forward_epoch : AreOf new.source.epoch new.forward.frames = kept.epochs.forward_epoch.1 in
-    let epochs : new.destination.epoch ≤ new.source.epoch = let e = kept.epochs.forward_epoch.0 in omega (arith, e) in
-    let epoch_at : new.up ≡ true → EpochAt new.destination.phase new.destination.epoch new.source.epoch = λ u. kept.epochs.forward_epoch.0 in
-    let held : AreSoundWires new.forward new.back = record { forward_held = fits-none rest; back_held = kept.held.back_held } in
-    assumption
+    let same = kept.epochs.forward_epoch.0 in
+    taken_before from DestPhase.Idle DestPhase.Advised ran epoch epoch 0 Advise world.destination.kept rest world kept kept.phases.destination_phase (λ h. cc) kept.phases.destination_phase same same kept.copies.kept_whole kept.copies.copies_whole on_wires
 
--- A copy while the destination does not run
-
--- the pages kept stay whole
-whole_put : (kept : FinMap nat_cmp (List ℕ)) (page : ℕ) (bytes : List ℕ) → length bytes ≡ 4096 → ((q : ℕ) (held : List ℕ) → get kept q ≡ Some held → length held ≡ 4096) →
-    (q : ℕ) (held : List ℕ) → get (insert kept page bytes) q ≡ Some held → length held ≡ 4096
-whole_put kept page bytes n whole q held h = put_whole (eqb q page) bytes held (get kept q) n (whole q held) (sym (get-put kept page q bytes) ∙ h)
-
--- the kept table is folded over the wire as before
-copy_kept : (from : SourcePhase) (epoch page : ℕ) (bytes : List ℕ) (rest : List Sent) (world : World) →
-    let old : World = at_state from DestPhase.Advised false true (record { epoch = epoch; frame = Page page bytes } ∷ rest) world in
-    let new : World = delivered old old.forward.frames in
-    IsSoundWorld old → Wires new.source new.destination new.forward.frames new.back.frames new.urgent.frames → IsSoundWorld new
-copy_kept from epoch page bytes rest world kept on_wires =
-    let old : World = at_state from DestPhase.Advised false true (record { epoch = epoch; frame = Page page bytes } ∷ rest) world in
-    let new : World = delivered old old.forward.frames in
-    let kept_none : new.destination.has_run ≡ true → new.destination.kept ≡ finmap.empty = λ h. absurd (false≢true h) in
-    let kept_advised : new.destination.phase ≡ DestPhase.Idle → new.destination.kept ≡ finmap.empty = λ h. cc in
-    let kept_whole : (q : ℕ) (held : List ℕ) → get new.destination.kept q ≡ Some held → length held ≡ 4096 = whole_put world.destination.kept page bytes kept.copies.copies_whole.0 kept.copies.kept_whole in
-    let copies_whole : AreWhole (copies_of new.forward.frames) = kept.copies.copies_whole.1 in
-    let flight_faithful : new.destination.has_run ≡ true → AreFaithful new.source.guest.space.host.bytes (copies_of new.forward.frames) = λ h. absurd (false≢true h) in
-    let wires : new.up ≡ true → Wires new.source new.destination new.forward.frames new.back.frames new.urgent.frames = λ u. on_wires in
-    let down : new.up ≡ false → (new.forward.frames ≡ []) × (new.back.frames ≡ []) × (new.source.phase ≢ SourcePhase.Idle) × (new.source.phase ≢ SourcePhase.Released) = λ h. absurd (not_up h) in
-    let forward_epoch : AreOf new.source.epoch new.forward.frames = kept.epochs.forward_epoch.1 in
-    let held : AreSoundWires new.forward new.back = record { forward_held = fits-none rest; back_held = kept.held.back_held } in
-    assumption
-
--- A run of them
+-- Copies while the destination does not run
 
 pub whole_parts : (a b : List Copy) → AreWhole (a ++ b) → AreWhole a × AreWhole b
 whole_parts [] b h = (tt, h)
 whole_parts (copy ∷ a) b h = let rest = whole_parts a b h.1 in ((h.0, rest.0), rest.1)
 
+-- the pages kept stay whole
 whole_with : (copies : List Copy) (kept : FinMap nat_cmp (List ℕ)) → AreWhole copies → ((q : ℕ) (held : List ℕ) → get kept q ≡ Some held → length held ≡ 4096) →
     (q : ℕ) (held : List ℕ) → get (kept_with kept copies) q ≡ Some held → length held ≡ 4096
 whole_with [] kept are whole = whole
-whole_with (copy ∷ copies) kept are whole = whole_with copies (insert kept copy.page copy.bytes) are.1 (whole_put kept copy.page copy.bytes are.0 whole)
+whole_with (copy ∷ copies) kept are whole =
+    whole_with copies (insert kept copy.page copy.bytes) are.1 (λ q held h. put_whole (eqb q copy.page) copy.bytes held (get kept q) are.0 (whole q held) (sym (get-put kept copy.page q copy.bytes) ∙ h))
 
-run_kept : (from : SourcePhase) (epoch first : ℕ) (pages : List (List ℕ)) (rest : List Sent) (world : World) →
-    let old : World = at_state from DestPhase.Advised false true (record { epoch = epoch; frame = Run first pages } ∷ rest) world in
-    let new : World = delivered old old.forward.frames in
+-- the kept table is folded over the wire as before
+copies_kept : (from : SourcePhase) (epoch : ℕ) (frame : Frame) (rest : List Sent) (world : World) →
+    let old : World = at_state from DestPhase.Advised false true (record { epoch = epoch; frame = frame } ∷ rest) world in
+    let new : World = record old { destination = record old.destination { kept = kept_with world.destination.kept (copies_in frame) }; forward = wire_behind rest } in
     IsSoundWorld old → Wires new.source new.destination new.forward.frames new.back.frames new.urgent.frames → IsSoundWorld new
-run_kept from epoch first pages rest world kept on_wires =
-    let old : World = at_state from DestPhase.Advised false true (record { epoch = epoch; frame = Run first pages } ∷ rest) world in
-    let new : World = delivered old old.forward.frames in
-    let both = whole_parts (run_copies first pages) (copies_of rest) kept.copies.copies_whole in
-    let kept_none : new.destination.has_run ≡ true → new.destination.kept ≡ finmap.empty = λ h. absurd (false≢true h) in
-    let kept_advised : new.destination.phase ≡ DestPhase.Idle → new.destination.kept ≡ finmap.empty = λ h. cc in
-    let kept_whole : (q : ℕ) (held : List ℕ) → get new.destination.kept q ≡ Some held → length held ≡ 4096 = whole_with (run_copies first pages) world.destination.kept both.0 kept.copies.kept_whole in
-    let copies_whole : AreWhole (copies_of new.forward.frames) = both.1 in
-    let flight_faithful : new.destination.has_run ≡ true → AreFaithful new.source.guest.space.host.bytes (copies_of new.forward.frames) = λ h. absurd (false≢true h) in
-    let wires : new.up ≡ true → Wires new.source new.destination new.forward.frames new.back.frames new.urgent.frames = λ u. on_wires in
-    let down : new.up ≡ false → (new.forward.frames ≡ []) × (new.back.frames ≡ []) × (new.source.phase ≢ SourcePhase.Idle) × (new.source.phase ≢ SourcePhase.Released) = λ h. absurd (not_up h) in
-    let forward_epoch : AreOf new.source.epoch new.forward.frames = kept.epochs.forward_epoch.1 in
-    let held : AreSoundWires new.forward new.back = record { forward_held = fits-none rest; back_held = kept.held.back_held } in
-    assumption
+copies_kept from epoch frame rest world kept on_wires =
+    let both = whole_parts (copies_in frame) (copies_of rest) kept.copies.copies_whole in
+    let same = kept.epochs.epoch_at refl in
+    taken_before from DestPhase.Advised DestPhase.Advised false epoch world.destination.epoch world.destination.urgent_taken frame (kept_with world.destination.kept (copies_in frame)) rest world kept refl (λ h. cc) refl same same
+    (whole_with (copies_in frame) world.destination.kept both.0 kept.copies.kept_whole) both.1 on_wires
 
 -- A Discard
 
@@ -116,18 +94,11 @@ discard_taken : (epoch : ℕ) (pages : FinSet nat_cmp) (rest : List Sent) (world
     let old : World = at_state SourcePhase.Stopped DestPhase.Advised false true (record { epoch = epoch; frame = Discard pages } ∷ rest) world in
     IsSoundWorld old → IsSoundWorld (delivered old old.forward.frames)
 discard_taken epoch pages rest world kept =
-    let old : World = at_state SourcePhase.Stopped DestPhase.Advised false true (record { epoch = epoch; frame = Discard pages } ∷ rest) world in
-    let new : World = delivered old old.forward.frames in
     let w = kept.flight.wires refl in
-    let kept_none : new.destination.has_run ≡ true → new.destination.kept ≡ finmap.empty = λ h. absurd (false≢true h) in
-    let kept_advised : new.destination.phase ≡ DestPhase.Idle → new.destination.kept ≡ finmap.empty = λ h. cc in
-    let kept_whole : (q : ℕ) (held : List ℕ) → get new.destination.kept q ≡ Some held → length held ≡ 4096 = whole_discarded world.destination.kept pages kept.copies.kept_whole in
-    let wires : new.up ≡ true → Wires new.source new.destination new.forward.frames new.back.frames new.urgent.frames =
-    λ u. (w.0, w.1, record { owed = w.2.owed; plan = w.2.plan; owed_present = w.2.owed_present; kept_rest = w.2.kept_rest; whereabouts = w.2.whereabouts; faithful = w.2.faithful }) in
-    let down : new.up ≡ false → (new.forward.frames ≡ []) × (new.back.frames ≡ []) × (new.source.phase ≢ SourcePhase.Idle) × (new.source.phase ≢ SourcePhase.Released) = λ h. absurd (not_up h) in
-    let forward_epoch : AreOf new.source.epoch new.forward.frames = kept.epochs.forward_epoch.1 in
-    let held : AreSoundWires new.forward new.back = record { forward_held = fits-none rest; back_held = kept.held.back_held } in
-    assumption
+    let same = kept.epochs.epoch_at refl in
+    taken_before SourcePhase.Stopped DestPhase.Advised DestPhase.Discarding false epoch world.destination.epoch world.destination.urgent_taken (Discard pages) _ rest world kept refl (λ h. cc) refl same same
+    (whole_discarded world.destination.kept pages kept.copies.kept_whole) kept.copies.copies_whole
+    (w.0, w.1, record { owed = w.2.owed; plan = w.2.plan; owed_present = w.2.owed_present; kept_rest = w.2.kept_rest; whereabouts = w.2.whereabouts; faithful = w.2.faithful })
 
 -- A copy while the destination runs
 
@@ -141,62 +112,28 @@ came false false true waits h = refl
 came false false false true h = refl
 came false false false false h = absurd (false≢true h)
 
-copy_arrives : (epoch page : ℕ) (bytes : List ℕ) (rest : List Sent) (world : World) →
-    let old : World = at_state SourcePhase.Stopped DestPhase.Running true true (record { epoch = epoch; frame = Page page bytes } ∷ rest) world in
-    IsSoundWorld old → IsSoundWorld (delivered old old.forward.frames)
-copy_arrives epoch page bytes rest world kept =
-    let old : World = at_state SourcePhase.Stopped DestPhase.Running true true (record { epoch = epoch; frame = Page page bytes } ∷ rest) world in
-    let new : World = delivered old old.forward.frames in
-    let copy : Copy = record { page = page; bytes = bytes } in
-    let w = kept.flight.wires refl in
-    let faithful : AreFaithful old.source.guest.space.host.bytes (copies_of old.forward.frames) = kept.flight.flight_faithful refl in
+copy_arrives : (epoch : ℕ) (frame : Frame) (copy : Copy) (rest : List Sent) (world : World) →
+    let old : World = at_state SourcePhase.Stopped DestPhase.Running true true (record { epoch = epoch; frame = frame } ∷ rest) world in
+    let bytes : FinMap nat_cmp (List ℕ) = world.source.guest.space.host.bytes in
+    IsSoundWorld old → AreFaithful bytes (copy ∷ copies_of rest) → AreWhole (copies_of rest) → flow_after Pushed rest ≡ Some (flow_of old.source) → are_requests world.back.frames ≡ true →
+    ((page origin : ℕ) → get world.destination.owed page ≡ Some origin →
+    (is_urgent_or_left world.source.remaining world.urgent.frames origin || has_copy (copy ∷ copies_of rest) origin || has_copy world.destination.arrivals origin) ≡ true) →
+    IsSoundWorld (record old { destination = record old.destination { arrivals = world.destination.arrivals ++ copy ∷ [] }; forward = wire_behind rest })
+copy_arrives epoch frame copy rest world kept faithful whole flow requests whereabouts =
+    let old : World = at_state SourcePhase.Stopped DestPhase.Running true true (record { epoch = epoch; frame = frame } ∷ rest) world in
+    let new : World = record old { destination = record old.destination { arrivals = world.destination.arrivals ++ copy ∷ [] }; forward = wire_behind rest } in
     let not_run : new.destination.has_run ≡ false → (new.destination.owed ≡ finmap.empty) × (new.destination.guest.space ≡ fresh_space) × (new.destination.arrivals ≡ []) = λ h. absurd (not_up h) in
-    let copies_whole : AreWhole (copies_of new.forward.frames) = kept.copies.copies_whole.1 in
-    let arrivals_faithful : new.destination.has_run ≡ true → AreFaithful new.source.guest.space.host.bytes new.destination.arrivals =
-    λ r. AreFaithful-append new.source.guest.space.host.bytes world.destination.arrivals (copy ∷ []) (kept.owing.arrivals_faithful refl) (faithful.0, tt) in
-    let flight_faithful : new.destination.has_run ≡ true → AreFaithful new.source.guest.space.host.bytes (copies_of new.forward.frames) = λ r. faithful.1 in
+    let arrivals_faithful = AreFaithful-append new.source.guest.space.host.bytes world.destination.arrivals (copy ∷ []) (kept.owing.arrivals_faithful refl) (faithful.0, tt) in
     let ended_empty : new.destination.ended ≡ true → (new.destination.owed ≡ finmap.empty) × (new.destination.arrivals ≡ []) = λ h. absurd (false≢true (sym kept.phases.destination_phase.1 ∙ h)) in
-    let wires : new.up ≡ true → Wires new.source new.destination new.forward.frames new.back.frames new.urgent.frames =
-    λ u. (
-      w.0,
-      w.1,
-      record {
-        whereabouts = λ q origin h.
-            ap (λ b. is_urgent_or_left world.source.remaining world.urgent.frames origin || has_copy (copies_of rest) origin || b) (has_copy-append world.destination.arrivals (copy ∷ []) origin)
-            ∙ came (is_urgent_or_left world.source.remaining world.urgent.frames origin) (eqb page origin) (has_copy (copies_of rest) origin) (has_copy world.destination.arrivals origin) (w.2.whereabouts q origin h);
-      },
-    ) in
-    let down : new.up ≡ false → (new.forward.frames ≡ []) × (new.back.frames ≡ []) × (new.source.phase ≢ SourcePhase.Idle) × (new.source.phase ≢ SourcePhase.Released) = λ h. absurd (not_up h) in
-    let forward_epoch : AreOf new.source.epoch new.forward.frames = kept.epochs.forward_epoch.1 in
-    let held : AreSoundWires new.forward new.back = record { forward_held = fits-none rest; back_held = kept.held.back_held } in
-    assumption
-
--- A page of zeros is a copy of zeros
-
-zero_wires : (from : SourcePhase) (to : DestPhase) (source : Source) (destination : Destination) (epoch page : ℕ) (rest back urgent : List Sent) →
-    Wires (record source { phase = from }) (record destination { phase = to }) (record { epoch = epoch; frame = Zero page } ∷ rest) back urgent →
-    Wires (record source { phase = from }) (record destination { phase = to }) (record { epoch = epoch; frame = Page page zero_page } ∷ rest) back urgent
-zero_wires SourcePhase.Precopy DestPhase.Advised source destination epoch page rest back urgent w = (w.0, w.1, record { clean_copy = w.2.clean_copy; copies_sent = w.2.copies_sent })
-zero_wires SourcePhase.Stopped DestPhase.Advised source destination epoch page rest back urgent w =
-    (w.0, w.1, record { owed = w.2.owed; plan = w.2.plan; owed_present = w.2.owed_present; kept_rest = w.2.kept_rest; whereabouts = w.2.whereabouts; faithful = w.2.faithful })
-zero_wires SourcePhase.Stopped DestPhase.Running source destination epoch page rest back urgent w = (w.0, w.1, record { whereabouts = w.2.whereabouts })
-zero_wires SourcePhase.Paused DestPhase.Paused source destination epoch page rest back urgent w =
-    absurd (false≢true (first_in_place (record source { phase = SourcePhase.Paused }) (record destination { phase = DestPhase.Paused }) (record { epoch = epoch; frame = Zero page }) rest back urgent w))
-zero_wires from to source destination epoch page rest back urgent w =
-    absurd (false≢true (first_in_place (record source { phase = from }) (record destination { phase = to }) (record { epoch = epoch; frame = Zero page }) rest back urgent w))
-
-zeros_shorter : (held : ℕ) → held < 16 → held < 4112
-zeros_shorter held h = omega (arith, h)
-
-as_page : (from : SourcePhase) (to : DestPhase) (ran : Bool) (epoch page : ℕ) (rest : List Sent) (world : World) →
-    IsSoundWorld (at_state from to ran true (record { epoch = epoch; frame = Zero page } ∷ rest) world) →
-    IsSoundWorld (at_state from to ran true (record { epoch = epoch; frame = Page page zero_page } ∷ rest) world)
-as_page from to ran epoch page rest world kept =
-    let new : World = at_state from to ran true (record { epoch = epoch; frame = Page page zero_page } ∷ rest) world in
-    let wires : new.up ≡ true → Wires new.source new.destination new.forward.frames new.back.frames new.urgent.frames = λ u. zero_wires from to world.source new.destination epoch page rest world.back.frames world.urgent.frames (kept.flight.wires refl) in
-    let down : new.up ≡ false → (new.forward.frames ≡ []) × (new.back.frames ≡ []) × (new.source.phase ≢ SourcePhase.Idle) × (new.source.phase ≢ SourcePhase.Released) = λ h. absurd (not_up h) in
-    let held : AreSoundWires new.forward new.back = record { forward_held = zeros_shorter world.forward.held kept.held.forward_held; back_held = kept.held.back_held } in
-    assumption
+    let flowing : IsFlowing new.source new.destination rest world.urgent.frames =
+    record {
+      whereabouts = λ q origin h.
+          ap (λ b. is_urgent_or_left world.source.remaining world.urgent.frames origin || has_copy (copies_of rest) origin || b) (has_copy-append world.destination.arrivals (copy ∷ []) origin)
+          ∙ came (is_urgent_or_left world.source.remaining world.urgent.frames origin) (eqb copy.page origin) (has_copy (copies_of rest) origin) (has_copy world.destination.arrivals origin) (whereabouts q origin h);
+    } in
+    let flight = flight_up new refl (λ r. faithful.1) (flow, requests, flowing) in
+    let forward_epoch : AreOf new.source.epoch rest = kept.epochs.forward_epoch.1 in
+    assumption (fits-none rest)
 
 -- The frames in their phases
 
@@ -217,41 +154,34 @@ stopped_unadvised ran epoch Advise rest world kept =
     (w.0, w.1, record { owed = w.2.owed; plan = w.2.plan; owed_present = w.2.owed_present; kept_rest = w.2.kept_rest; whereabouts = w.2.whereabouts; faithful = w.2.faithful })
 stopped_unadvised ran epoch _ rest world kept = absurd (none-some (flow_of (record world.source { phase = SourcePhase.Stopped })) (kept.flight.wires refl).0)
 
-precopy_copy : (epoch page : ℕ) (bytes : List ℕ) (rest : List Sent) (world : World) →
-    let old : World = at_state SourcePhase.Precopy DestPhase.Advised false true (record { epoch = epoch; frame = Page page bytes } ∷ rest) world in
-    IsSoundWorld old → IsSoundWorld (delivered old old.forward.frames)
-precopy_copy epoch page bytes rest world kept =
-    let w = kept.flight.wires refl in
-    copy_kept SourcePhase.Precopy epoch page bytes rest world kept (w.0, w.1, record { clean_copy = w.2.clean_copy; copies_sent = w.2.copies_sent })
-
-stopped_copy : (epoch page : ℕ) (bytes : List ℕ) (rest : List Sent) (world : World) →
-    let old : World = at_state SourcePhase.Stopped DestPhase.Advised false true (record { epoch = epoch; frame = Page page bytes } ∷ rest) world in
-    IsSoundWorld old → IsSoundWorld (delivered old old.forward.frames)
-stopped_copy epoch page bytes rest world kept =
-    let w = kept.flight.wires refl in
-    copy_kept SourcePhase.Stopped epoch page bytes rest world kept
-    (w.0, w.1, record { owed = w.2.owed; plan = w.2.plan; owed_present = w.2.owed_present; kept_rest = w.2.kept_rest; whereabouts = w.2.whereabouts; faithful = w.2.faithful })
-
 precopy_advised : (epoch : ℕ) (frame : Frame) (rest : List Sent) (world : World) →
     let old : World = at_state SourcePhase.Precopy DestPhase.Advised false true (record { epoch = epoch; frame = frame } ∷ rest) world in
     IsSoundWorld old → IsSoundWorld (delivered old old.forward.frames)
-precopy_advised epoch (Page page bytes) rest world kept = precopy_copy epoch page bytes rest world kept
-precopy_advised epoch (Zero page) rest world kept = precopy_copy epoch page zero_page rest world (as_page SourcePhase.Precopy DestPhase.Advised false epoch page rest world kept)
-precopy_advised epoch (Run first pages) rest world kept =
-    let w = kept.flight.wires refl in
-    run_kept SourcePhase.Precopy epoch first pages rest world kept (w.0, w.1, record { clean_copy = w.2.clean_copy; copies_sent = w.2.copies_sent })
+precopy_advised epoch (Page page bytes) rest world kept = let w = kept.flight.wires refl in copies_kept _ epoch (Page page bytes) rest world kept (w.0, w.1, record { clean_copy = w.2.clean_copy; copies_sent = w.2.copies_sent })
+precopy_advised epoch (Zero page) rest world kept = let w = kept.flight.wires refl in copies_kept _ epoch (Zero page) rest world kept (w.0, w.1, record { clean_copy = w.2.clean_copy; copies_sent = w.2.copies_sent })
+precopy_advised epoch (Run first pages) rest world kept = let w = kept.flight.wires refl in copies_kept _ epoch (Run first pages) rest world kept (w.0, w.1, record { clean_copy = w.2.clean_copy; copies_sent = w.2.copies_sent })
 precopy_advised epoch (Discard pages) rest world kept = absurd (ends_late rest (kept.flight.wires refl).0)
 precopy_advised epoch _ rest world kept = absurd (none-some Copies (kept.flight.wires refl).0)
+
+-- the Package and the pages behind it are the same
+switching_on : (source : Source) (kept keeps : FinMap nat_cmp (List ℕ)) (wire rest urgent : List Sent) → package_in wire ≡ package_in rest → kept_by kept wire ≡ kept_by keeps rest → behind wire ≡ behind rest →
+    IsSwitching source kept wire urgent → IsSwitching source keeps rest urgent
+switching_on source kept keeps wire rest urgent same held after old =
+    record {
+      owed = old.owed;
+      plan = sym same ∙ old.plan;
+      owed_present = old.owed_present;
+      kept_rest = λ page. ap (λ m. get m page) (sym held) ∙ old.kept_rest page;
+      whereabouts = λ page h. ap (λ l. is_urgent_or_left source.remaining urgent page || has_copy (copies_of l) page) (sym after) ∙ old.whereabouts page h;
+      faithful = subst (λ l. AreFaithful source.guest.space.host.bytes (copies_of l)) after old.faithful;
+    }
 
 stopped_advised : (epoch : ℕ) (frame : Frame) (rest : List Sent) (world : World) →
     let old : World = at_state SourcePhase.Stopped DestPhase.Advised false true (record { epoch = epoch; frame = frame } ∷ rest) world in
     IsSoundWorld old → IsSoundWorld (delivered old old.forward.frames)
-stopped_advised epoch (Page page bytes) rest world kept = stopped_copy epoch page bytes rest world kept
-stopped_advised epoch (Zero page) rest world kept = stopped_copy epoch page zero_page rest world (as_page SourcePhase.Stopped DestPhase.Advised false epoch page rest world kept)
-stopped_advised epoch (Run first pages) rest world kept =
-    let w = kept.flight.wires refl in
-    run_kept SourcePhase.Stopped epoch first pages rest world kept
-    (w.0, w.1, record { owed = w.2.owed; plan = w.2.plan; owed_present = w.2.owed_present; kept_rest = w.2.kept_rest; whereabouts = w.2.whereabouts; faithful = w.2.faithful })
+stopped_advised epoch (Page page bytes) rest world kept = let w = kept.flight.wires refl in copies_kept _ epoch (Page page bytes) rest world kept (w.0, w.1, switching_on _ _ _ _ rest _ refl refl refl w.2)
+stopped_advised epoch (Zero page) rest world kept = let w = kept.flight.wires refl in copies_kept _ epoch (Zero page) rest world kept (w.0, w.1, switching_on _ _ _ _ rest _ refl refl refl w.2)
+stopped_advised epoch (Run first pages) rest world kept = let w = kept.flight.wires refl in copies_kept _ epoch (Run first pages) rest world kept (w.0, w.1, switching_on _ _ _ _ rest _ refl refl refl w.2)
 stopped_advised epoch (Discard pages) rest world kept = discard_taken epoch pages rest world kept
 stopped_advised epoch _ rest world kept = absurd (none-some (flow_of (record world.source { phase = SourcePhase.Stopped })) (kept.flight.wires refl).0)
 
@@ -276,8 +206,10 @@ none_waits (copy ∷ arrivals) h = absurd (not_up h)
 stopped_running : (epoch : ℕ) (frame : Frame) (rest : List Sent) (world : World) → IsFree frame world → AllCame frame world →
     let old : World = at_state SourcePhase.Stopped DestPhase.Running true true (record { epoch = epoch; frame = frame } ∷ rest) world in
     IsSoundWorld old → IsSoundWorld (delivered old old.forward.frames)
-stopped_running epoch (Page page bytes) rest world free came kept = copy_arrives epoch page bytes rest world kept
-stopped_running epoch (Zero page) rest world free came kept = copy_arrives epoch page zero_page rest world (as_page SourcePhase.Stopped DestPhase.Running true epoch page rest world kept)
+stopped_running epoch (Page page bytes) rest world free came kept =
+    let w = kept.flight.wires refl in copy_arrives epoch (Page page bytes) (record { page = page; bytes = bytes }) rest world kept (kept.flight.flight_faithful refl) kept.copies.copies_whole.1 w.0 w.1 w.2.whereabouts
+stopped_running epoch (Zero page) rest world free came kept =
+    let w = kept.flight.wires refl in copy_arrives epoch (Zero page) (record { page = page; bytes = zero_page }) rest world kept (kept.flight.flight_faithful refl) kept.copies.copies_whole.1 w.0 w.1 w.2.whereabouts
 stopped_running epoch (End count) rest world free came kept = end_taken epoch count rest world (none_waits world.destination.arrivals free) (came count refl) kept
 stopped_running epoch _ rest world free came kept = absurd (none-some (flow_of (record world.source { phase = SourcePhase.Stopped })) (kept.flight.wires refl).0)
 
