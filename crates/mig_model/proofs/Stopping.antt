@@ -25,6 +25,7 @@ use Rattle.mig_model.specs.Source.{Source, bytes_of, is_stopped, page_pushed, re
 use Rattle.mig_model.proofs.HeldLemmas.{fits-more}
 use Rattle.mig_model.proofs.WireLemmas.{flight_up}
 use Rattle.mig_model.proofs.Facts.{none_absurd, eqb-self, eqb_other, same_or_other, low_or, copies_of-append, AreWhole-append, AreFaithful-append, AreOf-one, below_or_at}
+use Rattle.mig_model.proofs.SettledLemmas.{least_below-some}
 
 -- a world in these phases
 abbrev pub in_phases : SourcePhase → DestPhase → World → World
@@ -222,20 +223,9 @@ end_frame source = record { epoch = source.epoch; frame = End source.urgent_sent
 abbrev end_sent_by : Source → Source
 end_sent_by source = record source { end_epoch = source.epoch }
 
-found_step : (o : Option ℕ) (here : Bool) (bound : ℕ) → (is_some o ≡ true) ⊎ (here ≡ true) → is_some (elim o [ Some least ↦ Some least | None ↦ cond here (Some bound) None ]) ≡ true
-found_step (Some least) here bound h = refl
-found_step None true bound h = refl
-found_step None false bound h = ⊎_elim (λ e. none_absurd e) (λ e. none_absurd e) h
-
-least_found : (test : ℕ → Bool) (bound q : ℕ) → q < bound → test q ≡ true → is_some (least_below test bound) ≡ true
-unfolding least_below
-least_found test zero q l h = absurd (omega arith)
-least_found test (suc bound) q l h =
-    found_step (least_below test bound) (test bound) bound (⊎_elim (λ below. inl (least_found test bound q below h)) (λ (at : q ≡ bound). inr (ap test (sym at) ∙ h)) (below_or_at q bound l))
-
 -- where a number below the bound passes, one is found
 some_least : (test : ℕ → Bool) (bound q : ℕ) → q < bound → test q ≡ true → least_below test bound ≡ None → ⊥
-some_least test bound q l h none = false≢true (sym (ap is_some none) ∙ least_found test bound q l h)
+some_least test bound q l h none = false≢true (sym (ap is_some none) ∙ least_below-some test bound q l h)
 
 pub present_below : (space : Space) (page : ℕ) → IsSound space.host → is_present space page ≡ true → page < HIGH_PAGE
 present_below space page sound present = low_or (λ past. false≢true (sym (ap is_some (sound.mapped page (sound.bound page past))) ∙ present))
