@@ -33,7 +33,6 @@ pub mod Delivery
 pub mod EndTaken
 pub mod PackageTaken
 pub mod ResumeTaken
-pub mod FramesBack
 pub mod DeliveryBack
 pub mod SourceTests
 pub mod SourceKept

@@ -17,7 +17,7 @@ use Rattle.mig_model.specs.Wire.{Sent, Copy, page_frame}
 use Rattle.mig_model.specs.Wire.Frame.{End}
 use Rattle.mig_model.specs.Guest.{is_present}
 use Rattle.mig_model.specs.Migration.{World, after_end, after_push, after_serve}
-use Rattle.mig_model.specs.Invariant.{IsSoundWorld, IsSoundPushing, Wires, StoppedWires, IsSwitching, Flow, flow_after, flow_of, copies_of, has_copy, AreFaithful, AreWhole, behind, is_urgent_or_left}
+use Rattle.mig_model.specs.Invariant.{IsSoundWorld, IsSoundLog, IsSoundPushing, Wires, StoppedWires, IsSwitching, Flow, flow_after, flow_of, copies_of, has_copy, AreFaithful, AreWhole, behind, is_urgent_or_left}
 use Rattle.mig_model.specs.Invariant.Flow.{BeforeAdvise, Copies, BeforePackage, Pushed, AfterEnd}
 use Rattle.mig_model.proofs.SendingLemmas.{flow_sent, has_copy-append, has_package, copies_of-page, page_flow}
 use Rattle.mig_model.specs.Log.{least_of, no_pages, present}
@@ -160,6 +160,17 @@ pushing_stopped source up switched end_sent present before =
       ended_before = before;
       paused_fresh = λ h paused. absurd (stopped_not_paused paused);
       released_empty = λ h. absurd (stopped_not_released h);
+    }
+
+stopped_not_idle : SourcePhase.Stopped ≢ SourcePhase.Idle
+stopped_not_idle h = cc
+
+pub log_stopped : (source : Source) → source.switched ≡ true → IsSoundLog SourcePhase.Stopped source.switched (space_of source) source.log.clean source.log.todo source.log.sent
+log_stopped source switched =
+    record {
+      idle_source = λ h. absurd (stopped_not_idle h);
+      clean_protected = λ h. absurd (false≢true (sym h ∙ switched));
+      todo_sendable = λ h. absurd (false≢true (sym h ∙ switched));
     }
 
 both_true : (a b : Bool) → (not a && b) ≡ true → b ≡ true

@@ -18,7 +18,7 @@ use Rattle.mig_model.specs.Migration.{World, after_switch, is_changing}
 use Rattle.mig_model.specs.Invariant.{IsSoundWorld, AreSoundPhases, IsSoundLog, PrecopyWires, StoppedWires, IsPrecopying, IsSwitching, Flow, flow_after, flow_of, copies_of, has_copy, AreFaithful, AreWhole, is_unread, kept_by, behind, package_in}
 use Rattle.mig_model.specs.Invariant.Flow.{BeforeAdvise, Copies, BeforePackage, Pushed}
 use Rattle.mig_model.proofs.SendingLemmas.{flow_sent, has_no_package}
-use Rattle.mig_model.proofs.Stopping.{in_phases, flow_open, present_below, pushing_stopped}
+use Rattle.mig_model.proofs.Stopping.{in_phases, flow_open, present_below, pushing_stopped, log_stopped}
 use Rattle.mig_model.specs.Log.{less, present}
 use Rattle.mig_model.specs.Source.{Source, commands_of, is_precopy, not_clean, space_of, switch_made, switch_frames}
 use Rattle.mig_model.proofs.HeldLemmas.{fits-more}
@@ -109,9 +109,6 @@ switched_wires DestPhase.Advised world kept quiet other old =
 switched_wires DestPhase.Discarding world kept quiet other old = absurd old
 switched_wires _ world kept quiet other old = absurd old
 
-stopped_not_idle : SourcePhase.Stopped ≢ SourcePhase.Idle
-stopped_not_idle h = cc
-
 precopy_not_idle : SourcePhase.Precopy ≢ SourcePhase.Idle
 precopy_not_idle h = cc
 
@@ -128,8 +125,7 @@ switched_in SourcePhase.Precopy to world precopy up quiet kept =
     let new : World = after_switch (in_phases SourcePhase.Precopy to world) in
     let phases : AreSoundPhases new.source.phase new.source.switched new.destination.phase new.destination.has_run new.destination.ended (space_of new.source).object.events =
     record { source_phase = refl; destination_phase = kept.phases.destination_phase; ran_after_switch = λ ran. refl; ended_after_run = kept.phases.ended_after_run; source_quiet = λ h. quiet } in
-    let precopy : IsSoundLog new.source.phase new.source.switched (space_of new.source) new.source.log.clean new.source.log.todo new.source.log.sent =
-    record { idle_source = λ h. absurd (stopped_not_idle h); clean_protected = λ h. absurd (false≢true (sym h)); todo_sendable = λ h. absurd (false≢true (sym h)) } in
+    let precopy = log_stopped new.source refl in
     let pushing = pushing_stopped new.source new.up refl (λ h. absurd (other h)) (λ page h. clean_present source page h) kept.pushing.ended_before in
     let copies_whole = subst AreWhole (sym copies) kept.copies.copies_whole in
     let flight = flight_up new up (λ ran. absurd (false≢true (sym kept.phases.source_phase ∙ kept.phases.ran_after_switch ran))) (switched_wires to world kept quiet other (kept.flight.wires up)) in
