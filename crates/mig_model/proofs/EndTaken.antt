@@ -13,7 +13,7 @@ use Rattle.mig_model.specs.Wire.Frame.{End, Done}
 use Rattle.mig_model.specs.Migration.{World}
 use Rattle.mig_model.specs.Invariant.{Wires, IsSoundWorld, IsFlowing, AreOf, copies_of, has_copy, flow_of, RanAt, AreSoundWires, is_urgent_or_left}
 use Rattle.mig_model.specs.Invariant.Flow.{Pushed, AfterEnd}
-use Rattle.mig_model.proofs.WireLemmas.{AreOf-append, are_requests_and_done-push}
+use Rattle.mig_model.proofs.WireLemmas.{flight_up, AreOf-append, are_requests_and_done-push}
 use Rattle.mig_model.proofs.FirstFrame.{at_state, nothing_behind, delivered}
 use Rattle.mig_model.specs.Log.{no_pages}
 use Rattle.mig_model.specs.Source.{Source}
@@ -53,14 +53,8 @@ end_taken epoch count rest world free came kept =
     same_pages world.destination.owed finmap.empty (λ page.
     none_owed (get world.destination.owed page) (λ origin h. nowhere world.source.remaining rest world.urgent.frames world.destination.arrivals origin (kept.pushing.end_sent ended) last.0 came free (flowing.whereabouts page origin h))
     ∙ sym (get-empty nat_cmp page)) in
-    let destination_phase : RanAt new.destination.phase new.destination.has_run new.destination.ended = refl in
-    let ended_after_run : new.destination.ended ≡ true → new.destination.has_run ≡ true = λ h. refl in
     let kept_advised : new.destination.phase ≡ DestPhase.Idle → new.destination.kept ≡ finmap.empty = λ h. cc in
-    let ended_empty : new.destination.ended ≡ true → (new.destination.owed ≡ finmap.empty) × (new.destination.arrivals ≡ []) = λ h. (no_pair, free) in
-    let wires : new.up ≡ true → Wires new.source new.destination new.forward.frames new.back.frames new.urgent.frames =
-    λ u. (last.0, are_requests_and_done-push world.back.frames (record { epoch = world.destination.epoch; frame = Done }) refl w.1, ended) in
-    let down : new.up ≡ false → (new.forward.frames ≡ []) × (new.back.frames ≡ []) × (new.source.phase ≢ SourcePhase.Idle) × (new.source.phase ≢ SourcePhase.Released) = λ h. absurd (false≢true (sym h)) in
+    let flight = flight_up new refl kept.flight.flight_faithful (last.0, are_requests_and_done-push world.back.frames (record { epoch = world.destination.epoch; frame = Done }) refl w.1, ended) in
     let forward_epoch : AreOf new.source.epoch new.forward.frames = kept.epochs.forward_epoch.1 in
-    let back_epoch : AreOf new.source.epoch new.back.frames = AreOf-append world.source.epoch world.back.frames (record { epoch = world.destination.epoch; frame = Done } ∷ []) kept.epochs.back_epoch (kept.epochs.epoch_at refl, tt) in
-    let held : AreSoundWires new.forward new.back = record { forward_held = fits-none rest; back_held = fits-append world.back.frames (record { epoch = world.destination.epoch; frame = Done } ∷ []) world.back.held kept.held.back_held } in
-    assumption
+    let back_epoch = AreOf-append world.source.epoch world.back.frames (record { epoch = world.destination.epoch; frame = Done } ∷ []) kept.epochs.back_epoch (kept.epochs.epoch_at refl, tt) in
+    assumption (fits-none rest, fits-append world.back.frames (record { epoch = world.destination.epoch; frame = Done } ∷ []) world.back.held kept.held.back_held)

@@ -16,6 +16,7 @@ use Rattle.mig_model.specs.Host.{Host, IsSound}
 use Rattle.mig_model.specs.Frame.{Frame, page_frame, frame_at, page_frames, kept_after, sent_in}
 use Rattle.mig_model.specs.Frame.Frame.{Page, Zero, Discard}
 use Rattle.mig_model.specs.Kept.{kept_by, AreCopies}
+use Rattle.mig_model.proofs.Facts.{zero_bytes}
 
 pub sent_in-append : (epoch : ℕ) (a b : List Frame) → sent_in epoch (a ++ b) ≡ sent_in epoch a ++ sent_in epoch b
 sent_in-append epoch a b = map-append _ a b
@@ -43,23 +44,6 @@ is_copy false page bytes = tt
 are_copies_of : (page : ℕ) (o : Option (List ℕ)) → AreCopies (frames_of page o)
 are_copies_of page None = tt
 are_copies_of page (Some bytes) = is_copy (list_all (λ byte. eqb byte 0) bytes) page bytes
-
-zero_tests : (b c : Bool) → (b && c) ≡ true → (b ≡ true) × (c ≡ true)
-zero_tests true c h = (refl, h)
-zero_tests false c h = absurd (false≢true h)
-
-eqb_true : (a b : ℕ) → eqb a b ≡ true → a ≡ b
-eqb_true a b h = grind (arith, nat_tests)
-
-all_zero : (bytes : List ℕ) → list_all (λ byte. eqb byte 0) bytes ≡ true → bytes ≡ replicate (length bytes) 0
-all_zero [] h = refl
-all_zero (byte ∷ bytes) h =
-    let tests = zero_tests (eqb byte 0) (list_all (λ x. eqb x 0) bytes) h in
-    ap (λ x. x ∷ bytes) (eqb_true byte 0 tests.0) ∙ ap (λ xs. 0 ∷ xs) (all_zero bytes tests.1)
-
-pub zero_bytes : (bytes : List ℕ) → length bytes ≡ 4096 → list_all (λ byte. eqb byte 0) bytes ≡ true → bytes ≡ zero_page
-unfolding zero_page
-zero_bytes bytes n h = all_zero bytes h ∙ ap (λ k. replicate {A = ℕ} k 0) n
 
 kept_page : (b : Bool) (kept : FinMap nat_cmp (List ℕ)) (page : ℕ) (bytes : List ℕ) → (b ≡ true → bytes ≡ zero_page) →
     kept_after kept (if b then Zero page else Page page bytes) ≡ insert kept page bytes

@@ -23,7 +23,7 @@ use Rattle.mig_model.specs.Guest.{is_present}
 use Rattle.mig_model.specs.Wire.{Sent}
 use Rattle.mig_model.specs.Wire.Frame.{Package}
 use Rattle.mig_model.specs.Migration.{World}
-use Rattle.mig_model.specs.Invariant.{Wires, IsSoundWorld, IsSwitching, AreOf, AreRight, AreFaults, AreFaithful, copies_of, has_copy, RanAt, are_requests, seen_host, seen_bytes, current_host, AreSoundWires, is_urgent_or_left}
+use Rattle.mig_model.specs.Invariant.{Wires, IsSoundWorld, IsFlowing, IsSwitching, AreOf, AreRight, AreFaults, AreFaithful, copies_of, has_copy, RanAt, are_requests, seen_host, seen_bytes, current_host, AreSoundWires, is_urgent_or_left}
 use Rattle.mig_model.proofs.FirstFrame.{at_state, delivered}
 use Rattle.mig_model.specs.Log.{no_pages}
 use Rattle.mig_model.specs.Owed.{own_places}
@@ -31,6 +31,8 @@ use Rattle.mig_model.specs.Source.{Source, commands_of, space_of}
 use Rattle.mig_model.specs.Destination.{assembled, settled}
 use Rattle.mig_model.proofs.HeldLemmas.{fits-none}
 use Rattle.mig_model.proofs.Facts.{none_or}
+use Rattle.mig_model.proofs.WireLemmas.{flight_up}
+use Rattle.mig_model.proofs.SourceRounds.{present_mapped}
 
 -- Owed pages at their own places
 
@@ -141,13 +143,6 @@ or_more false false c h = absurd (false≢true h)
 owed_none : (owed : Bool) (o : Option (List ℕ)) → owed ≡ true → cond owed None o ≡ None
 owed_none owed o h = ap (λ b. cond b None o) h
 
-has_areas : (host : Host) (page : ℕ) → IsSound host → contains_key host.bytes page ≡ true → contains_key host.areas page ≡ true
-has_areas host page sound h =
-    elim (get host.areas page) as (λ o. get host.areas page ≡ o → is_some o ≡ true) [
-      | None ↦ λ e. absurd (false≢true (sym (ap is_some (sound.mapped page e)) ∙ h))
-      | Some prot ↦ λ e. refl
-    ] refl
-
 -- what the Package says, where it is the first frame
 record IsPlan (source : Source) (kept : FinMap nat_cmp (List ℕ)) (rest urgent : List Sent) (areas : FinMap nat_cmp Prot) (owed : FinSet nat_cmp) : Type 0 where
   same : areas ≡ (space_of source).host.areas
@@ -184,44 +179,28 @@ package_taken epoch areas owed commands rest world kept =
     let holds : memory (current_host new) ≡ memory_of new.transcript = ap memory (seen_source host owed areas pages plan.same plan.kept_rest sound) ∙ kept.memory.holds in
     let destination_space : IsSoundSpace new.destination.guest.space = IsSoundSpace-assembled areas pages (sound_rest host owed areas pages plan.same plan.kept_rest sound kept.copies.kept_whole) in
     let unprotected : (page : ℕ) → contains new.destination.guest.space.protected page ≡ false = λ page. contains-empty nat_cmp page in
-    let only_missing : (page : ℕ) → contains new.destination.guest.space.object.protect page ≡ false = assembled_protect areas pages in
-    let destination_events : AreRight new.destination.guest.space.object.events = tt in
-    let destination_faults : AreFaults new.destination.guest.space.object.faults = tt in
-    let destination_phase : RanAt new.destination.phase new.destination.has_run new.destination.ended = (refl, not_ended) in
-    let ran_after_switch : new.destination.has_run ≡ true → new.source.switched ≡ true = λ h. kept.phases.source_phase in
-    let ended_after_run : new.destination.ended ≡ true → new.destination.has_run ≡ true = λ h. refl in
     let not_run : new.destination.has_run ≡ false → (new.destination.owed ≡ finmap.empty) × (new.destination.guest.space ≡ fresh_space) × (new.destination.arrivals ≡ []) = λ h. absurd (false≢true (sym h)) in
-    let kept_none : new.destination.has_run ≡ true → new.destination.kept ≡ finmap.empty = λ h. refl in
-    let kept_advised : new.destination.phase ≡ DestPhase.Idle → new.destination.kept ≡ finmap.empty = λ h. refl in
     let kept_whole : (page : ℕ) (bytes : List ℕ) → get new.destination.kept page ≡ Some bytes → length bytes ≡ 4096 = λ page bytes h. absurd (none-some bytes (sym (get-empty nat_cmp page) ∙ h)) in
-    let one_to_one : (page other origin : ℕ) → get new.destination.owed page ≡ Some origin → get new.destination.owed other ≡ Some origin → page ≡ other =
-    λ page other origin h g. sym (own_place owed page origin h).2 ∙ (own_place owed other origin g).2 in
-    let owed_below : (page origin : ℕ) → get new.destination.owed page ≡ Some origin → page < HIGH_PAGE = λ page origin h. (own_place owed page origin h).0 in
-    let origins_present : (page origin : ℕ) → get new.destination.owed page ≡ Some origin → is_present new.source.guest.space origin ≡ true =
-    λ page origin h. let own = own_place owed page origin h in ap (is_present new.source.guest.space) own.2 ∙ plan.owed_present page own.1 in
+    let one_to_one = λ (page other origin : ℕ) (h : get new.destination.owed page ≡ Some origin) (g : get new.destination.owed other ≡ Some origin). sym (own_place owed page origin h).2 ∙ (own_place owed other origin g).2 in
+    let owed_below = λ (page origin : ℕ) (h : get new.destination.owed page ≡ Some origin). (own_place owed page origin h).0 in
+    let origins_present = λ (page origin : ℕ) (h : get new.destination.owed page ≡ Some origin). let own = own_place owed page origin h in ap (is_present new.source.guest.space) own.2 ∙ plan.owed_present page own.1 in
     let pairs_missing : (page origin : ℕ) → settled new.destination page ≡ Some origin → (contains new.destination.guest.space.object.missing page ≡ true) × (is_present new.destination.guest.space page ≡ false) =
     λ page origin h.
     let own = own_place owed page origin h in (
       assembled_missing areas pages page
-          ∙ and_from (ltb page HIGH_PAGE) (contains_key areas page) (lt-ltb page HIGH_PAGE own.0) (ap (λ a. contains_key a page) plan.same ∙ has_areas host page sound (plan.owed_present page own.1)),
+          ∙ and_from (ltb page HIGH_PAGE) (contains_key areas page) (lt-ltb page HIGH_PAGE own.0) (ap (λ a. contains_key a page) plan.same ∙ present_mapped (space_of world.source) page kept.spaces.source_space (plan.owed_present page own.1)),
       ap is_some (plan.kept_rest page ∙ owed_none (contains owed page) (get host.bytes page) own.1),
     ) in
-    let arrivals_faithful : new.destination.has_run ≡ true → AreFaithful new.source.guest.space.host.bytes new.destination.arrivals =
-    λ h. subst (AreFaithful host.bytes) (sym (kept.owing.not_run refl).2) tt in
-    let flight_faithful : new.destination.has_run ≡ true → AreFaithful new.source.guest.space.host.bytes (copies_of new.forward.frames) = λ h. plan.faithful in
+    let arrivals_faithful = subst (AreFaithful host.bytes) (sym (kept.owing.not_run refl).2) tt in
     let ended_empty : new.destination.ended ≡ true → (new.destination.owed ≡ finmap.empty) × (new.destination.arrivals ≡ []) = λ h. absurd (false≢true (sym not_ended ∙ h)) in
-    let wires : new.up ≡ true → Wires new.source new.destination new.forward.frames new.back.frames new.urgent.frames =
-    λ u. (
-      w.0,
-      ap are_requests w.1,
-      record {
-        whereabouts = λ page origin h.
-            let own = own_place owed page origin h in
-            or_more (is_urgent_or_left world.source.remaining world.urgent.frames origin) (has_copy (copies_of rest) origin) (has_copy world.destination.arrivals origin)
-            (ap (λ q. is_urgent_or_left world.source.remaining world.urgent.frames q || has_copy (copies_of rest) q) own.2 ∙ plan.whereabouts page own.1);
-      },
-    ) in
-    let down : new.up ≡ false → (new.forward.frames ≡ []) × (new.back.frames ≡ []) × (new.source.phase ≢ SourcePhase.Idle) × (new.source.phase ≢ SourcePhase.Released) = λ h. absurd (false≢true (sym h)) in
+    let flowing : IsFlowing new.source new.destination rest world.urgent.frames =
+    record {
+      whereabouts = λ page origin h.
+          let own = own_place owed page origin h in
+          or_more (is_urgent_or_left world.source.remaining world.urgent.frames origin) (has_copy (copies_of rest) origin) (has_copy world.destination.arrivals origin)
+          (ap (λ q. is_urgent_or_left world.source.remaining world.urgent.frames q || has_copy (copies_of rest) q) own.2 ∙ plan.whereabouts page own.1);
+    } in
+    let flight = flight_up new refl (λ h. plan.faithful) (w.0, ap are_requests w.1, flowing) in
     let forward_epoch : AreOf new.source.epoch new.forward.frames = kept.epochs.forward_epoch.1 in
-    let held : AreSoundWires new.forward new.back = record { forward_held = fits-none rest; back_held = kept.held.back_held } in
-    assumption
+    let nothing : Unit {0} = tt in
+    assumption (assembled_protect areas pages, fits-none rest)

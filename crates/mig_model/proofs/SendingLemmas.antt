@@ -11,7 +11,7 @@ use Rattle.mig_model.specs.Wire.{Frame, Sent, Copy, page_frame, copies_in, kept_
 use Rattle.mig_model.specs.Wire.Frame.{Advise, Page, Zero, Run, Discard, Package, End}
 use Rattle.mig_model.specs.Invariant.{Flow, flow_next, flow_after, copies_of, has_copy, is_package, kept_by, behind, package_in}
 use Rattle.mig_model.specs.Invariant.Flow.{BeforeAdvise, Copies, BeforePackage, Pushed, AfterEnd}
-use Rattle.mig_model.proofs.FrameLemmas.{zero_bytes}
+use Rattle.mig_model.proofs.Facts.{zero_bytes}
 use Rattle.mig_model.specs.Migration.{next}
 
 -- One frame more

@@ -70,7 +70,7 @@ mapped_registered space page sound mapped =
     ∙ registered_now (ltb page HIGH_PAGE) (is_mapped_in space 0 HIGH_PAGE page) (contains space.object.missing page) (contains space.object.protect page) (lt-ltb page HIGH_PAGE low)
     (and_from (in_range 0 HIGH_PAGE page) (contains_key space.host.areas page) (whole_range page low) mapped)
 
-present_mapped : (space : Space) (page : ℕ) → IsSoundSpace space → is_present space page ≡ true → contains_key space.host.areas page ≡ true
+pub present_mapped : (space : Space) (page : ℕ) → IsSoundSpace space → is_present space page ≡ true → contains_key space.host.areas page ≡ true
 present_mapped space page sound h =
     elim (get space.host.areas page) as (λ o. get space.host.areas page ≡ o → is_some o ≡ true) [
       | None ↦ λ e. none_absurd (sym (ap is_some (sound.host.mapped page e)) ∙ h)
