@@ -15,6 +15,7 @@ use Rattle.mig_model.proofs.FirstFrame.{stays_late}
 use Rattle.mig_model.proofs.HostLemmas.{get-put}
 use Rattle.mig_model.specs.Migration.{next}
 use Rattle.mig_model.proofs.Facts.{none_absurd, zero_bytes, kept_page, copies_of-append, AreWhole-append}
+use Rattle.mig_model.proofs.SendingLemmas.{has_no_package}
 
 -- The frame of a page
 
@@ -32,26 +33,9 @@ pub copies_whole-push : (wire : List Sent) (sent : Sent) → AreWhole (copies_in
 copies_whole-push wire sent whole are =
     subst AreWhole (sym (copies_of-append wire (sent ∷ []))) (AreWhole-append (copies_of wire) (copies_of (sent ∷ [])) are (AreWhole-append (copies_in sent.frame) [] whole tt))
 
--- No Package before the switch
-
-plain_head : (flow : Flow) (frame : Frame) (rest : List Sent) → option_and_then (λ next. flow_after next rest) (flow_next flow frame) ≡ Some Copies → is_package frame ≡ false
-plain_head BeforePackage (Package areas owed commands) rest h = absurd (stays_late Pushed rest refl h)
-plain_head BeforeAdvise (Package areas owed commands) rest h = absurd (cc)
-plain_head Copies (Package areas owed commands) rest h = absurd (cc)
-plain_head Pushed (Package areas owed commands) rest h = absurd (cc)
-plain_head AfterEnd (Package areas owed commands) rest h = absurd (cc)
-plain_head flow _ rest h = refl
-
-step_by : {A : Type 0} (o : Option Flow) (rest : List Sent) → ((next : Flow) → flow_after next rest ≡ Some Copies → A) → option_and_then (λ next. flow_after next rest) o ≡ Some Copies → A
-step_by None rest then_so h = absurd (cc)
-step_by (Some next) rest then_so h = then_so next h
-
 -- what is kept once one more frame behind copies is taken
 pub kept_by-push : (wire : List Sent) (flow : Flow) (sent : Sent) (kept : FinMap nat_cmp (List ℕ)) → flow_after flow wire ≡ Some Copies → kept_by kept (wire ++ sent ∷ []) ≡ kept_by (kept_by kept wire) (sent ∷ [])
-kept_by-push [] flow sent kept h = refl
-kept_by-push (first ∷ rest) flow sent kept h =
-    let plain = plain_head flow first.frame rest h in
-    rw plain (step_by (flow_next flow first.frame) rest (λ next e. kept_by-push rest next sent (kept_after kept first.frame) e) h)
+kept_by-push wire flow sent kept h = (has_no_package flow kept wire (sent ∷ []) h).kept_then
 
 kept_one : (b : Bool) (kept new : FinMap nat_cmp (List ℕ)) → b ≡ false → (if b then kept else new) ≡ new
 kept_one true kept new h = none_absurd (sym h)

@@ -19,11 +19,11 @@ use Rattle.mig_model.specs.Guest.{is_present}
 use Rattle.mig_model.specs.Migration.{World, after_end, after_push, after_serve}
 use Rattle.mig_model.specs.Invariant.{IsSoundWorld, IsSoundLog, IsSoundPushing, Wires, StoppedWires, IsSwitching, Flow, flow_after, flow_of, copies_of, has_copy, AreFaithful, AreWhole, behind, is_urgent_or_left}
 use Rattle.mig_model.specs.Invariant.Flow.{BeforeAdvise, Copies, BeforePackage, Pushed, AfterEnd}
-use Rattle.mig_model.proofs.SendingLemmas.{flow_sent, has_copy-append, has_package, copies_of-page, page_flow}
+use Rattle.mig_model.proofs.SendingLemmas.{flow_sent, has_package, copies_of-page, page_flow}
 use Rattle.mig_model.specs.Log.{least_of, no_pages, present}
 use Rattle.mig_model.specs.Source.{Source, bytes_of, is_stopped, page_pushed, request_served, space_of}
 use Rattle.mig_model.proofs.HeldLemmas.{fits-more}
-use Rattle.mig_model.proofs.WireLemmas.{flight_up}
+use Rattle.mig_model.proofs.WireLemmas.{has_copy-append, flight_up}
 use Rattle.mig_model.proofs.Facts.{none_absurd, eqb-self, eqb_other, same_or_other, low_or, copies_of-append, AreWhole-append, AreFaithful-append, AreOf-one, below_or_at}
 use Rattle.mig_model.proofs.SettledLemmas.{least_below-some}
 
