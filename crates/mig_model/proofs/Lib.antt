@@ -34,14 +34,12 @@ pub mod EndTaken
 pub mod PackageTaken
 pub mod ResumeTaken
 pub mod DeliveryBack
-pub mod SourceTests
 pub mod SourceKept
 pub mod SourceFrames
 pub mod SourceMessages
 pub mod SourceCalls
 pub mod SourceEvents
 pub mod SourceCommands
-pub mod SourceZeros
 pub mod SourceHandler
 pub mod SourceRounds
 pub mod SourceSending

@@ -1,5 +1,5 @@
 -- A command that is tried at the source, before it has stopped, keeps what every world keeps.
-use Rattle.std.proofs.Common.{◌≡◌, ℕ, ◌/◌, ◌&&◌, ◌||◌, Bool, true, false, cond, not, eqb, if◌then◌else◌, Some, List, [], ◌∷◌, ◌++◌, refl, sym, ap, ◌∙◌, subst, is_some}
+use Rattle.std.proofs.Common.{◌≡◌, append-nil, ℕ, ◌/◌, ◌&&◌, ◌||◌, Bool, true, false, cond, not, eqb, if◌then◌else◌, Some, List, [], ◌∷◌, ◌++◌, refl, sym, ap, ◌∙◌, subst, is_some}
 use Rattle.std.specs.Ordering.{nat_cmp}
 use Rattle.std.specs.FinMap.{FinMap, get, insert, contains_key}
 use Rattle.std.specs.FinSet.{contains}
@@ -29,24 +29,10 @@ use Rattle.mig_model.proofs.SourceKept.{source_holds, IsChanged, changed}
 use Rattle.mig_model.proofs.SourceMessages.{noted_all, events_queued, tells, is_unread-append, AreRight-append}
 use Rattle.mig_model.proofs.SourceCalls.{untouched}
 use Rattle.mig_model.proofs.SourceEvents.{IsUnregistered, right_messages, no_messages, modes_same, none_missing}
-use Rattle.mig_model.proofs.SourceTests.{append_nil}
 use Rattle.mig_model.specs.Cpus.{access_took, call_took, entries_of}
 use Rattle.mig_model.specs.Source.{space_of}
 use Rattle.mig_model.proofs.Facts.{none_absurd, queued_missing, queued_protect, entered_once, modes_events, some_either}
-
--- The transcript
-
-abbrev entry_of : Host → ℕ → Command → Entry
-entry_of host cpu command = record { cpu = cpu; command = command; reply = reply_of (memory host) command }
-
-flat_entered : (host : Host) (transcript : List Entry) (cpu : ℕ) (command : Command) → memory host ≡ memory_of transcript → IsFlatRun transcript → IsFlatRun (transcript ++ entry_of host cpu command ∷ [])
-flat_entered host transcript cpu command holds flat = IsRunFrom-push no_memory transcript (entry_of host cpu command) flat (ap (λ m. reply_of m command) holds)
-
-holds_entered : (host : Host) (transcript : List Entry) (cpu : ℕ) (command : Command) → IsSound host → memory host ≡ memory_of transcript → memory (host_after host command) ≡ memory_of (transcript ++ entry_of host cpu command ∷ [])
-holds_entered host transcript cpu command sound holds =
-    memory-changed host command (reply_of (memory host) command) sound refl
-    ∙ ap (λ m. after m command) holds
-    ∙ sym (memory_from-push no_memory transcript (entry_of host cpu command))
+use Rattle.mig_model.proofs.WorldLemmas.{entry_of, flat_after, holds_after}
 
 -- Loads and stores that are answered
 
@@ -89,7 +75,6 @@ elsewhere : (space : Space) (command : Command) (page : ℕ) (other : Reply) →
 elsewhere space (Load addr width) page other access answered watched protected = refl
 elsewhere space (Store addr width value) page other access answered watched protected =
     stored_elsewhere space addr width value page (reply_of (memory space.host) (Store addr width value)) other refl answered watched protected
-elsewhere space (Mmap len prot place) page other access answered watched protected = none_absurd access
 elsewhere space _ page other access answered watched protected = none_absurd access
 
 answered_changed : (world : World) (cpu : ℕ) (command : Command) (reply : Reply) (processors : List CpuState) → IsSoundWorld world → world.destination.has_run ≡ false → world.source.switched ≡ false → is_access command ≡ true →
@@ -104,8 +89,8 @@ answered_changed world cpu command reply processors kept bare unswitched access 
     let entered : (world.transcript ++ entry_of space.host cpu command ∷ []) ≡ (world.transcript ++ record { cpu = cpu; command = command; reply = reply } ∷ []) =
     ap (λ r. world.transcript ++ record { cpu = cpu; command = command; reply = r } ∷ []) (sym same) in
     record {
-      flat = subst IsFlatRun entered (flat_entered space.host world.transcript cpu command holds kept.memory.flat);
-      holds = holds_entered space.host world.transcript cpu command sound.host holds ∙ ap memory_of entered;
+      flat = subst IsFlatRun entered (flat_after space.host world.transcript cpu command holds kept.memory.flat);
+      holds = holds_after space.host world.transcript cpu command sound.host holds ∙ ap memory_of entered;
       space = subst (λ a. IsSoundSpace (accessed_by a space cpu command)) answered (IsSoundSpace-accessed space cpu command access sound);
       modes = kept.spaces.both_modes;
       events = kept.spaces.source_events;
@@ -140,8 +125,8 @@ slept_changed world processors object kept bare unswitched alike sound =
     let events = alike.events in
     let unread : (page : ℕ) → is_unread object.events page ≡ false → is_unread space.object.events page ≡ false = λ page u. ap (λ e. is_unread e page) (sym events) ∙ u in
     record {
-      flat = subst IsFlatRun (append_nil world.transcript) kept.memory.flat;
-      holds = source_holds world kept bare ∙ ap memory_of (append_nil world.transcript);
+      flat = subst IsFlatRun (sym (append-nil world.transcript)) kept.memory.flat;
+      holds = source_holds world kept bare ∙ ap memory_of (sym (append-nil world.transcript));
       space = sound;
       modes = λ page. ap (λ s. contains s page) alike.missing ∙ kept.spaces.both_modes page ∙ sym (ap (λ s. contains s page) alike.protect);
       events = subst AreRight (sym events) kept.spaces.source_events;
@@ -186,8 +171,8 @@ call_changed world cpu command processors kept bare unswitched call =
     let registered = λ (page : ℕ) (h : contains space.object.protect page ≡ true). or_right (contains space.object.missing page) (contains space.object.protect page) h in
     let same = λ (page : ℕ) (h : contains space.object.protect page ≡ true) (u : is_unread new.object.events page ≡ false). untouched space command reply page sound call refl (registered page h) (unread page u).1 in
     record {
-      flat = subst IsFlatRun entered (flat_entered space.host world.transcript cpu command holds kept.memory.flat);
-      holds = holds_entered space.host world.transcript cpu command sound.host holds ∙ ap memory_of entered;
+      flat = subst IsFlatRun entered (flat_after space.host world.transcript cpu command holds kept.memory.flat);
+      holds = holds_after space.host world.transcript cpu command sound.host holds ∙ ap memory_of entered;
       space = IsSoundSpace-called space cpu command call sound;
       modes = λ page. ap (λ s. contains s page) (missing ∙ modes_same space.object command reply both ∙ sym protect);
       events = subst AreRight (sym events) (AreRight-append space.object.events messages cpu kept.spaces.source_events (right_messages space.host space.object command reply sound.host refl));

@@ -22,9 +22,8 @@ use Rattle.mig_model.specs.Host.{Host, IsSound, memory}
 use Rattle.mig_model.specs.Userfault.{Object, is_registered, is_watched}
 use Rattle.mig_model.specs.Space.{told, remap_messages, call_messages, modes_after}
 use Rattle.mig_model.proofs.CommandLemmas.{remapped_place}
-use Rattle.mig_model.proofs.SourceMessages.{AllRight, AllRight-append, told_right}
+use Rattle.mig_model.proofs.SourceMessages.{lesser_is, AllRight, AllRight-append, told_right}
 use Rattle.mig_model.proofs.SourceCalls.{moved_apart}
-use Rattle.mig_model.proofs.SourceTests.{lesser_is}
 use Rattle.mig_model.proofs.Facts.{none_absurd, lesser_right, whole_page, lesser_left}
 
 -- Right messages

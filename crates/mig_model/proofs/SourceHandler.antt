@@ -1,5 +1,5 @@
 -- The source's handler reads a message, or works a fault, and keeps what every world keeps.
-use Rattle.std.proofs.Common.{◌≡◌, ℕ, ◌&&◌, ◌||◌, Bool, true, false, not, eqb, ltb, Some, List, [], ◌∷◌, refl, sym, ap, ◌∙◌, arith}
+use Rattle.std.proofs.Common.{◌≡◌, None, Option, cond, get_or, unwrap_or, is_some, ℕ, ◌&&◌, ◌||◌, Bool, true, false, not, eqb, ltb, Some, List, [], ◌∷◌, refl, sym, ap, ◌∙◌, arith}
 use Rattle.std.specs.Ordering.{nat_cmp}
 use Rattle.std.specs.FinMap.{get, contains_key}
 use Rattle.std.specs.FinSet.{FinSet, contains, remove, contains-retain, nat_cmp-IsAntisymmetric}
@@ -24,17 +24,46 @@ use Rattle.mig_model.specs.Invariant.{IsSoundWorld, AreRight, is_unread}
 use Rattle.mig_model.proofs.IoctlLemmas.{IsSoundSpace-read, IsSoundSpace-protected, IsSoundSpace-installed, CanPut}
 use Rattle.mig_model.proofs.SourceKept.{source_holds, IsChanged, CopiesStay, changed, never_idle}
 use Rattle.mig_model.proofs.SourceCalls.{registered_below}
-use Rattle.mig_model.proofs.SourceZeros.{memory_zeroed, missing_none, more_present, elsewhere}
-use Rattle.mig_model.proofs.SourceTests.{in_one_is}
 use Rattle.mig_model.specs.Log.{present, unchanged}
 use Rattle.mig_model.specs.Source.{is_source_idle, source_act, source_act_by, source_acted_by, space_of}
 use Rattle.mig_model.proofs.Facts.{none_absurd, some_is}
+use Rattle.mig_model.specs.Host.{Host, memory}
+use Rattle.mig_model.specs.Ioctls.{put_pages}
+use Rattle.mig_model.proofs.IoctlLemmas.{get-put_pages}
+use Rattle.mig_model.proofs.Installing.{get-put_one}
+use Rattle.mig_model.proofs.DestinationAct.{byte_of, memory-reads}
+use Rattle.mig_base.proofs.ByteLemmas.{get_or-zero_page}
+use Rattle.mig_model.proofs.Facts.{missing_none, only_one, some_either}
+use Rattle.std.proofs.lemmas.Bool.{eqb-true}
 
 -- The tests of both steps
 
 -- a destination has run only once the source has stopped
 pub has_not_run : (world : World) → IsSoundWorld world → world.source.switched ≡ false → world.destination.has_run ≡ false
 has_not_run world kept unswitched = false_from_ne_true world.destination.has_run (λ h. false≢true (sym unswitched ∙ kept.phases.ran_after_switch h))
+
+pub in_one_is : (page q : ℕ) → in_range page 1 q ≡ true → q ≡ page
+in_one_is page q h = eqb-true q page (sym (only_one page q) ∙ h)
+
+-- A page of zeros at a missing page changes nothing that the guest reads
+
+zero_bytes : (here : Bool) (o : Option (List ℕ)) (i : ℕ) → (here ≡ true → o ≡ None) → get_or (unwrap_or (cond here (Some zero_page) o) []) i 0 ≡ get_or (unwrap_or o []) i 0
+zero_bytes true o i h = get_or-zero_page i ∙ sym (ap (λ p. get_or (unwrap_or p []) i 0) (h refl))
+zero_bytes false o i h = refl
+
+-- a missing page reads as one of zeros
+memory_zeroed : (host : Host) (page : ℕ) → get host.bytes page ≡ None → memory (record host { bytes = put_pages host.bytes page 1 (λ i. zero_page) }) ≡ memory host
+memory_zeroed host page none =
+    memory-reads host.areas host.bytes (put_pages host.bytes page 1 (λ i. zero_page)) (λ q i.
+    ap (λ o. byte_of o i) (get-put_one host.bytes page q zero_page) ∙ zero_bytes (eqb q page) (get host.bytes q) i (λ here. ap (get host.bytes) (eqb-true q page here) ∙ none))
+
+more_present : (space : Space) (page q : ℕ) → is_present space q ≡ true → is_present (zero_installed space page) q ≡ true
+more_present space page q h = ap is_some (get-put_pages space.host.bytes page 1 q (λ i. zero_page)) ∙ some_either (in_range page 1 q) zero_page (get space.host.bytes q) h
+
+same_elsewhere : (space : Space) (page q : ℕ) → is_present space page ≡ false → is_present space q ≡ true → get (zero_installed space page).host.bytes q ≡ get space.host.bytes q
+same_elsewhere space page q missing present =
+    get-put_pages space.host.bytes page 1 q (λ i. zero_page)
+    ∙ ap (λ b. cond b (Some zero_page) (get space.host.bytes q)) (false_from_ne_true (in_range page 1 q) (λ here. false≢true (sym missing ∙ ap (is_present space) (sym (in_one_is page q here)) ∙ present)))
 
 -- A message is read
 
@@ -176,7 +205,7 @@ zeroed_changed world page processors kept unswitched started watched missing =
     let was = kept.precopy.todo_sendable unswitched q h u in
     (more_present space page q was.0, was.1) in
     let copies : CopiesStay world.source (record { space = new; cpus = processors }) world.source.log.clean = λ q h u.
-    (h, u, elsewhere space page q missing (sound.present q (kept.precopy.clean_protected unswitched q h u))) in
+    (h, u, same_elsewhere space page q missing (sound.present q (kept.precopy.clean_protected unswitched q h u))) in
     assumption
 
 -- Every act

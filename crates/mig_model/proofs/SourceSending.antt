@@ -27,8 +27,7 @@ use Rattle.mig_model.proofs.IoctlLemmas.{IsSoundSpace-protected}
 use Rattle.mig_model.proofs.SourceKept.{source_holds, IsNext, renewed, never_idle}
 use Rattle.mig_model.proofs.SendingLemmas.{copies_in-page, page_flow, flow_sent}
 use Rattle.mig_model.proofs.SourceFrames.{copies_whole-push, kept_by-page, kept_by-run, run_whole}
-use Rattle.mig_model.proofs.SourceHandler.{has_not_run}
-use Rattle.mig_model.proofs.SourceTests.{in_one_is}
+use Rattle.mig_model.proofs.SourceHandler.{has_not_run, in_one_is}
 use Rattle.mig_model.proofs.SourceRounds.{precopy_unswitched, precopy_started, watched_below}
 use Rattle.mig_model.proofs.HeldLemmas.{fits-append}
 use Rattle.mig_model.proofs.WireLemmas.{flight_up}
