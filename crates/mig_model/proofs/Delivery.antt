@@ -1,31 +1,201 @@
--- The destination takes a frame: Advise, a copy, a Discard, Resume.
-use Rattle.std.proofs.Common.{◌≡◌, ◌≢◌, ℕ, ◌≤◌, ◌&&◌, ◌||◌, Bool, true, false, cond, not, eqb, Option, Some, None, List, [], ◌∷◌, ◌++◌, refl, sym, ap, ◌∙◌, subst, arith, length, ◌<◌}
+-- The destination takes a frame: Advise, a copy, a Discard, End, Resume.
+use Rattle.std.proofs.Common.{◌≡◌, ◌≢◌, ℕ, ◌||◌, Bool, true, false, cond, eqb, Option, Some, None, List, [], ◌∷◌, refl, sym, ap, ◌∙◌, zero, suc, ◌<◌, ◌≤◌, ltb, is_some, map, ◌⊎◌, inl, inr, ⊎_elim, subst, arith, length, ◌&&◌, not, ◌++◌}
 use Rattle.std.specs.Ordering.{nat_cmp}
 use Rattle.std.specs.FinMap as finmap
-use Rattle.std.specs.FinMap.{FinMap, get, insert, get-retain_keys, nat_cmp-IsAntisymmetric}
-use Rattle.std.specs.FinSet.{FinSet, contains}
-use Rattle.std.proofs.lemmas.Bool.{false≢true}
-use Rattle.std.proofs.lemmas.Option.{none-some}
+use Rattle.std.specs.FinMap.{get, get-empty, FinMap, contains_key, insert, get-retain_keys, nat_cmp-IsAntisymmetric}
+use Rattle.std.specs.FinSet.{FinSet, contains-empty, contains}
+use Rattle.std.proofs.lemmas.Bool.{false≢true, eqb-true, and_from, lt-ltb}
 use Rattle.mig_base.specs.declared.phase.DestPhase.{DestPhase}
 use Rattle.mig_base.specs.declared.phase.SourcePhase.{SourcePhase}
+use Rattle.mig_base.proofs.PageLemmas.{same_pages}
+use Rattle.mig_model.specs.Wire.{Sent, Copy, Frame, sending, wire_behind, copies_in, kept_after, kept_with}
+use Rattle.mig_model.specs.Wire.Frame.{End, Done, Resume, Request, Recv, Advise, Page, Zero, Run, Discard, Package}
+use Rattle.mig_model.specs.Migration.{World, is_end, after_deliver}
+use Rattle.mig_model.specs.Invariant.{Wires, IsSoundWorld, IsFlowing, AreOf, copies_of, has_copy, flow_of, RanAt, AreSoundWires, is_urgent_or_left, IsReceiving, EpochAt, IsSwitching, flow_after, are_requests, behind, kept_by, package_in, AreWhole, AreFaithful}
+use Rattle.mig_model.specs.Invariant.Flow.{Pushed, AfterEnd, Copies}
+use Rattle.mig_model.proofs.WireLemmas.{flight_up, AreOf-append, are_requests_and_done-push, sending-behind, AreOf-sending, are_requests-sending, has_copy-append}
+use Rattle.mig_model.proofs.FirstFrame.{at_state, nothing_behind, delivered, first_in_place, ends_late}
+use Rattle.mig_model.specs.Log.{no_pages}
+use Rattle.mig_model.specs.Source.{Source}
+use Rattle.mig_model.proofs.HeldLemmas.{fits-append, fits-none, fits-more}
+use Rattle.std.proofs.lemmas.Bool.Decides.{nat_tests}
+use Rattle.std.proofs.lemmas.Option.{none-some}
+use Rattle.mig_base.specs.declared.phase.Received.{Received}
+use Rattle.mig_base.specs.declared.TheConstants.{HIGH_PAGE}
+use Rattle.mig_base.specs.Ranges.{least_below}
+use Rattle.mig_base.proofs.RangeLemmas.{least_below_tells}
+use Rattle.mig_base.proofs.SetLemmas.{member_below}
+use Rattle.mig_model.specs.Host.{Host, IsSound}
+use Rattle.mig_model.specs.Owed.{home, origins}
+use Rattle.mig_model.proofs.Facts.{and_second, no_page, not_up, put_whole, AreFaithful-append}
+use Rattle.mig_model.proofs.SettledLemmas.{home-some, home_tells}
+use Rattle.mig_model.proofs.Stopping.{present_below}
 use Rattle.mig_base.specs.Bytes.{zero_page}
 use Rattle.mig_base.specs.Tests.{is_empty}
 use Rattle.mig_model.specs.Space.{fresh_space}
-use Rattle.mig_model.specs.Wire.{Frame, Sent, Copy, copies_in, kept_after, kept_with, wire_behind}
-use Rattle.mig_model.specs.Wire.Frame.{Advise, Page, Zero, Run, Discard, Package, End, Resume}
-use Rattle.mig_model.specs.Migration.{World, is_end, after_deliver}
-use Rattle.mig_model.specs.Invariant.{Wires, IsSoundWorld, IsSwitching, IsFlowing, RanAt, flow_after, are_requests, behind, kept_by, package_in, AreOf, AreWhole, AreFaithful, copies_of, has_copy, flow_of, EpochAt, AreSoundWires, is_urgent_or_left}
-use Rattle.mig_model.specs.Invariant.Flow.{Copies, Pushed}
 use Rattle.mig_model.proofs.HostLemmas.{get-put}
-use Rattle.mig_model.proofs.WireLemmas.{flight_up, has_copy-append}
-use Rattle.mig_model.proofs.FirstFrame.{at_state, first_in_place, ends_late, delivered}
 use Rattle.mig_model.proofs.PackageTaken.{package_taken}
-use Rattle.mig_model.proofs.EndTaken.{end_taken}
-use Rattle.mig_model.proofs.ResumeTaken.{resume_taken}
-use Rattle.mig_model.specs.Source.{Source}
 use Rattle.mig_model.specs.Destination.{Destination}
-use Rattle.mig_model.proofs.HeldLemmas.{fits-none}
-use Rattle.mig_model.proofs.Facts.{not_up, put_whole, AreFaithful-append}
+
+ends_by : (test : Bool) → cond test AfterEnd Pushed ≡ AfterEnd → test ≡ true
+ends_by true h = refl
+ends_by false h = absurd (let e : Pushed ≡ AfterEnd = h in cc)
+
+-- a wire that gets past End is that of a source that has sent it in this epoch
+pub ended_now : (source : Source) → flow_of source ≡ AfterEnd → source.end_epoch ≡ source.epoch
+ended_now source h = eqb-true source.end_epoch source.epoch (ends_by (eqb source.end_epoch source.epoch) h)
+
+-- no page remains, none is in flight and none waits
+pub nowhere : (remaining : FinSet nat_cmp) (rest urgent : List Sent) (arrivals : List Copy) (origin : ℕ) → remaining ≡ no_pages → rest ≡ [] → urgent ≡ [] → arrivals ≡ [] →
+    (is_urgent_or_left remaining urgent origin || has_copy (copies_of rest) origin || has_copy arrivals origin) ≡ true → ⊥
+nowhere remaining rest urgent arrivals origin none last came free h =
+    false≢true (
+    sym (ap (λ b. (b || false) || false || false) (contains-empty nat_cmp origin))
+    ∙ sym (λ i. is_urgent_or_left (none i) (came i) origin || has_copy (copies_of (last i)) origin || has_copy (free i) origin) ∙ h)
+
+pub none_owed : {X : Type 0} (o : Option X) → ((x : X) → o ≡ Some x → ⊥) → o ≡ None
+none_owed None never = refl
+none_owed (Some x) never = absurd (never x refl)
+
+pub end_taken : (epoch count : ℕ) (rest : List Sent) (world : World) →
+    let old : World = at_state SourcePhase.Stopped DestPhase.Running true true (record { epoch = epoch; frame = End count } ∷ rest) world in
+    world.destination.arrivals ≡ [] → world.urgent.frames ≡ [] → IsSoundWorld old → IsSoundWorld (delivered old old.forward.frames)
+end_taken epoch count rest world free came kept =
+    let old : World = at_state SourcePhase.Stopped DestPhase.Running true true (record { epoch = epoch; frame = End count } ∷ rest) world in
+    let new : World = delivered old old.forward.frames in
+    let w = kept.flight.wires refl in
+    let last = nothing_behind rest (flow_of old.source) w.0 in
+    let ended : old.source.end_epoch ≡ old.source.epoch = ended_now old.source last.1 in
+    let flowing : IsFlowing old.source old.destination old.forward.frames old.urgent.frames = w.2 in
+    let no_pair : world.destination.owed ≡ finmap.empty =
+    same_pages world.destination.owed finmap.empty (λ page.
+    none_owed (get world.destination.owed page) (λ origin h. nowhere world.source.remaining rest world.urgent.frames world.destination.arrivals origin (kept.pushing.end_sent ended) last.0 came free (flowing.whereabouts page origin h))
+    ∙ sym (get-empty nat_cmp page)) in
+    let kept_advised : new.destination.phase ≡ DestPhase.Idle → new.destination.kept ≡ finmap.empty = λ h. cc in
+    let flight = flight_up new refl kept.flight.flight_faithful (last.0, are_requests_and_done-push world.back.frames (record { epoch = world.destination.epoch; frame = Done }) refl w.1, ended) in
+    let forward_epoch : AreOf new.source.epoch new.forward.frames = kept.epochs.forward_epoch.1 in
+    let back_epoch = AreOf-append world.source.epoch world.back.frames (record { epoch = world.destination.epoch; frame = Done } ∷ []) kept.epochs.back_epoch (kept.epochs.epoch_at refl, tt) in
+    assumption (fits-none rest, fits-append world.back.frames (record { epoch = world.destination.epoch; frame = Done } ∷ []) world.back.held kept.held.back_held)
+
+-- The pages that are still needed
+
+-- each origin of the table is among them
+pub origins-pair : (owed : FinMap nat_cmp ℕ) (page origin : ℕ) → get owed page ≡ Some origin → page < HIGH_PAGE → ltb origin HIGH_PAGE ≡ true → contains (origins owed) origin ≡ true
+origins-pair owed page origin h low high =
+    member_below _ HIGH_PAGE origin ∙ and_from (ltb origin HIGH_PAGE) (is_some (home owed origin)) high (home-some owed origin page low h)
+
+-- and each of them is an origin of the table
+pub pair-origins : (owed : FinMap nat_cmp ℕ) (origin : ℕ) → contains (origins owed) origin ≡ true → (page : ℕ) × (get owed page ≡ Some origin)
+pair-origins owed origin h =
+    elim (home owed origin) as (λ o. home owed origin ≡ o → (page : ℕ) × (get owed page ≡ Some origin)) [
+      | None ↦ λ e. absurd (false≢true (sym (ap is_some e) ∙ and_second (ltb origin HIGH_PAGE) (is_some (home owed origin)) (sym (member_below _ HIGH_PAGE origin) ∙ h)))
+      | Some page ↦ λ e. (page, home_tells owed origin page e)
+    ] refl
+
+-- The answer
+
+-- a Recv stands first, and the requests behind it
+answer_first : (back : List Sent) (epoch : ℕ) (frame : Frame) (frames : List Frame) → back ≡ [] → sending back epoch (frame ∷ frames) ≡ record { epoch = epoch; frame = frame } ∷ sending [] epoch frames
+answer_first back epoch frame frames none = ap (λ b. sending b epoch (frame ∷ frames)) none ∙ sending-behind (record { epoch = epoch; frame = frame } ∷ []) epoch frames
+
+resume_alone : (epoch source_epoch : ℕ) (rest : List Sent) (h : record { epoch = epoch; frame = Resume } ∷ rest ≡ record { epoch = source_epoch; frame = Resume } ∷ []) → rest ≡ []
+resume_alone epoch source_epoch rest h = cc
+
+-- it goes on in a phase, and answers with these frames
+goes_on : (to : DestPhase) (ran : Bool) (epoch : ℕ) (keeps : FinMap nat_cmp (List ℕ)) (frames : List Frame) (rest : List Sent) (world : World) →
+    let old : World = at_state SourcePhase.Paused DestPhase.Paused ran true (record { epoch = epoch; frame = Resume } ∷ rest) world in
+    let new : World = record old {
+      destination = record old.destination { phase = to; epoch = epoch; kept = keeps; urgent_taken = 0 };
+      forward = wire_behind rest;
+      back = record world.back { frames = sending world.back.frames epoch frames };
+    } in
+    IsSoundWorld old → to ≢ DestPhase.Idle → RanAt to ran world.destination.ended → (epoch ≡ world.source.epoch → EpochAt to epoch world.source.epoch) → (ran ≡ true → keeps ≡ finmap.empty) →
+    ((page : ℕ) (bytes : List ℕ) → get keeps page ≡ Some bytes → length bytes ≡ 4096) → Wires new.source new.destination new.forward.frames new.back.frames new.urgent.frames → IsSoundWorld new
+goes_on to ran epoch keeps frames rest world kept advised phase at kept_none kept_whole on_wires =
+    let old : World = at_state SourcePhase.Paused DestPhase.Paused ran true (record { epoch = epoch; frame = Resume } ∷ rest) world in
+    let new : World = record old {
+      destination = record old.destination { phase = to; epoch = epoch; kept = keeps; urgent_taken = 0 };
+      forward = wire_behind rest;
+      back = record world.back { frames = sending world.back.frames epoch frames };
+    } in
+    let same : epoch ≡ world.source.epoch = kept.epochs.forward_epoch.0 in
+    let kept_advised : to ≡ DestPhase.Idle → keeps ≡ finmap.empty = λ h. absurd (advised h) in
+    let flight = flight_up new refl kept.flight.flight_faithful on_wires in
+    let forward_epoch : AreOf world.source.epoch rest = kept.epochs.forward_epoch.1 in
+    let back_epoch = subst (λ e. AreOf e new.back.frames) same (AreOf-sending epoch world.back.frames frames (subst (λ e. AreOf e world.back.frames) (sym same) kept.epochs.back_epoch)) in
+    let not_ahead : epoch ≤ world.source.epoch = omega (arith, same) in
+    let epoch_at = at same in
+    assumption (fits-none rest, fits-more world.back.frames world.back.held epoch frames kept.held.back_held)
+
+-- it has not run: what it kept is given up
+resume_waiting : (epoch : ℕ) (rest : List Sent) (world : World) →
+    let old : World = at_state SourcePhase.Paused DestPhase.Paused false true (record { epoch = epoch; frame = Resume } ∷ rest) world in
+    IsSoundWorld old → IsSoundWorld (delivered old old.forward.frames)
+resume_waiting epoch rest world kept =
+    let w = kept.flight.wires refl in
+    let answered = answer_first world.back.frames epoch (Recv Received.NotRun no_pages) [] w.1 ∙ ap (λ e. record { epoch = e; frame = Recv Received.NotRun no_pages } ∷ []) kept.epochs.forward_epoch.0 in
+    goes_on DestPhase.Advised false epoch finmap.empty (Recv Received.NotRun no_pages ∷ []) rest world kept (λ h. cc) refl (λ same. same) (λ h. refl)
+    (λ page bytes h. absurd (none-some bytes (sym (get-empty nat_cmp page) ∙ h))) (resume_alone epoch world.source.epoch rest w.0, answered, refl, refl)
+
+-- it runs: it still needs what it is owed, and asks again for what it has asked
+resume_running : (epoch : ℕ) (rest : List Sent) (world : World) →
+    let old : World = at_state SourcePhase.Paused DestPhase.Paused true true (record { epoch = epoch; frame = Resume } ∷ rest) (record world { destination = record world.destination { ended = false } }) in
+    IsSoundWorld old → IsSoundWorld (delivered old old.forward.frames)
+resume_running epoch rest world kept =
+    let owed : FinMap nat_cmp ℕ = world.destination.owed in
+    let w = kept.flight.wires refl in
+    let frames : List Frame = map Request world.destination.requests in
+    goes_on DestPhase.Running true epoch world.destination.kept (Recv Received.Running (origins owed) ∷ frames) rest (record world { destination = record world.destination { ended = false } }) kept (λ h. cc) (refl, refl) (λ same. same)
+    kept.copies.kept_none kept.copies.kept_whole (
+      resume_alone epoch world.source.epoch rest w.0,
+      record {
+        owed = origins owed;
+        epoch = epoch;
+        rest = sending [] epoch frames;
+        first = answer_first world.back.frames epoch (Recv Received.Running (origins owed)) frames w.1;
+        requests = are_requests-sending epoch [] world.destination.requests refl;
+        alone = λ h. absurd (h refl);
+        none_listed = λ h. absurd (h refl);
+        needed = λ page origin h.
+            let low = present_below world.source.guest.space origin kept.spaces.source_space.host (kept.owing.origins_present page origin h) in
+            origins-pair owed page origin h (kept.owing.owed_below page origin h) (lt-ltb origin HIGH_PAGE low);
+        owed_present = λ origin h. let pair = pair-origins owed origin h in kept.owing.origins_present pair.0 origin pair.1;
+      },
+    )
+
+-- it has ended: it needs nothing
+resume_ended : (epoch : ℕ) (rest : List Sent) (world : World) →
+    let old : World = at_state SourcePhase.Paused DestPhase.Paused true true (record { epoch = epoch; frame = Resume } ∷ rest) (record world { destination = record world.destination { ended = true } }) in
+    IsSoundWorld old → IsSoundWorld (delivered old old.forward.frames)
+resume_ended epoch rest world kept =
+    let w = kept.flight.wires refl in
+    goes_on DestPhase.Ended true epoch world.destination.kept (Recv Received.Ended no_pages ∷ []) rest (record world { destination = record world.destination { ended = true } }) kept (λ h. cc) refl (λ same. same)
+    kept.copies.kept_none kept.copies.kept_whole (
+      resume_alone epoch world.source.epoch rest w.0,
+      record {
+        owed = no_pages;
+        epoch = epoch;
+        rest = [];
+        first = answer_first world.back.frames epoch (Recv Received.Ended no_pages) [] w.1;
+        requests = refl;
+        alone = λ h. refl;
+        none_listed = λ h. refl;
+        needed = λ page origin h. absurd (none-some origin (sym (get-empty nat_cmp page) ∙ sym (ap (λ o. get o page) (kept.owing.ended_empty refl).0) ∙ h));
+        owed_present = λ page h. no_page page h;
+      },
+    )
+
+resume_by : (ran ended : Bool) (epoch : ℕ) (rest : List Sent) (world : World) →
+    let old : World = at_state SourcePhase.Paused DestPhase.Paused ran true (record { epoch = epoch; frame = Resume } ∷ rest) (record world { destination = record world.destination { ended = ended } }) in
+    IsSoundWorld old → IsSoundWorld (delivered old old.forward.frames)
+resume_by false ended epoch rest world kept = resume_waiting epoch rest (record world { destination = record world.destination { ended = ended } }) kept
+resume_by true false epoch rest world kept = resume_running epoch rest world kept
+resume_by true true epoch rest world kept = resume_ended epoch rest world kept
+
+pub resume_taken : (ran : Bool) (epoch : ℕ) (rest : List Sent) (world : World) →
+    let old : World = at_state SourcePhase.Paused DestPhase.Paused ran true (record { epoch = epoch; frame = Resume } ∷ rest) world in
+    IsSoundWorld old → IsSoundWorld (delivered old old.forward.frames)
+resume_taken ran epoch rest world kept = resume_by ran world.destination.ended epoch rest world kept
 
 -- A frame that is taken before the destination runs
 

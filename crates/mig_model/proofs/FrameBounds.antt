@@ -27,7 +27,7 @@ use Rattle.mig_model.specs.Bounds.{AreFewPages, ArePageBytes, ArePages, AreUrgen
 use Rattle.mig_model.proofs.ByteLemmas.{AreBytes, HasBytes, contents_bytes}
 use Rattle.mig_model.proofs.CommandLemmas.{length-contents}
 use Rattle.mig_model.proofs.Facts.{member_not_clean, no_page}
-use Rattle.mig_model.proofs.ResumeTaken.{pair-origins}
+use Rattle.mig_model.proofs.Delivery.{pair-origins}
 use Rattle.mig_model.proofs.RightCommands.{AllRight, right_commands}
 use Rattle.mig_model.proofs.SetSizes.{count_below-few, len-below}
 

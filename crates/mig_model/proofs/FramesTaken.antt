@@ -26,7 +26,7 @@ use Rattle.mig_model.proofs.Taken.{IsOwnEpoch, IsGood, IsTaken, IsInPlaceBack}
 use Rattle.mig_model.specs.Faults.{is_in_place}
 use Rattle.mig_model.proofs.Stopping.{no_member}
 use Rattle.mig_model.proofs.FirstFrame.{comes, first_in_place, nothing_behind}
-use Rattle.mig_model.proofs.EndTaken.{ended_now, nowhere, none_owed}
+use Rattle.mig_model.proofs.Delivery.{ended_now, nowhere, none_owed}
 use Rattle.mig_model.specs.Cpus.{outstanding}
 use Rattle.mig_model.specs.Log.{no_pages, present}
 use Rattle.mig_model.specs.Source.{Source, commands_of, is_source_paused, is_stopped, space_of}

@@ -27,8 +27,7 @@ use Rattle.mig_model.proofs.CommandLemmas.{memory-changed}
 use Rattle.mig_model.proofs.SpaceLemmas.{IsSoundSpace-accessed, IsSoundSpace-called, access_reply}
 use Rattle.mig_model.proofs.SourceKept.{source_holds, IsChanged, changed}
 use Rattle.mig_model.proofs.SourceMessages.{noted_all, events_queued, tells, is_unread-append, AreRight-append}
-use Rattle.mig_model.proofs.SourceCalls.{untouched}
-use Rattle.mig_model.proofs.SourceEvents.{IsUnregistered, right_messages, no_messages, modes_same, none_missing}
+use Rattle.mig_model.proofs.SourceCalls.{untouched, IsUnregistered, right_messages, no_messages, modes_same, none_missing}
 use Rattle.mig_model.specs.Cpus.{access_took, call_took, entries_of}
 use Rattle.mig_model.specs.Source.{space_of}
 use Rattle.mig_model.proofs.Facts.{none_absurd, queued_missing, queued_protect, entered_once, modes_events, some_either}
