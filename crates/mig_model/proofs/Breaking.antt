@@ -10,8 +10,7 @@ use Rattle.mig_model.specs.Migration.{World, has_started, after_break, after_not
 use Rattle.mig_model.specs.Invariant.{IsSoundWorld, IsSoundPushing, IsSoundLog, IsSoundFlight, AreSoundEpochs, SwitchedAt, RanAt, EpochAt, Wires, AreWhole, copies_of, AreFaithful, AreOf}
 use Rattle.mig_model.specs.Source.{is_released, is_source_idle, is_source_paused, space_of}
 use Rattle.mig_model.specs.Destination.{is_dest_paused}
-use Rattle.mig_model.proofs.HeldLemmas.{fits-more}
-use Rattle.mig_model.proofs.WireLemmas.{flight_up}
+use Rattle.mig_model.proofs.WireLemmas.{fits-more, flight_up}
 use Rattle.mig_model.proofs.Stopping.{in_phases}
 use Rattle.std.specs.FinMap as finmap
 

@@ -31,9 +31,8 @@ use Rattle.mig_model.specs.Log.{no_pages, present}
 use Rattle.mig_model.specs.Owed.{owed_after, settled_by}
 use Rattle.mig_model.specs.Source.{Source, released, space_of, rebuild_frames}
 use Rattle.mig_model.specs.Destination.{settled}
-use Rattle.mig_model.proofs.HeldLemmas.{fits-more, fits-none}
+use Rattle.mig_model.proofs.WireLemmas.{fits-more, fits-none, flight_up}
 use Rattle.mig_model.proofs.Facts.{and_second, not_up, no_page, eqb_other}
-use Rattle.mig_model.proofs.WireLemmas.{flight_up}
 use Rattle.mig_model.proofs.Stopping.{flow_open, log_stopped, pushing_stopped}
 use Rattle.mig_base.specs.Tests.{is_empty}
 

@@ -7,8 +7,7 @@ use Rattle.mig_model.specs.Migration.{World, first_world_with, next, after_steps
 use Rattle.mig_model.specs.Invariant.{IsSoundWorld, AreSoundUrgent}
 use Rattle.mig_model.specs.Promises.{IsReached, IsComplete}
 use Rattle.mig_model.proofs.Breaking.{kept-break, kept-notice_source, kept-notice_destination, kept-resume}
-use Rattle.mig_model.proofs.Stopping.{kept-push, kept-serve, kept-end}
-use Rattle.mig_model.proofs.SwitchMade.{kept-switch}
+use Rattle.mig_model.proofs.Stopping.{kept-push, kept-serve, kept-end, kept-switch}
 use Rattle.mig_model.proofs.FirstWorld.{kept-first}
 use Rattle.mig_model.proofs.DestinationCommands.{kept-command_at_destination}
 use Rattle.mig_model.proofs.SourceCommands.{kept-command_at_source}
@@ -18,13 +17,12 @@ use Rattle.mig_model.proofs.SourceHandler.{kept-source_read, kept-source_act}
 use Rattle.mig_model.proofs.Delivery.{kept-deliver}
 use Rattle.mig_model.proofs.DeliveryBack.{kept-deliver_back}
 use Rattle.mig_model.proofs.DestinationRead.{kept-dest_read}
-use Rattle.mig_model.proofs.DestinationAct.{kept-dest_act}
-use Rattle.mig_model.proofs.Installing.{kept-install}
+use Rattle.mig_model.proofs.DestinationAct.{kept-dest_act, kept-install}
 use Rattle.mig_model.proofs.StaysComplete.{complete-next}
 use Rattle.mig_model.proofs.StepLemmas.{Leaves, leaves-next}
 use Rattle.mig_model.proofs.StepCases.{made-break, made-deliver, made-deliver_back, made-dest_act, made-dest_read, made-end, made-install, made-issue, made-notice, made-push, made-resume, made-retry, made-round, made-send, made-send_run, made-serve, made-source_act, made-source_read, made-start, made-switch, made-deliver_urgent, made-push_urgent}
 use Rattle.mig_model.specs.Wire.{Sent}
-use Rattle.mig_model.proofs.HeldLemmas.{fits-moved}
+use Rattle.mig_model.proofs.WireLemmas.{fits-moved}
 use Rattle.mig_model.proofs.Facts.{none_absurd}
 use Rattle.mig_model.proofs.UrgentSteps.{urgent-first, urgent-next}
 use Rattle.mig_model.proofs.UrgentKept.{kept-deliver_urgent, kept-push_urgent}

@@ -5,19 +5,13 @@ pub mod CommandLemmas
 pub mod SpaceLemmas
 pub mod IoctlLemmas
 pub mod StepLemmas
-pub mod HeldLemmas
 pub mod TextLemmas
 pub mod StepCases
 pub mod Breaking
-pub mod SendingLemmas
-pub mod Stopping
-pub mod SwitchMade
 pub mod FirstWorld
 pub mod SettledLemmas
 pub mod FaultLemmas
 pub mod DestinationRead
-pub mod Installing
-pub mod DestinationAct
 pub mod ReplyOfLemmas
 pub mod SeenLemmas
 pub mod SettledCalls
@@ -27,7 +21,6 @@ pub mod ChangedLemmas
 pub mod PairLemmas
 pub mod TriedLemmas
 pub mod DestinationCommands
-pub mod WireLemmas
 pub mod FirstFrame
 pub mod PackageTaken
 pub mod DeliveryBack
@@ -84,3 +77,6 @@ pub mod Every
 pub mod Delivery
 pub mod SourceCalls
 pub mod SourceSending
+pub mod WireLemmas
+pub mod DestinationAct
+pub mod Stopping

@@ -29,9 +29,8 @@ use Rattle.mig_model.specs.Log.{no_pages}
 use Rattle.mig_model.specs.Owed.{own_places}
 use Rattle.mig_model.specs.Source.{Source, commands_of, space_of}
 use Rattle.mig_model.specs.Destination.{assembled, settled}
-use Rattle.mig_model.proofs.HeldLemmas.{fits-none}
+use Rattle.mig_model.proofs.WireLemmas.{fits-none, flight_up}
 use Rattle.mig_model.proofs.Facts.{none_or}
-use Rattle.mig_model.proofs.WireLemmas.{flight_up}
 use Rattle.mig_model.proofs.SourceRounds.{present_mapped}
 
 -- Owed pages at their own places

@@ -30,8 +30,7 @@ use Rattle.mig_model.proofs.Facts.{none_absurd, some_is}
 use Rattle.mig_model.specs.Host.{Host, memory}
 use Rattle.mig_model.specs.Ioctls.{put_pages}
 use Rattle.mig_model.proofs.IoctlLemmas.{get-put_pages}
-use Rattle.mig_model.proofs.Installing.{get-put_one}
-use Rattle.mig_model.proofs.DestinationAct.{byte_of, memory-reads}
+use Rattle.mig_model.proofs.DestinationAct.{get-put_one, byte_of, memory-reads}
 use Rattle.mig_base.proofs.ByteLemmas.{get_or-zero_page}
 use Rattle.mig_model.proofs.Facts.{missing_none, only_one, some_either}
 use Rattle.std.proofs.lemmas.Bool.{eqb-true}

@@ -29,8 +29,7 @@ use Rattle.mig_model.specs.Cpus.{is_idle}
 use Rattle.mig_model.specs.Log.{no_pages}
 use Rattle.mig_model.specs.Source.{Source, all_registered, for_both, is_precopy, is_source_idle, not_clean, source_started, space_of}
 use Rattle.mig_model.specs.Destination.{Destination}
-use Rattle.mig_model.proofs.HeldLemmas.{fits-more}
-use Rattle.mig_model.proofs.WireLemmas.{flight_up}
+use Rattle.mig_model.proofs.WireLemmas.{fits-more, flight_up}
 use Rattle.mig_model.proofs.Facts.{none_absurd, low_or, member_not_clean, and_true}
 
 -- The source makes rounds of pre-copy

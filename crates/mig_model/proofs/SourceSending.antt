@@ -15,7 +15,7 @@ use Rattle.mig_model.proofs.FirstFrame.{stays_late}
 use Rattle.mig_model.proofs.HostLemmas.{get-put}
 use Rattle.mig_model.specs.Migration.{next, World, after_run, after_send, is_changing, run_bound}
 use Rattle.mig_model.proofs.Facts.{none_absurd, zero_bytes, kept_page, copies_of-append, AreWhole-append, either, eqb-self, only_one, AreOf-one, no_event}
-use Rattle.mig_model.proofs.SendingLemmas.{has_no_package, copies_in-page, page_flow, flow_sent}
+use Rattle.mig_model.proofs.WireLemmas.{has_no_package, copies_in-page, page_flow, flow_sent, fits-append, flight_up}
 use Rattle.std.specs.FinSet as finset
 use Rattle.std.specs.FinSet.{FinSet, contains}
 use Rattle.std.proofs.lemmas.Bool.{and_parts, or_right}
@@ -34,8 +34,6 @@ use Rattle.mig_model.proofs.IoctlLemmas.{IsSoundSpace-protected}
 use Rattle.mig_model.proofs.SourceKept.{source_holds, IsNext, renewed, never_idle}
 use Rattle.mig_model.proofs.SourceHandler.{has_not_run, in_one_is}
 use Rattle.mig_model.proofs.SourceRounds.{precopy_unswitched, precopy_started, watched_below}
-use Rattle.mig_model.proofs.HeldLemmas.{fits-append}
-use Rattle.mig_model.proofs.WireLemmas.{flight_up}
 
 -- The frame of a page
 

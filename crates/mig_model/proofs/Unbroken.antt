@@ -32,7 +32,7 @@ use Rattle.mig_model.proofs.FlightPromises.{none_precopy, owed_at}
 use Rattle.mig_model.proofs.FramesTaken.{owed_in, with_first}
 use Rattle.mig_model.proofs.PromiseLemmas.{is_switching}
 use Rattle.mig_model.proofs.ReachedLemmas.{reached-after_steps, reached-next}
-use Rattle.mig_model.proofs.SendingLemmas.{has_package}
+use Rattle.mig_model.proofs.WireLemmas.{has_package, package_in-append}
 use Rattle.mig_model.proofs.SourceRounds.{precopy_unswitched}
 use Rattle.mig_model.proofs.StepCases.{made-break, made-deliver, made-deliver_back, made-dest_act, made-dest_read, made-end, made-install, made-issue, made-notice, made-push, made-resume, made-retry, made-round, made-send, made-send_run, made-serve, made-source_act, made-source_read, made-start, made-switch, made-deliver_urgent, made-push_urgent}
 use Rattle.mig_model.proofs.StepLemmas.{Leaves, holds-effect, leaves-next, leaves-ok}
@@ -40,7 +40,6 @@ use Rattle.mig_model.proofs.Stopping.{in_phases}
 use Rattle.mig_model.proofs.UrgentSteps.{runs_unstopped}
 use Rattle.mig_model.proofs.UrgentWire.{idle_unstopped, not_stopped, precopy_unstopped}
 use Rattle.mig_model.proofs.WaitingCommands.{acted_ran, installed_ran, package_told, same_ran, same_took, same_urgent}
-use Rattle.mig_model.proofs.WireLemmas.{package_in-append}
 
 -- From the Switch until the destination runs
 

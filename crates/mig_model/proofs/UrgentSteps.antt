@@ -25,8 +25,7 @@ use Rattle.mig_model.specs.Log.{no_pages, present}
 use Rattle.mig_model.specs.Owed.{home}
 use Rattle.mig_model.proofs.Facts.{AreFaithful-append, AreOf-one, and_second, copies_of-append}
 use Rattle.mig_model.proofs.StepCases.{made-break, made-deliver, made-deliver_back, made-deliver_urgent, made-dest_act, made-dest_read, made-end, made-install, made-issue, made-notice, made-push, made-push_urgent, made-resume, made-retry, made-round, made-send, made-send_run, made-serve, made-source_act, made-source_read, made-start, made-switch}
-use Rattle.mig_model.proofs.HeldLemmas.{fits-more, fits-moved, fits-none}
-use Rattle.mig_model.proofs.SendingLemmas.{copies_of-page}
+use Rattle.mig_model.proofs.WireLemmas.{fits-more, fits-moved, fits-none, copies_of-page}
 use Rattle.mig_model.proofs.Stopping.{not_ended, present_bytes}
 use Rattle.mig_model.proofs.FirstFrame.{comes, empty_not}
 use Rattle.mig_model.proofs.Delivery.{AllCame}
