@@ -37,8 +37,7 @@ use Rattle.mig_model.proofs.PackageTaken.{package_taken}
 use Rattle.mig_model.specs.Destination.{Destination}
 
 ends_by : (test : Bool) → cond test AfterEnd Pushed ≡ AfterEnd → test ≡ true
-ends_by true h = refl
-ends_by false h = absurd (let e : Pushed ≡ AfterEnd = h in cc)
+ends_by test h = grind arith
 
 -- a wire that gets past End is that of a source that has sent it in this epoch
 pub ended_now : (source : Source) → flow_of source ≡ AfterEnd → source.end_epoch ≡ source.epoch
@@ -250,8 +249,7 @@ copies_kept from epoch frame rest world kept on_wires =
 -- A Discard
 
 kept_whole_if : (test : Bool) (o : Option (List ℕ)) (held : List ℕ) → (o ≡ Some held → length held ≡ 4096) → cond test o None ≡ Some held → length held ≡ 4096
-kept_whole_if true o held whole h = whole h
-kept_whole_if false o held whole h = absurd (none-some held h)
+kept_whole_if test o held whole h = grind arith
 
 whole_discarded : (kept : FinMap nat_cmp (List ℕ)) (pages : FinSet nat_cmp) → ((q : ℕ) (held : List ℕ) → get kept q ≡ Some held → length held ≡ 4096) →
     (q : ℕ) (held : List ℕ) → get (kept_after kept (Discard pages)) q ≡ Some held → length held ≡ 4096
@@ -273,13 +271,7 @@ discard_taken epoch pages rest world kept =
 
 -- it is no longer in flight, and has arrived
 came : (remains here flies waits : Bool) → (remains || (here || flies) || waits) ≡ true → (remains || flies || (waits || (here || false))) ≡ true
-came true here flies waits h = refl
-came false true true waits h = refl
-came false true false true h = refl
-came false true false false h = refl
-came false false true waits h = refl
-came false false false true h = refl
-came false false false false h = absurd (false≢true h)
+came remains here flies waits h = grind arith
 
 copy_arrives : (epoch : ℕ) (frame : Frame) (copy : Copy) (rest : List Sent) (world : World) →
     let old : World = at_state SourcePhase.Stopped DestPhase.Running true true (record { epoch = epoch; frame = frame } ∷ rest) world in

@@ -1,5 +1,5 @@
 -- The source takes a frame of the wire back: a request, a Recv, and Done, with which it is released.
-use Rattle.std.proofs.Common.{◌≡◌, ◌≢◌, ℕ, ◌/◌, ◌&&◌, ◌||◌, Bool, true, false, cond, ltb, Option, Some, None, is_some, List, [], ◌∷◌, refl, sym, ap, ◌∙◌, ◌⊎◌, inl, subst}
+use Rattle.std.proofs.Common.{◌≡◌, ◌≢◌, ℕ, ◌/◌, ◌&&◌, ◌||◌, Bool, true, false, cond, ltb, Option, Some, None, is_some, List, [], ◌∷◌, refl, sym, ap, ◌∙◌, ◌⊎◌, inl, subst, arith}
 use Rattle.std.specs.Ordering.{nat_cmp}
 use Rattle.std.specs.FinMap as finmap
 use Rattle.std.specs.FinMap.{FinMap, get, contains_key, get-empty}
@@ -57,9 +57,7 @@ request_taken to ran switched epoch page rest world kept on_wires =
 
 -- where nothing is owed, nothing is owed once the events are read
 cond_same : (b c : Bool) (x : Option ℕ) → cond b x (cond c x x) ≡ x
-cond_same true c x = refl
-cond_same false true x = refl
-cond_same false false x = refl
+cond_same b c x = grind arith
 
 nothing_after : (message : Message) → owed_after message (λ _. None) ≡ (λ _. None)
 nothing_after (Remap from to len) = λ i page. cond_same (in_range (to / 4096) (len / 4096) page) (in_range (from / 4096) (len / 4096) page) None i
@@ -142,8 +140,7 @@ recv_precopy owed epoch rest world kept last =
 
 -- where End was not sent in this epoch
 either_way : (b : Bool) (o : Option (List ℕ)) → o ≡ cond b o o
-either_way true o = refl
-either_way false o = refl
+either_way b o = grind arith
 
 all_owed : (low : Bool) (o : Option (List ℕ)) → (low ≡ false → o ≡ None) → None ≡ cond (low && is_some o) None o
 all_owed low None none = either_way (low && false) None
@@ -241,8 +238,7 @@ at_ended true true forward back world kept =
     (λ k. released_kept SourcePhase.Paused [] (record { epoch = r.epoch; frame = Recv Received.Ended r.owed } ∷ r.rest) r.rest world k refl (r.alone (λ e. cc))) kept
 
 or_none : (b : Bool) → (b || false) ≡ true → b ≡ true
-or_none true h = refl
-or_none false h = absurd (false≢true h)
+or_none b h = grind arith
 
 is_last : (rest : List Sent) → is_empty rest ≡ true → rest ≡ []
 is_last [] h = refl

@@ -55,9 +55,7 @@ get-without : (owed : FinMap nat_cmp ℕ) (page q : ℕ) → get (finmap.remove 
 get-without owed page q = get-remove nat_cmp_total owed page q ∙ ap (λ b. cond b None (get owed q)) (unsigned_tied q page)
 
 none_protected : (low old : Bool) → old ≡ false → (low && (old || false)) ≡ false
-none_protected false old h = refl
-none_protected true true h = h
-none_protected true false h = refl
+none_protected low old h = grind arith
 
 -- a space in which no page is protected, once a missing page is put
 pub put-unprotected : (space : Space) (page : ℕ) (bytes : List ℕ) → ((q : ℕ) → contains space.protected q ≡ false) → (q : ℕ) → contains (pages_installed space page 1 (λ i. bytes) false).protected q ≡ false
@@ -73,8 +71,7 @@ put-sound space page bytes mapped whole sound =
     }) sound
 
 still_missing : (here : Bool) (bytes : List ℕ) (o : Option (List ℕ)) → here ≡ false → is_some o ≡ false → is_some (cond here (Some bytes) o) ≡ false
-still_missing true bytes o h k = absurd (false≢true (sym h))
-still_missing false bytes o h k = k
+still_missing here bytes o h k = grind arith
 
 -- any other page that was missing still is
 pub put-missing : (space : Space) (page q : ℕ) (bytes : List ℕ) → eqb q page ≡ false → is_present space q ≡ false → is_present (pages_installed space page 1 (λ i. bytes) false) q ≡ false
@@ -87,8 +84,7 @@ seen_by own other = elim own [ Some bytes ↦ Some bytes | None ↦ other ]
 
 seen_there : (here : Bool) (bytes : List ℕ) (own : Option (List ℕ)) (owed : Option ℕ) (there : ℕ → Option (List ℕ)) → (here ≡ true → own ≡ None) → (here ≡ true → option_and_then there owed ≡ Some bytes) →
     seen_by (cond here (Some bytes) own) (option_and_then there (cond here None owed)) ≡ seen_by own (option_and_then there owed)
-seen_there true bytes own owed there none same = sym (ap (λ o. seen_by o (option_and_then there owed)) (none refl) ∙ same refl)
-seen_there false bytes own owed there none same = refl
+seen_there here bytes own owed there none same = grind arith
 
 -- the page that is put there is the one that was read through to the source
 seen-put : (here there : Host) (owed : FinMap nat_cmp ℕ) (page origin q : ℕ) (bytes : List ℕ) → get here.bytes page ≡ None → get owed page ≡ Some origin → get there.bytes origin ≡ Some bytes →
@@ -109,15 +105,13 @@ memory-put here there owed page origin bytes none pair same =
 -- The pairs that are left
 
 left_pair : (here : Bool) (o : Option ℕ) (origin : ℕ) → cond here None o ≡ Some origin → (here ≡ false) × (o ≡ Some origin)
-left_pair true o origin h = absurd (none-some origin h)
-left_pair false o origin h = (refl, h)
+left_pair here o origin h = grind arith
 
 left : (owed : FinMap nat_cmp ℕ) (page q origin : ℕ) → get (finmap.remove owed page) q ≡ Some origin → (eqb q page ≡ false) × (get owed q ≡ Some origin)
 left owed page q origin h = left_pair (eqb q page) (get owed q) origin (sym (get-without owed page q) ∙ h)
 
 behind_first : (first rest : Bool) → (first ≡ true → ⊥) → (first || rest) ≡ true → rest ≡ true
-behind_first true rest not_first h = absurd (not_first refl)
-behind_first false rest not_first h = h
+behind_first first rest not_first h = grind arith
 
 -- The step
 
@@ -276,8 +270,7 @@ zero_reads true own other i none nothing = get_or-zero_page i ∙ sym (ap (λ o.
 zero_reads false own other i none nothing = refl
 
 below_reads : (low : Bool) (a b : Option (List ℕ)) (i : ℕ) → byte_of a i ≡ byte_of b i → byte_of (cond low a None) i ≡ byte_of (cond low b None) i
-below_reads true a b i h = h
-below_reads false a b i h = refl
+below_reads low a b i h = grind arith
 
 pub memory-zero : (here there : Host) (owed : ℕ → Option ℕ) (page : ℕ) → get here.bytes page ≡ None → owed page ≡ None →
     memory (seen_host (record here { bytes = put_pages here.bytes page 1 (λ i. zero_page) }) there owed) ≡ memory (seen_host here there owed)
@@ -368,8 +361,7 @@ only_woken world processors held requests kept runs =
     (assumption (same_pairs world.destination.owed, kept.owing.arrivals_faithful runs))
 
 other_page : (here : Bool) (o : Option ℕ) (origin : ℕ) → (here ≡ true → o ≡ None) → o ≡ Some origin → here ≡ false
-other_page true o origin none h = absurd (none-some origin (sym (none refl) ∙ h))
-other_page false o origin none h = refl
+other_page here o origin none h = grind arith
 
 -- a page of zeros is put at a missing page that is owed from nowhere
 zeros_put : (fault : Fault) (rest : List Fault) (world : World) → IsSoundWorld (at_held [] (fault ∷ rest) world) → world.destination.has_run ≡ true → contains_key world.destination.guest.space.host.areas fault.page ≡ true →
@@ -390,8 +382,7 @@ zeros_put fault rest world kept runs mapped missing nothing =
     (assumption (same_pairs owed, kept.owing.arrivals_faithful runs))
 
 not_or : (a b : Bool) → (not a || not b) ≡ false → a ≡ true
-not_or true b h = refl
-not_or false b h = none_absurd (sym h)
+not_or a b h = grind arith
 
 act_in : (forgotten present : Bool) (o : Option ℕ) (fault : Fault) (rest : List Fault) (world : World) → IsSoundWorld (at_held [] (fault ∷ rest) world) → world.destination.has_run ≡ true →
     is_forgotten (at_held [] (fault ∷ rest) world).destination.guest.space fault.page ≡ forgotten → is_present world.destination.guest.space fault.page ≡ present → get world.destination.owed fault.page ≡ o →

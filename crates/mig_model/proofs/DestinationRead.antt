@@ -1,5 +1,5 @@
 -- What a step of the destination's handler has to show, and that a message that is read keeps what every world keeps.
-use Rattle.std.proofs.Common.{◌≡◌, set, ℕ, ◌+◌, ◌/◌, ◌<◌, ◌||◌, Bool, true, false, Some, None, List, [], ◌∷◌, ◌++◌, refl, sym, ap, ◌∙◌, subst}
+use Rattle.std.proofs.Common.{◌≡◌, set, ℕ, ◌+◌, ◌/◌, ◌<◌, ◌||◌, Bool, true, false, Some, None, List, [], ◌∷◌, ◌++◌, refl, sym, ap, ◌∙◌, subst, arith}
 use Rattle.std.specs.Ordering.{nat_cmp}
 use Rattle.std.specs.FinMap as finmap
 use Rattle.std.specs.FinMap.{FinMap, get, get-empty}
@@ -75,9 +75,7 @@ still_receiving source node new state back values old =
     }
 
 last_of_three : (a b c d : Bool) → (c ≡ true → d ≡ true) → (a || b || c) ≡ true → (a || b || d) ≡ true
-last_of_three true b c d h k = k
-last_of_three false true c d h k = k
-last_of_three false false c d h k = h k
+last_of_three a b c d h k = grind arith
 
 still_flowing : (source : Source) (node new : Destination) (forward urgent : List Sent) → ((page origin : ℕ) → get new.owed page ≡ Some origin → (other : ℕ) × (get node.owed other ≡ Some origin)) →
     ((page origin : ℕ) → get new.owed page ≡ Some origin → has_copy node.arrivals origin ≡ true → has_copy new.arrivals origin ≡ true) → IsFlowing source node forward urgent → IsFlowing source new forward urgent

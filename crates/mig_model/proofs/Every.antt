@@ -1,5 +1,5 @@
 -- A command, Start, Switch, End and what a node takes from a wire keep what every world keeps; so does every list of steps.
-use Rattle.std.proofs.Common.{◌≡◌, ℕ, Bool, true, sym, ◌+◌, false, List, [], ◌∷◌, ◌++◌, refl, ap, ◌∙◌, subst, ◌==◌, ◌^◌, ◌-◌, ◌||◌, not, ltb, Option, Some, None}
+use Rattle.std.proofs.Common.{◌≡◌, ℕ, Bool, true, sym, ◌+◌, false, List, [], ◌∷◌, ◌++◌, refl, ap, ◌∙◌, subst, ◌==◌, ◌^◌, ◌-◌, ◌||◌, not, ltb, Option, Some, None, arith}
 use Rattle.std.proofs.lemmas.Bool.{false≢true}
 use Rattle.mig_base.specs.declared.command.Command.{Command}
 use Rattle.mig_base.specs.declared.step.SourcePhase.{SourcePhase}
@@ -243,8 +243,7 @@ by_refusal P None old new kept h = h refl
 by_refusal P (Some refusal) old new kept h = kept
 
 pub not_false : (b : Bool) → not b ≡ false → b ≡ true
-not_false true h = refl
-not_false false h = sym h
+not_false b h = grind arith
 
 -- the first and the second test that no step passes which is accepted
 pub first_test : (a : Bool) (r : Refusal) (more : List (Bool × Refusal)) → first_holding ((a, r) ∷ more) ≡ None → a ≡ false
@@ -257,8 +256,7 @@ second_test false true r s h = absurd (cc)
 second_test false false r s h = refl
 
 either_false : (a b : Bool) → (not a || b) ≡ false → (a ≡ true) × (b ≡ false)
-either_false true b h = (refl, h)
-either_false false b h = absurd (false≢true (sym h))
+either_false a b h = grind arith
 
 pub IsKept-next : (world : World) (step : Step) → IsKept world → IsKept (next world step)
 unfolding next

@@ -47,8 +47,7 @@ are_copies_of page (Some bytes) = is_copy (list_all (λ byte. eqb byte 0) bytes)
 
 kept_page : (b : Bool) (kept : FinMap nat_cmp (List ℕ)) (page : ℕ) (bytes : List ℕ) → (b ≡ true → bytes ≡ zero_page) →
     kept_after kept (if b then Zero page else Page page bytes) ≡ insert kept page bytes
-kept_page true kept page bytes h = ap (insert kept page) (sym (h refl))
-kept_page false kept page bytes h = refl
+kept_page b kept page bytes h = grind arith
 
 get-kept_frame : (kept : FinMap nat_cmp (List ℕ)) (page : ℕ) (o : Option (List ℕ)) → ((bytes : List ℕ) → o ≡ Some bytes → length bytes ≡ 4096) → (q : ℕ) →
     get (kept_by kept (frames_of page o)) q ≡ cond (eqb q page && is_some o) o (get kept q)

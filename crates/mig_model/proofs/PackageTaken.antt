@@ -50,9 +50,7 @@ get-own_places owed (suc bound) q =
     ∙ placed owed bound q
 
 own_tells : (low owed : Bool) (q origin : ℕ) → cond (low && owed) (Some q) None ≡ Some origin → (low ≡ true) × (owed ≡ true) × (origin ≡ q)
-own_tells true true q origin h = (refl, refl, sym (same_Some q origin h))
-own_tells true false q origin h = absurd (none-some origin h)
-own_tells false owed q origin h = absurd (none-some origin h)
+own_tells low owed q origin h = grind arith
 
 -- what a pair of the table tells
 pub own_place : (owed : FinSet nat_cmp) (page origin : ℕ) → get (own_places owed HIGH_PAGE) page ≡ Some origin → (page < HIGH_PAGE) × (contains owed page ≡ true) × (origin ≡ page)
@@ -63,15 +61,10 @@ own_place owed page origin h =
 -- The space that is put together
 
 missing_by : (low mapped empty : Bool) → empty ≡ false → (low && cond (mapped && not ((false || empty) && (true || empty))) true empty) ≡ (low && mapped)
-missing_by low mapped true h = absurd (false≢true (sym h))
-missing_by low true false h = refl
-missing_by low false false h = refl
+missing_by low mapped empty h = grind arith
 
 protect_by : (low mapped empty : Bool) → empty ≡ false → (low && cond (mapped && not ((false || empty) && (true || empty))) false empty) ≡ false
-protect_by low mapped true h = absurd (false≢true (sym h))
-protect_by true true false h = refl
-protect_by true false false h = refl
-protect_by false mapped false h = refl
+protect_by low mapped empty h = grind arith
 
 pub assembled_missing : (areas : FinMap nat_cmp Prot) (kept : FinMap nat_cmp (List ℕ)) (page : ℕ) → contains (assembled areas kept).object.missing page ≡ (ltb page HIGH_PAGE && contains_key areas page)
 assembled_missing areas kept page = member_below _ HIGH_PAGE page ∙ missing_by (ltb page HIGH_PAGE) (contains_key areas page) (contains {R = nat_cmp} no_pages page) (contains-empty nat_cmp page)
@@ -80,9 +73,7 @@ pub assembled_protect : (areas : FinMap nat_cmp Prot) (kept : FinMap nat_cmp (Li
 assembled_protect areas kept page = member_below _ HIGH_PAGE page ∙ protect_by (ltb page HIGH_PAGE) (contains_key areas page) (contains {R = nat_cmp} no_pages page) (contains-empty nat_cmp page)
 
 and_second : (a b : Bool) → ((a && b) || false) ≡ true → b ≡ true
-and_second true true h = refl
-and_second true false h = absurd (false≢true h)
-and_second false b h = absurd (false≢true h)
+and_second a b h = grind arith
 
 pub IsSoundSpace-assembled : (areas : FinMap nat_cmp Prot) (kept : FinMap nat_cmp (List ℕ)) → IsSound (record { areas = areas; bytes = kept }) → IsSoundSpace (assembled areas kept)
 IsSoundSpace-assembled areas kept sound =
@@ -135,9 +126,7 @@ seen_source host owed areas kept same rest sound =
 -- The step
 
 or_more : (a b c : Bool) → (a || b) ≡ true → (a || b || c) ≡ true
-or_more true b c h = refl
-or_more false true c h = refl
-or_more false false c h = absurd (false≢true h)
+or_more a b c h = grind arith
 
 owed_none : (owed : Bool) (o : Option (List ℕ)) → owed ≡ true → cond owed None o ≡ None
 owed_none owed o h = ap (λ b. cond b None o) h

@@ -62,8 +62,7 @@ unwatched object owed first count page inside un low high =
     owed_none owed (is_registered object) page inside (subst (λ q. is_registered object q ≡ false) at free)
 
 gone_none : (b : Bool) (o : Option ℕ) → (b ≡ true → o ≡ None) → o ≡ cond b None o
-gone_none true o h = h refl
-gone_none false o h = refl
+gone_none b o h = grind arith
 
 -- the pairs of a range that goes end, whether a page of it was registered or not
 pub told_gone : (b w : Bool) (object : Object) (owed : ℕ → Option ℕ) (first count : ℕ) (message : Message) → w ≡ is_watched object first count → AreInside object owed →
@@ -75,9 +74,7 @@ told_gone true false object owed first count message is inside right =
     (gone_none (in_range first count page) (owed page) (λ h. let r = in_range_first first count page h in unwatched object owed first count page inside (sym is) r.0 r.1)) i
 
 shifted_none : (b c : Bool) (o p : Option ℕ) → (b ≡ true → (o ≡ None) × (p ≡ None)) → (c ≡ true → o ≡ None) → o ≡ cond b p (cond c None o)
-shifted_none true c o p h g = let both = h refl in both.0 ∙ sym both.1
-shifted_none false true o p h g = g refl
-shifted_none false false o p h g = refl
+shifted_none b c o p h g = grind arith
 
 -- and those of a range that moves move
 pub told_shifted : (b w : Bool) (object : Object) (owed : ℕ → Option ℕ) (from to count : ℕ) (message : Message) → w ≡ is_watched object from count → AreInside object owed →

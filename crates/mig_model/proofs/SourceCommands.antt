@@ -1,5 +1,5 @@
 -- A command that is tried at the source, before it has stopped, keeps what every world keeps.
-use Rattle.std.proofs.Common.{◌≡◌, append-nil, ℕ, ◌/◌, ◌&&◌, ◌||◌, Bool, true, false, cond, not, eqb, if◌then◌else◌, Some, List, [], ◌∷◌, ◌++◌, refl, sym, ap, ◌∙◌, subst, is_some}
+use Rattle.std.proofs.Common.{◌≡◌, append-nil, ℕ, ◌/◌, ◌&&◌, ◌||◌, Bool, true, false, cond, not, eqb, if◌then◌else◌, Some, List, [], ◌∷◌, ◌++◌, refl, sym, ap, ◌∙◌, subst, is_some, arith}
 use Rattle.std.specs.Ordering.{nat_cmp}
 use Rattle.std.specs.FinMap.{FinMap, get, insert, contains_key}
 use Rattle.std.specs.FinSet.{contains}
@@ -42,9 +42,7 @@ present_after host (Store addr width value) _ page access h = h
 present_after host _ reply page access h = none_absurd access
 
 never_answered : (missing protect : Bool) (reply other : Reply) → protect ≡ true → cond missing Missing (cond protect Protected (Answered reply)) ≡ Answered other → ⊥
-never_answered true protect reply other p h = cc
-never_answered false true reply other p h = cc
-never_answered false false reply other p h = false≢true p
+never_answered missing protect reply other p h = grind arith
 
 other_page : (bytes : FinMap nat_cmp (List ℕ)) (page q : ℕ) (held : List ℕ) → eqb q page ≡ false → get (insert bytes page held) q ≡ get bytes q
 other_page bytes page q held other = get-put bytes page q held ∙ ap (λ b. cond b (Some held) (get bytes q)) other

@@ -134,8 +134,7 @@ record IsWatched (space : Space) (page : ℕ) : Type 0 where
   protect : contains space.object.protect page ≡ true
 
 either_same : (a b : Bool) → a ≡ b → (a || b) ≡ true → b ≡ true
-either_same true b e h = sym e
-either_same false b e h = h
+either_same a b e h = grind arith
 
 is_watched : (space : Space) (page : ℕ) → contains space.object.missing page ≡ contains space.object.protect page → is_forgotten space page ≡ false → IsWatched space page
 is_watched space page both h =
@@ -150,10 +149,7 @@ unprotected_is true present protected h = absurd (cc)
 unprotected_is false present protected h = refl
 
 zeroed_is : (forgotten present protected : Bool) → source_act_by forgotten present protected ≡ Zeroed → (forgotten ≡ false) × (present ≡ false)
-zeroed_is true present protected h = absurd (cc)
-zeroed_is false true true h = absurd (cc)
-zeroed_is false true false h = absurd (cc)
-zeroed_is false false protected h = (refl, refl)
+zeroed_is forgotten present protected h = grind arith
 
 not_in_one : (page q : ℕ) → eqb q page ≡ false → in_range page 1 q ≡ false
 not_in_one page q h = grind (arith, nat_tests)

@@ -1,5 +1,5 @@
 -- What a step of a source that has not stopped has to keep, so that the world keeps all of its invariant.
-use Rattle.std.proofs.Common.{◌≡◌, ◌≢◌, ℕ, ◌≤◌, Bool, true, false, Option, Some, None, List, [], refl, sym, ap, ◌∙◌, ◌⊎◌}
+use Rattle.std.proofs.Common.{◌≡◌, ◌≢◌, ℕ, ◌≤◌, Bool, true, false, Option, Some, None, List, [], refl, sym, ap, ◌∙◌, ◌⊎◌, arith}
 use Rattle.std.specs.Ordering.{nat_cmp}
 use Rattle.std.specs.FinMap as finmap
 use Rattle.std.specs.FinMap.{FinMap, get, get-empty}
@@ -56,8 +56,7 @@ pub record IsNext (world : World) (source : Source) (forward : List Sent) (trans
   pub held : HeldFits forward world.forward.held
 
 pub current_before : (ran : Bool) (here there : Host) (owed : ℕ → Option ℕ) → ran ≡ false → current_by ran here there owed ≡ there
-current_before true here there owed h = none_absurd (sym h)
-current_before false here there owed h = refl
+current_before ran here there owed h = grind arith
 
 -- the memory of the source is the guest's
 pub source_holds : (world : World) → IsSoundWorld world → world.destination.has_run ≡ false → memory (space_of world.source).host ≡ memory_of world.transcript

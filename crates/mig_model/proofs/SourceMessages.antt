@@ -64,8 +64,7 @@ untold true changed message page is reasoned h = sym is ∙ (or_parts (is_change
 untold false changed message page is reasoned h = none_absurd reasoned
 
 watched_by : (none : Bool) → (none ≡ true → ⊥) → not none ≡ true
-watched_by true never = absurd (never refl)
-watched_by false never = refl
+watched_by none never = grind arith
 
 watched_page : (object : Object) (first count page : ℕ) → is_registered object page ≡ true → in_range first count page ≡ true → is_watched object first count ≡ true
 watched_page object first count page registered inside =

@@ -52,12 +52,7 @@ registered_modes space both =
     ap (λ s. pages_where (λ page. if is_mapped_in space 0 HIGH_PAGE page && not (has_modes space.object page for_both) then true else contains s page)) (same_members space.object.missing space.object.protect both)
 
 registered_now : (low test missing protect : Bool) → low ≡ true → test ≡ true → (low && cond (test && not (missing && protect)) true protect) ≡ true
-registered_now false test missing protect low is = none_absurd low
-registered_now true false missing protect low is = none_absurd is
-registered_now true true true true low is = refl
-registered_now true true true false low is = refl
-registered_now true true false true low is = refl
-registered_now true true false false low is = refl
+registered_now low test missing protect low_ is = grind arith
 
 whole_range : (page : ℕ) → page < HIGH_PAGE → in_range 0 HIGH_PAGE page ≡ true
 whole_range page h = grind (arith, nat_tests)

@@ -42,8 +42,7 @@ pub kept_after-page_frame : (kept : FinMap nat_cmp (List ℕ)) (page : ℕ) (byt
 kept_after-page_frame kept page bytes n = kept_page (list_all (λ byte. eqb byte 0) bytes) kept page bytes (zero_bytes bytes n)
 
 no_package_by : (b : Bool) (page : ℕ) (bytes : List ℕ) → is_package (if b then Zero page else Page page bytes) ≡ false
-no_package_by true page bytes = refl
-no_package_by false page bytes = refl
+no_package_by b page bytes = grind arith
 
 -- One more frame
 
@@ -56,8 +55,7 @@ pub kept_by-push : (wire : List Sent) (flow : Flow) (sent : Sent) (kept : FinMap
 kept_by-push wire flow sent kept h = (has_no_package flow kept wire (sent ∷ []) h).kept_then
 
 kept_one : (b : Bool) (kept new : FinMap nat_cmp (List ℕ)) → b ≡ false → (if b then kept else new) ≡ new
-kept_one true kept new h = none_absurd (sym h)
-kept_one false kept new h = refl
+kept_one b kept new h = grind arith
 
 -- the page's own bytes are the newest then
 pub kept_by-page : (wire : List Sent) (flow : Flow) (kept : FinMap nat_cmp (List ℕ)) (epoch page : ℕ) (bytes : List ℕ) → flow_after flow wire ≡ Some Copies → length bytes ≡ 4096 → (q : ℕ) →
@@ -105,9 +103,7 @@ present_bytes None zeros h = none_absurd h
 present_bytes (Some x) zeros h = refl
 
 pub protected_now : (low here present old : Bool) → low ≡ true → present ≡ true → (here || old) ≡ true → (low && cond here (true && present) old) ≡ true
-protected_now false here present old low is h = none_absurd low
-protected_now true true present old low is h = is
-protected_now true false present old low is h = h
+protected_now low here present old low_ is h = grind arith
 
 -- the pages are some of those to be sent, with no unread event
 record AreSent (space : Space) (first count : ℕ) : Type 0 where
@@ -161,16 +157,13 @@ still_after world first count clean kept unswitched are clean_is q h u =
     now (watched_below space q kept.spaces.source_space (kept.spaces.source_space.watched q was)) (kept.spaces.source_space.present q was) (or_right (in_range first count q) (contains space.protected q) was))
 
 here_or_before : (here : Bool) (bytes : List ℕ) (kept own : Option (List ℕ)) → (here ≡ true → Some bytes ≡ own) → (here ≡ false → kept ≡ own) → cond here (Some bytes) kept ≡ own
-here_or_before true bytes kept own first second = first refl
-here_or_before false bytes kept own first second = second refl
+here_or_before here bytes kept own first second = grind arith
 
 copied_or_before : (here : Bool) (bytes : List ℕ) (kept : Option (List ℕ)) → is_some (cond here (Some bytes) kept) ≡ true → (here ≡ true) ⊎ (is_some kept ≡ true)
-copied_or_before true bytes kept h = inl refl
-copied_or_before false bytes kept h = inr h
+copied_or_before here bytes kept h = grind arith
 
 was_clean : (here clean : Bool) → (here || clean) ≡ true → here ≡ false → clean ≡ true
-was_clean true clean h e = none_absurd (sym e)
-was_clean false clean h e = h
+was_clean here clean h e = grind arith
 
 -- the copies of the clean pages are right once those of these pages are behind them
 carried_copies : (source : Source) (first count : ℕ) (frame : Frame) (log : Log) (pages epoch : ℕ) (flow : Flow) (kept : FinMap nat_cmp (List ℕ)) (wire : List Sent) → AreSent (space_of source) first count →

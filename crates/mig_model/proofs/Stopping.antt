@@ -48,18 +48,13 @@ present_bytes (Some bytes) h = refl
 -- One copy more
 
 pub or_true : (a : Bool) → (a || true) ≡ true
-or_true true = refl
-or_true false = refl
+or_true a = grind arith
 
 or_last : (a b : Bool) → (a || (b || true)) ≡ true
-or_last true b = refl
-or_last false b = or_true b
+or_last a b = grind arith
 
 still_there : (remains urgent in_flight more : Bool) → ((remains || urgent) || in_flight) ≡ true → ((remains || urgent) || (in_flight || more)) ≡ true
-still_there true urgent in_flight more h = refl
-still_there false true in_flight more h = refl
-still_there false false true more h = refl
-still_there false false false more h = none_absurd h
+still_there remains urgent in_flight more h = grind arith
 
 -- a page that was pushed is in flight where it remained
 pushed_whereabouts : (remaining : FinSet nat_cmp) (urgent : List Sent) (copies : List Copy) (page q : ℕ) (bytes : List ℕ) → (is_urgent_or_left remaining urgent q || has_copy copies q) ≡ true →
@@ -73,16 +68,10 @@ pushed_whereabouts remaining urgent copies page q bytes h =
     (same_or_other q page)
 
 three_there : (remains urgent in_flight here more : Bool) → ((remains || urgent) || in_flight || here) ≡ true → ((remains || urgent) || (in_flight || more) || here) ≡ true
-three_there true urgent in_flight here more h = refl
-three_there false true in_flight here more h = refl
-three_there false false true here more h = refl
-three_there false false false here true h = refl
-three_there false false false here false h = h
+three_there remains urgent in_flight here more h = grind arith
 
 or_middle : (a b c : Bool) → (a || (b || true) || c) ≡ true
-or_middle true b c = refl
-or_middle false true c = refl
-or_middle false false c = refl
+or_middle a b c = grind arith
 
 pushed_flowing : (remaining : FinSet nat_cmp) (urgent : List Sent) (copies arrivals : List Copy) (page q : ℕ) (bytes : List ℕ) → (is_urgent_or_left remaining urgent q || has_copy copies q || has_copy arrivals q) ≡ true →
     (is_urgent_or_left (finset.remove remaining page) urgent q || has_copy (copies ++ record { page = page; bytes = bytes } ∷ []) q || has_copy arrivals q) ≡ true
@@ -174,8 +163,7 @@ log_stopped source switched =
     }
 
 both_true : (a b : Bool) → (not a && b) ≡ true → b ≡ true
-both_true true b h = none_absurd h
-both_true false b h = h
+both_true a b h = grind arith
 
 pub was_there : (remaining : FinSet nat_cmp) (page q : ℕ) → contains (finset.remove remaining page) q ≡ true → contains remaining q ≡ true
 was_there remaining page q h = both_true (eqb q page) (contains remaining q) (sym (member_removed remaining page q) ∙ h)
@@ -304,8 +292,7 @@ pub member_less : (set other : FinSet nat_cmp) (q : ℕ) → contains (less set 
 member_less set other q = contains-retain set (λ page. not (contains other page)) q (λ x e. ap (λ k. not (contains other k)) (sym (nat_cmp-IsAntisymmetric q x e)))
 
 cond_not : {A : Type 0} (b : Bool) (x y : A) → cond (not b) x y ≡ cond b y x
-cond_not true x y = refl
-cond_not false x y = refl
+cond_not b x y = grind arith
 
 pub get-discarded : (kept : FinMap nat_cmp (List ℕ)) (pages : FinSet nat_cmp) (q : ℕ) → get (kept_after kept (Discard pages)) q ≡ cond (contains pages q) None (get kept q)
 get-discarded kept pages q =
@@ -318,10 +305,7 @@ gone_or_none false None h = refl
 gone_or_none false (Some bytes) h = none_absurd (h refl)
 
 owed_or_none : (low present : Bool) (bytes : Option (List ℕ)) → present ≡ is_some bytes → (present ≡ true → low ≡ true) → None ≡ cond (low && present) None bytes
-owed_or_none true true bytes is low = refl
-owed_or_none false true bytes is low = none_absurd (low refl)
-owed_or_none true false bytes is low = sym (missing_none bytes (sym is))
-owed_or_none false false bytes is low = sym (missing_none bytes (sym is))
+owed_or_none low present bytes is low_ = grind arith
 
 -- one page: what is kept of it once it was discarded or not is its bytes, unless it is owed
 rest_of : (clean sent low present : Bool) (k bytes : Option (List ℕ)) → (clean ≡ true → k ≡ bytes) → (is_some k ≡ true → sent ≡ true) → present ≡ is_some bytes → (present ≡ true → low ≡ true) →

@@ -88,16 +88,14 @@ kept_by-append kept (sent ∷ a) b =
 -- The wire back
 
 and_assoc : (a b c : Bool) → (a && (b && c)) ≡ ((a && b) && c)
-and_assoc true b c = refl
-and_assoc false b c = refl
+and_assoc a b c = grind arith
 
 pub are_requests-append : (a b : List Sent) → are_requests (a ++ b) ≡ (are_requests a && are_requests b)
 are_requests-append [] b = refl
 are_requests-append (sent ∷ a) b = ap (λ t. is_request sent.frame && t) (are_requests-append a b) ∙ and_assoc (is_request sent.frame) (are_requests a) (are_requests b)
 
 done_step : (here before after : Bool) (x : Bool) → (before ≡ true → after ≡ true) → (here && before) ≡ true → ((here && after) || x) ≡ true
-done_step true before after x h e = ap (λ t. t || x) (h e)
-done_step false before after x h e = absurd (false≢true e)
+done_step here before after x h e = grind arith
 
 -- a Done behind requests
 pub are_requests_and_done-push : (wire : List Sent) (sent : Sent) → is_done sent.frame ≡ true → are_requests wire ≡ true → are_requests_and_done (wire ++ sent ∷ []) ≡ true
@@ -213,8 +211,7 @@ has_no_package flow kept wire more h =
 
 -- the copy in it has the page's bytes
 page_copy : (zeros : Bool) (page : ℕ) (bytes : List ℕ) → (zeros ≡ true → bytes ≡ zero_page) → copies_in (cond zeros (Zero page) (Page page bytes)) ≡ record { page = page; bytes = bytes } ∷ []
-page_copy true page bytes h = ap (λ b. record { page = page; bytes = b } ∷ []) (sym (h refl))
-page_copy false page bytes h = refl
+page_copy zeros page bytes h = grind arith
 
 pub copies_in-page : (page : ℕ) (bytes : List ℕ) → length bytes ≡ 4096 → copies_in (page_frame page bytes) ≡ record { page = page; bytes = bytes } ∷ []
 copies_in-page page bytes whole = page_copy (list_all (λ byte. eqb byte 0) bytes) page bytes (λ e. zero_bytes bytes whole e)
@@ -224,8 +221,7 @@ copies_of-page epoch page bytes whole = ap (λ copies. copies ++ []) (copies_in-
 
 -- it is a copy in the order of frames
 frame_flow : (zeros : Bool) (page : ℕ) (bytes : List ℕ) → (flow_next Copies (cond zeros (Zero page) (Page page bytes)) ≡ Some Copies) × (flow_next Pushed (cond zeros (Zero page) (Page page bytes)) ≡ Some Pushed)
-frame_flow true page bytes = (refl, refl)
-frame_flow false page bytes = (refl, refl)
+frame_flow zeros page bytes = grind arith
 
 pub page_flow : (page : ℕ) (bytes : List ℕ) → (flow_next Copies (page_frame page bytes) ≡ Some Copies) × (flow_next Pushed (page_frame page bytes) ≡ Some Pushed)
 page_flow page bytes = frame_flow (list_all (λ byte. eqb byte 0) bytes) page bytes
