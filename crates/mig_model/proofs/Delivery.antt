@@ -52,8 +52,7 @@ nowhere remaining rest urgent arrivals origin none last came free h =
     ∙ sym (λ i. is_urgent_or_left (none i) (came i) origin || has_copy (copies_of (last i)) origin || has_copy (free i) origin) ∙ h)
 
 pub none_owed : {X : Type 0} (o : Option X) → ((x : X) → o ≡ Some x → ⊥) → o ≡ None
-none_owed None never = refl
-none_owed (Some x) never = absurd (never x refl)
+none_owed o x = grind arith
 
 pub end_taken : (epoch count : ℕ) (rest : List Sent) (world : World) →
     let old : World = at_state SourcePhase.Stopped DestPhase.Running true true (record { epoch = epoch; frame = End count } ∷ rest) world in

@@ -143,9 +143,7 @@ either_way : (b : Bool) (o : Option (List ℕ)) → o ≡ cond b o o
 either_way b o = grind arith
 
 all_owed : (low : Bool) (o : Option (List ℕ)) → (low ≡ false → o ≡ None) → None ≡ cond (low && is_some o) None o
-all_owed low None none = either_way (low && false) None
-all_owed true (Some bytes) none = refl
-all_owed false (Some bytes) none = sym (none refl)
+all_owed low o none = grind arith
 
 nothing_kept : (kept : FinMap nat_cmp (List ℕ)) (page : ℕ) → kept ≡ finmap.empty → get (kept_after kept (Discard no_pages)) page ≡ None
 nothing_kept kept page h =

@@ -25,6 +25,7 @@ use Rattle.mig_base.specs.declared.step.Step.TheVariants as step
 use Rattle.mig_base.specs.declared.step.Refusal.{Refusal}
 use Rattle.mig_base.specs.declared.step.Refusal.TheVariants.{NoCpu, Phase, CountUsed}
 use Rattle.mig_base.specs.Tests.{first_holding}
+use Rattle.mig_model.specs.Host.{host_after, bare_host}
 
 -- where the source has stopped and the destination does not run, no command is taken. Elsewhere what the wires hold does not
 -- depend on the host that answers
@@ -34,32 +35,16 @@ issued_in source.Stopped destination.Idle ends world cpu command may kept = absu
 issued_in source.Stopped destination.Advised ends world cpu command may kept = absurd (false≢true may)
 issued_in source.Stopped destination.Discarding ends world cpu command may kept = absurd (false≢true may)
 issued_in _ destination.Running ends world cpu command may kept =
-    record {
-      source_sound = kept.source_sound;
-      destination_sound = sound_after world.destination.host command kept.destination_sound;
-      flat = flat_after world.destination.host world.transcript cpu command kept.holds kept.flat;
-      holds = holds_after world.destination.host world.transcript cpu command kept.destination_sound kept.holds;
-      wires = kept.wires;
-      bare = λ h. absurd (false≢true (sym h));
-    }
+    let host = world.destination.host in
+    let bare : true ≡ false → host_after host command ≡ bare_host = λ h. absurd (false≢true (sym h)) in
+    assumption (sound_after host command kept.destination_sound, flat_after host world.transcript cpu command kept.holds kept.flat, holds_after host world.transcript cpu command kept.destination_sound kept.holds)
 issued_in _ destination.Ended ends world cpu command may kept =
-    record {
-      source_sound = kept.source_sound;
-      destination_sound = sound_after world.destination.host command kept.destination_sound;
-      flat = flat_after world.destination.host world.transcript cpu command kept.holds kept.flat;
-      holds = holds_after world.destination.host world.transcript cpu command kept.destination_sound kept.holds;
-      wires = kept.wires;
-      bare = λ h. absurd (false≢true (sym h));
-    }
+    let host = world.destination.host in
+    let bare : true ≡ false → host_after host command ≡ bare_host = λ h. absurd (false≢true (sym h)) in
+    assumption (sound_after host command kept.destination_sound, flat_after host world.transcript cpu command kept.holds kept.flat, holds_after host world.transcript cpu command kept.destination_sound kept.holds)
 issued_in _ _ ends world cpu command may kept =
-    record {
-      source_sound = sound_after world.source.host command kept.source_sound;
-      destination_sound = kept.destination_sound;
-      flat = flat_after world.source.host world.transcript cpu command kept.holds kept.flat;
-      holds = holds_after world.source.host world.transcript cpu command kept.source_sound kept.holds;
-      wires = kept.wires;
-      bare = kept.bare;
-    }
+    let host = world.source.host in
+    assumption (sound_after host command kept.source_sound, flat_after host world.transcript cpu command kept.holds kept.flat, holds_after host world.transcript cpu command kept.source_sound kept.holds)
 
 pub IsKept-issued : (world : World) (cpu : ℕ) (command : Command) → may_issue world command ≡ true → IsKept world → IsKept (issued world cpu command)
 IsKept-issued world cpu command may kept = issued_in world.source.phase world.destination.phase world.source.end_sent world cpu command may kept

@@ -42,8 +42,7 @@ is_copy true page bytes = tt
 is_copy false page bytes = tt
 
 are_copies_of : (page : ℕ) (o : Option (List ℕ)) → AreCopies (frames_of page o)
-are_copies_of page None = tt
-are_copies_of page (Some bytes) = is_copy (list_all (λ byte. eqb byte 0) bytes) page bytes
+are_copies_of page o = grind arith
 
 kept_page : (b : Bool) (kept : FinMap nat_cmp (List ℕ)) (page : ℕ) (bytes : List ℕ) → (b ≡ true → bytes ≡ zero_page) →
     kept_after kept (if b then Zero page else Page page bytes) ≡ insert kept page bytes

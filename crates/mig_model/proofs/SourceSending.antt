@@ -99,8 +99,7 @@ kept_by-run wire flow kept epoch node first count h q =
     ap (λ m. get m q) (kept_by-push wire flow (record { epoch = epoch; frame = Run first (run_of node first count) }) kept h) ∙ get-kept_with node (kept_by kept wire) first count q
 
 pub present_bytes : {X : Type 0} (o : Option X) (zeros : X) → is_some o ≡ true → Some (unwrap_or o zeros) ≡ o
-present_bytes None zeros h = none_absurd h
-present_bytes (Some x) zeros h = refl
+present_bytes o zeros h = grind arith
 
 pub protected_now : (low here present old : Bool) → low ≡ true → present ≡ true → (here || old) ≡ true → (low && cond here (true && present) old) ≡ true
 protected_now low here present old low_ is h = grind arith
@@ -113,8 +112,7 @@ record AreSent (space : Space) (first count : ℕ) : Type 0 where
   low : (q : ℕ) → in_range first count q ≡ true → ltb q HIGH_PAGE ≡ true
 
 whole_bytes : (space : Space) (page : ℕ) (o : Option (List ℕ)) → IsSoundSpace space → get space.host.bytes page ≡ o → is_some o ≡ true → length (unwrap_or o zero_page) ≡ 4096
-whole_bytes space page None sound e h = none_absurd h
-whole_bytes space page (Some bytes) sound e h = sound.host.whole page bytes e
+whole_bytes space page o sound e h = grind arith
 
 are_sent : (world : World) (first count : ℕ) → IsSoundWorld world → world.source.switched ≡ false → (space_of world.source).object.events ≡ [] → ((q : ℕ) → in_range first count q ≡ true → contains world.source.log.todo q ≡ true) →
     AreSent (space_of world.source) first count

@@ -26,6 +26,7 @@ use Rattle.mig_model.proofs.Facts.{none_absurd, eqb-self, eqb_other, same_or_oth
 use Rattle.mig_model.proofs.SettledLemmas.{least_below-some}
 use Rattle.std.proofs.lemmas.Bool.Decides.{nat_tests}
 use Rattle.std.proofs.lemmas.List.{append_assoc}
+use Rattle.mig_model.proofs.Facts.{and_second}
 
 -- a world in these phases
 abbrev pub in_phases : SourcePhase → DestPhase → World → World
@@ -42,8 +43,7 @@ pub flow_open : (source : Source) → source.end_epoch ≢ source.epoch → flow
 flow_open source other = ap (λ b. cond b AfterEnd Pushed) (eqb_other source.end_epoch source.epoch other)
 
 pub present_bytes : (o : Option (List ℕ)) → is_some o ≡ true → o ≡ Some (unwrap_or o zero_page)
-present_bytes None h = none_absurd h
-present_bytes (Some bytes) h = refl
+present_bytes o h = grind arith
 
 -- One copy more
 
@@ -162,11 +162,8 @@ log_stopped source switched =
       todo_sendable = λ h. absurd (false≢true (sym h ∙ switched));
     }
 
-both_true : (a b : Bool) → (not a && b) ≡ true → b ≡ true
-both_true a b h = grind arith
-
 pub was_there : (remaining : FinSet nat_cmp) (page q : ℕ) → contains (finset.remove remaining page) q ≡ true → contains remaining q ≡ true
-was_there remaining page q h = both_true (eqb q page) (contains remaining q) (sym (member_removed remaining page q) ∙ h)
+was_there remaining page q h = and_second (not (eqb q page)) (contains remaining q) (sym (member_removed remaining page q) ∙ h)
 
 pushed_in : (from : SourcePhase) (to : DestPhase) (world : World) (page : ℕ) → is_stopped from ≡ true → world.up ≡ true → is_present (space_of world.source) page ≡ true → contains world.source.remaining page ≡ true →
     IsSoundWorld (in_phases from to world) → IsSoundWorld (after_push (in_phases from to world) page)
@@ -300,9 +297,7 @@ get-discarded kept pages q =
     ∙ cond_not (contains pages q) (get kept q) None
 
 gone_or_none : (sent : Bool) (k : Option (List ℕ)) → (is_some k ≡ true → sent ≡ true) → cond sent None k ≡ None
-gone_or_none true k h = refl
-gone_or_none false None h = refl
-gone_or_none false (Some bytes) h = none_absurd (h refl)
+gone_or_none sent k h = grind arith
 
 owed_or_none : (low present : Bool) (bytes : Option (List ℕ)) → present ≡ is_some bytes → (present ≡ true → low ≡ true) → None ≡ cond (low && present) None bytes
 owed_or_none low present bytes is low_ = grind arith

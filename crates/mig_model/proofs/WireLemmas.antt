@@ -32,8 +32,7 @@ sending-behind (sent ∷ wire) epoch (frame ∷ frames) =
 -- The order of the frames
 
 and_then_twice : {A : Type 0} {B : Type 0} {C : Type 0} (f : B → Option C) (g : A → Option B) (o : Option A) → option_and_then (λ x. option_and_then f (g x)) o ≡ option_and_then f (option_and_then g o)
-and_then_twice f g None = refl
-and_then_twice f g (Some x) = refl
+and_then_twice f g o = grind arith
 
 pub flow_after-append : (flow : Flow) (a b : List Sent) → flow_after flow (a ++ b) ≡ option_and_then (λ next. flow_after next b) (flow_after flow a)
 flow_after-append flow [] b = refl
@@ -183,8 +182,7 @@ plain_head AfterEnd (Package areas owed commands) rest h = absurd (cc)
 plain_head flow _ rest h = refl
 
 step_by : {A : Type 0} (o : Option Flow) (rest : List Sent) → ((next : Flow) → flow_after next rest ≡ Some Copies → A) → option_and_then (λ next. flow_after next rest) o ≡ Some Copies → A
-step_by None rest then_so h = absurd (cc)
-step_by (Some next) rest then_so h = then_so next h
+step_by o rest next h = grind arith
 
 no_package : (flow : Flow) (wire : List Sent) → flow_after flow wire ≡ Some Copies → is_some (package_in wire) ≡ false
 no_package flow [] h = refl
