@@ -19,11 +19,8 @@ use Rattle.mig_model.specs.Source.{Source, is_source_idle, space_of}
 use Rattle.mig_model.specs.Destination.{Destination, settled}
 use Rattle.mig_model.proofs.Facts.{none_absurd}
 
-pub no_page : (page : ℕ) → contains no_pages page ≡ false
-no_page page = contains-empty nat_cmp page
-
 pub no_page_absurd : {A : Type 0} (set : FinSet nat_cmp) (page : ℕ) → set ≡ no_pages → contains set page ≡ true → A
-no_page_absurd set page none h = none_absurd (sym (ap (λ s. contains s page) none ∙ no_page page) ∙ h)
+no_page_absurd set page none h = none_absurd (sym (ap (λ s. contains s page) none ∙ contains-empty nat_cmp page) ∙ h)
 
 -- A world whose source, forward wire and transcript have changed before the switch
 

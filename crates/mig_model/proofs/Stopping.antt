@@ -50,38 +50,16 @@ present_bytes o h = grind arith
 pub or_true : (a : Bool) → (a || true) ≡ true
 or_true a = grind arith
 
-or_last : (a b : Bool) → (a || (b || true)) ≡ true
-or_last a b = grind arith
-
-still_there : (remains urgent in_flight more : Bool) → ((remains || urgent) || in_flight) ≡ true → ((remains || urgent) || (in_flight || more)) ≡ true
-still_there remains urgent in_flight more h = grind arith
-
 -- a page that was pushed is in flight where it remained
 pushed_whereabouts : (remaining : FinSet nat_cmp) (urgent : List Sent) (copies : List Copy) (page q : ℕ) (bytes : List ℕ) → (is_urgent_or_left remaining urgent q || has_copy copies q) ≡ true →
     (is_urgent_or_left (finset.remove remaining page) urgent q || has_copy (copies ++ record { page = page; bytes = bytes } ∷ []) q) ≡ true
 pushed_whereabouts remaining urgent copies page q bytes h =
-    ap (λ b. (b || has_copy (copies_of urgent) q) || has_copy (copies ++ record { page = page; bytes = bytes } ∷ []) q) (member_removed remaining page q)
-    ∙ ap (λ b. ((not (eqb q page) && contains remaining q) || has_copy (copies_of urgent) q) || b) (has_copy-append copies (record { page = page; bytes = bytes } ∷ []) q)
-    ∙ ⊎_elim
-    (λ (same : q ≡ page). rw (same, eqb-self page) (or_last (has_copy (copies_of urgent) page) (has_copy copies page)))
-    (λ (other : eqb q page ≡ false). rw other (still_there (contains remaining q) (has_copy (copies_of urgent) q) (has_copy copies q) (eqb page q || false) h))
-    (same_or_other q page)
-
-three_there : (remains urgent in_flight here more : Bool) → ((remains || urgent) || in_flight || here) ≡ true → ((remains || urgent) || (in_flight || more) || here) ≡ true
-three_there remains urgent in_flight here more h = grind arith
-
-or_middle : (a b c : Bool) → (a || (b || true) || c) ≡ true
-or_middle a b c = grind arith
+    rw (member_removed remaining page q, has_copy-append copies (record { page = page; bytes = bytes } ∷ []) q) (grind (arith, nat_tests))
 
 pushed_flowing : (remaining : FinSet nat_cmp) (urgent : List Sent) (copies arrivals : List Copy) (page q : ℕ) (bytes : List ℕ) → (is_urgent_or_left remaining urgent q || has_copy copies q || has_copy arrivals q) ≡ true →
     (is_urgent_or_left (finset.remove remaining page) urgent q || has_copy (copies ++ record { page = page; bytes = bytes } ∷ []) q || has_copy arrivals q) ≡ true
 pushed_flowing remaining urgent copies arrivals page q bytes h =
-    ap (λ b. (b || has_copy (copies_of urgent) q) || has_copy (copies ++ record { page = page; bytes = bytes } ∷ []) q || has_copy arrivals q) (member_removed remaining page q)
-    ∙ ap (λ b. ((not (eqb q page) && contains remaining q) || has_copy (copies_of urgent) q) || b || has_copy arrivals q) (has_copy-append copies (record { page = page; bytes = bytes } ∷ []) q)
-    ∙ ⊎_elim
-    (λ (same : q ≡ page). rw (same, eqb-self page) (or_middle (has_copy (copies_of urgent) page) (has_copy copies page) (has_copy arrivals page)))
-    (λ (other : eqb q page ≡ false). rw other (three_there (contains remaining q) (has_copy (copies_of urgent) q) (has_copy copies q) (has_copy arrivals q) (eqb page q || false) h))
-    (same_or_other q page)
+    rw (member_removed remaining page q, has_copy-append copies (record { page = page; bytes = bytes } ∷ []) q) (grind (arith, nat_tests))
 
 -- Push
 
