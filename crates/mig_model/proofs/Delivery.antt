@@ -268,10 +268,6 @@ discard_taken epoch pages rest world kept =
 
 -- A copy while the destination runs
 
--- it is no longer in flight, and has arrived
-came : (remains here flies waits : Bool) → (remains || (here || flies) || waits) ≡ true → (remains || flies || (waits || (here || false))) ≡ true
-came remains here flies waits h = grind arith
-
 copy_arrives : (epoch : ℕ) (frame : Frame) (copy : Copy) (rest : List Sent) (world : World) →
     let old : World = at_state SourcePhase.Stopped DestPhase.Running true true (record { epoch = epoch; frame = frame } ∷ rest) world in
     let bytes : FinMap nat_cmp (List ℕ) = world.source.guest.space.host.bytes in
@@ -287,9 +283,10 @@ copy_arrives epoch frame copy rest world kept faithful whole flow requests where
     let ended_empty : new.destination.ended ≡ true → (new.destination.owed ≡ finmap.empty) × (new.destination.arrivals ≡ []) = λ h. absurd (false≢true (sym kept.phases.destination_phase.1 ∙ h)) in
     let flowing : IsFlowing new.source new.destination rest world.urgent.frames =
     record {
+      -- it is no longer in flight, and has arrived
       whereabouts = λ q origin h.
-          ap (λ b. is_urgent_or_left world.source.remaining world.urgent.frames origin || has_copy (copies_of rest) origin || b) (has_copy-append world.destination.arrivals (copy ∷ []) origin)
-          ∙ came (is_urgent_or_left world.source.remaining world.urgent.frames origin) (eqb copy.page origin) (has_copy (copies_of rest) origin) (has_copy world.destination.arrivals origin) (whereabouts q origin h);
+          let there = whereabouts q origin h in
+          rw (has_copy-append world.destination.arrivals (copy ∷ []) origin) (grind arith);
     } in
     let flight = flight_up new refl (λ r. faithful.1) (flow, requests, flowing) in
     let forward_epoch : AreOf new.source.epoch rest = kept.epochs.forward_epoch.1 in

@@ -74,16 +74,15 @@ still_receiving source node new state back values old =
       owed_present = old.owed_present;
     }
 
-last_of_three : (a b c d : Bool) → (c ≡ true → d ≡ true) → (a || b || c) ≡ true → (a || b || d) ≡ true
-last_of_three a b c d h k = grind arith
-
 still_flowing : (source : Source) (node new : Destination) (forward urgent : List Sent) → ((page origin : ℕ) → get new.owed page ≡ Some origin → (other : ℕ) × (get node.owed other ≡ Some origin)) →
     ((page origin : ℕ) → get new.owed page ≡ Some origin → has_copy node.arrivals origin ≡ true → has_copy new.arrivals origin ≡ true) → IsFlowing source node forward urgent → IsFlowing source new forward urgent
 still_flowing source node new forward urgent values copies old =
     record {
       whereabouts = λ page origin h.
           let was = values page origin h in
-          last_of_three (is_urgent_or_left source.remaining urgent origin) (has_copy (copies_of forward) origin) (has_copy node.arrivals origin) (has_copy new.arrivals origin) (copies page origin h) (old.whereabouts was.0 origin was.1);
+          let before = old.whereabouts was.0 origin was.1 in
+          let come = copies page origin h in
+          grind arith;
     }
 
 pub wires_handled : (from : SourcePhase) (to : DestPhase) (source : Source) (node : Destination) (forward back urgent : List Sent) (guest : Guest) (held : List Fault) (owed : FinMap nat_cmp ℕ) (requests : List ℕ) (arrivals : List Copy) (installed dropped faults : ℕ) →

@@ -125,9 +125,6 @@ seen_source host owed areas kept same rest sound =
 
 -- The step
 
-or_more : (a b c : Bool) → (a || b) ≡ true → (a || b || c) ≡ true
-or_more a b c h = grind arith
-
 owed_none : (owed : Bool) (o : Option (List ℕ)) → owed ≡ true → cond owed None o ≡ None
 owed_none owed o h = ap (λ b. cond b None o) h
 
@@ -185,8 +182,8 @@ package_taken epoch areas owed commands rest world kept =
     record {
       whereabouts = λ page origin h.
           let own = own_place owed page origin h in
-          or_more (is_urgent_or_left world.source.remaining world.urgent.frames origin) (has_copy (copies_of rest) origin) (has_copy world.destination.arrivals origin)
-          (ap (λ q. is_urgent_or_left world.source.remaining world.urgent.frames q || has_copy (copies_of rest) q) own.2 ∙ plan.whereabouts page own.1);
+          let planned = ap (λ q. is_urgent_or_left world.source.remaining world.urgent.frames q || has_copy (copies_of rest) q) own.2 ∙ plan.whereabouts page own.1 in
+          grind arith;
     } in
     let flight = flight_up new refl (λ h. plan.faithful) (w.0, ap are_requests w.1, flowing) in
     let forward_epoch : AreOf new.source.epoch new.forward.frames = kept.epochs.forward_epoch.1 in
