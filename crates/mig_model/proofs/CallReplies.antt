@@ -41,7 +41,7 @@ use Rattle.mig_model.proofs.Facts.{by_test, eqb-self}
 use Rattle.mig_model.proofs.FirstFrame.{comes, delivered, first_in_place}
 use Rattle.mig_model.proofs.FramesTaken.{with_first}
 use Rattle.mig_model.proofs.ReachedLemmas.{reached-next}
-use Rattle.mig_model.proofs.SourceHandler.{has_not_run}
+use Rattle.mig_model.proofs.SourceKept.{has_not_run}
 use Rattle.mig_model.proofs.StepCases.{made-break, made-deliver, made-deliver_back, made-dest_act, made-dest_read, made-end, made-install, made-issue, made-notice, made-push, made-resume, made-retry, made-round, made-send, made-send_run, made-serve, made-source_act, made-source_read, made-start, made-switch, made-deliver_urgent, made-push_urgent}
 use Rattle.mig_model.proofs.StepLemmas.{Holds, Leaves, holds-effect, leaves-next}
 use Rattle.mig_model.proofs.WaitingCommands.{IsSame, acted_ran, installed_ran, is_try, map_at, package_told, same_took, same_urgent, set_other, set_there, tried_guest}

@@ -9,14 +9,13 @@ use Rattle.mig_model.specs.Promises.{IsReached, IsComplete}
 use Rattle.mig_model.proofs.Breaking.{kept-break, kept-notice_source, kept-notice_destination, kept-resume}
 use Rattle.mig_model.proofs.Stopping.{kept-push, kept-serve, kept-end, kept-switch}
 use Rattle.mig_model.proofs.FirstWorld.{kept-first}
-use Rattle.mig_model.proofs.DestinationCommands.{kept-command_at_destination}
+use Rattle.mig_model.proofs.DestinationRead.{kept-command_at_destination, kept-dest_read}
 use Rattle.mig_model.proofs.SourceCommands.{kept-command_at_source}
 use Rattle.mig_model.proofs.SourceRounds.{kept-start, kept-round}
 use Rattle.mig_model.proofs.SourceSending.{kept-run, kept-send}
-use Rattle.mig_model.proofs.SourceHandler.{kept-source_read, kept-source_act}
+use Rattle.mig_model.proofs.SourceKept.{kept-source_read, kept-source_act}
 use Rattle.mig_model.proofs.Delivery.{kept-deliver}
 use Rattle.mig_model.proofs.DeliveryBack.{kept-deliver_back}
-use Rattle.mig_model.proofs.DestinationRead.{kept-dest_read}
 use Rattle.mig_model.proofs.DestinationAct.{kept-dest_act, kept-install}
 use Rattle.mig_model.proofs.StaysComplete.{complete-next}
 use Rattle.mig_model.proofs.StepLemmas.{Leaves, leaves-next}

@@ -11,7 +11,6 @@ pub mod Breaking
 pub mod FirstWorld
 pub mod SettledLemmas
 pub mod FaultLemmas
-pub mod DestinationRead
 pub mod ReplyOfLemmas
 pub mod SeenLemmas
 pub mod SettledCalls
@@ -20,14 +19,11 @@ pub mod EventLemmas
 pub mod ChangedLemmas
 pub mod PairLemmas
 pub mod TriedLemmas
-pub mod DestinationCommands
 pub mod FirstFrame
 pub mod PackageTaken
 pub mod DeliveryBack
-pub mod SourceKept
 pub mod SourceMessages
 pub mod SourceCommands
-pub mod SourceHandler
 pub mod SourceRounds
 pub mod PartsChanged
 pub mod PromiseLemmas
@@ -80,3 +76,5 @@ pub mod SourceSending
 pub mod WireLemmas
 pub mod DestinationAct
 pub mod Stopping
+pub mod SourceKept
+pub mod DestinationRead

@@ -22,9 +22,8 @@ use Rattle.mig_model.specs.Migration.{World, after_round, after_start}
 use Rattle.mig_model.specs.Invariant.{IsSoundWorld, AreSoundEpochs, is_unread, Wires, PrecopyWires, SwitchedAt, EpochAt, AreOf, AreWhole, flow_after, copies_of, kept_by}
 use Rattle.mig_model.specs.Invariant.Flow.{BeforeAdvise}
 use Rattle.mig_model.proofs.IoctlLemmas.{IsSoundSpace-registered}
-use Rattle.mig_model.proofs.SourceKept.{no_page_absurd, source_holds, IsNext, renewed, IsChanged, CopiesStay, changed, never_idle}
+use Rattle.mig_model.proofs.SourceKept.{no_page_absurd, source_holds, IsNext, renewed, IsChanged, CopiesStay, changed, never_idle, has_not_run}
 use Rattle.mig_model.proofs.SourceCalls.{registered_below}
-use Rattle.mig_model.proofs.SourceHandler.{has_not_run}
 use Rattle.mig_model.specs.Cpus.{is_idle}
 use Rattle.mig_model.specs.Log.{no_pages}
 use Rattle.mig_model.specs.Source.{Source, all_registered, for_both, is_precopy, is_source_idle, not_clean, source_started, space_of}

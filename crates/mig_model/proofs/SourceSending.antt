@@ -31,8 +31,7 @@ use Rattle.mig_model.specs.Ioctls.{protected_in}
 use Rattle.mig_model.specs.Guest.{is_present}
 use Rattle.mig_model.specs.Log.{Log, least_of, log_run_sent, log_sent}
 use Rattle.mig_model.proofs.IoctlLemmas.{IsSoundSpace-protected}
-use Rattle.mig_model.proofs.SourceKept.{source_holds, IsNext, renewed, never_idle}
-use Rattle.mig_model.proofs.SourceHandler.{has_not_run, in_one_is}
+use Rattle.mig_model.proofs.SourceKept.{source_holds, IsNext, renewed, never_idle, has_not_run, in_one_is}
 use Rattle.mig_model.proofs.SourceRounds.{precopy_unswitched, precopy_started, watched_below}
 
 -- The frame of a page
