@@ -1,8 +1,8 @@
 -- The destination takes a frame: Advise, a copy, a Discard, End, Resume.
-use Rattle.std.proofs.Common.{◌≡◌, ◌≢◌, ℕ, ◌||◌, Bool, true, false, cond, eqb, Option, Some, None, List, [], ◌∷◌, refl, sym, ap, ◌∙◌, zero, suc, ◌<◌, ◌≤◌, ltb, is_some, map, ◌⊎◌, inl, inr, ⊎_elim, subst, arith, length, ◌&&◌, not, ◌++◌}
+use Rattle.std.proofs.Common.{◌≡◌, ◌≢◌, ℕ, ◌||◌, Bool, true, false, cond, eqb, Option, Some, None, List, [], ◌∷◌, refl, sym, ap, ◌∙◌, ◌<◌, ◌≤◌, ltb, is_some, map, subst, arith, length, ◌&&◌, not, ◌++◌}
 use Rattle.std.specs.Ordering.{nat_cmp}
 use Rattle.std.specs.FinMap as finmap
-use Rattle.std.specs.FinMap.{get, get-empty, FinMap, contains_key, insert, get-retain_keys, nat_cmp-IsAntisymmetric}
+use Rattle.std.specs.FinMap.{get, get-empty, FinMap, insert, get-retain_keys, nat_cmp-IsAntisymmetric}
 use Rattle.std.specs.FinSet.{FinSet, contains-empty, contains}
 use Rattle.std.proofs.lemmas.Bool.{false≢true, eqb-true, and_from, lt-ltb}
 use Rattle.mig_base.specs.declared.phase.DestPhase.{DestPhase}
@@ -11,20 +11,16 @@ use Rattle.mig_base.proofs.PageLemmas.{same_pages}
 use Rattle.mig_model.specs.Wire.{Sent, Copy, Frame, sending, wire_behind, copies_in, kept_after, kept_with}
 use Rattle.mig_model.specs.Wire.Frame.{End, Done, Resume, Request, Recv, Advise, Page, Zero, Run, Discard, Package}
 use Rattle.mig_model.specs.Migration.{World, is_end, after_deliver}
-use Rattle.mig_model.specs.Invariant.{Wires, IsSoundWorld, IsFlowing, AreOf, copies_of, has_copy, flow_of, RanAt, AreSoundWires, is_urgent_or_left, IsReceiving, EpochAt, IsSwitching, flow_after, are_requests, behind, kept_by, package_in, AreWhole, AreFaithful}
+use Rattle.mig_model.specs.Invariant.{Wires, IsSoundWorld, IsFlowing, AreOf, copies_of, has_copy, flow_of, RanAt, is_urgent_or_left, EpochAt, IsSwitching, flow_after, are_requests, behind, kept_by, package_in, AreWhole, AreFaithful}
 use Rattle.mig_model.specs.Invariant.Flow.{Pushed, AfterEnd, Copies}
 use Rattle.mig_model.proofs.WireLemmas.{flight_up, AreOf-append, are_requests_and_done-push, sending-behind, AreOf-sending, are_requests-sending, has_copy-append, fits-append, fits-none, fits-more}
 use Rattle.mig_model.proofs.FirstFrame.{at_state, nothing_behind, delivered, first_in_place, ends_late}
 use Rattle.mig_model.specs.Log.{no_pages}
 use Rattle.mig_model.specs.Source.{Source}
-use Rattle.std.proofs.lemmas.Bool.Decides.{nat_tests}
 use Rattle.std.proofs.lemmas.Option.{none-some}
 use Rattle.mig_base.specs.declared.phase.Received.{Received}
 use Rattle.mig_base.specs.declared.TheConstants.{HIGH_PAGE}
-use Rattle.mig_base.specs.Ranges.{least_below}
-use Rattle.mig_base.proofs.RangeLemmas.{least_below_tells}
 use Rattle.mig_base.proofs.SetLemmas.{member_below}
-use Rattle.mig_model.specs.Host.{Host, IsSound}
 use Rattle.mig_model.specs.Owed.{home, origins}
 use Rattle.mig_model.proofs.Facts.{and_second, no_page, not_up, put_whole, AreFaithful-append}
 use Rattle.mig_model.proofs.SettledLemmas.{home-some, home_tells}
@@ -34,7 +30,6 @@ use Rattle.mig_base.specs.Tests.{is_empty}
 use Rattle.mig_model.specs.Space.{fresh_space}
 use Rattle.mig_model.proofs.HostLemmas.{get-put}
 use Rattle.mig_model.proofs.PackageTaken.{package_taken}
-use Rattle.mig_model.specs.Destination.{Destination}
 
 ends_by : (test : Bool) → cond test AfterEnd Pushed ≡ AfterEnd → test ≡ true
 ends_by test h = grind arith

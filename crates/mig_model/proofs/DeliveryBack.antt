@@ -1,5 +1,5 @@
 -- The source takes a frame of the wire back: a request, a Recv, and Done, with which it is released.
-use Rattle.std.proofs.Common.{◌≡◌, ◌≢◌, ℕ, ◌/◌, ◌&&◌, ◌||◌, Bool, true, false, cond, ltb, Option, Some, None, is_some, List, [], ◌∷◌, refl, sym, ap, ◌∙◌, ◌⊎◌, inl, subst, arith}
+use Rattle.std.proofs.Common.{◌≡◌, ◌≢◌, ℕ, ◌/◌, ◌&&◌, ◌||◌, Bool, true, false, cond, ltb, Option, Some, None, is_some, List, [], ◌∷◌, refl, sym, ap, ◌∙◌, inl, subst, arith}
 use Rattle.std.specs.Ordering.{nat_cmp}
 use Rattle.std.specs.FinMap as finmap
 use Rattle.std.specs.FinMap.{FinMap, get, contains_key, get-empty}
@@ -17,22 +17,21 @@ use Rattle.mig_base.specs.Ranges.{in_range}
 use Rattle.mig_base.proofs.SetLemmas.{member_below}
 use Rattle.mig_model.specs.Host.{Host, memory, IsSound}
 use Rattle.mig_model.specs.Userfault.{Noted}
-use Rattle.mig_model.specs.Space.{fresh_space, IsSoundSpace}
+use Rattle.mig_model.specs.Space.{fresh_space}
 use Rattle.mig_model.specs.Guest.{is_present, is_changed_by}
 use Rattle.mig_model.specs.Wire.{Frame, Sent, kept_after, wire_behind}
 use Rattle.mig_model.specs.Wire.Frame.{Discard, Request, Recv, Done}
 use Rattle.mig_model.specs.Migration.{World, after_deliver_back}
-use Rattle.mig_model.specs.Invariant.{Wires, IsSoundWorld, IsSoundPushing, IsSoundLog, IsReceiving, are_requests_and_done, IsPrecopying, IsSwitching, IsFlowing, AreOf, AreRight, AreFaithful, SwitchedAt, copies_of, has_copy, is_unread, are_requests, seen_host, current_host, flow_of, AreSoundWires}
-use Rattle.mig_model.specs.Invariant.Flow.{AfterEnd, Pushed}
+use Rattle.mig_model.specs.Invariant.{Wires, IsSoundWorld, IsSoundPushing, IsSoundLog, IsReceiving, are_requests_and_done, IsPrecopying, IsSwitching, IsFlowing, AreOf, AreFaithful, copies_of, has_copy, are_requests, seen_host, current_host}
 use Rattle.mig_model.proofs.FrameLemmas.{discard_none}
 use Rattle.mig_model.proofs.SpaceLemmas.{IsSoundSpace-fresh}
 use Rattle.mig_model.proofs.FirstFrame.{empty_not, delivered_back}
 use Rattle.mig_model.specs.Log.{no_pages, present}
 use Rattle.mig_model.specs.Owed.{owed_after, settled_by}
-use Rattle.mig_model.specs.Source.{Source, released, space_of, rebuild_frames}
+use Rattle.mig_model.specs.Source.{released, space_of, rebuild_frames}
 use Rattle.mig_model.specs.Destination.{settled}
 use Rattle.mig_model.proofs.WireLemmas.{fits-more, fits-none, flight_up}
-use Rattle.mig_model.proofs.Facts.{and_second, not_up, no_page, eqb_other}
+use Rattle.mig_model.proofs.Facts.{and_second, not_up, no_page}
 use Rattle.mig_model.proofs.Stopping.{flow_open, log_stopped, pushing_stopped}
 use Rattle.mig_base.specs.Tests.{is_empty}
 

@@ -8,7 +8,6 @@ use Rattle.std.specs.FinMap.{FinMap, get, contains_key, get-remove}
 use Rattle.std.specs.FinSet.{contains}
 use Rattle.std.proofs.lemmas.Bool.Decides.{nat_tests}
 use Rattle.std.proofs.lemmas.Bool.{false≢true, eqb-true, or_left}
-use Rattle.std.proofs.lemmas.Option.{none-some}
 use Rattle.mig_base.specs.declared.effect.Effect.{Effect}
 use Rattle.mig_base.specs.declared.schedule.Step.{Step}
 use Rattle.mig_base.specs.declared.TheConstants.{HIGH_PAGE}
@@ -32,7 +31,7 @@ use Rattle.mig_model.specs.Cpus.{all_woken}
 use Rattle.mig_model.specs.Owed.{home, without_request, is_requested, requesting}
 use Rattle.mig_model.specs.Source.{space_of, Source}
 use Rattle.mig_model.specs.Destination.{install_by, Destination, act_frames, destination_act_by, destination_acted_by, is_running}
-use Rattle.mig_model.proofs.Facts.{none_absurd, eqb-self, only_one, missing_none, dropped_not, page_again, up_not_down}
+use Rattle.mig_model.proofs.Facts.{none_absurd, eqb-self, only_one, missing_none, dropped_not, page_again}
 use Rattle.mig_base.specs.declared.cpu_state.CpuState.{CpuState}
 use Rattle.mig_base.specs.declared.phase.DestPhase.{DestPhase}
 use Rattle.mig_base.specs.declared.phase.SourcePhase.{SourcePhase}

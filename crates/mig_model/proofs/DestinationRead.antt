@@ -1,5 +1,5 @@
 -- What a step of the destination has to show, and that a message that is read and a command keep what every world keeps.
-use Rattle.std.proofs.Common.{◌≡◌, set, ℕ, ◌+◌, ◌/◌, ◌<◌, ◌||◌, Bool, true, false, Some, None, List, [], ◌∷◌, ◌++◌, refl, sym, ap, ◌∙◌, subst, arith, append-nil}
+use Rattle.std.proofs.Common.{◌≡◌, ℕ, ◌+◌, ◌/◌, ◌<◌, Bool, true, false, Some, None, List, [], ◌∷◌, ◌++◌, refl, sym, ap, ◌∙◌, subst, arith, append-nil}
 use Rattle.std.specs.Ordering.{nat_cmp}
 use Rattle.std.specs.FinMap as finmap
 use Rattle.std.specs.FinMap.{FinMap, get, get-empty}
@@ -11,19 +11,19 @@ use Rattle.mig_base.specs.declared.phase.Received.{Received}
 use Rattle.mig_base.specs.declared.phase.SourcePhase.{SourcePhase}
 use Rattle.mig_base.specs.declared.TheConstants.{HIGH_PAGE}
 use Rattle.mig_base.specs.declared.message.Message.{Message}
-use Rattle.mig_base.specs.declared.message.Message.TheVariants.{PageFault, Remap, Remove, Unmap}
+use Rattle.mig_base.specs.declared.message.Message.TheVariants.{PageFault}
 use Rattle.mig_base.specs.Flat.{memory_of, IsFlatRun}
 use Rattle.mig_base.proofs.PageLemmas.{same_pages}
 use Rattle.mig_model.specs.Host.{memory, Host, IsSound}
 use Rattle.mig_model.specs.Userfault.{Noted, next_message, next_of}
 use Rattle.mig_model.specs.Space.{IsSoundSpace, fresh_space}
-use Rattle.mig_model.specs.Guest.{Guest, Fault, is_left_by, is_present, took_by, tried}
+use Rattle.mig_model.specs.Guest.{Guest, Fault, is_present, took_by, tried}
 use Rattle.mig_model.specs.Wire.{Sent, Copy}
-use Rattle.mig_model.specs.Migration.{World, after_dest_read, runs, start, guest_by, with_guest_by, after_command}
-use Rattle.mig_model.specs.Invariant.{IsSoundWorld, Wires, IsReceiving, IsFlowing, AreRight, AreFaults, AreFaithful, has_copy, copies_of, seen_host, current_host, is_urgent_or_left, current_by}
+use Rattle.mig_model.specs.Migration.{World, after_dest_read, runs, guest_by, with_guest_by, after_command}
+use Rattle.mig_model.specs.Invariant.{IsSoundWorld, Wires, IsReceiving, IsFlowing, AreRight, AreFaults, AreFaithful, has_copy, seen_host, current_host, current_by}
 use Rattle.mig_model.proofs.IoctlLemmas.{IsSoundSpace-read}
 use Rattle.mig_model.proofs.SettledLemmas.{get-owed_table_after, settled_by-applied, values-after, none-after, IsOneToOne-after, owed_below-after}
-use Rattle.mig_model.specs.Cpus.{all_woken, message_less, processor_at, Took, entries_of}
+use Rattle.mig_model.specs.Cpus.{Took, entries_of}
 use Rattle.mig_model.specs.Owed.{owed_table_after, settled_by}
 use Rattle.mig_model.specs.Source.{Source, space_of}
 use Rattle.mig_model.specs.Destination.{Destination, settled}

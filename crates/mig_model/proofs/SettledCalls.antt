@@ -5,9 +5,9 @@ use Rattle.mig_base.specs.declared.message.Message.{Message}
 use Rattle.mig_base.specs.declared.message.Message.TheVariants.{Remap, Remove, Unmap}
 use Rattle.mig_base.specs.Ranges.{in_range}
 use Rattle.mig_base.proofs.RangeLemmas.{none_below_tells}
-use Rattle.mig_model.specs.Userfault.{Object, Noted, is_registered, event_queued, is_watched}
+use Rattle.mig_model.specs.Userfault.{Object, is_registered, event_queued, is_watched}
 use Rattle.mig_model.specs.Space.{told, all_queued}
-use Rattle.mig_model.specs.Invariant.{IsRight, AreRight}
+use Rattle.mig_model.specs.Invariant.{AreRight}
 use Rattle.mig_model.proofs.SeenLemmas.{owed_none}
 use Rattle.mig_model.specs.Owed.{owed_after, settled_by}
 use Rattle.mig_model.specs.Promises.{gone}

@@ -12,7 +12,7 @@ use Rattle.mig_model.specs.Host.{Host, memory}
 use Rattle.mig_model.specs.Space.{Space, IsSoundSpace, fresh_space}
 use Rattle.mig_model.specs.Guest.{Guest, is_present, Fault, is_changed_by, read_guest, zero_installed, is_forgotten, Act}
 use Rattle.mig_model.specs.Wire.{Sent}
-use Rattle.mig_model.specs.Migration.{World, next, after_source_act, after_source_read, start}
+use Rattle.mig_model.specs.Migration.{World, next, after_source_act, after_source_read}
 use Rattle.mig_model.specs.Invariant.{IsSoundWorld, IsSoundFlight, AreSoundEpochs, AreFaithful, IsPrecopying, Wires, AreRight, AreWhole, RanAt, SwitchedAt, is_unread, copies_of, current_by, current_host, HeldFits}
 use Rattle.mig_model.specs.Log.{no_pages, present, unchanged}
 use Rattle.mig_model.specs.Source.{Source, is_source_idle, space_of, source_act, source_act_by, source_acted_by}
@@ -23,14 +23,14 @@ use Rattle.std.proofs.lemmas.Bool.{false≢true, not-false, or_left, and_parts, 
 use Rattle.mig_base.specs.declared.cpu_state.CpuState.{CpuState}
 use Rattle.mig_base.specs.declared.TheConstants.{HIGH_PAGE}
 use Rattle.mig_base.specs.declared.message.Message.{Message}
-use Rattle.mig_base.specs.declared.message.Message.TheVariants.{PageFault, Remap, Remove, Unmap}
+use Rattle.mig_base.specs.declared.message.Message.TheVariants.{PageFault}
 use Rattle.mig_base.specs.Bytes.{zero_page}
 use Rattle.mig_base.specs.Ranges.{in_range}
 use Rattle.mig_base.proofs.ByteLemmas.{length-zero_page, get_or-zero_page}
 use Rattle.mig_base.proofs.SetLemmas.{member_below, member_removed}
 use Rattle.mig_model.specs.Userfault.{Noted, Object, is_registered, next_of, next_message, read_by, message_read}
 use Rattle.mig_model.specs.Ioctls.{protected_in, put_pages}
-use Rattle.mig_model.specs.Guest.Act.{Unprotected, Zeroed, Woke, Forgot, Requested}
+use Rattle.mig_model.specs.Guest.Act.{Unprotected, Zeroed}
 use Rattle.mig_model.proofs.IoctlLemmas.{IsSoundSpace-read, IsSoundSpace-protected, IsSoundSpace-installed, CanPut, get-put_pages}
 use Rattle.mig_model.proofs.SourceCalls.{registered_below}
 use Rattle.mig_model.proofs.DestinationAct.{get-put_one, byte_of, memory-reads}

@@ -1,19 +1,17 @@
 -- The source sends the next page of a round, or a run of neighbouring pages in one frame, and keeps what every world keeps.
-use Rattle.std.proofs.Common.{◌≡◌, ℕ, zero, suc, ◌+◌, Bool, true, false, cond, eqb, if◌then◌else◌, Option, Some, None, List, [], ◌∷◌, ◌++◌, refl, sym, ap, ◌∙◌, length, subst, arith, ◌&&◌, ◌||◌, not, ltb, ◌⊎◌, inl, inr, ⊎_elim, is_some, unwrap_or}
+use Rattle.std.proofs.Common.{◌≡◌, ℕ, zero, suc, ◌+◌, Bool, true, false, cond, eqb, if◌then◌else◌, Option, Some, List, [], ◌∷◌, ◌++◌, refl, sym, ap, ◌∙◌, length, subst, arith, ◌&&◌, ◌||◌, not, ltb, ◌⊎◌, ⊎_elim, is_some, unwrap_or}
 use Rattle.std.proofs.lemmas.Bool.Decides.{nat_tests}
 use Rattle.mig_base.specs.Ranges.{in_range}
-use Rattle.std.specs.Option.{option_and_then}
 use Rattle.std.specs.List.{list_all}
 use Rattle.std.specs.Ordering.{nat_cmp}
 use Rattle.std.specs.FinMap.{FinMap, get, insert}
 use Rattle.mig_model.specs.Wire.{Frame, Sent, page_frame, copies_in, kept_after, kept_with, run_copies}
-use Rattle.mig_model.specs.Wire.Frame.{Page, Zero, Run, Package}
+use Rattle.mig_model.specs.Wire.Frame.{Page, Zero, Run}
 use Rattle.mig_model.specs.Invariant.{Flow, flow_next, flow_after, copies_of, AreWhole, is_package, kept_by, IsSoundWorld, IsPrecopying, Wires, is_unread}
-use Rattle.mig_model.specs.Invariant.Flow.{BeforeAdvise, Copies, BeforePackage, Pushed, AfterEnd}
+use Rattle.mig_model.specs.Invariant.Flow.{BeforeAdvise, Copies}
 use Rattle.mig_model.specs.Source.{Source, bytes_of, run_of, in_space, is_precopy, space_of}
-use Rattle.mig_model.proofs.FirstFrame.{stays_late}
 use Rattle.mig_model.proofs.HostLemmas.{get-put}
-use Rattle.mig_model.specs.Migration.{next, World, after_run, after_send, is_changing, run_bound}
+use Rattle.mig_model.specs.Migration.{World, after_run, after_send, is_changing, run_bound}
 use Rattle.mig_model.proofs.Facts.{none_absurd, zero_bytes, kept_page, copies_of-append, AreWhole-append, either, eqb-self, only_one, AreOf-one, no_event}
 use Rattle.mig_model.proofs.WireLemmas.{has_no_package, copies_in-page, page_flow, flow_sent, fits-append, flight_up}
 use Rattle.std.specs.FinSet as finset
@@ -31,7 +29,7 @@ use Rattle.mig_model.specs.Ioctls.{protected_in}
 use Rattle.mig_model.specs.Guest.{is_present}
 use Rattle.mig_model.specs.Log.{Log, least_of, log_run_sent, log_sent}
 use Rattle.mig_model.proofs.IoctlLemmas.{IsSoundSpace-protected}
-use Rattle.mig_model.proofs.SourceKept.{source_holds, IsNext, renewed, never_idle, has_not_run, in_one_is}
+use Rattle.mig_model.proofs.SourceKept.{source_holds, renewed, never_idle, has_not_run, in_one_is}
 use Rattle.mig_model.proofs.SourceRounds.{precopy_unswitched, precopy_started, watched_below}
 
 -- The frame of a page

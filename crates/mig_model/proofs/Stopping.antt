@@ -1,5 +1,5 @@
 -- Push, Serve, End and Switch keep what every world of the whole migration keeps.
-use Rattle.std.proofs.Common.{◌≡◌, ◌≢◌, ℕ, zero, suc, ◌<◌, ◌&&◌, ◌||◌, Bool, true, false, cond, not, eqb, Option, Some, None, List, [], ◌∷◌, ◌++◌, refl, sym, ap, ◌∙◌, subst, ◌⊎◌, inl, inr, ⊎_elim, arith, append-nil, length, is_some, unwrap_or, ◌≤◌, ltb}
+use Rattle.std.proofs.Common.{◌≡◌, ◌≢◌, ℕ, ◌<◌, ◌&&◌, ◌||◌, Bool, true, false, cond, not, eqb, Option, Some, None, List, [], ◌∷◌, ◌++◌, refl, sym, ap, ◌∙◌, subst, ◌⊎◌, ⊎_elim, arith, append-nil, length, is_some, unwrap_or, ◌≤◌, ltb}
 use Rattle.std.specs.Ordering.{nat_cmp}
 use Rattle.std.specs.FinMap.{FinMap, get, get-retain_keys, nat_cmp-IsAntisymmetric}
 use Rattle.std.specs.FinSet as finset
@@ -22,7 +22,7 @@ use Rattle.mig_model.specs.Invariant.Flow.{BeforeAdvise, Copies, BeforePackage, 
 use Rattle.mig_model.proofs.WireLemmas.{flow_sent, has_package, copies_of-page, page_flow, fits-more, has_copy-append, flight_up, has_no_package}
 use Rattle.mig_model.specs.Log.{least_of, no_pages, present, less}
 use Rattle.mig_model.specs.Source.{Source, bytes_of, is_stopped, page_pushed, request_served, space_of, commands_of, is_precopy, not_clean, switch_made, switch_frames}
-use Rattle.mig_model.proofs.Facts.{none_absurd, eqb-self, eqb_other, same_or_other, low_or, copies_of-append, AreWhole-append, AreFaithful-append, AreOf-one, below_or_at, and_second, and_left, and_false, missing_none, no_event, and_true, member_not_clean as clean_present}
+use Rattle.mig_model.proofs.Facts.{none_absurd, eqb-self, eqb_other, low_or, copies_of-append, AreWhole-append, AreFaithful-append, AreOf-one, and_second, and_false, no_event, and_true, member_not_clean as clean_present}
 use Rattle.mig_model.proofs.SettledLemmas.{least_below-some}
 use Rattle.std.proofs.lemmas.Bool.Decides.{nat_tests}
 use Rattle.std.proofs.lemmas.List.{append_assoc}
