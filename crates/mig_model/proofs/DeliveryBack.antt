@@ -138,9 +138,6 @@ recv_precopy owed epoch rest world kept last =
     assumption (flight_up new refl kept.flight.flight_faithful (refl, last, precopying), fits-none rest)
 
 -- where End was not sent in this epoch
-either_way : (b : Bool) (o : Option (List ℕ)) → o ≡ cond b o o
-either_way b o = grind arith
-
 all_owed : (low : Bool) (o : Option (List ℕ)) → (low ≡ false → o ≡ None) → None ≡ cond (low && is_some o) None o
 all_owed low o none = grind arith
 

@@ -53,12 +53,9 @@ get-put_one pages page q bytes = get-put_pages pages page 1 q (λ i. bytes) ∙ 
 get-without : (owed : FinMap nat_cmp ℕ) (page q : ℕ) → get (finmap.remove owed page) q ≡ cond (eqb q page) None (get owed q)
 get-without owed page q = get-remove nat_cmp_total owed page q ∙ ap (λ b. cond b None (get owed q)) (unsigned_tied q page)
 
-none_protected : (low old : Bool) → old ≡ false → (low && (old || false)) ≡ false
-none_protected low old h = grind arith
-
 -- a space in which no page is protected, once a missing page is put
 pub put-unprotected : (space : Space) (page : ℕ) (bytes : List ℕ) → ((q : ℕ) → contains space.protected q ≡ false) → (q : ℕ) → contains (pages_installed space page 1 (λ i. bytes) false).protected q ≡ false
-put-unprotected space page bytes none q = member_below _ HIGH_PAGE q ∙ none_protected (ltb q HIGH_PAGE) (contains space.protected q) (none q)
+put-unprotected space page bytes none q = let was = none q in rw (member_below _ HIGH_PAGE q) (grind arith)
 
 pub put-sound : (space : Space) (page : ℕ) (bytes : List ℕ) → contains_key space.host.areas page ≡ true → length bytes ≡ 4096 → IsSoundSpace space → IsSoundSpace (pages_installed space page 1 (λ i. bytes) false)
 put-sound space page bytes mapped whole sound =
@@ -69,12 +66,9 @@ put-sound space page bytes mapped whole sound =
       watched = λ h q e. none_absurd h;
     }) sound
 
-still_missing : (here : Bool) (bytes : List ℕ) (o : Option (List ℕ)) → here ≡ false → is_some o ≡ false → is_some (cond here (Some bytes) o) ≡ false
-still_missing here bytes o h k = grind arith
-
 -- any other page that was missing still is
 pub put-missing : (space : Space) (page q : ℕ) (bytes : List ℕ) → eqb q page ≡ false → is_present space q ≡ false → is_present (pages_installed space page 1 (λ i. bytes) false) q ≡ false
-put-missing space page q bytes other h = ap is_some (get-put_one space.host.bytes page q bytes) ∙ still_missing (eqb q page) bytes (get space.host.bytes q) other h
+put-missing space page q bytes other h = ap is_some (get-put_one space.host.bytes page q bytes) ∙ rw other h
 
 -- The memory that the guest sees
 
@@ -103,11 +97,8 @@ memory-put here there owed page origin bytes none pair same =
 
 -- The pairs that are left
 
-left_pair : (here : Bool) (o : Option ℕ) (origin : ℕ) → cond here None o ≡ Some origin → (here ≡ false) × (o ≡ Some origin)
-left_pair here o origin h = grind arith
-
 left : (owed : FinMap nat_cmp ℕ) (page q origin : ℕ) → get (finmap.remove owed page) q ≡ Some origin → (eqb q page ≡ false) × (get owed q ≡ Some origin)
-left owed page q origin h = left_pair (eqb q page) (get owed q) origin (sym (get-without owed page q) ∙ h)
+left owed page q origin h = let held = sym (get-without owed page q) ∙ h in grind arith
 
 behind_first : (first rest : Bool) → (first ≡ true → ⊥) → (first || rest) ≡ true → rest ≡ true
 behind_first first rest not_first h = grind arith

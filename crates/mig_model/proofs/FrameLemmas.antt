@@ -35,10 +35,6 @@ abbrev frames_of : ℕ → Option (List ℕ) → List Frame
 frames_of page None = []
 frames_of page (Some bytes) = page_frame page bytes ∷ []
 
-is_copy : (b : Bool) (page : ℕ) (bytes : List ℕ) → AreCopies ((if b then Zero page else Page page bytes) ∷ [])
-is_copy true page bytes = tt
-is_copy false page bytes = tt
-
 are_copies_of : (page : ℕ) (o : Option (List ℕ)) → AreCopies (frames_of page o)
 are_copies_of page o = grind arith
 
