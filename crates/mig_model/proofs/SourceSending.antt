@@ -51,15 +51,12 @@ copies_whole-push wire sent whole are =
 pub kept_by-push : (wire : List Sent) (flow : Flow) (sent : Sent) (kept : FinMap nat_cmp (List ℕ)) → flow_after flow wire ≡ Some Copies → kept_by kept (wire ++ sent ∷ []) ≡ kept_by (kept_by kept wire) (sent ∷ [])
 kept_by-push wire flow sent kept h = (has_no_package flow kept wire (sent ∷ []) h).kept_then
 
-kept_one : (b : Bool) (kept new : FinMap nat_cmp (List ℕ)) → b ≡ false → (if b then kept else new) ≡ new
-kept_one b kept new h = grind arith
-
 -- the page's own bytes are the newest then
 pub kept_by-page : (wire : List Sent) (flow : Flow) (kept : FinMap nat_cmp (List ℕ)) (epoch page : ℕ) (bytes : List ℕ) → flow_after flow wire ≡ Some Copies → length bytes ≡ 4096 → (q : ℕ) →
     get (kept_by kept (wire ++ record { epoch = epoch; frame = page_frame page bytes } ∷ [])) q ≡ cond (eqb q page) (Some bytes) (get (kept_by kept wire) q)
 kept_by-page wire flow kept epoch page bytes h n q =
     ap (λ m. get m q) (kept_by-push wire flow (record { epoch = epoch; frame = page_frame page bytes }) kept h
-    ∙ kept_one (is_package (page_frame page bytes)) (kept_by kept wire) (kept_after (kept_by kept wire) (page_frame page bytes)) (no_package_by (list_all (λ byte. eqb byte 0) bytes) page bytes)
+    ∙ ap (λ b. cond b (kept_by kept wire) (kept_after (kept_by kept wire) (page_frame page bytes))) (no_package_by (list_all (λ byte. eqb byte 0) bytes) page bytes)
     ∙ kept_after-page_frame (kept_by kept wire) page bytes n)
     ∙ get-put (kept_by kept wire) page q bytes
 
