@@ -1,5 +1,5 @@
 -- A processor in a call has the reply of its last entry, until its last message is read.
-use Rattle.std.proofs.Common.{◌≡◌, ℕ, zero, suc, Bool, true, false, eqb, Option, Some, None, List, [], ◌∷◌, ◌++◌, refl, sym, ap, ◌∙◌, subst, ◌⊎◌, inl, inr, ⊎_elim, arith, if◌then◌else◌, not}
+use Rattle.std.proofs.Common.{◌≡◌, ℕ, zero, suc, Bool, true, false, eqb, Option, Some, None, List, [], ◌∷◌, ◌++◌, refl, sym, ap, ◌∙◌, subst, ◌⊎◌, inl, inr, ⊎_elim, arith, if◌then◌else◌, not, append-nil}
 use Rattle.std.specs.Prelude.{set, map, Ok, Err}
 use Rattle.std.specs.Ordering.{nat_cmp}
 use Rattle.std.specs.FinMap.{FinMap}
@@ -29,12 +29,11 @@ use Rattle.mig_model.proofs.Calls.{are_sound_calls, calls-first, calls_next}
 use Rattle.mig_model.proofs.EveryStep.{by_reached, kept-reached}
 use Rattle.mig_model.proofs.Facts.{by_test, eqb-self}
 use Rattle.mig_model.proofs.FirstFrame.{delivered}
-use Rattle.mig_model.proofs.SourceHandler.{has_not_run}
 use Rattle.mig_model.proofs.StepCases.{Makes, holds-made}
 use Rattle.mig_model.proofs.WokenSteps.{IsQuiet, IsWoken, frame_not_last, guest_woken, is_last_read, quiet, stopped_switched, wakes-taken}
 use Rattle.mig_model.proofs.StepLemmas.{Holds, Leaves, holds-effect, holds-map, leaves-next}
-use Rattle.mig_model.proofs.Stopping.{append-nil}
 use Rattle.mig_model.proofs.WaitingCommands.{idle_at, is_try, map_at, package_next, set_other, tried_guest}
+use Rattle.mig_model.proofs.SourceKept.{has_not_run}
 
 -- The last entry of a processor
 

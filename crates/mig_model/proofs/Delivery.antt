@@ -1,31 +1,211 @@
--- The destination takes a frame: Advise, a copy, a Discard, Resume.
-use Rattle.std.proofs.Common.{◌≡◌, ◌≢◌, ℕ, ◌≤◌, ◌&&◌, ◌||◌, Bool, true, false, cond, not, eqb, Option, Some, None, List, [], ◌∷◌, ◌++◌, refl, sym, ap, ◌∙◌, subst, arith, length, ◌<◌}
+-- The destination takes a frame: Advise, a copy, a Discard, End, Resume.
+use Rattle.std.proofs.Common.{◌≡◌, ◌≢◌, ℕ, ◌||◌, Bool, true, false, cond, eqb, Option, Some, None, List, [], ◌∷◌, refl, sym, ap, ◌∙◌, ◌<◌, ◌≤◌, ltb, is_some, map, subst, arith, length, ◌&&◌, not, ◌++◌}
 use Rattle.std.specs.Ordering.{nat_cmp}
 use Rattle.std.specs.FinMap as finmap
-use Rattle.std.specs.FinMap.{FinMap, get, insert, get-retain_keys, nat_cmp-IsAntisymmetric}
-use Rattle.std.specs.FinSet.{FinSet, contains}
-use Rattle.std.proofs.lemmas.Bool.{false≢true}
-use Rattle.std.proofs.lemmas.Option.{none-some}
+use Rattle.std.specs.FinMap.{get, get-empty, FinMap, insert, get-retain_keys, nat_cmp-IsAntisymmetric}
+use Rattle.std.specs.FinSet.{FinSet, contains-empty, contains}
+use Rattle.std.proofs.lemmas.Bool.{false≢true, eqb-true, and_from, lt-ltb}
 use Rattle.mig_base.specs.declared.phase.DestPhase.{DestPhase}
 use Rattle.mig_base.specs.declared.phase.SourcePhase.{SourcePhase}
+use Rattle.mig_base.proofs.PageLemmas.{same_pages}
+use Rattle.mig_model.specs.Wire.{Sent, Copy, Frame, sending, wire_behind, copies_in, kept_after, kept_with}
+use Rattle.mig_model.specs.Wire.Frame.{End, Done, Resume, Request, Recv, Advise, Page, Zero, Run, Discard, Package}
+use Rattle.mig_model.specs.Migration.{World, is_end, after_deliver}
+use Rattle.mig_model.specs.Invariant.{Wires, IsSoundWorld, IsFlowing, AreOf, copies_of, has_copy, flow_of, RanAt, is_urgent_or_left, EpochAt, IsSwitching, flow_after, are_requests, behind, kept_by, package_in, AreWhole, AreFaithful}
+use Rattle.mig_model.specs.Invariant.Flow.{Pushed, AfterEnd, Copies}
+use Rattle.mig_model.proofs.WireLemmas.{flight_up, AreOf-append, are_requests_and_done-push, sending-behind, AreOf-sending, are_requests-sending, has_copy-append, fits-append, fits-none, fits-more}
+use Rattle.mig_model.proofs.FirstFrame.{at_state, nothing_behind, delivered, first_in_place, ends_late}
+use Rattle.mig_model.specs.Log.{no_pages}
+use Rattle.mig_model.specs.Source.{Source}
+use Rattle.std.proofs.lemmas.Option.{none-some}
+use Rattle.mig_base.specs.declared.phase.Received.{Received}
+use Rattle.mig_base.specs.declared.TheConstants.{HIGH_PAGE}
+use Rattle.mig_base.proofs.SetLemmas.{member_below}
+use Rattle.mig_model.specs.Owed.{home, origins}
+use Rattle.mig_model.proofs.Facts.{and_second, no_page, not_up, put_whole, AreFaithful-append}
+use Rattle.mig_model.proofs.SettledLemmas.{home-some, home_tells}
+use Rattle.mig_model.proofs.Stopping.{present_below}
 use Rattle.mig_base.specs.Bytes.{zero_page}
 use Rattle.mig_base.specs.Tests.{is_empty}
 use Rattle.mig_model.specs.Space.{fresh_space}
-use Rattle.mig_model.specs.Wire.{Frame, Sent, Copy, kept_after, kept_with, run_copies}
-use Rattle.mig_model.specs.Wire.Frame.{Advise, Page, Zero, Run, Discard, Package, End, Resume}
-use Rattle.mig_model.specs.Migration.{World, is_end, after_deliver}
-use Rattle.mig_model.specs.Invariant.{Wires, IsSoundWorld, AreOf, AreWhole, AreFaithful, copies_of, has_copy, flow_of, EpochAt, AreSoundWires, is_urgent_or_left}
-use Rattle.mig_model.specs.Invariant.Flow.{Copies}
 use Rattle.mig_model.proofs.HostLemmas.{get-put}
-use Rattle.mig_model.proofs.FirstFrame.{at_state, first_in_place, ends_late, delivered}
 use Rattle.mig_model.proofs.PackageTaken.{package_taken}
-use Rattle.mig_model.proofs.EndTaken.{end_taken}
-use Rattle.mig_model.proofs.ResumeTaken.{resume_taken}
-use Rattle.mig_model.specs.Source.{Source}
-use Rattle.mig_model.specs.Destination.{Destination}
-use Rattle.mig_model.proofs.HeldLemmas.{fits-none}
-use Rattle.mig_model.proofs.Facts.{not_up, put_whole, AreFaithful-append}
-use Rattle.mig_model.proofs.SendingLemmas.{has_copy-append}
+
+ends_by : (test : Bool) → cond test AfterEnd Pushed ≡ AfterEnd → test ≡ true
+ends_by test h = grind arith
+
+-- a wire that gets past End is that of a source that has sent it in this epoch
+pub ended_now : (source : Source) → flow_of source ≡ AfterEnd → source.end_epoch ≡ source.epoch
+ended_now source h = eqb-true source.end_epoch source.epoch (ends_by (eqb source.end_epoch source.epoch) h)
+
+-- no page remains, none is in flight and none waits
+pub nowhere : (remaining : FinSet nat_cmp) (rest urgent : List Sent) (arrivals : List Copy) (origin : ℕ) → remaining ≡ no_pages → rest ≡ [] → urgent ≡ [] → arrivals ≡ [] →
+    (is_urgent_or_left remaining urgent origin || has_copy (copies_of rest) origin || has_copy arrivals origin) ≡ true → ⊥
+nowhere remaining rest urgent arrivals origin none last came free h =
+    false≢true (
+    sym (ap (λ b. (b || false) || false || false) (contains-empty nat_cmp origin))
+    ∙ sym (λ i. is_urgent_or_left (none i) (came i) origin || has_copy (copies_of (last i)) origin || has_copy (free i) origin) ∙ h)
+
+pub none_owed : {X : Type 0} (o : Option X) → ((x : X) → o ≡ Some x → ⊥) → o ≡ None
+none_owed o x = grind arith
+
+pub end_taken : (epoch count : ℕ) (rest : List Sent) (world : World) →
+    let old : World = at_state SourcePhase.Stopped DestPhase.Running true true (record { epoch = epoch; frame = End count } ∷ rest) world in
+    world.destination.arrivals ≡ [] → world.urgent.frames ≡ [] → IsSoundWorld old → IsSoundWorld (delivered old old.forward.frames)
+end_taken epoch count rest world free came kept =
+    let old : World = at_state SourcePhase.Stopped DestPhase.Running true true (record { epoch = epoch; frame = End count } ∷ rest) world in
+    let new : World = delivered old old.forward.frames in
+    let w = kept.flight.wires refl in
+    let last = nothing_behind rest (flow_of old.source) w.0 in
+    let ended : old.source.end_epoch ≡ old.source.epoch = ended_now old.source last.1 in
+    let flowing : IsFlowing old.source old.destination old.forward.frames old.urgent.frames = w.2 in
+    let no_pair : world.destination.owed ≡ finmap.empty =
+    same_pages world.destination.owed finmap.empty (λ page.
+    none_owed (get world.destination.owed page) (λ origin h. nowhere world.source.remaining rest world.urgent.frames world.destination.arrivals origin (kept.pushing.end_sent ended) last.0 came free (flowing.whereabouts page origin h))
+    ∙ sym (get-empty nat_cmp page)) in
+    let kept_advised : new.destination.phase ≡ DestPhase.Idle → new.destination.kept ≡ finmap.empty = λ h. cc in
+    let flight = flight_up new refl kept.flight.flight_faithful (last.0, are_requests_and_done-push world.back.frames (record { epoch = world.destination.epoch; frame = Done }) refl w.1, ended) in
+    let forward_epoch : AreOf new.source.epoch new.forward.frames = kept.epochs.forward_epoch.1 in
+    let back_epoch = AreOf-append world.source.epoch world.back.frames (record { epoch = world.destination.epoch; frame = Done } ∷ []) kept.epochs.back_epoch (kept.epochs.epoch_at refl, tt) in
+    assumption (fits-none rest, fits-append world.back.frames (record { epoch = world.destination.epoch; frame = Done } ∷ []) world.back.held kept.held.back_held)
+
+-- The pages that are still needed
+
+-- each origin of the table is among them
+pub origins-pair : (owed : FinMap nat_cmp ℕ) (page origin : ℕ) → get owed page ≡ Some origin → page < HIGH_PAGE → ltb origin HIGH_PAGE ≡ true → contains (origins owed) origin ≡ true
+origins-pair owed page origin h low high =
+    member_below _ HIGH_PAGE origin ∙ and_from (ltb origin HIGH_PAGE) (is_some (home owed origin)) high (home-some owed origin page low h)
+
+-- and each of them is an origin of the table
+pub pair-origins : (owed : FinMap nat_cmp ℕ) (origin : ℕ) → contains (origins owed) origin ≡ true → (page : ℕ) × (get owed page ≡ Some origin)
+pair-origins owed origin h =
+    elim (home owed origin) as (λ o. home owed origin ≡ o → (page : ℕ) × (get owed page ≡ Some origin)) [
+      | None ↦ λ e. absurd (false≢true (sym (ap is_some e) ∙ and_second (ltb origin HIGH_PAGE) (is_some (home owed origin)) (sym (member_below _ HIGH_PAGE origin) ∙ h)))
+      | Some page ↦ λ e. (page, home_tells owed origin page e)
+    ] refl
+
+-- The answer
+
+-- a Recv stands first, and the requests behind it
+answer_first : (back : List Sent) (epoch : ℕ) (frame : Frame) (frames : List Frame) → back ≡ [] → sending back epoch (frame ∷ frames) ≡ record { epoch = epoch; frame = frame } ∷ sending [] epoch frames
+answer_first back epoch frame frames none = ap (λ b. sending b epoch (frame ∷ frames)) none ∙ sending-behind (record { epoch = epoch; frame = frame } ∷ []) epoch frames
+
+resume_alone : (epoch source_epoch : ℕ) (rest : List Sent) (h : record { epoch = epoch; frame = Resume } ∷ rest ≡ record { epoch = source_epoch; frame = Resume } ∷ []) → rest ≡ []
+resume_alone epoch source_epoch rest h = cc
+
+-- it goes on in a phase, and answers with these frames
+goes_on : (to : DestPhase) (ran : Bool) (epoch : ℕ) (keeps : FinMap nat_cmp (List ℕ)) (frames : List Frame) (rest : List Sent) (world : World) →
+    let old : World = at_state SourcePhase.Paused DestPhase.Paused ran true (record { epoch = epoch; frame = Resume } ∷ rest) world in
+    let new : World = record old {
+      destination = record old.destination { phase = to; epoch = epoch; kept = keeps; urgent_taken = 0 };
+      forward = wire_behind rest;
+      back = record world.back { frames = sending world.back.frames epoch frames };
+    } in
+    IsSoundWorld old → to ≢ DestPhase.Idle → RanAt to ran world.destination.ended → (epoch ≡ world.source.epoch → EpochAt to epoch world.source.epoch) → (ran ≡ true → keeps ≡ finmap.empty) →
+    ((page : ℕ) (bytes : List ℕ) → get keeps page ≡ Some bytes → length bytes ≡ 4096) → Wires new.source new.destination new.forward.frames new.back.frames new.urgent.frames → IsSoundWorld new
+goes_on to ran epoch keeps frames rest world kept advised phase at kept_none kept_whole on_wires =
+    let old : World = at_state SourcePhase.Paused DestPhase.Paused ran true (record { epoch = epoch; frame = Resume } ∷ rest) world in
+    let new : World = record old {
+      destination = record old.destination { phase = to; epoch = epoch; kept = keeps; urgent_taken = 0 };
+      forward = wire_behind rest;
+      back = record world.back { frames = sending world.back.frames epoch frames };
+    } in
+    let same : epoch ≡ world.source.epoch = kept.epochs.forward_epoch.0 in
+    let kept_advised : to ≡ DestPhase.Idle → keeps ≡ finmap.empty = λ h. absurd (advised h) in
+    let flight = flight_up new refl kept.flight.flight_faithful on_wires in
+    let forward_epoch : AreOf world.source.epoch rest = kept.epochs.forward_epoch.1 in
+    let back_epoch = subst (λ e. AreOf e new.back.frames) same (AreOf-sending epoch world.back.frames frames (subst (λ e. AreOf e world.back.frames) (sym same) kept.epochs.back_epoch)) in
+    let not_ahead : epoch ≤ world.source.epoch = omega (arith, same) in
+    let epoch_at = at same in
+    assumption (fits-none rest, fits-more world.back.frames world.back.held epoch frames kept.held.back_held)
+
+-- it has not run: what it kept is given up
+resume_waiting : (epoch : ℕ) (rest : List Sent) (world : World) →
+    let old : World = at_state SourcePhase.Paused DestPhase.Paused false true (record { epoch = epoch; frame = Resume } ∷ rest) world in
+    IsSoundWorld old → IsSoundWorld (delivered old old.forward.frames)
+resume_waiting epoch rest world kept =
+    let w = kept.flight.wires refl in
+    let answered = answer_first world.back.frames epoch (Recv Received.NotRun no_pages) [] w.1 ∙ ap (λ e. record { epoch = e; frame = Recv Received.NotRun no_pages } ∷ []) kept.epochs.forward_epoch.0 in
+    goes_on DestPhase.Advised false epoch finmap.empty (Recv Received.NotRun no_pages ∷ []) rest world kept (λ h. cc) refl (λ same. same) (λ h. refl)
+    (λ page bytes h. absurd (none-some bytes (sym (get-empty nat_cmp page) ∙ h))) (resume_alone epoch world.source.epoch rest w.0, answered, refl, refl)
+
+-- it runs: it still needs what it is owed, and asks again for what it has asked
+resume_running : (epoch : ℕ) (rest : List Sent) (world : World) →
+    let old : World = at_state SourcePhase.Paused DestPhase.Paused true true (record { epoch = epoch; frame = Resume } ∷ rest) (record world { destination = record world.destination { ended = false } }) in
+    IsSoundWorld old → IsSoundWorld (delivered old old.forward.frames)
+resume_running epoch rest world kept =
+    let owed : FinMap nat_cmp ℕ = world.destination.owed in
+    let w = kept.flight.wires refl in
+    let frames : List Frame = map Request world.destination.requests in
+    goes_on DestPhase.Running true epoch world.destination.kept (Recv Received.Running (origins owed) ∷ frames) rest (record world { destination = record world.destination { ended = false } }) kept (λ h. cc) (refl, refl) (λ same. same)
+    kept.copies.kept_none kept.copies.kept_whole (
+      resume_alone epoch world.source.epoch rest w.0,
+      record {
+        owed = origins owed;
+        epoch = epoch;
+        rest = sending [] epoch frames;
+        first = answer_first world.back.frames epoch (Recv Received.Running (origins owed)) frames w.1;
+        requests = are_requests-sending epoch [] world.destination.requests refl;
+        alone = λ h. absurd (h refl);
+        none_listed = λ h. absurd (h refl);
+        needed = λ page origin h.
+            let low = present_below world.source.guest.space origin kept.spaces.source_space.host (kept.owing.origins_present page origin h) in
+            origins-pair owed page origin h (kept.owing.owed_below page origin h) (lt-ltb origin HIGH_PAGE low);
+        owed_present = λ origin h. let pair = pair-origins owed origin h in kept.owing.origins_present pair.0 origin pair.1;
+      },
+    )
+
+-- it has ended: it needs nothing
+resume_ended : (epoch : ℕ) (rest : List Sent) (world : World) →
+    let old : World = at_state SourcePhase.Paused DestPhase.Paused true true (record { epoch = epoch; frame = Resume } ∷ rest) (record world { destination = record world.destination { ended = true } }) in
+    IsSoundWorld old → IsSoundWorld (delivered old old.forward.frames)
+resume_ended epoch rest world kept =
+    let w = kept.flight.wires refl in
+    goes_on DestPhase.Ended true epoch world.destination.kept (Recv Received.Ended no_pages ∷ []) rest (record world { destination = record world.destination { ended = true } }) kept (λ h. cc) refl (λ same. same)
+    kept.copies.kept_none kept.copies.kept_whole (
+      resume_alone epoch world.source.epoch rest w.0,
+      record {
+        owed = no_pages;
+        epoch = epoch;
+        rest = [];
+        first = answer_first world.back.frames epoch (Recv Received.Ended no_pages) [] w.1;
+        requests = refl;
+        alone = λ h. refl;
+        none_listed = λ h. refl;
+        needed = λ page origin h. absurd (none-some origin (sym (get-empty nat_cmp page) ∙ sym (ap (λ o. get o page) (kept.owing.ended_empty refl).0) ∙ h));
+        owed_present = λ page h. no_page page h;
+      },
+    )
+
+resume_by : (ran ended : Bool) (epoch : ℕ) (rest : List Sent) (world : World) →
+    let old : World = at_state SourcePhase.Paused DestPhase.Paused ran true (record { epoch = epoch; frame = Resume } ∷ rest) (record world { destination = record world.destination { ended = ended } }) in
+    IsSoundWorld old → IsSoundWorld (delivered old old.forward.frames)
+resume_by false ended epoch rest world kept = resume_waiting epoch rest (record world { destination = record world.destination { ended = ended } }) kept
+resume_by true false epoch rest world kept = resume_running epoch rest world kept
+resume_by true true epoch rest world kept = resume_ended epoch rest world kept
+
+pub resume_taken : (ran : Bool) (epoch : ℕ) (rest : List Sent) (world : World) →
+    let old : World = at_state SourcePhase.Paused DestPhase.Paused ran true (record { epoch = epoch; frame = Resume } ∷ rest) world in
+    IsSoundWorld old → IsSoundWorld (delivered old old.forward.frames)
+resume_taken ran epoch rest world kept = resume_by ran world.destination.ended epoch rest world kept
+
+-- A frame that is taken before the destination runs
+
+-- its phase, its epoch, its count and the pages that it keeps change alone
+taken_before : (from : SourcePhase) (to next : DestPhase) (ran : Bool) (epoch own count : ℕ) (frame : Frame) (keeps : FinMap nat_cmp (List ℕ)) (rest : List Sent) (world : World) →
+    let old : World = at_state from to ran true (record { epoch = epoch; frame = frame } ∷ rest) world in
+    let new : World = record old { destination = record old.destination { phase = next; epoch = own; kept = keeps; urgent_taken = count }; forward = wire_behind rest } in
+    IsSoundWorld old → ran ≡ false → next ≢ DestPhase.Idle → RanAt next ran world.destination.ended → own ≡ world.source.epoch → EpochAt next own world.source.epoch →
+    ((page : ℕ) (bytes : List ℕ) → get keeps page ≡ Some bytes → length bytes ≡ 4096) → AreWhole (copies_of rest) → Wires new.source new.destination new.forward.frames new.back.frames new.urgent.frames → IsSoundWorld new
+taken_before from to next ran epoch own count frame keeps rest world kept bare advised phase same at whole copies on_wires =
+    let old : World = at_state from to ran true (record { epoch = epoch; frame = frame } ∷ rest) world in
+    let new : World = record old { destination = record old.destination { phase = next; epoch = own; kept = keeps; urgent_taken = count }; forward = wire_behind rest } in
+    let kept_none : ran ≡ true → keeps ≡ finmap.empty = λ h. absurd (false≢true (sym bare ∙ h)) in
+    let kept_advised : next ≡ DestPhase.Idle → keeps ≡ finmap.empty = λ h. absurd (advised h) in
+    let flight = flight_up new refl (λ h. absurd (false≢true (sym bare ∙ h))) on_wires in
+    let forward_epoch : AreOf new.source.epoch rest = kept.epochs.forward_epoch.1 in
+    let not_ahead : own ≤ world.source.epoch = omega (arith, same) in
+    assumption (fits-none rest)
 
 -- Advise: the wires are what they were
 advise_taken : (from : SourcePhase) (ran : Bool) (epoch : ℕ) (rest : List Sent) (world : World) →
@@ -33,78 +213,37 @@ advise_taken : (from : SourcePhase) (ran : Bool) (epoch : ℕ) (rest : List Sent
     let new : World = delivered old old.forward.frames in
     IsSoundWorld old → Wires new.source new.destination new.forward.frames new.back.frames new.urgent.frames → IsSoundWorld new
 advise_taken from ran epoch rest world kept on_wires =
-    let old : World = at_state from DestPhase.Idle ran true (record { epoch = epoch; frame = Advise } ∷ rest) world in
-    let new : World = delivered old old.forward.frames in
-    let kept_advised : new.destination.phase ≡ DestPhase.Idle → new.destination.kept ≡ finmap.empty = λ h. cc in
-    let wires : new.up ≡ true → Wires new.source new.destination new.forward.frames new.back.frames new.urgent.frames = λ u. on_wires in
-    let down : new.up ≡ false → (new.forward.frames ≡ []) × (new.back.frames ≡ []) × (new.source.phase ≢ SourcePhase.Idle) × (new.source.phase ≢ SourcePhase.Released) = λ h. absurd (not_up h) in
-    let forward_epoch : AreOf new.source.epoch new.forward.frames = kept.epochs.forward_epoch.1 in
-    let epochs : new.destination.epoch ≤ new.source.epoch = let e = kept.epochs.forward_epoch.0 in omega (arith, e) in
-    let epoch_at : new.up ≡ true → EpochAt new.destination.phase new.destination.epoch new.source.epoch = λ u. kept.epochs.forward_epoch.0 in
-    let held : AreSoundWires new.forward new.back = record { forward_held = fits-none rest; back_held = kept.held.back_held } in
-    assumption
+    let same = kept.epochs.forward_epoch.0 in
+    taken_before from DestPhase.Idle DestPhase.Advised ran epoch epoch 0 Advise world.destination.kept rest world kept kept.phases.destination_phase (λ h. cc) kept.phases.destination_phase same same kept.copies.kept_whole kept.copies.copies_whole on_wires
 
--- A copy while the destination does not run
-
--- the pages kept stay whole
-whole_put : (kept : FinMap nat_cmp (List ℕ)) (page : ℕ) (bytes : List ℕ) → length bytes ≡ 4096 → ((q : ℕ) (held : List ℕ) → get kept q ≡ Some held → length held ≡ 4096) →
-    (q : ℕ) (held : List ℕ) → get (insert kept page bytes) q ≡ Some held → length held ≡ 4096
-whole_put kept page bytes n whole q held h = put_whole (eqb q page) bytes held (get kept q) n (whole q held) (sym (get-put kept page q bytes) ∙ h)
-
--- the kept table is folded over the wire as before
-copy_kept : (from : SourcePhase) (epoch page : ℕ) (bytes : List ℕ) (rest : List Sent) (world : World) →
-    let old : World = at_state from DestPhase.Advised false true (record { epoch = epoch; frame = Page page bytes } ∷ rest) world in
-    let new : World = delivered old old.forward.frames in
-    IsSoundWorld old → Wires new.source new.destination new.forward.frames new.back.frames new.urgent.frames → IsSoundWorld new
-copy_kept from epoch page bytes rest world kept on_wires =
-    let old : World = at_state from DestPhase.Advised false true (record { epoch = epoch; frame = Page page bytes } ∷ rest) world in
-    let new : World = delivered old old.forward.frames in
-    let kept_none : new.destination.has_run ≡ true → new.destination.kept ≡ finmap.empty = λ h. absurd (false≢true h) in
-    let kept_advised : new.destination.phase ≡ DestPhase.Idle → new.destination.kept ≡ finmap.empty = λ h. cc in
-    let kept_whole : (q : ℕ) (held : List ℕ) → get new.destination.kept q ≡ Some held → length held ≡ 4096 = whole_put world.destination.kept page bytes kept.copies.copies_whole.0 kept.copies.kept_whole in
-    let copies_whole : AreWhole (copies_of new.forward.frames) = kept.copies.copies_whole.1 in
-    let flight_faithful : new.destination.has_run ≡ true → AreFaithful new.source.guest.space.host.bytes (copies_of new.forward.frames) = λ h. absurd (false≢true h) in
-    let wires : new.up ≡ true → Wires new.source new.destination new.forward.frames new.back.frames new.urgent.frames = λ u. on_wires in
-    let down : new.up ≡ false → (new.forward.frames ≡ []) × (new.back.frames ≡ []) × (new.source.phase ≢ SourcePhase.Idle) × (new.source.phase ≢ SourcePhase.Released) = λ h. absurd (not_up h) in
-    let forward_epoch : AreOf new.source.epoch new.forward.frames = kept.epochs.forward_epoch.1 in
-    let held : AreSoundWires new.forward new.back = record { forward_held = fits-none rest; back_held = kept.held.back_held } in
-    assumption
-
--- A run of them
+-- Copies while the destination does not run
 
 pub whole_parts : (a b : List Copy) → AreWhole (a ++ b) → AreWhole a × AreWhole b
 whole_parts [] b h = (tt, h)
 whole_parts (copy ∷ a) b h = let rest = whole_parts a b h.1 in ((h.0, rest.0), rest.1)
 
+-- the pages kept stay whole
 whole_with : (copies : List Copy) (kept : FinMap nat_cmp (List ℕ)) → AreWhole copies → ((q : ℕ) (held : List ℕ) → get kept q ≡ Some held → length held ≡ 4096) →
     (q : ℕ) (held : List ℕ) → get (kept_with kept copies) q ≡ Some held → length held ≡ 4096
 whole_with [] kept are whole = whole
-whole_with (copy ∷ copies) kept are whole = whole_with copies (insert kept copy.page copy.bytes) are.1 (whole_put kept copy.page copy.bytes are.0 whole)
+whole_with (copy ∷ copies) kept are whole =
+    whole_with copies (insert kept copy.page copy.bytes) are.1 (λ q held h. put_whole (eqb q copy.page) copy.bytes held (get kept q) are.0 (whole q held) (sym (get-put kept copy.page q copy.bytes) ∙ h))
 
-run_kept : (from : SourcePhase) (epoch first : ℕ) (pages : List (List ℕ)) (rest : List Sent) (world : World) →
-    let old : World = at_state from DestPhase.Advised false true (record { epoch = epoch; frame = Run first pages } ∷ rest) world in
-    let new : World = delivered old old.forward.frames in
+-- the kept table is folded over the wire as before
+copies_kept : (from : SourcePhase) (epoch : ℕ) (frame : Frame) (rest : List Sent) (world : World) →
+    let old : World = at_state from DestPhase.Advised false true (record { epoch = epoch; frame = frame } ∷ rest) world in
+    let new : World = record old { destination = record old.destination { kept = kept_with world.destination.kept (copies_in frame) }; forward = wire_behind rest } in
     IsSoundWorld old → Wires new.source new.destination new.forward.frames new.back.frames new.urgent.frames → IsSoundWorld new
-run_kept from epoch first pages rest world kept on_wires =
-    let old : World = at_state from DestPhase.Advised false true (record { epoch = epoch; frame = Run first pages } ∷ rest) world in
-    let new : World = delivered old old.forward.frames in
-    let both = whole_parts (run_copies first pages) (copies_of rest) kept.copies.copies_whole in
-    let kept_none : new.destination.has_run ≡ true → new.destination.kept ≡ finmap.empty = λ h. absurd (false≢true h) in
-    let kept_advised : new.destination.phase ≡ DestPhase.Idle → new.destination.kept ≡ finmap.empty = λ h. cc in
-    let kept_whole : (q : ℕ) (held : List ℕ) → get new.destination.kept q ≡ Some held → length held ≡ 4096 = whole_with (run_copies first pages) world.destination.kept both.0 kept.copies.kept_whole in
-    let copies_whole : AreWhole (copies_of new.forward.frames) = both.1 in
-    let flight_faithful : new.destination.has_run ≡ true → AreFaithful new.source.guest.space.host.bytes (copies_of new.forward.frames) = λ h. absurd (false≢true h) in
-    let wires : new.up ≡ true → Wires new.source new.destination new.forward.frames new.back.frames new.urgent.frames = λ u. on_wires in
-    let down : new.up ≡ false → (new.forward.frames ≡ []) × (new.back.frames ≡ []) × (new.source.phase ≢ SourcePhase.Idle) × (new.source.phase ≢ SourcePhase.Released) = λ h. absurd (not_up h) in
-    let forward_epoch : AreOf new.source.epoch new.forward.frames = kept.epochs.forward_epoch.1 in
-    let held : AreSoundWires new.forward new.back = record { forward_held = fits-none rest; back_held = kept.held.back_held } in
-    assumption
+copies_kept from epoch frame rest world kept on_wires =
+    let both = whole_parts (copies_in frame) (copies_of rest) kept.copies.copies_whole in
+    let same = kept.epochs.epoch_at refl in
+    taken_before from DestPhase.Advised DestPhase.Advised false epoch world.destination.epoch world.destination.urgent_taken frame (kept_with world.destination.kept (copies_in frame)) rest world kept refl (λ h. cc) refl same same
+    (whole_with (copies_in frame) world.destination.kept both.0 kept.copies.kept_whole) both.1 on_wires
 
 -- A Discard
 
 kept_whole_if : (test : Bool) (o : Option (List ℕ)) (held : List ℕ) → (o ≡ Some held → length held ≡ 4096) → cond test o None ≡ Some held → length held ≡ 4096
-kept_whole_if true o held whole h = whole h
-kept_whole_if false o held whole h = absurd (none-some held h)
+kept_whole_if test o held whole h = grind arith
 
 whole_discarded : (kept : FinMap nat_cmp (List ℕ)) (pages : FinSet nat_cmp) → ((q : ℕ) (held : List ℕ) → get kept q ≡ Some held → length held ≡ 4096) →
     (q : ℕ) (held : List ℕ) → get (kept_after kept (Discard pages)) q ≡ Some held → length held ≡ 4096
@@ -116,87 +255,37 @@ discard_taken : (epoch : ℕ) (pages : FinSet nat_cmp) (rest : List Sent) (world
     let old : World = at_state SourcePhase.Stopped DestPhase.Advised false true (record { epoch = epoch; frame = Discard pages } ∷ rest) world in
     IsSoundWorld old → IsSoundWorld (delivered old old.forward.frames)
 discard_taken epoch pages rest world kept =
-    let old : World = at_state SourcePhase.Stopped DestPhase.Advised false true (record { epoch = epoch; frame = Discard pages } ∷ rest) world in
-    let new : World = delivered old old.forward.frames in
     let w = kept.flight.wires refl in
-    let kept_none : new.destination.has_run ≡ true → new.destination.kept ≡ finmap.empty = λ h. absurd (false≢true h) in
-    let kept_advised : new.destination.phase ≡ DestPhase.Idle → new.destination.kept ≡ finmap.empty = λ h. cc in
-    let kept_whole : (q : ℕ) (held : List ℕ) → get new.destination.kept q ≡ Some held → length held ≡ 4096 = whole_discarded world.destination.kept pages kept.copies.kept_whole in
-    let wires : new.up ≡ true → Wires new.source new.destination new.forward.frames new.back.frames new.urgent.frames =
-    λ u. (w.0, w.1, record { owed = w.2.owed; plan = w.2.plan; owed_present = w.2.owed_present; kept_rest = w.2.kept_rest; whereabouts = w.2.whereabouts; faithful = w.2.faithful }) in
-    let down : new.up ≡ false → (new.forward.frames ≡ []) × (new.back.frames ≡ []) × (new.source.phase ≢ SourcePhase.Idle) × (new.source.phase ≢ SourcePhase.Released) = λ h. absurd (not_up h) in
-    let forward_epoch : AreOf new.source.epoch new.forward.frames = kept.epochs.forward_epoch.1 in
-    let held : AreSoundWires new.forward new.back = record { forward_held = fits-none rest; back_held = kept.held.back_held } in
-    assumption
+    let same = kept.epochs.epoch_at refl in
+    taken_before SourcePhase.Stopped DestPhase.Advised DestPhase.Discarding false epoch world.destination.epoch world.destination.urgent_taken (Discard pages) _ rest world kept refl (λ h. cc) refl same same
+    (whole_discarded world.destination.kept pages kept.copies.kept_whole) kept.copies.copies_whole
+    (w.0, w.1, record { owed = w.2.owed; plan = w.2.plan; owed_present = w.2.owed_present; kept_rest = w.2.kept_rest; whereabouts = w.2.whereabouts; faithful = w.2.faithful })
 
 -- A copy while the destination runs
 
--- it is no longer in flight, and has arrived
-came : (remains here flies waits : Bool) → (remains || (here || flies) || waits) ≡ true → (remains || flies || (waits || (here || false))) ≡ true
-came true here flies waits h = refl
-came false true true waits h = refl
-came false true false true h = refl
-came false true false false h = refl
-came false false true waits h = refl
-came false false false true h = refl
-came false false false false h = absurd (false≢true h)
-
-copy_arrives : (epoch page : ℕ) (bytes : List ℕ) (rest : List Sent) (world : World) →
-    let old : World = at_state SourcePhase.Stopped DestPhase.Running true true (record { epoch = epoch; frame = Page page bytes } ∷ rest) world in
-    IsSoundWorld old → IsSoundWorld (delivered old old.forward.frames)
-copy_arrives epoch page bytes rest world kept =
-    let old : World = at_state SourcePhase.Stopped DestPhase.Running true true (record { epoch = epoch; frame = Page page bytes } ∷ rest) world in
-    let new : World = delivered old old.forward.frames in
-    let copy : Copy = record { page = page; bytes = bytes } in
-    let w = kept.flight.wires refl in
-    let faithful : AreFaithful old.source.guest.space.host.bytes (copies_of old.forward.frames) = kept.flight.flight_faithful refl in
+copy_arrives : (epoch : ℕ) (frame : Frame) (copy : Copy) (rest : List Sent) (world : World) →
+    let old : World = at_state SourcePhase.Stopped DestPhase.Running true true (record { epoch = epoch; frame = frame } ∷ rest) world in
+    let bytes : FinMap nat_cmp (List ℕ) = world.source.guest.space.host.bytes in
+    IsSoundWorld old → AreFaithful bytes (copy ∷ copies_of rest) → AreWhole (copies_of rest) → flow_after Pushed rest ≡ Some (flow_of old.source) → are_requests world.back.frames ≡ true →
+    ((page origin : ℕ) → get world.destination.owed page ≡ Some origin →
+    (is_urgent_or_left world.source.remaining world.urgent.frames origin || has_copy (copy ∷ copies_of rest) origin || has_copy world.destination.arrivals origin) ≡ true) →
+    IsSoundWorld (record old { destination = record old.destination { arrivals = world.destination.arrivals ++ copy ∷ [] }; forward = wire_behind rest })
+copy_arrives epoch frame copy rest world kept faithful whole flow requests whereabouts =
+    let old : World = at_state SourcePhase.Stopped DestPhase.Running true true (record { epoch = epoch; frame = frame } ∷ rest) world in
+    let new : World = record old { destination = record old.destination { arrivals = world.destination.arrivals ++ copy ∷ [] }; forward = wire_behind rest } in
     let not_run : new.destination.has_run ≡ false → (new.destination.owed ≡ finmap.empty) × (new.destination.guest.space ≡ fresh_space) × (new.destination.arrivals ≡ []) = λ h. absurd (not_up h) in
-    let copies_whole : AreWhole (copies_of new.forward.frames) = kept.copies.copies_whole.1 in
-    let arrivals_faithful : new.destination.has_run ≡ true → AreFaithful new.source.guest.space.host.bytes new.destination.arrivals =
-    λ r. AreFaithful-append new.source.guest.space.host.bytes world.destination.arrivals (copy ∷ []) (kept.owing.arrivals_faithful refl) (faithful.0, tt) in
-    let flight_faithful : new.destination.has_run ≡ true → AreFaithful new.source.guest.space.host.bytes (copies_of new.forward.frames) = λ r. faithful.1 in
+    let arrivals_faithful = AreFaithful-append new.source.guest.space.host.bytes world.destination.arrivals (copy ∷ []) (kept.owing.arrivals_faithful refl) (faithful.0, tt) in
     let ended_empty : new.destination.ended ≡ true → (new.destination.owed ≡ finmap.empty) × (new.destination.arrivals ≡ []) = λ h. absurd (false≢true (sym kept.phases.destination_phase.1 ∙ h)) in
-    let wires : new.up ≡ true → Wires new.source new.destination new.forward.frames new.back.frames new.urgent.frames =
-    λ u. (
-      w.0,
-      w.1,
-      record {
-        whereabouts = λ q origin h.
-            ap (λ b. is_urgent_or_left world.source.remaining world.urgent.frames origin || has_copy (copies_of rest) origin || b) (has_copy-append world.destination.arrivals (copy ∷ []) origin)
-            ∙ came (is_urgent_or_left world.source.remaining world.urgent.frames origin) (eqb page origin) (has_copy (copies_of rest) origin) (has_copy world.destination.arrivals origin) (w.2.whereabouts q origin h);
-      },
-    ) in
-    let down : new.up ≡ false → (new.forward.frames ≡ []) × (new.back.frames ≡ []) × (new.source.phase ≢ SourcePhase.Idle) × (new.source.phase ≢ SourcePhase.Released) = λ h. absurd (not_up h) in
-    let forward_epoch : AreOf new.source.epoch new.forward.frames = kept.epochs.forward_epoch.1 in
-    let held : AreSoundWires new.forward new.back = record { forward_held = fits-none rest; back_held = kept.held.back_held } in
-    assumption
-
--- A page of zeros is a copy of zeros
-
-zero_wires : (from : SourcePhase) (to : DestPhase) (source : Source) (destination : Destination) (epoch page : ℕ) (rest back urgent : List Sent) →
-    Wires (record source { phase = from }) (record destination { phase = to }) (record { epoch = epoch; frame = Zero page } ∷ rest) back urgent →
-    Wires (record source { phase = from }) (record destination { phase = to }) (record { epoch = epoch; frame = Page page zero_page } ∷ rest) back urgent
-zero_wires SourcePhase.Precopy DestPhase.Advised source destination epoch page rest back urgent w = (w.0, w.1, record { clean_copy = w.2.clean_copy; copies_sent = w.2.copies_sent })
-zero_wires SourcePhase.Stopped DestPhase.Advised source destination epoch page rest back urgent w =
-    (w.0, w.1, record { owed = w.2.owed; plan = w.2.plan; owed_present = w.2.owed_present; kept_rest = w.2.kept_rest; whereabouts = w.2.whereabouts; faithful = w.2.faithful })
-zero_wires SourcePhase.Stopped DestPhase.Running source destination epoch page rest back urgent w = (w.0, w.1, record { whereabouts = w.2.whereabouts })
-zero_wires SourcePhase.Paused DestPhase.Paused source destination epoch page rest back urgent w =
-    absurd (false≢true (first_in_place (record source { phase = SourcePhase.Paused }) (record destination { phase = DestPhase.Paused }) (record { epoch = epoch; frame = Zero page }) rest back urgent w))
-zero_wires from to source destination epoch page rest back urgent w =
-    absurd (false≢true (first_in_place (record source { phase = from }) (record destination { phase = to }) (record { epoch = epoch; frame = Zero page }) rest back urgent w))
-
-zeros_shorter : (held : ℕ) → held < 16 → held < 4112
-zeros_shorter held h = omega (arith, h)
-
-as_page : (from : SourcePhase) (to : DestPhase) (ran : Bool) (epoch page : ℕ) (rest : List Sent) (world : World) →
-    IsSoundWorld (at_state from to ran true (record { epoch = epoch; frame = Zero page } ∷ rest) world) →
-    IsSoundWorld (at_state from to ran true (record { epoch = epoch; frame = Page page zero_page } ∷ rest) world)
-as_page from to ran epoch page rest world kept =
-    let new : World = at_state from to ran true (record { epoch = epoch; frame = Page page zero_page } ∷ rest) world in
-    let wires : new.up ≡ true → Wires new.source new.destination new.forward.frames new.back.frames new.urgent.frames = λ u. zero_wires from to world.source new.destination epoch page rest world.back.frames world.urgent.frames (kept.flight.wires refl) in
-    let down : new.up ≡ false → (new.forward.frames ≡ []) × (new.back.frames ≡ []) × (new.source.phase ≢ SourcePhase.Idle) × (new.source.phase ≢ SourcePhase.Released) = λ h. absurd (not_up h) in
-    let held : AreSoundWires new.forward new.back = record { forward_held = zeros_shorter world.forward.held kept.held.forward_held; back_held = kept.held.back_held } in
-    assumption
+    let flowing : IsFlowing new.source new.destination rest world.urgent.frames =
+    record {
+      -- it is no longer in flight, and has arrived
+      whereabouts = λ q origin h.
+          let there = whereabouts q origin h in
+          rw (has_copy-append world.destination.arrivals (copy ∷ []) origin) (grind arith);
+    } in
+    let flight = flight_up new refl (λ r. faithful.1) (flow, requests, flowing) in
+    let forward_epoch : AreOf new.source.epoch rest = kept.epochs.forward_epoch.1 in
+    assumption (fits-none rest)
 
 -- The frames in their phases
 
@@ -217,41 +306,34 @@ stopped_unadvised ran epoch Advise rest world kept =
     (w.0, w.1, record { owed = w.2.owed; plan = w.2.plan; owed_present = w.2.owed_present; kept_rest = w.2.kept_rest; whereabouts = w.2.whereabouts; faithful = w.2.faithful })
 stopped_unadvised ran epoch _ rest world kept = absurd (none-some (flow_of (record world.source { phase = SourcePhase.Stopped })) (kept.flight.wires refl).0)
 
-precopy_copy : (epoch page : ℕ) (bytes : List ℕ) (rest : List Sent) (world : World) →
-    let old : World = at_state SourcePhase.Precopy DestPhase.Advised false true (record { epoch = epoch; frame = Page page bytes } ∷ rest) world in
-    IsSoundWorld old → IsSoundWorld (delivered old old.forward.frames)
-precopy_copy epoch page bytes rest world kept =
-    let w = kept.flight.wires refl in
-    copy_kept SourcePhase.Precopy epoch page bytes rest world kept (w.0, w.1, record { clean_copy = w.2.clean_copy; copies_sent = w.2.copies_sent })
-
-stopped_copy : (epoch page : ℕ) (bytes : List ℕ) (rest : List Sent) (world : World) →
-    let old : World = at_state SourcePhase.Stopped DestPhase.Advised false true (record { epoch = epoch; frame = Page page bytes } ∷ rest) world in
-    IsSoundWorld old → IsSoundWorld (delivered old old.forward.frames)
-stopped_copy epoch page bytes rest world kept =
-    let w = kept.flight.wires refl in
-    copy_kept SourcePhase.Stopped epoch page bytes rest world kept
-    (w.0, w.1, record { owed = w.2.owed; plan = w.2.plan; owed_present = w.2.owed_present; kept_rest = w.2.kept_rest; whereabouts = w.2.whereabouts; faithful = w.2.faithful })
-
 precopy_advised : (epoch : ℕ) (frame : Frame) (rest : List Sent) (world : World) →
     let old : World = at_state SourcePhase.Precopy DestPhase.Advised false true (record { epoch = epoch; frame = frame } ∷ rest) world in
     IsSoundWorld old → IsSoundWorld (delivered old old.forward.frames)
-precopy_advised epoch (Page page bytes) rest world kept = precopy_copy epoch page bytes rest world kept
-precopy_advised epoch (Zero page) rest world kept = precopy_copy epoch page zero_page rest world (as_page SourcePhase.Precopy DestPhase.Advised false epoch page rest world kept)
-precopy_advised epoch (Run first pages) rest world kept =
-    let w = kept.flight.wires refl in
-    run_kept SourcePhase.Precopy epoch first pages rest world kept (w.0, w.1, record { clean_copy = w.2.clean_copy; copies_sent = w.2.copies_sent })
+precopy_advised epoch (Page page bytes) rest world kept = let w = kept.flight.wires refl in copies_kept _ epoch (Page page bytes) rest world kept (w.0, w.1, record { clean_copy = w.2.clean_copy; copies_sent = w.2.copies_sent })
+precopy_advised epoch (Zero page) rest world kept = let w = kept.flight.wires refl in copies_kept _ epoch (Zero page) rest world kept (w.0, w.1, record { clean_copy = w.2.clean_copy; copies_sent = w.2.copies_sent })
+precopy_advised epoch (Run first pages) rest world kept = let w = kept.flight.wires refl in copies_kept _ epoch (Run first pages) rest world kept (w.0, w.1, record { clean_copy = w.2.clean_copy; copies_sent = w.2.copies_sent })
 precopy_advised epoch (Discard pages) rest world kept = absurd (ends_late rest (kept.flight.wires refl).0)
 precopy_advised epoch _ rest world kept = absurd (none-some Copies (kept.flight.wires refl).0)
+
+-- the Package and the pages behind it are the same
+switching_on : (source : Source) (kept keeps : FinMap nat_cmp (List ℕ)) (wire rest urgent : List Sent) → package_in wire ≡ package_in rest → kept_by kept wire ≡ kept_by keeps rest → behind wire ≡ behind rest →
+    IsSwitching source kept wire urgent → IsSwitching source keeps rest urgent
+switching_on source kept keeps wire rest urgent same held after old =
+    record {
+      owed = old.owed;
+      plan = sym same ∙ old.plan;
+      owed_present = old.owed_present;
+      kept_rest = λ page. ap (λ m. get m page) (sym held) ∙ old.kept_rest page;
+      whereabouts = λ page h. ap (λ l. is_urgent_or_left source.remaining urgent page || has_copy (copies_of l) page) (sym after) ∙ old.whereabouts page h;
+      faithful = subst (λ l. AreFaithful source.guest.space.host.bytes (copies_of l)) after old.faithful;
+    }
 
 stopped_advised : (epoch : ℕ) (frame : Frame) (rest : List Sent) (world : World) →
     let old : World = at_state SourcePhase.Stopped DestPhase.Advised false true (record { epoch = epoch; frame = frame } ∷ rest) world in
     IsSoundWorld old → IsSoundWorld (delivered old old.forward.frames)
-stopped_advised epoch (Page page bytes) rest world kept = stopped_copy epoch page bytes rest world kept
-stopped_advised epoch (Zero page) rest world kept = stopped_copy epoch page zero_page rest world (as_page SourcePhase.Stopped DestPhase.Advised false epoch page rest world kept)
-stopped_advised epoch (Run first pages) rest world kept =
-    let w = kept.flight.wires refl in
-    run_kept SourcePhase.Stopped epoch first pages rest world kept
-    (w.0, w.1, record { owed = w.2.owed; plan = w.2.plan; owed_present = w.2.owed_present; kept_rest = w.2.kept_rest; whereabouts = w.2.whereabouts; faithful = w.2.faithful })
+stopped_advised epoch (Page page bytes) rest world kept = let w = kept.flight.wires refl in copies_kept _ epoch (Page page bytes) rest world kept (w.0, w.1, switching_on _ _ _ _ rest _ refl refl refl w.2)
+stopped_advised epoch (Zero page) rest world kept = let w = kept.flight.wires refl in copies_kept _ epoch (Zero page) rest world kept (w.0, w.1, switching_on _ _ _ _ rest _ refl refl refl w.2)
+stopped_advised epoch (Run first pages) rest world kept = let w = kept.flight.wires refl in copies_kept _ epoch (Run first pages) rest world kept (w.0, w.1, switching_on _ _ _ _ rest _ refl refl refl w.2)
 stopped_advised epoch (Discard pages) rest world kept = discard_taken epoch pages rest world kept
 stopped_advised epoch _ rest world kept = absurd (none-some (flow_of (record world.source { phase = SourcePhase.Stopped })) (kept.flight.wires refl).0)
 
@@ -276,8 +358,10 @@ none_waits (copy ∷ arrivals) h = absurd (not_up h)
 stopped_running : (epoch : ℕ) (frame : Frame) (rest : List Sent) (world : World) → IsFree frame world → AllCame frame world →
     let old : World = at_state SourcePhase.Stopped DestPhase.Running true true (record { epoch = epoch; frame = frame } ∷ rest) world in
     IsSoundWorld old → IsSoundWorld (delivered old old.forward.frames)
-stopped_running epoch (Page page bytes) rest world free came kept = copy_arrives epoch page bytes rest world kept
-stopped_running epoch (Zero page) rest world free came kept = copy_arrives epoch page zero_page rest world (as_page SourcePhase.Stopped DestPhase.Running true epoch page rest world kept)
+stopped_running epoch (Page page bytes) rest world free came kept =
+    let w = kept.flight.wires refl in copy_arrives epoch (Page page bytes) (record { page = page; bytes = bytes }) rest world kept (kept.flight.flight_faithful refl) kept.copies.copies_whole.1 w.0 w.1 w.2.whereabouts
+stopped_running epoch (Zero page) rest world free came kept =
+    let w = kept.flight.wires refl in copy_arrives epoch (Zero page) (record { page = page; bytes = zero_page }) rest world kept (kept.flight.flight_faithful refl) kept.copies.copies_whole.1 w.0 w.1 w.2.whereabouts
 stopped_running epoch (End count) rest world free came kept = end_taken epoch count rest world (none_waits world.destination.arrivals free) (came count refl) kept
 stopped_running epoch _ rest world free came kept = absurd (none-some (flow_of (record world.source { phase = SourcePhase.Stopped })) (kept.flight.wires refl).0)
 

@@ -1,20 +1,195 @@
--- The source takes a frame of the wire back: a request, a Recv, Done.
-use Rattle.std.proofs.Common.{◌≡◌, ℕ, ◌||◌, Bool, true, false, List, [], ◌∷◌, refl, sym, subst}
+-- The source takes a frame of the wire back: a request, a Recv, and Done, with which it is released.
+use Rattle.std.proofs.Common.{◌≡◌, ◌≢◌, ℕ, ◌/◌, ◌&&◌, ◌||◌, Bool, true, false, cond, ltb, Option, Some, None, is_some, List, [], ◌∷◌, refl, sym, ap, ◌∙◌, inl, subst, arith}
 use Rattle.std.specs.Ordering.{nat_cmp}
-use Rattle.std.specs.FinSet.{FinSet}
-use Rattle.std.proofs.lemmas.Bool.{false≢true}
+use Rattle.std.specs.FinMap as finmap
+use Rattle.std.specs.FinMap.{FinMap, get, contains_key, get-empty}
+use Rattle.std.specs.FinSet.{FinSet, contains}
+use Rattle.std.proofs.lemmas.Bool.{false≢true, ltb-false}
+use Rattle.std.proofs.lemmas.Option.{none-some}
 use Rattle.mig_base.specs.declared.phase.DestPhase.{DestPhase}
 use Rattle.mig_base.specs.declared.phase.Received.{Received}
 use Rattle.mig_base.specs.declared.phase.SourcePhase.{SourcePhase}
-use Rattle.mig_base.specs.Tests.{is_empty}
-use Rattle.mig_model.specs.Wire.{Frame, Sent}
-use Rattle.mig_model.specs.Wire.Frame.{Request, Recv, Done}
+use Rattle.mig_base.specs.declared.TheConstants.{HIGH_PAGE}
+use Rattle.mig_base.specs.declared.message.Message.{Message}
+use Rattle.mig_base.specs.declared.message.Message.TheVariants.{PageFault, Remap, Remove, Unmap}
+use Rattle.mig_base.specs.Flat.{memory_of}
+use Rattle.mig_base.specs.Ranges.{in_range}
+use Rattle.mig_base.proofs.SetLemmas.{member_below}
+use Rattle.mig_model.specs.Host.{Host, memory, IsSound}
+use Rattle.mig_model.specs.Userfault.{Noted}
+use Rattle.mig_model.specs.Space.{fresh_space}
+use Rattle.mig_model.specs.Guest.{is_present, is_changed_by}
+use Rattle.mig_model.specs.Wire.{Frame, Sent, kept_after, wire_behind}
+use Rattle.mig_model.specs.Wire.Frame.{Discard, Request, Recv, Done}
 use Rattle.mig_model.specs.Migration.{World, after_deliver_back}
-use Rattle.mig_model.specs.Invariant.{IsSoundWorld, IsReceiving, are_requests_and_done}
+use Rattle.mig_model.specs.Invariant.{Wires, IsSoundWorld, IsSoundPushing, IsSoundLog, IsReceiving, are_requests_and_done, IsPrecopying, IsSwitching, IsFlowing, AreOf, AreFaithful, copies_of, has_copy, are_requests, seen_host, current_host}
+use Rattle.mig_model.proofs.FrameLemmas.{discard_none}
+use Rattle.mig_model.proofs.SpaceLemmas.{IsSoundSpace-fresh}
 use Rattle.mig_model.proofs.FirstFrame.{empty_not, delivered_back}
-use Rattle.mig_model.proofs.FramesBack.{at_back, request_taken, released_kept, recv_precopy, recv_switched, recv_running}
-use Rattle.mig_model.specs.Log.{no_pages}
-use Rattle.mig_model.proofs.Facts.{not_up}
+use Rattle.mig_model.specs.Log.{no_pages, present}
+use Rattle.mig_model.specs.Owed.{owed_after, settled_by}
+use Rattle.mig_model.specs.Source.{released, space_of, rebuild_frames}
+use Rattle.mig_model.specs.Destination.{settled}
+use Rattle.mig_model.proofs.WireLemmas.{fits-more, fits-none, flight_up}
+use Rattle.mig_model.proofs.Facts.{and_second, not_up, no_page}
+use Rattle.mig_model.proofs.Stopping.{flow_open, log_stopped, pushing_stopped}
+use Rattle.mig_base.specs.Tests.{is_empty}
+
+-- a world with these phases and this wire back, whose link is up
+abbrev at_back : SourcePhase → DestPhase → (ran switched : Bool) → (forward back : List Sent) → World → World
+at_back from to ran switched forward back world =
+    record world { source = record world.source { phase = from; switched = switched }; destination = record world.destination { phase = to; has_run = ran }; forward = record world.forward { frames = forward }; back = record world.back { frames = back }; up = true }
+
+-- A request
+
+request_taken : (to : DestPhase) (ran switched : Bool) (epoch page : ℕ) (rest : List Sent) (world : World) →
+    let old : World = at_back SourcePhase.Stopped to ran switched world.forward.frames (record { epoch = epoch; frame = Request page } ∷ rest) world in
+    let new : World = delivered_back old old.back.frames in
+    IsSoundWorld old → Wires new.source new.destination new.forward.frames new.back.frames new.urgent.frames → IsSoundWorld new
+request_taken to ran switched epoch page rest world kept on_wires =
+    let old : World = at_back SourcePhase.Stopped to ran switched world.forward.frames (record { epoch = epoch; frame = Request page } ∷ rest) world in
+    let new : World = delivered_back old old.back.frames in
+    let back_epoch : AreOf new.source.epoch new.back.frames = kept.epochs.back_epoch.1 in
+    assumption (flight_up new refl kept.flight.flight_faithful on_wires, fits-none rest)
+
+-- A source that is released
+
+-- where nothing is owed, nothing is owed once the events are read
+cond_same : (b c : Bool) (x : Option ℕ) → cond b x (cond c x x) ≡ x
+cond_same b c x = grind arith
+
+nothing_after : (message : Message) → owed_after message (λ _. None) ≡ (λ _. None)
+nothing_after (Remap from to len) = λ i page. cond_same (in_range (to / 4096) (len / 4096) page) (in_range (from / 4096) (len / 4096) page) None i
+nothing_after (Remove start end) = λ i page. cond_same false (is_changed_by (Remove start end) page) None i
+nothing_after (Unmap start end) = λ i page. cond_same false (is_changed_by (Unmap start end) page) None i
+nothing_after (PageFault addr write wp tid) = refl
+
+pub settled_by-none : (events : List Noted) → settled_by events (λ _. None) ≡ (λ _. None)
+settled_by-none [] = refl
+settled_by-none (noted ∷ events) = ap (settled_by events) (nothing_after noted.message) ∙ settled_by-none events
+
+pub settled_by-empty : (events : List Noted) (owed : FinMap nat_cmp ℕ) → owed ≡ finmap.empty → settled_by events (get owed) ≡ (λ _. None)
+settled_by-empty events owed h = ap (settled_by events) (λ i page. (ap (λ o. get o page) h ∙ get-empty nat_cmp page) i) ∙ settled_by-none events
+
+-- then the destination's memory is its own
+pub seen_alone : (here there other : Host) (owed : ℕ → Option ℕ) → owed ≡ (λ _. None) → seen_host here there owed ≡ seen_host here other owed
+seen_alone here there other owed h = ap (seen_host here there) h ∙ sym (ap (seen_host here other) h)
+
+released_kept : (from : SourcePhase) (forward back rest : List Sent) (world : World) →
+    let old : World = at_back from DestPhase.Ended true true forward back world in
+    let new : World = record old { source = released old.source; back = wire_behind rest } in
+    IsSoundWorld old → forward ≡ [] → rest ≡ [] → IsSoundWorld new
+released_kept from forward back rest world kept none last =
+    let old : World = at_back from DestPhase.Ended true true forward back world in
+    let new : World = record old { source = released old.source; back = wire_behind rest } in
+    let ended : world.destination.ended ≡ true = kept.phases.destination_phase in
+    let bare = kept.owing.ended_empty ended in
+    let holds : memory (current_host new) ≡ memory_of new.transcript =
+    ap memory (seen_alone world.destination.guest.space.host fresh_space.host world.source.guest.space.host (settled world.destination) (settled_by-empty world.destination.guest.space.object.events world.destination.owed bare.0)) ∙ kept.memory.holds in
+    let pushing : IsSoundPushing SourcePhase.Released true true world.source.epoch world.source.end_epoch fresh_space no_pages =
+    record {
+      before_switch = λ h. absurd (not_up h);
+      end_sent = λ h. refl;
+      remaining_present = λ page h. no_page page h;
+      ended_before = kept.pushing.ended_before;
+      paused_fresh = λ u h. absurd (let e : SourcePhase.Released ≡ SourcePhase.Paused = h in cc);
+      released_empty = λ h. (refl, refl);
+    } in
+    let log : IsSoundLog SourcePhase.Released true fresh_space no_pages no_pages no_pages =
+    record { idle_source = λ h. absurd (let e : SourcePhase.Released ≡ SourcePhase.Idle = h in cc); clean_protected = λ h. absurd (not_up h); todo_sendable = λ h. absurd (not_up h) } in
+    let origins_present : (page origin : ℕ) → get new.destination.owed page ≡ Some origin → is_present (space_of new.source) origin ≡ true =
+    λ page origin h. absurd (none-some origin (sym (get-empty nat_cmp page) ∙ sym (ap (λ o. get o page) bare.0) ∙ h)) in
+    let arrivals_faithful = subst (AreFaithful fresh_space.host.bytes) (sym bare.1) tt in
+    let flight = flight_up new refl (λ h. subst (λ wire. AreFaithful fresh_space.host.bytes (copies_of wire)) (sym none) tt) (refl, none, last) in
+    let back_epoch = subst (AreOf world.source.epoch) (sym last) tt in
+    let events : Unit {0} = tt in
+    assumption (IsSoundSpace-fresh, fits-none rest)
+
+-- Recv
+
+no_copy : (page : ℕ) (kept : FinMap nat_cmp (List ℕ)) → kept ≡ finmap.empty → contains_key kept page ≡ false
+no_copy page kept h = ap (λ k. contains_key k page) h ∙ ap is_some (get-empty nat_cmp page)
+
+-- it has not run, and the source still makes rounds: all is sent anew
+recv_precopy : (owed : FinSet nat_cmp) (epoch : ℕ) (rest : List Sent) (world : World) →
+    let old : World = at_back SourcePhase.Paused DestPhase.Advised false false [] (record { epoch = epoch; frame = Recv Received.NotRun owed } ∷ rest) world in
+    IsSoundWorld old → rest ≡ [] → IsSoundWorld (delivered_back old old.back.frames)
+recv_precopy owed epoch rest world kept last =
+    let old : World = at_back SourcePhase.Paused DestPhase.Advised false false [] (record { epoch = epoch; frame = Recv Received.NotRun owed } ∷ rest) world in
+    let new : World = delivered_back old old.back.frames in
+    let w = kept.flight.wires refl in
+    let pushing : IsSoundPushing new.source.phase new.source.switched new.up new.source.epoch new.source.end_epoch (space_of new.source) new.source.remaining =
+    record {
+      before_switch = λ h. ((kept.pushing.before_switch refl).0, inl (kept.pushing.paused_fresh refl refl));
+      end_sent = kept.pushing.end_sent;
+      remaining_present = kept.pushing.remaining_present;
+      ended_before = kept.pushing.ended_before;
+      paused_fresh = λ u h. kept.pushing.paused_fresh refl refl;
+      released_empty = λ h. absurd (let e : SourcePhase.Precopy ≡ SourcePhase.Released = h in cc);
+    } in
+    let log : IsSoundLog new.source.phase new.source.switched (space_of new.source) new.source.log.clean new.source.log.todo new.source.log.sent =
+    record { idle_source = λ h. absurd (let e : SourcePhase.Precopy ≡ SourcePhase.Idle = h in cc); clean_protected = λ s page h. no_page page h; todo_sendable = λ s page h. no_page page h } in
+    let precopying : IsPrecopying new.source new.destination.kept new.forward.frames =
+    record {
+      clean_copy = λ page h unread. no_page page h;
+      copies_sent = λ page h. absurd (false≢true (sym (no_copy page world.destination.kept w.2) ∙ h));
+    } in
+    let back_epoch : AreOf new.source.epoch new.back.frames = kept.epochs.back_epoch.1 in
+    assumption (flight_up new refl kept.flight.flight_faithful (refl, last, precopying), fits-none rest)
+
+-- where End was not sent in this epoch
+all_owed : (low : Bool) (o : Option (List ℕ)) → (low ≡ false → o ≡ None) → None ≡ cond (low && is_some o) None o
+all_owed low o none = grind arith
+
+nothing_kept : (kept : FinMap nat_cmp (List ℕ)) (page : ℕ) → kept ≡ finmap.empty → get (kept_after kept (Discard no_pages)) page ≡ None
+nothing_kept kept page h =
+    ap (λ k. get k page) (discard_none kept) ∙ ap (λ k. get k page) h ∙ get-empty nat_cmp page
+
+-- it has not run, and the source has stopped: a Package that owes all present pages
+recv_switched : (owed : FinSet nat_cmp) (epoch : ℕ) (rest : List Sent) (world : World) →
+    let old : World = at_back SourcePhase.Paused DestPhase.Advised false true [] (record { epoch = epoch; frame = Recv Received.NotRun owed } ∷ rest) world in
+    IsSoundWorld old → rest ≡ [] → IsSoundWorld (delivered_back old old.back.frames)
+recv_switched owed epoch rest world kept last =
+    let old : World = at_back SourcePhase.Paused DestPhase.Advised false true [] (record { epoch = epoch; frame = Recv Received.NotRun owed } ∷ rest) world in
+    let new : World = delivered_back old old.back.frames in
+    let w = kept.flight.wires refl in
+    let fresh : world.source.end_epoch ≢ world.source.epoch = kept.pushing.paused_fresh refl refl in
+    let sound : IsSound world.source.guest.space.host = kept.spaces.source_space.host in
+    let here : (page : ℕ) → contains (present world.source.guest.space) page ≡ (ltb page HIGH_PAGE && is_present world.source.guest.space page) = λ page. member_below _ HIGH_PAGE page in
+    let remaining_present : (page : ℕ) → contains new.source.remaining page ≡ true → is_present (space_of new.source) page ≡ true = λ page h. and_second (ltb page HIGH_PAGE) (is_present world.source.guest.space page) (sym (here page) ∙ h) in
+    let switching : IsSwitching new.source new.destination.kept new.forward.frames new.urgent.frames =
+    record {
+      owed = present world.source.guest.space;
+      plan = refl;
+      owed_present = remaining_present;
+      kept_rest = λ page.
+          nothing_kept world.destination.kept page w.2
+          ∙ all_owed (ltb page HIGH_PAGE) (get world.source.guest.space.host.bytes page) (λ l. sound.mapped page (sound.bound page (ltb-false page HIGH_PAGE l)))
+          ∙ sym (ap (λ b. cond b None (get world.source.guest.space.host.bytes page)) (here page));
+      whereabouts = λ page h. ap (λ b. (b || has_copy (copies_of world.urgent.frames) page) || false) h;
+      faithful = tt;
+    } in
+    let pushing = pushing_stopped new.source true refl (λ h. absurd (fresh h)) remaining_present kept.pushing.ended_before in
+    let flight = flight_up new refl (λ h. absurd (not_up (sym h))) (ap Some (sym (flow_open world.source fresh)), last, switching) in
+    let forward_epoch : AreOf new.source.epoch new.forward.frames = (refl, (refl, tt)) in
+    let back_epoch : AreOf new.source.epoch new.back.frames = kept.epochs.back_epoch.1 in
+    let forward_held = fits-more [] world.forward.held world.source.epoch (rebuild_frames Received.NotRun old.source) kept.held.forward_held in
+    assumption (log_stopped new.source refl, fits-none rest)
+
+-- it runs: what it still needs is to be pushed
+recv_running : (owed : FinSet nat_cmp) (epoch : ℕ) (rest : List Sent) (world : World) →
+    let old : World = at_back SourcePhase.Paused DestPhase.Running true true [] (record { epoch = epoch; frame = Recv Received.Running owed } ∷ rest) world in
+    IsSoundWorld old → are_requests rest ≡ true → ((page origin : ℕ) → get world.destination.owed page ≡ Some origin → contains owed origin ≡ true) →
+    ((page : ℕ) → contains owed page ≡ true → is_present world.source.guest.space page ≡ true) → IsSoundWorld (delivered_back old old.back.frames)
+recv_running owed epoch rest world kept requests needed owed_present =
+    let old : World = at_back SourcePhase.Paused DestPhase.Running true true [] (record { epoch = epoch; frame = Recv Received.Running owed } ∷ rest) world in
+    let new : World = delivered_back old old.back.frames in
+    let fresh : world.source.end_epoch ≢ world.source.epoch = kept.pushing.paused_fresh refl refl in
+    let flowing : IsFlowing new.source new.destination new.forward.frames new.urgent.frames = record { whereabouts = λ page origin h. ap (λ b. (b || has_copy (copies_of world.urgent.frames) origin) || false || has_copy world.destination.arrivals origin) (needed page origin h) } in
+    let pushing = pushing_stopped new.source true refl (λ h. absurd (fresh h)) owed_present kept.pushing.ended_before in
+    let flight = flight_up new refl kept.flight.flight_faithful (ap Some (sym (flow_open world.source fresh)), requests, flowing) in
+    let back_epoch : AreOf new.source.epoch new.back.frames = kept.epochs.back_epoch.1 in
+    assumption (log_stopped new.source refl, fits-none rest)
 
 -- The frames in their phases
 
@@ -57,8 +232,7 @@ at_ended true true forward back world kept =
     (λ k. released_kept SourcePhase.Paused [] (record { epoch = r.epoch; frame = Recv Received.Ended r.owed } ∷ r.rest) r.rest world k refl (r.alone (λ e. cc))) kept
 
 or_none : (b : Bool) → (b || false) ≡ true → b ≡ true
-or_none true h = refl
-or_none false h = absurd (false≢true h)
+or_none b h = grind arith
 
 is_last : (rest : List Sent) → is_empty rest ≡ true → rest ≡ []
 is_last [] h = refl
@@ -90,20 +264,19 @@ stopped_ended ran switched epoch _ rest world kept = absurd (false≢true (kept.
 back_in : (from : SourcePhase) (to : DestPhase) (ran switched : Bool) (sent : Sent) (rest : List Sent) (world : World) →
     let old : World = at_back from to ran switched world.forward.frames (sent ∷ rest) world in
     IsSoundWorld old → IsSoundWorld (delivered_back old old.back.frames)
-back_in SourcePhase.Idle to ran switched sent rest world kept = absurd (empty_not sent rest (kept.flight.wires refl).2)
 back_in SourcePhase.Precopy DestPhase.Idle ran switched sent rest world kept = absurd (empty_not sent rest (kept.flight.wires refl).1)
 back_in SourcePhase.Precopy DestPhase.Advised ran switched sent rest world kept = absurd (empty_not sent rest (kept.flight.wires refl).1)
-back_in SourcePhase.Stopped DestPhase.Idle ran switched sent rest world kept = absurd (empty_not sent rest (kept.flight.wires refl).1)
-back_in SourcePhase.Stopped DestPhase.Advised ran switched sent rest world kept = absurd (empty_not sent rest (kept.flight.wires refl).1)
-back_in SourcePhase.Stopped DestPhase.Discarding ran switched sent rest world kept = absurd (empty_not sent rest (kept.flight.wires refl).1)
+back_in SourcePhase.Precopy _ ran switched sent rest world kept = absurd (kept.flight.wires refl)
 back_in SourcePhase.Stopped DestPhase.Running ran switched sent rest world kept = stopped_runs ran switched sent.epoch sent.frame rest world kept
 back_in SourcePhase.Stopped DestPhase.Ended ran switched sent rest world kept = stopped_ended ran switched sent.epoch sent.frame rest world kept
+back_in SourcePhase.Stopped DestPhase.Paused ran switched sent rest world kept = absurd (kept.flight.wires refl)
+back_in SourcePhase.Stopped _ ran switched sent rest world kept = absurd (empty_not sent rest (kept.flight.wires refl).1)
 back_in SourcePhase.Paused DestPhase.Advised ran switched sent rest world kept = at_advised ran switched world.forward.frames (sent ∷ rest) world kept
 back_in SourcePhase.Paused DestPhase.Running ran switched sent rest world kept = at_runs ran switched world.forward.frames (sent ∷ rest) world kept
-back_in SourcePhase.Paused DestPhase.Paused ran switched sent rest world kept = absurd (empty_not sent rest (kept.flight.wires refl).1)
 back_in SourcePhase.Paused DestPhase.Ended ran switched sent rest world kept = at_ended ran switched world.forward.frames (sent ∷ rest) world kept
-back_in SourcePhase.Released to ran switched sent rest world kept = absurd (empty_not sent rest (kept.flight.wires refl).2)
-back_in from to ran switched sent rest world kept = absurd (kept.flight.wires refl)
+back_in SourcePhase.Paused DestPhase.Paused ran switched sent rest world kept = absurd (empty_not sent rest (kept.flight.wires refl).1)
+back_in SourcePhase.Paused _ ran switched sent rest world kept = absurd (kept.flight.wires refl)
+back_in _ to ran switched sent rest world kept = absurd (empty_not sent rest (kept.flight.wires refl).2)
 
 back_by : (up : Bool) (sent : Sent) (rest : List Sent) (world : World) → up ≡ true → IsSoundWorld (record world { up = up; back = record world.back { frames = sent ∷ rest } }) → IsSoundWorld (after_deliver_back (record world { up = up; back = record world.back { frames = sent ∷ rest } }) sent rest)
 back_by true sent rest world h kept = back_in world.source.phase world.destination.phase world.destination.has_run world.source.switched sent rest world kept

@@ -1,5 +1,5 @@
--- What a step of the destination's handler has to show, and that a message that is read keeps what every world keeps.
-use Rattle.std.proofs.Common.{◌≡◌, set, ℕ, ◌+◌, ◌/◌, ◌<◌, ◌||◌, Bool, true, false, Some, None, List, [], ◌∷◌, ◌++◌, refl, sym, ap, ◌∙◌, subst}
+-- What a step of the destination has to show, and that a message that is read and a command keep what every world keeps.
+use Rattle.std.proofs.Common.{◌≡◌, ℕ, ◌+◌, ◌/◌, ◌<◌, Bool, true, false, Some, None, List, [], ◌∷◌, ◌++◌, refl, sym, ap, ◌∙◌, subst, arith, append-nil}
 use Rattle.std.specs.Ordering.{nat_cmp}
 use Rattle.std.specs.FinMap as finmap
 use Rattle.std.specs.FinMap.{FinMap, get, get-empty}
@@ -12,27 +12,41 @@ use Rattle.mig_base.specs.declared.phase.Received.{Received}
 use Rattle.mig_base.specs.declared.phase.SourcePhase.{SourcePhase}
 use Rattle.mig_base.specs.declared.TheConstants.{HIGH_PAGE}
 use Rattle.mig_base.specs.declared.message.Message.{Message}
-use Rattle.mig_base.specs.declared.message.Message.TheVariants.{PageFault, Remap, Remove, Unmap}
+use Rattle.mig_base.specs.declared.message.Message.TheVariants.{PageFault}
+use Rattle.mig_base.specs.Flat.{memory_of, IsFlatRun}
 use Rattle.mig_base.proofs.PageLemmas.{same_pages}
-use Rattle.mig_model.specs.Host.{memory}
+use Rattle.mig_model.specs.Host.{memory, Host, IsSound}
 use Rattle.mig_model.specs.Userfault.{Noted, next_message, next_of}
-use Rattle.mig_model.specs.Space.{IsSoundSpace}
-use Rattle.mig_model.specs.Guest.{Guest, Fault, is_left_by, is_present}
+use Rattle.mig_model.specs.Space.{IsSoundSpace, fresh_space}
+use Rattle.mig_model.specs.Guest.{Guest, Fault, is_present, took_by, tried}
 use Rattle.mig_model.specs.Wire.{Sent, Copy}
-use Rattle.mig_model.specs.Migration.{World, after_dest_read, runs, start}
-use Rattle.mig_model.specs.Invariant.{IsSoundWorld, Wires, IsReceiving, IsFlowing, AreRight, AreFaults, AreFaithful, has_copy, copies_of, seen_host, current_host, is_urgent_or_left}
+use Rattle.mig_model.specs.Migration.{World, after_dest_read, runs, guest_by, with_guest_by, after_command}
+use Rattle.mig_model.specs.Invariant.{IsSoundWorld, Wires, IsReceiving, IsFlowing, AreRight, AreFaults, AreFaithful, has_copy, seen_host, current_host, current_by}
 use Rattle.mig_model.proofs.IoctlLemmas.{IsSoundSpace-read}
 use Rattle.mig_model.proofs.SettledLemmas.{get-owed_table_after, settled_by-applied, values-after, none-after, IsOneToOne-after, owed_below-after}
-use Rattle.mig_model.specs.Cpus.{all_woken, message_less, processor_at}
+use Rattle.mig_model.specs.Cpus.{Took, entries_of}
 use Rattle.mig_model.specs.Owed.{owed_table_after, settled_by}
 use Rattle.mig_model.specs.Source.{Source, space_of}
-use Rattle.mig_model.specs.Destination.{Destination}
+use Rattle.mig_model.specs.Destination.{Destination, settled}
 use Rattle.mig_model.proofs.Facts.{up_not_down, some_is}
+use Rattle.mig_base.specs.declared.command.Command.{Command}
+use Rattle.mig_base.specs.declared.command.Entry.{Entry}
+use Rattle.mig_base.specs.Commands.{is_access}
+use Rattle.mig_model.proofs.FaultLemmas.{AreFaults-tried}
+use Rattle.mig_model.proofs.WorldLemmas.{holds_after, flat_after}
+use Rattle.mig_model.proofs.SeenLemmas.{IsSound-seen, watched_mapped}
+use Rattle.mig_model.proofs.PairLemmas.{pairs_watched}
+use Rattle.mig_model.proofs.TriedLemmas.{IsReady, IsEntered, command_tries}
+use Rattle.mig_model.proofs.TriedLemmas.IsEntered.{Silent, Entered}
 
 -- a destination whose guest, owed table, requests, arrivals and counts are others
 abbrev pub handled : Destination → Guest → List Fault → FinMap nat_cmp ℕ → List ℕ → List Copy → ℕ → ℕ → ℕ → Destination
 handled node guest held owed requests arrivals installed dropped faults =
     record node { guest = guest; held = held; owed = owed; requests = requests; arrivals = arrivals; installed = installed; dropped = dropped; faults = faults }
+
+-- each page that is owed was owed before
+pub same_pairs : (owed : FinMap nat_cmp ℕ) (page origin : ℕ) → get owed page ≡ Some origin → (other : ℕ) × (get owed other ≡ Some origin)
+same_pairs owed page origin h = (page, h)
 
 -- what such a destination has to keep
 pub record IsHandled (world : World) (guest : Guest) (owed : FinMap nat_cmp ℕ) (arrivals : List Copy) : Type 0 where
@@ -70,51 +84,32 @@ still_receiving source node new state back values old =
       owed_present = old.owed_present;
     }
 
-last_of_three : (a b c d : Bool) → (c ≡ true → d ≡ true) → (a || b || c) ≡ true → (a || b || d) ≡ true
-last_of_three true b c d h k = k
-last_of_three false true c d h k = k
-last_of_three false false c d h k = h k
-
 still_flowing : (source : Source) (node new : Destination) (forward urgent : List Sent) → ((page origin : ℕ) → get new.owed page ≡ Some origin → (other : ℕ) × (get node.owed other ≡ Some origin)) →
     ((page origin : ℕ) → get new.owed page ≡ Some origin → has_copy node.arrivals origin ≡ true → has_copy new.arrivals origin ≡ true) → IsFlowing source node forward urgent → IsFlowing source new forward urgent
 still_flowing source node new forward urgent values copies old =
     record {
       whereabouts = λ page origin h.
           let was = values page origin h in
-          last_of_three (is_urgent_or_left source.remaining urgent origin) (has_copy (copies_of forward) origin) (has_copy node.arrivals origin) (has_copy new.arrivals origin) (copies page origin h) (old.whereabouts was.0 origin was.1);
+          let before = old.whereabouts was.0 origin was.1 in
+          let come = copies page origin h in
+          grind arith;
     }
 
-wires_handled : (from : SourcePhase) (to : DestPhase) (source : Source) (node : Destination) (forward back urgent : List Sent) (guest : Guest) (held : List Fault) (owed : FinMap nat_cmp ℕ) (requests : List ℕ) (arrivals : List Copy) (installed dropped faults : ℕ) →
+pub wires_handled : (from : SourcePhase) (to : DestPhase) (source : Source) (node : Destination) (forward back urgent : List Sent) (guest : Guest) (held : List Fault) (owed : FinMap nat_cmp ℕ) (requests : List ℕ) (arrivals : List Copy) (installed dropped faults : ℕ) →
     ((page origin : ℕ) → get owed page ≡ Some origin → (other : ℕ) × (get node.owed other ≡ Some origin)) →
     ((page origin : ℕ) → get owed page ≡ Some origin → has_copy node.arrivals origin ≡ true → has_copy arrivals origin ≡ true) →
     Wires (record source { phase = from }) (record node { phase = to }) forward back urgent →
     Wires (record source { phase = from }) (handled (record node { phase = to }) guest held owed requests arrivals installed dropped faults) forward back urgent
-wires_handled SourcePhase.Idle to source node forward back urgent guest held owed requests arrivals installed dropped faults values copies w = w
-wires_handled SourcePhase.Released to source node forward back urgent guest held owed requests arrivals installed dropped faults values copies w = w
-wires_handled SourcePhase.Precopy DestPhase.Idle source node forward back urgent guest held owed requests arrivals installed dropped faults values copies w = w
-wires_handled SourcePhase.Precopy DestPhase.Advised source node forward back urgent guest held owed requests arrivals installed dropped faults values copies w = w
-wires_handled SourcePhase.Precopy DestPhase.Discarding source node forward back urgent guest held owed requests arrivals installed dropped faults values copies w = w
-wires_handled SourcePhase.Precopy DestPhase.Running source node forward back urgent guest held owed requests arrivals installed dropped faults values copies w = w
-wires_handled SourcePhase.Precopy DestPhase.Paused source node forward back urgent guest held owed requests arrivals installed dropped faults values copies w = w
-wires_handled SourcePhase.Precopy DestPhase.Ended source node forward back urgent guest held owed requests arrivals installed dropped faults values copies w = w
-wires_handled SourcePhase.Stopped DestPhase.Idle source node forward back urgent guest held owed requests arrivals installed dropped faults values copies w = w
-wires_handled SourcePhase.Stopped DestPhase.Advised source node forward back urgent guest held owed requests arrivals installed dropped faults values copies w = w
-wires_handled SourcePhase.Stopped DestPhase.Discarding source node forward back urgent guest held owed requests arrivals installed dropped faults values copies w = w
 wires_handled SourcePhase.Stopped DestPhase.Running source node forward back urgent guest held owed requests arrivals installed dropped faults values copies w =
     let old : Destination = record node { phase = DestPhase.Running } in
     (w.0, w.1, still_flowing (record source { phase = SourcePhase.Stopped }) old (handled old guest held owed requests arrivals installed dropped faults) forward urgent values copies w.2)
-wires_handled SourcePhase.Stopped DestPhase.Paused source node forward back urgent guest held owed requests arrivals installed dropped faults values copies w = w
-wires_handled SourcePhase.Stopped DestPhase.Ended source node forward back urgent guest held owed requests arrivals installed dropped faults values copies w = w
-wires_handled SourcePhase.Paused DestPhase.Idle source node forward back urgent guest held owed requests arrivals installed dropped faults values copies w = w
-wires_handled SourcePhase.Paused DestPhase.Advised source node forward back urgent guest held owed requests arrivals installed dropped faults values copies w = w
-wires_handled SourcePhase.Paused DestPhase.Discarding source node forward back urgent guest held owed requests arrivals installed dropped faults values copies w = w
 wires_handled SourcePhase.Paused DestPhase.Running source node forward back urgent guest held owed requests arrivals installed dropped faults values copies w =
     let old : Destination = record node { phase = DestPhase.Running } in
     (w.0, still_receiving (record source { phase = SourcePhase.Paused }) old (handled old guest held owed requests arrivals installed dropped faults) Received.Running back values w.1)
-wires_handled SourcePhase.Paused DestPhase.Paused source node forward back urgent guest held owed requests arrivals installed dropped faults values copies w = w
 wires_handled SourcePhase.Paused DestPhase.Ended source node forward back urgent guest held owed requests arrivals installed dropped faults values copies w =
     let old : Destination = record node { phase = DestPhase.Ended } in
     (w.0, still_receiving (record source { phase = SourcePhase.Paused }) old (handled old guest held owed requests arrivals installed dropped faults) Received.Ended back values w.1)
+wires_handled _ _ source node forward back urgent guest held owed requests arrivals installed dropped faults values copies w = w
 
 -- The invariant
 
@@ -127,42 +122,14 @@ pub kept-handled : (world : World) (guest : Guest) (held : List Fault) (owed : F
 kept-handled world guest held owed requests arrivals installed dropped faults kept runs new =
     let node : Destination = handled world.destination guest held owed requests arrivals installed dropped faults in
     let next : World = record world { destination = node } in
-    record {
-      memory = record {
-        flat = kept.memory.flat;
-        holds = runs_memory world.destination.has_run next runs ∙ new.same_memory ∙ sym (runs_memory world.destination.has_run world runs) ∙ kept.memory.holds;
-      };
-      spaces = record {
-        source_space = kept.spaces.source_space;
-        destination_space = new.space;
-        both_modes = kept.spaces.both_modes;
-        unprotected = new.unprotected;
-        only_missing = new.only_missing;
-        source_events = kept.spaces.source_events;
-        destination_events = new.events;
-        destination_faults = new.faults;
-      };
-      phases = kept.phases;
-      precopy = kept.precopy;
-      pushing = kept.pushing;
-      copies = kept.copies;
-      owing = record {
-        not_run = λ h. up_not_down world.destination.has_run runs h;
-        one_to_one = new.one_to_one;
-        owed_below = new.below;
-        origins_present = λ page origin h. let was = new.values page origin h in kept.owing.origins_present was.0 origin was.1;
-        pairs_missing = new.missing;
-        arrivals_faithful = λ h. new.faithful;
-        ended_empty = new.ended;
-      };
-      flight = record {
-        flight_faithful = kept.flight.flight_faithful;
-        down = kept.flight.down;
-        wires = λ up. wires_handled world.source.phase world.destination.phase world.source world.destination world.forward.frames world.back.frames world.urgent.frames guest held owed requests arrivals installed dropped faults new.values new.copies (kept.flight.wires up);
-      };
-      epochs = kept.epochs;
-      held = kept.held;
-    }
+    let holds : memory (current_host next) ≡ memory_of next.transcript = runs_memory world.destination.has_run next runs ∙ new.same_memory ∙ sym (runs_memory world.destination.has_run world runs) ∙ kept.memory.holds in
+    let not_run : next.destination.has_run ≡ false → (owed ≡ finmap.empty) × (guest.space ≡ fresh_space) × (arrivals ≡ []) = λ h. up_not_down world.destination.has_run runs h in
+    let origins_present : (page origin : ℕ) → get owed page ≡ Some origin → is_present (space_of world.source) origin ≡ true = λ page origin h.
+    let was = new.values page origin h in
+    kept.owing.origins_present was.0 origin was.1 in
+    let wires : next.up ≡ true → Wires next.source next.destination next.forward.frames next.back.frames next.urgent.frames = λ up.
+    wires_handled world.source.phase world.destination.phase world.source world.destination world.forward.frames world.back.frames world.urgent.frames guest held owed requests arrivals installed dropped faults new.values new.copies (kept.flight.wires up) in
+    assumption
 
 -- A message is read
 
@@ -194,22 +161,17 @@ event_read message cpu events world processors faults kept runs =
     let guest : Guest = record (at_queues [] events world).destination.guest { cpus = processors } in
     let right : AreRight (noted ∷ events) = kept.spaces.destination_events in
     let still : settled_by events (get (owed_table_after message owed)) ≡ settled_by (noted ∷ events) (get owed) = settled_by-applied noted events owed in
+    let before = λ (page origin : ℕ) (h : get (owed_table_after message owed) page ≡ Some origin). sym (get-owed_table_after message owed page) ∙ h in
+    let space = IsSoundSpace-read old.destination.guest.space kept.spaces.destination_space in
+    let same_memory = ap (λ f. memory (seen_host world.destination.guest.space.host (space_of world.source).host f)) still in
+    let values = λ (page origin : ℕ) (h : get (owed_table_after message owed) page ≡ Some origin). values-after message (get owed) page origin (before page origin h) in
+    let one_to_one = λ (page other origin : ℕ) (h : get (owed_table_after message owed) page ≡ Some origin) (k : get (owed_table_after message owed) other ≡ Some origin).
+    IsOneToOne-after message (get owed) kept.owing.one_to_one page other origin (before page origin h) (before other origin k) in
+    let below = λ (page origin : ℕ) (h : get (owed_table_after message owed) page ≡ Some origin). owed_below-after message (get owed) right.0 kept.owing.owed_below page origin (before page origin h) in
+    let missing = λ (page origin : ℕ) (h : settled_by events (get (owed_table_after message owed)) page ≡ Some origin). kept.owing.pairs_missing page origin (sym (ap (λ f. f page) still) ∙ h) in
+    let ended : old.destination.ended ≡ true → (owed_table_after message owed ≡ finmap.empty) × (old.destination.arrivals ≡ []) = λ h. let none = kept.owing.ended_empty h in (empty-after message owed none.0, none.1) in
     kept-handled old guest world.destination.held (owed_table_after message owed) world.destination.requests world.destination.arrivals world.destination.installed world.destination.dropped faults kept runs
-    (record {
-      space = IsSoundSpace-read old.destination.guest.space kept.spaces.destination_space;
-      unprotected = kept.spaces.unprotected;
-      only_missing = kept.spaces.only_missing;
-      events = right.1;
-      faults = kept.spaces.destination_faults;
-      same_memory = ap (λ f. memory (seen_host world.destination.guest.space.host (space_of world.source).host f)) still;
-      values = λ page origin h. values-after message (get owed) page origin (sym (get-owed_table_after message owed page) ∙ h);
-      one_to_one = λ page other origin h k. IsOneToOne-after message (get owed) kept.owing.one_to_one page other origin (sym (get-owed_table_after message owed page) ∙ h) (sym (get-owed_table_after message owed other) ∙ k);
-      below = λ page origin h. owed_below-after message (get owed) right.0 kept.owing.owed_below page origin (sym (get-owed_table_after message owed page) ∙ h);
-      copies = λ page origin h k. k;
-      missing = λ page origin h. kept.owing.pairs_missing page origin (sym (ap (λ f. f page) still) ∙ h);
-      faithful = kept.owing.arrivals_faithful runs;
-      ended = λ h. let none = kept.owing.ended_empty h in (empty-after message owed none.0, none.1);
-    })
+    (assumption (kept.owing.arrivals_faithful runs))
 
 -- a fault is only held
 fault_read : (noted : Noted) (faults events : List Noted) (world : World) (held : List Fault) (count : ℕ) → IsSoundWorld (at_queues (noted ∷ faults) events world) → world.destination.has_run ≡ true →
@@ -217,39 +179,18 @@ fault_read : (noted : Noted) (faults events : List Noted) (world : World) (held 
 fault_read noted faults events world held count kept runs =
     let old : World = at_queues (noted ∷ faults) events world in
     kept-handled old (at_queues faults events world).destination.guest held world.destination.owed world.destination.requests world.destination.arrivals world.destination.installed world.destination.dropped count kept runs
-    (record {
-      space = IsSoundSpace-read old.destination.guest.space kept.spaces.destination_space;
-      unprotected = kept.spaces.unprotected;
-      only_missing = kept.spaces.only_missing;
-      events = kept.spaces.destination_events;
-      faults = kept.spaces.destination_faults.1;
-      same_memory = refl;
-      values = λ page origin h. (page, h);
-      one_to_one = kept.owing.one_to_one;
-      below = kept.owing.owed_below;
-      copies = λ page origin h k. k;
-      missing = kept.owing.pairs_missing;
-      faithful = kept.owing.arrivals_faithful runs;
-      ended = kept.owing.ended_empty;
-    })
+    (assumption (IsSoundSpace-read old.destination.guest.space kept.spaces.destination_space, same_pairs world.destination.owed, kept.owing.arrivals_faithful runs))
 
 event_in : (message : Message) (cpu : ℕ) (events : List Noted) (world : World) → IsSoundWorld (at_queues [] (record { message = message; cpu = cpu } ∷ events) world) → world.destination.has_run ≡ true →
     IsSoundWorld (after_dest_read (at_queues [] (record { message = message; cpu = cpu } ∷ events) world) (record { message = message; cpu = cpu }))
 event_in (PageFault addr write wp tid) cpu events world kept runs = absurd (kept.spaces.destination_events.0)
-event_in (Remap from to len) cpu events world kept runs =
-    event_read (Remap from to len) cpu events world (all_woken (is_left_by (Remap from to len)) (set world.destination.guest.cpus cpu (message_less (processor_at world.destination.guest.cpus cpu)))) (world.destination.faults + 0) kept runs
-event_in (Remove start end) cpu events world kept runs =
-    event_read (Remove start end) cpu events world (all_woken (is_left_by (Remove start end)) (set world.destination.guest.cpus cpu (message_less (processor_at world.destination.guest.cpus cpu)))) (world.destination.faults + 0) kept runs
-event_in (Unmap start end) cpu events world kept runs =
-    event_read (Unmap start end) cpu events world (all_woken (is_left_by (Unmap start end)) (set world.destination.guest.cpus cpu (message_less (processor_at world.destination.guest.cpus cpu)))) (world.destination.faults + 0) kept runs
+event_in message cpu events world kept runs = event_read message cpu events world _ _ kept runs
 
 fault_in : (message : Message) (cpu : ℕ) (faults events : List Noted) (world : World) → IsSoundWorld (at_queues (record { message = message; cpu = cpu } ∷ faults) events world) → world.destination.has_run ≡ true →
     IsSoundWorld (after_dest_read (at_queues (record { message = message; cpu = cpu } ∷ faults) events world) (record { message = message; cpu = cpu }))
 fault_in (PageFault addr write wp tid) cpu faults events world kept runs =
     fault_read (record { message = PageFault addr write wp tid; cpu = cpu }) faults events world (world.destination.held ++ record { page = addr / 4096; wp = wp } ∷ []) (world.destination.faults + 1) kept runs
-fault_in (Remap from to len) cpu faults events world kept runs = absurd kept.spaces.destination_faults.0
-fault_in (Remove start end) cpu faults events world kept runs = absurd kept.spaces.destination_faults.0
-fault_in (Unmap start end) cpu faults events world kept runs = absurd kept.spaces.destination_faults.0
+fault_in _ cpu faults events world kept runs = absurd kept.spaces.destination_faults.0
 
 read_in : (faults events : List Noted) (noted : Noted) (world : World) → next_of faults events ≡ Some noted → IsSoundWorld (at_queues faults events world) → world.destination.has_run ≡ true → IsSoundWorld (after_dest_read (at_queues faults events world) noted)
 read_in [] [] noted world is kept runs = absurd (none_is noted is)
@@ -259,3 +200,78 @@ read_in (first ∷ faults) events noted world is kept runs =
 
 pub kept-dest_read : (world : World) (noted : Noted) → IsSoundWorld world → next_message world.destination.guest.space.object ≡ Some noted → world.destination.has_run ≡ true → IsSoundWorld (after_dest_read world noted)
 kept-dest_read world noted kept is runs = read_in world.destination.guest.space.object.faults world.destination.guest.space.object.events noted world is kept runs
+
+-- The transcript
+
+record HasEntered (new : Host) (transcript : List Entry) : Type 0 where
+  flat : IsFlatRun transcript
+  holds : memory new ≡ memory_of transcript
+
+entered_one : (old new : Host) (transcript : List Entry) (cpu : ℕ) (command : Command) (took : Took) → IsEntered old new cpu command took → IsSound old → memory old ≡ memory_of transcript → IsFlatRun transcript →
+    HasEntered new (transcript ++ entries_of cpu command took)
+entered_one old new transcript cpu command took (Silent none same) sound holds flat =
+    let all : transcript ≡ transcript ++ entries_of cpu command took = sym (append-nil transcript) ∙ ap (λ es. transcript ++ es) (sym none) in
+    record { flat = subst IsFlatRun all flat; holds = ap memory same ∙ holds ∙ ap memory_of all }
+entered_one old new transcript cpu command took (Entered one then) sound holds flat =
+    record {
+      flat = subst (λ es. IsFlatRun (transcript ++ es)) (sym one) (flat_after old transcript cpu command holds flat);
+      holds = ap memory then ∙ holds_after old transcript cpu command sound holds ∙ ap (λ es. memory_of (transcript ++ es)) (sym one);
+    }
+
+-- The wires do not depend on the destination's guest
+
+pub wires-with_guest : (from : Source) (to : Destination) (guest : Guest) (forward back urgent : List Sent) → Wires from to forward back urgent → Wires from (record to { guest = guest }) forward back urgent
+wires-with_guest from to guest forward back urgent w =
+    wires_handled from.phase to.phase from to forward back urgent guest to.held to.owed to.requests to.arrivals to.installed to.dropped to.faults (same_pairs to.owed) (λ page origin h k. k) w
+
+-- The world
+
+pub ready_of : (world : World) → IsSoundWorld world → IsReady world.destination.guest.space (get world.destination.owed)
+ready_of world kept =
+    record { sound = kept.spaces.destination_space; unprotected = kept.spaces.unprotected; only_missing = kept.spaces.only_missing; events = kept.spaces.destination_events; pairs = kept.owing.pairs_missing }
+
+-- the current host where the destination has run
+pub current_seen : (world : World) → world.destination.has_run ≡ true → current_host world ≡ seen_host world.destination.guest.space.host (space_of world.source).host (settled world.destination)
+current_seen world ran = ap (λ b. current_by b world.destination.guest.space.host (space_of world.source).host (settled world.destination)) ran
+
+pub sound_seen : (world : World) → IsSoundWorld world → IsSound (seen_host world.destination.guest.space.host (space_of world.source).host (settled world.destination))
+sound_seen world kept =
+    let space = world.destination.guest.space in
+    let far = kept.spaces.source_space in
+    let here = kept.spaces.destination_space in
+    IsSound-seen space.host (space_of world.source).host (settled world.destination) here.host far.host (watched_mapped space (settled world.destination) here (pairs_watched space (settled world.destination) kept.owing.pairs_missing))
+
+-- the world once a command is tried where `runs` tells
+abbrev tried_at : Bool → World → ℕ → Command → World
+tried_at runs world cpu command =
+    record (with_guest_by runs world (tried (is_access command) (guest_by runs world.source.guest world.destination.guest) cpu command)) {
+      transcript = world.transcript ++ entries_of cpu command (took_by (is_access command) (guest_by runs world.source.guest world.destination.guest).space command);
+    }
+
+kept-tried_at : (runs : Bool) (world : World) (cpu : ℕ) (command : Command) → runs ≡ true → world.destination.has_run ≡ true → IsSoundWorld world → IsSoundWorld (tried_at runs world cpu command)
+kept-tried_at false world cpu command is ran kept = absurd (false≢true is)
+kept-tried_at true world cpu command is ran kept =
+    let new = tried_at true world cpu command in
+    let there = (space_of world.source).host in
+    let space = world.destination.guest.space in
+    let far = kept.spaces.source_space in
+    let tries = command_tries (is_access command) there (get world.destination.owed) space cpu command refl far.host (ready_of world kept) in
+    let ready = tries.ready in
+    let has = entered_one (seen_host space.host there (settled world.destination)) (seen_host new.destination.guest.space.host there (settled new.destination)) world.transcript cpu command
+    (took_by (is_access command) space command) tries.entered (sound_seen world kept) (sym (ap memory (current_seen world ran)) ∙ kept.memory.holds) kept.memory.flat in
+    let flat : IsFlatRun new.transcript = has.flat in
+    let holds : memory (current_host new) ≡ memory_of new.transcript = ap memory (current_seen new ran) ∙ has.holds in
+    let destination_space : IsSoundSpace new.destination.guest.space = ready.sound in
+    let unprotected : (page : ℕ) → contains new.destination.guest.space.protected page ≡ false = ready.unprotected in
+    let only_missing : (page : ℕ) → contains new.destination.guest.space.object.protect page ≡ false = ready.only_missing in
+    let destination_events : AreRight new.destination.guest.space.object.events = ready.events in
+    let destination_faults : AreFaults new.destination.guest.space.object.faults = AreFaults-tried (is_access command) space cpu command kept.spaces.destination_faults in
+    let not_run : new.destination.has_run ≡ false → (new.destination.owed ≡ finmap.empty) × (new.destination.guest.space ≡ fresh_space) × (new.destination.arrivals ≡ []) =
+    λ never. absurd (false≢true (sym never ∙ ran)) in
+    let pairs_missing : (page origin : ℕ) → settled new.destination page ≡ Some origin → (contains new.destination.guest.space.object.missing page ≡ true) × (is_present new.destination.guest.space page ≡ false) = ready.pairs in
+    let wires : new.up ≡ true → Wires new.source new.destination new.forward.frames new.back.frames new.urgent.frames =
+    λ up. wires-with_guest world.source world.destination new.destination.guest world.forward.frames world.back.frames world.urgent.frames (kept.flight.wires up) in
+    assumption
+
+pub kept-command_at_destination : (world : World) (cpu : ℕ) (command : Command) → world.destination.has_run ≡ true → IsSoundWorld world → IsSoundWorld (after_command world cpu command)
+kept-command_at_destination world cpu command ran kept = kept-tried_at world.destination.has_run world cpu command ran ran kept

@@ -7,28 +7,24 @@ use Rattle.mig_model.specs.Migration.{World, first_world_with, next, after_steps
 use Rattle.mig_model.specs.Invariant.{IsSoundWorld, AreSoundUrgent}
 use Rattle.mig_model.specs.Promises.{IsReached, IsComplete}
 use Rattle.mig_model.proofs.Breaking.{kept-break, kept-notice_source, kept-notice_destination, kept-resume}
-use Rattle.mig_model.proofs.Stopping.{kept-push, kept-serve, kept-end}
-use Rattle.mig_model.proofs.SwitchMade.{kept-switch}
+use Rattle.mig_model.proofs.Stopping.{kept-push, kept-serve, kept-end, kept-switch}
 use Rattle.mig_model.proofs.FirstWorld.{kept-first}
-use Rattle.mig_model.proofs.DestinationCommands.{kept-command_at_destination}
 use Rattle.mig_model.proofs.SourceCommands.{kept-command_at_source}
 use Rattle.mig_model.proofs.SourceRounds.{kept-start, kept-round}
-use Rattle.mig_model.proofs.SourceSending.{kept-send}
-use Rattle.mig_model.proofs.SourceRuns.{kept-run}
-use Rattle.mig_model.proofs.SourceHandler.{kept-source_read, kept-source_act}
+use Rattle.mig_model.proofs.SourceSending.{kept-send, kept-run}
 use Rattle.mig_model.proofs.Delivery.{kept-deliver}
 use Rattle.mig_model.proofs.DeliveryBack.{kept-deliver_back}
-use Rattle.mig_model.proofs.DestinationRead.{kept-dest_read}
-use Rattle.mig_model.proofs.DestinationAct.{kept-dest_act}
-use Rattle.mig_model.proofs.Installing.{kept-install}
+use Rattle.mig_model.proofs.DestinationRead.{kept-dest_read, kept-command_at_destination}
+use Rattle.mig_model.proofs.DestinationAct.{kept-dest_act, kept-install}
 use Rattle.mig_model.proofs.StaysComplete.{complete-next}
 use Rattle.mig_model.proofs.StepCases.{MakesWorld, made-next}
 use Rattle.mig_model.specs.Wire.{Sent}
-use Rattle.mig_model.proofs.HeldLemmas.{fits-moved}
 use Rattle.mig_model.proofs.Facts.{none_absurd}
 use Rattle.mig_model.proofs.UrgentSteps.{urgent-first, urgent-next}
 use Rattle.mig_model.proofs.UrgentKept.{kept-deliver_urgent, kept-push_urgent}
 use Rattle.mig_model.proofs.UrgentWire.{all_came}
+use Rattle.mig_model.proofs.WireLemmas.{fits-moved}
+use Rattle.mig_model.proofs.SourceKept.{kept-source_read, kept-source_act}
 
 -- Commands: the node that runs the guest makes them
 

@@ -22,9 +22,8 @@ use Rattle.mig_model.specs.Invariant.{IsSoundWorld, IsSwitching, IsReceiving, Fl
 use Rattle.mig_model.specs.Invariant.Flow.{BeforeAdvise, Copies, BeforePackage, Pushed, AfterEnd}
 use Rattle.mig_model.specs.Promises.{has_recv, is_running_recv}
 use Rattle.mig_model.proofs.FirstFrame.{stays_late}
-use Rattle.mig_model.proofs.Stopping.{in_phases}
+use Rattle.mig_model.proofs.Stopping.{in_phases, member_not_clean}
 use Rattle.mig_model.proofs.StepCases.{made-ok}
-use Rattle.mig_model.proofs.SwitchMade.{member_not_clean}
 use Rattle.mig_model.proofs.Facts.{either, and_false}
 
 -- A Package in flight

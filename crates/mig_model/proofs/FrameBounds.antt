@@ -4,7 +4,7 @@ use Rattle.std.specs.Prelude.{map}
 use Rattle.std.specs.Ordering.{nat_cmp}
 use Rattle.std.specs.FinMap.{contains_key, get}
 use Rattle.std.specs.FinSet.{FinSet, contains, contains-retain, len, len-empty, nat_cmp-IsAntisymmetric}
-use Rattle.std.proofs.lemmas.Bool.{and_parts}
+use Rattle.std.proofs.lemmas.Bool.{false≢true, and_parts}
 use lib.ListN.{length-map}
 use Rattle.mig_base.specs.declared.TheConstants.{LOW_PAGE, HIGH_PAGE, MAX_PAGES}
 use Rattle.mig_base.specs.declared.Prot.{Prot}
@@ -27,10 +27,9 @@ use Rattle.mig_model.specs.Bounds.{AreFewPages, ArePageBytes, ArePages, AreUrgen
 use Rattle.mig_model.proofs.PageBytes.{AreBytes, HasBytes, contents_bytes}
 use Rattle.mig_model.proofs.CommandLemmas.{length-contents}
 use Rattle.mig_model.proofs.Facts.{owed_is_present, no_page}
-use Rattle.mig_model.proofs.ResumeTaken.{pair-origins}
 use Rattle.mig_model.proofs.RightCommands.{AllRight, right_commands}
 use Rattle.mig_model.proofs.SetSizes.{count_below-few, len-below, only_where}
-use Rattle.mig_model.proofs.PackageTaken.{has_areas}
+use Rattle.mig_model.proofs.Delivery.{pair-origins}
 
 -- Lists of frames
 
@@ -85,6 +84,13 @@ frames-requests [] are = tt
 frames-requests (request ∷ requests) are = (are.0, frames-requests requests are.1)
 
 -- Pages of the source
+
+has_areas : (host : Host) (page : ℕ) → IsSound host → contains_key host.bytes page ≡ true → contains_key host.areas page ≡ true
+has_areas host page sound h =
+    elim (get host.areas page) as (λ o. get host.areas page ≡ o → is_some o ≡ true) [
+      | None ↦ λ e. absurd (false≢true (sym (ap is_some (sound.mapped page e)) ∙ h))
+      | Some prot ↦ λ e. refl
+    ] refl
 
 pub present_page : (host : Host) (page : ℕ) → IsSound host → IsMapping host.areas → contains_key host.bytes page ≡ true → IsPage page
 present_page host page sound mapping h = mapping.pages page (has_areas host page sound h)

@@ -1,5 +1,5 @@
 -- The frames of pages, and what a destination keeps once it has taken them.
-use Rattle.std.proofs.Common.{◌≡◌, ℕ, zero, suc, ◌≤◌, ◌&&◌, Bool, true, false, cond, not, eqb, ltb, Option, Some, None, List, [], ◌∷◌, ◌++◌, refl, sym, ap, ◌∙◌, arith, length, is_some, if◌then◌else◌}
+use Rattle.std.proofs.Common.{◌≡◌, ℕ, zero, suc, ◌≤◌, ◌&&◌, Bool, true, cond, not, eqb, ltb, Option, Some, None, List, [], ◌∷◌, ◌++◌, refl, sym, ap, ◌∙◌, arith, length, is_some, if◌then◌else◌}
 use Rattle.std.specs.List.{list_all}
 use Rattle.std.specs.Ordering.{nat_cmp}
 use Rattle.std.specs.Cmp.{nat_cmp_total, unsigned_tied}
@@ -35,18 +35,12 @@ abbrev frames_of : ℕ → Option (List ℕ) → List Frame
 frames_of page None = []
 frames_of page (Some bytes) = page_frame page bytes ∷ []
 
-is_copy : (b : Bool) (page : ℕ) (bytes : List ℕ) → AreCopies ((if b then Zero page else Page page bytes) ∷ [])
-is_copy true page bytes = tt
-is_copy false page bytes = tt
-
 are_copies_of : (page : ℕ) (o : Option (List ℕ)) → AreCopies (frames_of page o)
-are_copies_of page None = tt
-are_copies_of page (Some bytes) = is_copy (list_all (λ byte. eqb byte 0) bytes) page bytes
+are_copies_of page o = grind arith
 
 kept_page : (b : Bool) (kept : FinMap nat_cmp (List ℕ)) (page : ℕ) (bytes : List ℕ) → (b ≡ true → bytes ≡ zero_page) →
     kept_after kept (if b then Zero page else Page page bytes) ≡ insert kept page bytes
-kept_page true kept page bytes h = ap (insert kept page) (sym (h refl))
-kept_page false kept page bytes h = refl
+kept_page b kept page bytes h = grind arith
 
 get-kept_frame : (kept : FinMap nat_cmp (List ℕ)) (page : ℕ) (o : Option (List ℕ)) → ((bytes : List ℕ) → o ≡ Some bytes → length bytes ≡ 4096) → (q : ℕ) →
     get (kept_by kept (frames_of page o)) q ≡ cond (eqb q page && is_some o) o (get kept q)

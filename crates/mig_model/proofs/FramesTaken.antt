@@ -26,7 +26,6 @@ use Rattle.mig_model.specs.Invariant.{IsSoundWorld, IsSwitching, IsFlowing, IsRe
 use Rattle.mig_model.proofs.Taken.{IsOwnEpoch, IsGood, IsTaken, IsInPlaceBack}
 use Rattle.mig_model.specs.Faults.{is_in_place}
 use Rattle.mig_model.proofs.FirstFrame.{comes, first_in_place, nothing_behind, empty_not}
-use Rattle.mig_model.proofs.EndTaken.{ended_now, nowhere}
 use Rattle.mig_model.specs.Cpus.{outstanding}
 use Rattle.mig_model.specs.Log.{no_pages, present}
 use Rattle.mig_model.specs.Source.{Source, commands_of, is_source_paused, is_stopped, space_of}
@@ -34,6 +33,7 @@ use Rattle.mig_model.specs.Destination.{Destination}
 use Rattle.mig_model.proofs.Facts.{none_absurd, and_left}
 use Rattle.mig_model.proofs.UrgentWire.{EndTells, end_tells}
 use Rattle.mig_model.proofs.SpaceLemmas.{no_member}
+use Rattle.mig_model.proofs.Delivery.{ended_now, nowhere}
 
 -- In place
 

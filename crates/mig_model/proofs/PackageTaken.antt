@@ -1,5 +1,5 @@
 -- The destination takes the Package, and runs: what it then has, with what it is owed, is the memory of the source.
-use Rattle.std.proofs.Common.{◌≡◌, ◌≢◌, ℕ, zero, suc, ◌<◌, ◌&&◌, ◌||◌, Bool, true, false, cond, not, eqb, ltb, Option, Some, None, is_some, List, [], ◌∷◌, refl, sym, ap, ◌∙◌, subst, arith, length, if◌then◌else◌}
+use Rattle.std.proofs.Common.{◌≡◌, ℕ, zero, suc, ◌<◌, ◌&&◌, ◌||◌, Bool, true, false, cond, not, eqb, ltb, Option, Some, None, is_some, List, [], ◌∷◌, refl, sym, ap, ◌∙◌, subst, arith, length, if◌then◌else◌}
 use Rattle.std.specs.Option.{option_and_then}
 use Rattle.std.specs.Ordering.{nat_cmp}
 use Rattle.std.specs.FinMap as finmap
@@ -7,7 +7,7 @@ use Rattle.std.specs.FinMap.{FinMap, get, contains_key, get-empty}
 use Rattle.std.specs.FinSet.{FinSet, contains, contains-empty}
 use Rattle.std.proofs.lemmas.Bool.{false≢true, false_from_ne_true, lt-ltb, and_from, ltb-false, ltb-true}
 use Rattle.std.proofs.lemmas.Bool.Decides.{nat_tests}
-use Rattle.std.proofs.lemmas.Option.{same_Some, none-some}
+use Rattle.std.proofs.lemmas.Option.{none-some}
 use Rattle.mig_base.specs.declared.phase.DestPhase.{DestPhase}
 use Rattle.mig_base.specs.declared.phase.SourcePhase.{SourcePhase}
 use Rattle.mig_base.specs.declared.TheConstants.{HIGH_PAGE}
@@ -23,14 +23,15 @@ use Rattle.mig_model.specs.Guest.{is_present}
 use Rattle.mig_model.specs.Wire.{Sent}
 use Rattle.mig_model.specs.Wire.Frame.{Package}
 use Rattle.mig_model.specs.Migration.{World}
-use Rattle.mig_model.specs.Invariant.{Wires, IsSoundWorld, IsSwitching, AreOf, AreRight, AreFaults, AreFaithful, copies_of, has_copy, RanAt, are_requests, seen_host, seen_bytes, current_host, AreSoundWires, is_urgent_or_left}
+use Rattle.mig_model.specs.Invariant.{IsSoundWorld, IsFlowing, IsSwitching, AreOf, AreFaithful, copies_of, has_copy, are_requests, seen_host, seen_bytes, current_host, is_urgent_or_left}
 use Rattle.mig_model.proofs.FirstFrame.{at_state, delivered}
 use Rattle.mig_model.specs.Log.{no_pages}
 use Rattle.mig_model.specs.Owed.{own_places}
 use Rattle.mig_model.specs.Source.{Source, commands_of, space_of}
 use Rattle.mig_model.specs.Destination.{assembled, settled}
-use Rattle.mig_model.proofs.HeldLemmas.{fits-none}
+use Rattle.mig_model.proofs.WireLemmas.{fits-none, flight_up}
 use Rattle.mig_model.proofs.Facts.{none_or}
+use Rattle.mig_model.proofs.SourceRounds.{present_mapped}
 
 -- Owed pages at their own places
 
@@ -49,9 +50,7 @@ get-own_places owed (suc bound) q =
     ∙ placed owed bound q
 
 own_tells : (low owed : Bool) (q origin : ℕ) → cond (low && owed) (Some q) None ≡ Some origin → (low ≡ true) × (owed ≡ true) × (origin ≡ q)
-own_tells true true q origin h = (refl, refl, sym (same_Some q origin h))
-own_tells true false q origin h = absurd (none-some origin h)
-own_tells false owed q origin h = absurd (none-some origin h)
+own_tells low owed q origin h = grind arith
 
 -- what a pair of the table tells
 pub own_place : (owed : FinSet nat_cmp) (page origin : ℕ) → get (own_places owed HIGH_PAGE) page ≡ Some origin → (page < HIGH_PAGE) × (contains owed page ≡ true) × (origin ≡ page)
@@ -62,15 +61,10 @@ own_place owed page origin h =
 -- The space that is put together
 
 missing_by : (low mapped empty : Bool) → empty ≡ false → (low && cond (mapped && not ((false || empty) && (true || empty))) true empty) ≡ (low && mapped)
-missing_by low mapped true h = absurd (false≢true (sym h))
-missing_by low true false h = refl
-missing_by low false false h = refl
+missing_by low mapped empty h = grind arith
 
 protect_by : (low mapped empty : Bool) → empty ≡ false → (low && cond (mapped && not ((false || empty) && (true || empty))) false empty) ≡ false
-protect_by low mapped true h = absurd (false≢true (sym h))
-protect_by true true false h = refl
-protect_by true false false h = refl
-protect_by false mapped false h = refl
+protect_by low mapped empty h = grind arith
 
 pub assembled_missing : (areas : FinMap nat_cmp Prot) (kept : FinMap nat_cmp (List ℕ)) (page : ℕ) → contains (assembled areas kept).object.missing page ≡ (ltb page HIGH_PAGE && contains_key areas page)
 assembled_missing areas kept page = member_below _ HIGH_PAGE page ∙ missing_by (ltb page HIGH_PAGE) (contains_key areas page) (contains {R = nat_cmp} no_pages page) (contains-empty nat_cmp page)
@@ -79,9 +73,7 @@ pub assembled_protect : (areas : FinMap nat_cmp Prot) (kept : FinMap nat_cmp (Li
 assembled_protect areas kept page = member_below _ HIGH_PAGE page ∙ protect_by (ltb page HIGH_PAGE) (contains_key areas page) (contains {R = nat_cmp} no_pages page) (contains-empty nat_cmp page)
 
 and_second : (a b : Bool) → ((a && b) || false) ≡ true → b ≡ true
-and_second true true h = refl
-and_second true false h = absurd (false≢true h)
-and_second false b h = absurd (false≢true h)
+and_second a b h = grind arith
 
 pub IsSoundSpace-assembled : (areas : FinMap nat_cmp Prot) (kept : FinMap nat_cmp (List ℕ)) → IsSound (record { areas = areas; bytes = kept }) → IsSoundSpace (assembled areas kept)
 IsSoundSpace-assembled areas kept sound =
@@ -133,20 +125,8 @@ seen_source host owed areas kept same rest sound =
 
 -- The step
 
-or_more : (a b c : Bool) → (a || b) ≡ true → (a || b || c) ≡ true
-or_more true b c h = refl
-or_more false true c h = refl
-or_more false false c h = absurd (false≢true h)
-
 owed_none : (owed : Bool) (o : Option (List ℕ)) → owed ≡ true → cond owed None o ≡ None
 owed_none owed o h = ap (λ b. cond b None o) h
-
-pub has_areas : (host : Host) (page : ℕ) → IsSound host → contains_key host.bytes page ≡ true → contains_key host.areas page ≡ true
-has_areas host page sound h =
-    elim (get host.areas page) as (λ o. get host.areas page ≡ o → is_some o ≡ true) [
-      | None ↦ λ e. absurd (false≢true (sym (ap is_some (sound.mapped page e)) ∙ h))
-      | Some prot ↦ λ e. refl
-    ] refl
 
 -- what the Package says, where it is the first frame
 record IsPlan (source : Source) (kept : FinMap nat_cmp (List ℕ)) (rest urgent : List Sent) (areas : FinMap nat_cmp Prot) (owed : FinSet nat_cmp) : Type 0 where
@@ -184,44 +164,28 @@ package_taken epoch areas owed commands rest world kept =
     let holds : memory (current_host new) ≡ memory_of new.transcript = ap memory (seen_source host owed areas pages plan.same plan.kept_rest sound) ∙ kept.memory.holds in
     let destination_space : IsSoundSpace new.destination.guest.space = IsSoundSpace-assembled areas pages (sound_rest host owed areas pages plan.same plan.kept_rest sound kept.copies.kept_whole) in
     let unprotected : (page : ℕ) → contains new.destination.guest.space.protected page ≡ false = λ page. contains-empty nat_cmp page in
-    let only_missing : (page : ℕ) → contains new.destination.guest.space.object.protect page ≡ false = assembled_protect areas pages in
-    let destination_events : AreRight new.destination.guest.space.object.events = tt in
-    let destination_faults : AreFaults new.destination.guest.space.object.faults = tt in
-    let destination_phase : RanAt new.destination.phase new.destination.has_run new.destination.ended = (refl, not_ended) in
-    let ran_after_switch : new.destination.has_run ≡ true → new.source.switched ≡ true = λ h. kept.phases.source_phase in
-    let ended_after_run : new.destination.ended ≡ true → new.destination.has_run ≡ true = λ h. refl in
     let not_run : new.destination.has_run ≡ false → (new.destination.owed ≡ finmap.empty) × (new.destination.guest.space ≡ fresh_space) × (new.destination.arrivals ≡ []) = λ h. absurd (false≢true (sym h)) in
-    let kept_none : new.destination.has_run ≡ true → new.destination.kept ≡ finmap.empty = λ h. refl in
-    let kept_advised : new.destination.phase ≡ DestPhase.Idle → new.destination.kept ≡ finmap.empty = λ h. refl in
     let kept_whole : (page : ℕ) (bytes : List ℕ) → get new.destination.kept page ≡ Some bytes → length bytes ≡ 4096 = λ page bytes h. absurd (none-some bytes (sym (get-empty nat_cmp page) ∙ h)) in
-    let one_to_one : (page other origin : ℕ) → get new.destination.owed page ≡ Some origin → get new.destination.owed other ≡ Some origin → page ≡ other =
-    λ page other origin h g. sym (own_place owed page origin h).2 ∙ (own_place owed other origin g).2 in
-    let owed_below : (page origin : ℕ) → get new.destination.owed page ≡ Some origin → page < HIGH_PAGE = λ page origin h. (own_place owed page origin h).0 in
-    let origins_present : (page origin : ℕ) → get new.destination.owed page ≡ Some origin → is_present new.source.guest.space origin ≡ true =
-    λ page origin h. let own = own_place owed page origin h in ap (is_present new.source.guest.space) own.2 ∙ plan.owed_present page own.1 in
+    let one_to_one = λ (page other origin : ℕ) (h : get new.destination.owed page ≡ Some origin) (g : get new.destination.owed other ≡ Some origin). sym (own_place owed page origin h).2 ∙ (own_place owed other origin g).2 in
+    let owed_below = λ (page origin : ℕ) (h : get new.destination.owed page ≡ Some origin). (own_place owed page origin h).0 in
+    let origins_present = λ (page origin : ℕ) (h : get new.destination.owed page ≡ Some origin). let own = own_place owed page origin h in ap (is_present new.source.guest.space) own.2 ∙ plan.owed_present page own.1 in
     let pairs_missing : (page origin : ℕ) → settled new.destination page ≡ Some origin → (contains new.destination.guest.space.object.missing page ≡ true) × (is_present new.destination.guest.space page ≡ false) =
     λ page origin h.
     let own = own_place owed page origin h in (
       assembled_missing areas pages page
-          ∙ and_from (ltb page HIGH_PAGE) (contains_key areas page) (lt-ltb page HIGH_PAGE own.0) (ap (λ a. contains_key a page) plan.same ∙ has_areas host page sound (plan.owed_present page own.1)),
+          ∙ and_from (ltb page HIGH_PAGE) (contains_key areas page) (lt-ltb page HIGH_PAGE own.0) (ap (λ a. contains_key a page) plan.same ∙ present_mapped (space_of world.source) page kept.spaces.source_space (plan.owed_present page own.1)),
       ap is_some (plan.kept_rest page ∙ owed_none (contains owed page) (get host.bytes page) own.1),
     ) in
-    let arrivals_faithful : new.destination.has_run ≡ true → AreFaithful new.source.guest.space.host.bytes new.destination.arrivals =
-    λ h. subst (AreFaithful host.bytes) (sym (kept.owing.not_run refl).2) tt in
-    let flight_faithful : new.destination.has_run ≡ true → AreFaithful new.source.guest.space.host.bytes (copies_of new.forward.frames) = λ h. plan.faithful in
+    let arrivals_faithful = subst (AreFaithful host.bytes) (sym (kept.owing.not_run refl).2) tt in
     let ended_empty : new.destination.ended ≡ true → (new.destination.owed ≡ finmap.empty) × (new.destination.arrivals ≡ []) = λ h. absurd (false≢true (sym not_ended ∙ h)) in
-    let wires : new.up ≡ true → Wires new.source new.destination new.forward.frames new.back.frames new.urgent.frames =
-    λ u. (
-      w.0,
-      ap are_requests w.1,
-      record {
-        whereabouts = λ page origin h.
-            let own = own_place owed page origin h in
-            or_more (is_urgent_or_left world.source.remaining world.urgent.frames origin) (has_copy (copies_of rest) origin) (has_copy world.destination.arrivals origin)
-            (ap (λ q. is_urgent_or_left world.source.remaining world.urgent.frames q || has_copy (copies_of rest) q) own.2 ∙ plan.whereabouts page own.1);
-      },
-    ) in
-    let down : new.up ≡ false → (new.forward.frames ≡ []) × (new.back.frames ≡ []) × (new.source.phase ≢ SourcePhase.Idle) × (new.source.phase ≢ SourcePhase.Released) = λ h. absurd (false≢true (sym h)) in
+    let flowing : IsFlowing new.source new.destination rest world.urgent.frames =
+    record {
+      whereabouts = λ page origin h.
+          let own = own_place owed page origin h in
+          let planned = ap (λ q. is_urgent_or_left world.source.remaining world.urgent.frames q || has_copy (copies_of rest) q) own.2 ∙ plan.whereabouts page own.1 in
+          grind arith;
+    } in
+    let flight = flight_up new refl (λ h. plan.faithful) (w.0, ap are_requests w.1, flowing) in
     let forward_epoch : AreOf new.source.epoch new.forward.frames = kept.epochs.forward_epoch.1 in
-    let held : AreSoundWires new.forward new.back = record { forward_held = fits-none rest; back_held = kept.held.back_held } in
-    assumption
+    let nothing : Unit {0} = tt in
+    assumption (assembled_protect areas pages, fits-none rest)

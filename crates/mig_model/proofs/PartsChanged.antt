@@ -1,5 +1,5 @@
 -- Each step of the whole migration changes only its parts.
-use Rattle.std.proofs.Common.{◌≡◌, ℕ, ◌+◌, Bool, true, false, List, [], ◌∷◌, ◌++◌, refl, sym, ◌∙◌, ap}
+use Rattle.std.proofs.Common.{◌≡◌, ℕ, ◌+◌, Bool, true, false, List, [], ◌∷◌, ◌++◌, refl, sym, ◌∙◌, ap, append-nil}
 use Rattle.std.proofs.lemmas.Bool.{false≢true}
 use Rattle.std.proofs.lemmas.List.{append_assoc}
 use Rattle.mig_base.specs.declared.phase.DestPhase.{DestPhase}
@@ -13,7 +13,6 @@ use Rattle.mig_model.specs.Wire.{Frame, Sent, page_frame, sending, Wire, wire_if
 use Rattle.mig_model.specs.Wire.Frame.{Advise, Run, End, Resume}
 use Rattle.mig_model.specs.Migration.{World, next, guest_of, with_guest_by, after_command, after_deliver, after_deliver_back, after_dest_act, after_move, after_move_back, after_move_urgent, after_deliver_urgent}
 use Rattle.mig_model.specs.Parts.{Grows, Shrinks, GuestAlone, ChangesParts}
-use Rattle.mig_model.proofs.Stopping.{append-nil}
 use Rattle.mig_model.proofs.StepCases.{MakesWorld, made-next}
 use Rattle.mig_model.specs.Source.{bytes_of, run_of, source_answers, source_took, switch_frames}
 use Rattle.mig_model.proofs.Facts.{as_it_was}

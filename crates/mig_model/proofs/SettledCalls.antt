@@ -5,14 +5,16 @@ use Rattle.mig_base.specs.declared.message.Message.{Message}
 use Rattle.mig_base.specs.declared.message.Message.TheVariants.{Remap, Remove, Unmap}
 use Rattle.mig_base.specs.Ranges.{in_range}
 use Rattle.mig_base.proofs.RangeLemmas.{none_below_tells}
-use Rattle.mig_model.specs.Userfault.{Object, Noted, is_registered, event_queued, is_watched}
+use Rattle.mig_model.specs.Userfault.{Object, is_registered, event_queued, is_watched}
 use Rattle.mig_model.specs.Space.{told, all_queued}
-use Rattle.mig_model.specs.Invariant.{IsRight, AreRight}
+use Rattle.mig_model.specs.Invariant.{AreRight}
 use Rattle.mig_model.proofs.SeenLemmas.{owed_none}
 use Rattle.mig_model.specs.Owed.{owed_after, settled_by}
 use Rattle.mig_model.specs.Promises.{gone}
 use Rattle.mig_model.specs.Migration.{start}
 use Rattle.mig_model.proofs.Facts.{in_range_first, settled-push}
+use Rattle.mig_model.proofs.SourceMessages.{events_queued, AreRight-append}
+pub use Rattle.mig_model.proofs.SourceMessages.{AllRight, AllRight-append as right-append, told_right as right-told}
 pub use Rattle.mig_model.specs.Promises.{gone, moved_owed, owed_changed}
 
 -- Events queued
@@ -32,26 +34,8 @@ pub settled-append : (some more : List Message) (owed : ℕ → Option ℕ) → 
 settled-append [] more owed = refl
 settled-append (message ∷ some) more owed = settled-append some more (owed_after message owed)
 
-abbrev pub AllRight : List Message → Type 0
-AllRight [] = Unit {0}
-AllRight (message ∷ messages) = IsRight message × AllRight messages
-
-right-push : (events : List Noted) (noted : Noted) → AreRight events → IsRight noted.message → AreRight (events ++ noted ∷ [])
-right-push [] noted are is = (is, tt)
-right-push (first ∷ events) noted are is = (are.0, right-push events noted are.1 is)
-
 pub right-queued : (object : Object) (messages : List Message) (cpu : ℕ) → AreRight object.events → AllRight messages → AreRight (all_queued object messages cpu).events
-right-queued object [] cpu are all = are
-right-queued object (message ∷ messages) cpu are all =
-    right-queued (event_queued object message cpu) messages cpu (right-push object.events (record { message = message; cpu = cpu }) are all.0) all.1
-
-pub right-append : (some more : List Message) → AllRight some → AllRight more → AllRight (some ++ more)
-right-append [] more a b = b
-right-append (message ∷ some) more a b = (a.0, right-append some more a.1 b)
-
-pub right-told : (b : Bool) (message : Message) → (b ≡ true → IsRight message) → AllRight (told b message)
-right-told true message h = (h refl, tt)
-right-told false message h = tt
+right-queued object messages cpu are all = subst AreRight (sym (events_queued object messages cpu)) (AreRight-append object.events messages cpu are all)
 
 -- Pairs of a range that goes, and of one that moves
 
@@ -78,8 +62,7 @@ unwatched object owed first count page inside un low high =
     owed_none owed (is_registered object) page inside (subst (λ q. is_registered object q ≡ false) at free)
 
 gone_none : (b : Bool) (o : Option ℕ) → (b ≡ true → o ≡ None) → o ≡ cond b None o
-gone_none true o h = h refl
-gone_none false o h = refl
+gone_none b o h = grind arith
 
 -- the pairs of a range that goes end, whether a page of it was registered or not
 pub told_gone : (b w : Bool) (object : Object) (owed : ℕ → Option ℕ) (first count : ℕ) (message : Message) → w ≡ is_watched object first count → AreInside object owed →
@@ -91,9 +74,7 @@ told_gone true false object owed first count message is inside right =
     (gone_none (in_range first count page) (owed page) (λ h. let r = in_range_first first count page h in unwatched object owed first count page inside (sym is) r.0 r.1)) i
 
 shifted_none : (b c : Bool) (o p : Option ℕ) → (b ≡ true → (o ≡ None) × (p ≡ None)) → (c ≡ true → o ≡ None) → o ≡ cond b p (cond c None o)
-shifted_none true c o p h g = let both = h refl in both.0 ∙ sym both.1
-shifted_none false true o p h g = g refl
-shifted_none false false o p h g = refl
+shifted_none b c o p h g = grind arith
 
 -- and those of a range that moves move
 pub told_shifted : (b w : Bool) (object : Object) (owed : ℕ → Option ℕ) (from to count : ℕ) (message : Message) → w ≡ is_watched object from count → AreInside object owed →
@@ -109,28 +90,20 @@ told_shifted true false object owed from to count message is inside free right =
 
 -- What each message does
 
-range_of : (start n : ℕ) → (start + 4096 * n) / 4096 - start / 4096 ≡ n
-range_of start n = omega arith
+-- a range of whole pages
+range_of : (start n m : ℕ) → (start + 4096 * m) / 4096 - (start + 4096 * n) / 4096 ≡ m - n
+range_of start n m = omega arith
 
 pub unmap_right : (owed : ℕ → Option ℕ) (start n page : ℕ) → owed_after (Unmap start (start + 4096 * n)) owed page ≡ gone owed (start / 4096) n page
-unmap_right owed start n page = ap (λ k. cond (in_range (start / 4096) k page) None (owed page)) (range_of start n)
+unmap_right owed start n page = ap (λ k. cond (in_range (start / 4096) k page) None (owed page)) (let k : (start + 4096 * n) / 4096 - start / 4096 ≡ n = omega arith in k)
 
 pub remove_right : (owed : ℕ → Option ℕ) (start n page : ℕ) → owed_after (Remove start (start + 4096 * n)) owed page ≡ gone owed (start / 4096) n page
-remove_right owed start n page = ap (λ k. cond (in_range (start / 4096) k page) None (owed page)) (range_of start n)
-
-cut_range : (addr n m : ℕ) → (addr + 4096 * m) / 4096 - (addr + 4096 * n) / 4096 ≡ m - n
-cut_range addr n m = omega arith
-
-cut_first : (addr n : ℕ) → (addr + 4096 * n) / 4096 ≡ addr / 4096 + n
-cut_first addr n = omega arith
+remove_right owed start n page = ap (λ k. cond (in_range (start / 4096) k page) None (owed page)) (let k : (start + 4096 * n) / 4096 - start / 4096 ≡ n = omega arith in k)
 
 pub cut_right : (owed : ℕ → Option ℕ) (addr n m page : ℕ) → owed_after (Unmap (addr + 4096 * n) (addr + 4096 * m)) owed page ≡ gone owed (addr / 4096 + n) (m - n) page
 cut_right owed addr n m page =
-    ap (λ k. cond (in_range ((addr + 4096 * n) / 4096) k page) None (owed page)) (cut_range addr n m)
-    ∙ ap (λ k. cond (in_range k (m - n) page) None (owed page)) (cut_first addr n)
-
-whole_pages : (n : ℕ) → (4096 * n) / 4096 ≡ n
-whole_pages n = omega arith
+    ap (λ k. cond (in_range ((addr + 4096 * n) / 4096) k page) None (owed page)) (range_of addr n m)
+    ∙ ap (λ k. cond (in_range k (m - n) page) None (owed page)) (let k : (addr + 4096 * n) / 4096 ≡ addr / 4096 + n = omega arith in k)
 
 pub remap_right : (owed : ℕ → Option ℕ) (addr target n page : ℕ) → owed_after (Remap addr target (4096 * n)) owed page ≡ shifted owed (addr / 4096) (target / 4096) n page
-remap_right owed addr target n page = ap (λ k. shifted owed (addr / 4096) (target / 4096) k page) (whole_pages n)
+remap_right owed addr target n page = ap (λ k. shifted owed (addr / 4096) (target / 4096) k page) (let k : 4096 * n / 4096 ≡ n = omega arith in k)

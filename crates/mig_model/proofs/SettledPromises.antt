@@ -29,11 +29,10 @@ use Rattle.mig_model.specs.Invariant.{IsSoundWorld, AreFaults, AreRight}
 use Rattle.mig_model.specs.Promises.{owed_changed, leaves_settled, AreAccesses}
 use Rattle.mig_model.proofs.SettledLemmas.{settled_by-applied}
 use Rattle.mig_model.proofs.TriedLemmas.{settled_then}
-use Rattle.mig_model.proofs.DestinationCommands.{ready_of}
 use Rattle.mig_model.proofs.WaitingCommands.{package_next}
 use Rattle.mig_model.proofs.WokenSteps.{TakesFrame, takes, takes_urgent}
 use Rattle.mig_model.proofs.StepCases.{MakesWorld, made-next, made-ok, made-effect}
-use Rattle.mig_model.proofs.DestinationRead.{none_is}
+use Rattle.mig_model.proofs.DestinationRead.{none_is, ready_of}
 use Rattle.mig_model.specs.Cpus.{outstanding, processor_at}
 use Rattle.mig_model.specs.Owed.{home, settled_by}
 use Rattle.mig_model.specs.Destination.{Destination, destination_act, destination_acted_by, destination_took, install_by, settled}

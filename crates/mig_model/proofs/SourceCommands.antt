@@ -1,12 +1,12 @@
 -- A command that is tried at the source, before it has stopped, keeps what every world keeps.
-use Rattle.std.proofs.Common.{◌≡◌, ℕ, ◌/◌, ◌&&◌, ◌||◌, Bool, true, false, cond, not, eqb, if◌then◌else◌, Some, List, [], ◌∷◌, ◌++◌, refl, sym, ap, ◌∙◌, subst, is_some}
+use Rattle.std.proofs.Common.{◌≡◌, append-nil, ℕ, ◌/◌, ◌&&◌, ◌||◌, Bool, true, false, cond, not, eqb, if◌then◌else◌, Some, List, [], ◌∷◌, ◌++◌, refl, sym, ap, ◌∙◌, subst, is_some, arith}
 use Rattle.std.specs.Ordering.{nat_cmp}
 use Rattle.std.specs.FinMap.{FinMap, get, insert, contains_key}
 use Rattle.std.specs.FinSet.{contains}
-use Rattle.std.proofs.lemmas.Bool.{false≢true, eqb-true, false_from_ne_true, and_from, or_right, or_parts}
+use Rattle.std.proofs.lemmas.Bool.{eqb-true, false_from_ne_true, and_from, or_right, or_parts}
 use Rattle.mig_base.specs.declared.cpu_state.CpuState.{CpuState}
 use Rattle.mig_base.specs.declared.command.Command.{Command}
-use Rattle.mig_base.specs.declared.command.Command.TheVariants.{Load, Store, Mmap, Munmap, Mremap, DontNeed}
+use Rattle.mig_base.specs.declared.command.Command.TheVariants.{Load, Store}
 use Rattle.mig_base.specs.declared.command.Reply.{Reply}
 use Rattle.mig_base.specs.declared.command.Reply.TheVariants.{Done}
 use Rattle.mig_base.specs.declared.command.Access.{Access}
@@ -24,9 +24,7 @@ use Rattle.mig_model.proofs.HostLemmas.{get-put}
 use Rattle.mig_model.proofs.SpaceLemmas.{IsSoundSpace-accessed, IsSoundSpace-called, access_reply}
 use Rattle.mig_model.proofs.SourceKept.{source_holds, IsChanged, changed}
 use Rattle.mig_model.proofs.SourceMessages.{noted_all, events_queued, tells, is_unread-append, AreRight-append}
-use Rattle.mig_model.proofs.SourceCalls.{untouched}
-use Rattle.mig_model.proofs.SourceEvents.{IsUnregistered, right_messages, no_messages, modes_same, none_missing}
-use Rattle.mig_model.proofs.SourceTests.{append_nil}
+use Rattle.mig_model.proofs.SourceCalls.{untouched, IsUnregistered, right_messages, no_messages, modes_same, none_missing}
 use Rattle.mig_model.specs.Cpus.{access_took, call_took, entries_of}
 use Rattle.mig_model.specs.Source.{space_of}
 use Rattle.mig_model.proofs.Facts.{none_absurd, queued_missing, queued_protect, entered_once, modes_events, some_either}
@@ -41,9 +39,7 @@ present_after host (Store addr width value) _ page access h = h
 present_after host _ reply page access h = none_absurd access
 
 never_answered : (missing protect : Bool) (reply other : Reply) → protect ≡ true → cond missing Missing (cond protect Protected (Answered reply)) ≡ Answered other → ⊥
-never_answered true protect reply other p h = cc
-never_answered false true reply other p h = cc
-never_answered false false reply other p h = false≢true p
+never_answered missing protect reply other p h = grind arith
 
 other_page : (bytes : FinMap nat_cmp (List ℕ)) (page q : ℕ) (held : List ℕ) → eqb q page ≡ false → get (insert bytes page held) q ≡ get bytes q
 other_page bytes page q held other = get-put bytes page q held ∙ ap (λ b. cond b (Some held) (get bytes q)) other
@@ -73,7 +69,6 @@ elsewhere : (space : Space) (command : Command) (page : ℕ) (other : Reply) →
 elsewhere space (Load addr width) page other access answered watched protected = refl
 elsewhere space (Store addr width value) page other access answered watched protected =
     stored_elsewhere space addr width value page (reply_of (memory space.host) (Store addr width value)) other refl answered watched protected
-elsewhere space (Mmap len prot place) page other access answered watched protected = none_absurd access
 elsewhere space _ page other access answered watched protected = none_absurd access
 
 answered_changed : (world : World) (cpu : ℕ) (command : Command) (reply : Reply) (processors : List CpuState) → IsSoundWorld world → world.destination.has_run ≡ false → world.source.switched ≡ false → is_access command ≡ true →
@@ -93,7 +88,7 @@ answered_changed world cpu command reply processors kept bare unswitched access 
       space = subst (λ a. IsSoundSpace (accessed_by a space cpu command)) answered (IsSoundSpace-accessed space cpu command access sound);
       modes = kept.spaces.both_modes;
       events = kept.spaces.source_events;
-      idle = λ h. let was = kept.precopy.idle_source h in (was.0, was.1, was.3, was.4);
+      idle = kept.precopy.idle_source;
       protected = λ page h u. kept.precopy.clean_protected unswitched page h u;
       sendable = λ page h u. let was = kept.precopy.todo_sendable unswitched page h u in (present_after space.host command (reply_of (memory space.host) command) page access was.0, was.1);
       copies = λ page h u.
@@ -124,12 +119,12 @@ slept_changed world processors object kept bare unswitched alike sound =
     let events = alike.events in
     let unread : (page : ℕ) → is_unread object.events page ≡ false → is_unread space.object.events page ≡ false = λ page u. ap (λ e. is_unread e page) (sym events) ∙ u in
     record {
-      flat = subst IsFlatRun (append_nil world.transcript) kept.memory.flat;
-      holds = source_holds world kept bare ∙ ap memory_of (append_nil world.transcript);
+      flat = subst IsFlatRun (sym (append-nil world.transcript)) kept.memory.flat;
+      holds = source_holds world kept bare ∙ ap memory_of (sym (append-nil world.transcript));
       space = sound;
       modes = λ page. ap (λ s. contains s page) alike.missing ∙ kept.spaces.both_modes page ∙ sym (ap (λ s. contains s page) alike.protect);
       events = subst AreRight (sym events) kept.spaces.source_events;
-      idle = λ h. let was = kept.precopy.idle_source h in (was.0, was.1, events ∙ was.3, λ page. ap (λ s. contains s page) alike.missing ∙ was.4 page);
+      idle = λ h. let was = kept.precopy.idle_source h in (was.0, was.1, was.2, events ∙ was.3, λ page. ap (λ s. contains s page) alike.missing ∙ was.4 page);
       protected = λ page h u. kept.precopy.clean_protected unswitched page h (unread page u);
       sendable = λ page h u. let was = kept.precopy.todo_sendable unswitched page h (unread page u) in (was.0, ap (λ s. contains s page) alike.protect ∙ was.1);
       copies = λ page h u. (h, unread page u, refl);
@@ -179,7 +174,7 @@ call_changed world cpu command processors kept bare unswitched call =
           let was = kept.precopy.idle_source h in
           let none : IsUnregistered space.object = λ page. ap (λ b. b || contains space.object.protect page) (was.4 page) ∙ sym (kept.spaces.both_modes page) ∙ was.4 page in
           let nothing : messages ≡ [] = no_messages space.object command reply none in
-          (was.0, was.1, events ∙ ap (λ m. space.object.events ++ noted_all m cpu) nothing ∙ ap (λ e. e ++ []) was.3, λ page. ap (λ s. contains s page) missing ∙ none_missing space.object command reply was.4 page);
+          (was.0, was.1, was.2, events ∙ ap (λ m. space.object.events ++ noted_all m cpu) nothing ∙ ap (λ e. e ++ []) was.3, λ page. ap (λ s. contains s page) missing ∙ none_missing space.object command reply was.4 page);
       protected = λ page h u.
           let was = kept.precopy.clean_protected unswitched page h (unread page u).0 in
           (same page (sound.watched page was) u).protected ∙ was;

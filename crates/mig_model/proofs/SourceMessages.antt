@@ -1,5 +1,5 @@
 -- The messages of a map call: each is right, and together they tell of every registered page that the call changes.
-use Rattle.std.proofs.Common.{◌≡◌, ℕ, ◌+◌, ◌-◌, ◌*◌, ◌/◌, ◌<◌, ◌≤◌, ◌&&◌, ◌||◌, Bool, true, false, not, ltb, List, [], ◌∷◌, ◌++◌, refl, sym, ap, ◌∙◌, ◌⊎◌, inl, inr, ⊎_elim, arith, append_assoc}
+use Rattle.std.proofs.Common.{◌≡◌, append-nil, ℕ, ◌+◌, ◌-◌, ◌*◌, ◌/◌, ◌<◌, ◌≤◌, ◌&&◌, ◌||◌, Bool, true, false, not, ltb, List, [], ◌∷◌, ◌++◌, refl, sym, ap, ◌∙◌, ◌⊎◌, inl, inr, ⊎_elim, arith, append_assoc}
 use Rattle.std.proofs.lemmas.Bool.Decides.{nat_tests}
 use Rattle.std.proofs.lemmas.Bool.{false≢true, false_from_ne_true, cases_lt, and_from, or_parts}
 use Rattle.mig_base.specs.declared.TheConstants.{HIGH, HIGH_PAGE}
@@ -10,10 +10,8 @@ use Rattle.mig_base.proofs.RangeLemmas.{none_below_tells}
 use Rattle.mig_model.specs.Userfault.{Noted, Object, is_registered, event_queued, is_watched}
 use Rattle.mig_model.specs.Guest.{is_changed_by, in_bytes}
 use Rattle.mig_model.specs.Space.{told, all_queued}
-use Rattle.mig_model.specs.Invariant.{is_unread, AreRight}
-use Rattle.mig_model.proofs.SourceTests.{append_nil, lesser_is}
+use Rattle.mig_model.specs.Invariant.{is_unread, IsRight, AreRight}
 use Rattle.mig_model.specs.Migration.{start}
-use Rattle.mig_model.proofs.SettledCalls.{AllRight}
 use Rattle.mig_model.proofs.Facts.{none_absurd, in_range_first, or_assoc}
 
 -- Messages and the events that they become
@@ -23,7 +21,7 @@ noted_all [] cpu = []
 noted_all (message ∷ messages) cpu = record { message = message; cpu = cpu } ∷ noted_all messages cpu
 
 pub events_queued : (object : Object) (messages : List Message) (cpu : ℕ) → (all_queued object messages cpu).events ≡ object.events ++ noted_all messages cpu
-events_queued object [] cpu = append_nil object.events
+events_queued object [] cpu = sym (append-nil object.events)
 events_queued object (message ∷ messages) cpu = events_queued (event_queued object message cpu) messages cpu ∙ append_assoc object.events (record { message = message; cpu = cpu } ∷ []) (noted_all messages cpu)
 
 -- whether a message tells that a page was changed
@@ -42,10 +40,22 @@ pub tells-append : (a b : List Message) (page : ℕ) → tells (a ++ b) page ≡
 tells-append [] b page = refl
 tells-append (message ∷ a) b page = ap (λ t. is_changed_by message page || t) (tells-append a b page) ∙ or_assoc (is_changed_by message page) (tells a page) (tells b page)
 
+abbrev pub AllRight : List Message → Type 0
+AllRight [] = Unit {0}
+AllRight (message ∷ messages) = IsRight message × AllRight messages
+
 pub AreRight-append : (events : List Noted) (messages : List Message) (cpu : ℕ) → AreRight events → AllRight messages → AreRight (events ++ noted_all messages cpu)
 AreRight-append [] [] cpu old new = tt
 AreRight-append [] (message ∷ messages) cpu old new = (new.0, AreRight-append [] messages cpu tt new.1)
 AreRight-append (noted ∷ events) messages cpu old new = (old.0, AreRight-append events messages cpu old.1 new)
+
+pub AllRight-append : (a b : List Message) → AllRight a → AllRight b → AllRight (a ++ b)
+AllRight-append [] b one two = two
+AllRight-append (message ∷ a) b one two = (one.0, AllRight-append a b one.1 two)
+
+pub told_right : (reason : Bool) (message : Message) → (reason ≡ true → IsRight message) → AllRight (told reason message)
+told_right true message right = (right refl, tt)
+told_right false message right = tt
 
 -- A message is told where a page of its range was registered
 
@@ -54,8 +64,7 @@ untold true changed message page is reasoned h = sym is ∙ (or_parts (is_change
 untold false changed message page is reasoned h = none_absurd reasoned
 
 watched_by : (none : Bool) → (none ≡ true → ⊥) → not none ≡ true
-watched_by true never = absurd (never refl)
-watched_by false never = refl
+watched_by none never = grind arith
 
 watched_page : (object : Object) (first count page : ℕ) → is_registered object page ≡ true → in_range first count page ≡ true → is_watched object first count ≡ true
 watched_page object first count page registered inside =
@@ -81,6 +90,9 @@ unmapped_outside object start count page registered h =
 pub removed_outside : (object : Object) (start count page : ℕ) → is_registered object page ≡ true → tells (told (is_watched object (start / 4096) count) (Remove start (start + 4096 * count))) page ≡ false → in_range (start / 4096) count page ≡ false
 removed_outside object start count page registered h =
     outside_told true (Remove start (start + 4096 * count)) object (start / 4096) count page (λ inside. in_bytes-pages start count page ∙ inside) refl registered h
+
+pub lesser_is : (a b : ℕ) → (lesser a b ≡ a) ⊎ (lesser a b ≡ b)
+lesser_is a b = grind (arith, nat_tests)
 
 below_end : (start count page end : ℕ) → page < HIGH_PAGE → start / 4096 ≤ page → page < start / 4096 + count → (end ≡ start + 4096 * count) ⊎ (end ≡ HIGH) → in_bytes start end page ≡ true
 below_end start count page end below low high (inl e) = rw (e, in_bytes-pages start count page) (grind (arith, nat_tests))

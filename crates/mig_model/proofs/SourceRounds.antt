@@ -1,5 +1,5 @@
 -- The source begins a migration, or a round of pre-copy, and keeps what every world keeps.
-use Rattle.std.proofs.Common.{◌≡◌, ℕ, ◌+◌, ◌<◌, ◌&&◌, Bool, true, false, cond, not, ltb, if◌then◌else◌, Some, None, List, [], ◌∷◌, ◌++◌, refl, sym, ap, ◌∙◌, subst, inl, arith, is_some}
+use Rattle.std.proofs.Common.{◌≡◌, ◌≢◌, ◌⊎◌, ◌≤◌, ℕ, ◌+◌, ◌<◌, ◌&&◌, Bool, true, false, cond, not, ltb, if◌then◌else◌, Some, None, List, [], ◌∷◌, ◌++◌, refl, sym, ap, ◌∙◌, subst, inl, arith, is_some}
 use Rattle.std.specs.Ordering.{nat_cmp}
 use Rattle.std.specs.FinMap as finmap
 use Rattle.std.specs.FinMap.{FinMap, get, contains_key, get-empty}
@@ -19,18 +19,18 @@ use Rattle.mig_model.specs.Guest.{is_present}
 use Rattle.mig_model.specs.Wire.{Sent}
 use Rattle.mig_model.specs.Wire.Frame.{Advise}
 use Rattle.mig_model.specs.Migration.{World, after_round, after_start}
-use Rattle.mig_model.specs.Invariant.{IsSoundWorld, Wires, PrecopyWires, SwitchedAt, EpochAt, AreOf, AreWhole, flow_after, copies_of, kept_by}
+use Rattle.mig_model.specs.Invariant.{IsSoundWorld, AreSoundEpochs, is_unread, Wires, PrecopyWires, SwitchedAt, EpochAt, AreOf, AreWhole, flow_after, copies_of, kept_by}
 use Rattle.mig_model.specs.Invariant.Flow.{BeforeAdvise}
 use Rattle.mig_model.proofs.IoctlLemmas.{IsSoundSpace-registered}
-use Rattle.mig_model.proofs.SourceKept.{no_page_absurd, source_holds, IsNext, renewed, IsChanged, changed}
+use Rattle.mig_model.proofs.SourceKept.{no_page_absurd, source_holds, IsNext, renewed, IsChanged, CopiesStay, changed, never_idle, has_not_run}
 use Rattle.mig_model.proofs.SourceCalls.{registered_below}
-use Rattle.mig_model.proofs.SourceHandler.{has_not_run}
 use Rattle.mig_model.specs.Cpus.{is_idle}
 use Rattle.mig_model.specs.Log.{no_pages}
 use Rattle.mig_model.specs.Source.{Source, all_registered, for_both, is_precopy, is_source_idle, not_clean, source_started, space_of}
 use Rattle.mig_model.specs.Destination.{Destination}
-use Rattle.mig_model.proofs.HeldLemmas.{fits-more}
+use Rattle.mig_model.proofs.WireLemmas.{fits-more, flight_up}
 use Rattle.mig_model.proofs.Facts.{none_absurd, low_or, and_true, owed_is_present}
+use Rattle.mig_model.proofs.Stopping.{member_not_clean}
 
 -- The source makes rounds of pre-copy
 
@@ -38,8 +38,9 @@ pub precopy_unswitched : (phase : SourcePhase) (switched : Bool) → is_precopy 
 precopy_unswitched SourcePhase.Precopy switched h at = at
 precopy_unswitched _ switched h at = none_absurd h
 
-pub never_idle : {A : Type 0} (phase : SourcePhase) → is_precopy phase ≡ true → phase ≡ SourcePhase.Idle → A
-never_idle phase h idle = none_absurd (sym (ap is_precopy idle) ∙ h)
+pub precopy_started : (phase : SourcePhase) → is_precopy phase ≡ true → is_source_idle phase ≡ false
+precopy_started SourcePhase.Idle h = none_absurd h
+precopy_started _ h = refl
 
 pub watched_below : (space : Space) (page : ℕ) → IsSoundSpace space → contains space.object.protect page ≡ true → ltb page HIGH_PAGE ≡ true
 watched_below space page sound h = lt-ltb page HIGH_PAGE (registered_below space page sound (or_right (contains space.object.missing page) (contains space.object.protect page) h))
@@ -51,12 +52,7 @@ registered_modes space both =
     ap (λ s. pages_where (λ page. if is_mapped_in space 0 HIGH_PAGE page && not (has_modes space.object page for_both) then true else contains s page)) (same_members space.object.missing space.object.protect both)
 
 registered_now : (low test missing protect : Bool) → low ≡ true → test ≡ true → (low && cond (test && not (missing && protect)) true protect) ≡ true
-registered_now false test missing protect low is = none_absurd low
-registered_now true false missing protect low is = none_absurd is
-registered_now true true true true low is = refl
-registered_now true true true false low is = refl
-registered_now true true false true low is = refl
-registered_now true true false false low is = refl
+registered_now low test missing protect low_ is = grind arith
 
 whole_range : (page : ℕ) → page < HIGH_PAGE → in_range 0 HIGH_PAGE page ≡ true
 whole_range page h = grind (arith, nat_tests)
@@ -68,7 +64,7 @@ mapped_registered space page sound mapped =
     ∙ registered_now (ltb page HIGH_PAGE) (is_mapped_in space 0 HIGH_PAGE page) (contains space.object.missing page) (contains space.object.protect page) (lt-ltb page HIGH_PAGE low)
     (and_from (in_range 0 HIGH_PAGE page) (contains_key space.host.areas page) (whole_range page low) mapped)
 
-present_mapped : (space : Space) (page : ℕ) → IsSoundSpace space → is_present space page ≡ true → contains_key space.host.areas page ≡ true
+pub present_mapped : (space : Space) (page : ℕ) → IsSoundSpace space → is_present space page ≡ true → contains_key space.host.areas page ≡ true
 present_mapped space page sound h =
     elim (get space.host.areas page) as (λ o. get space.host.areas page ≡ o → is_some o ≡ true) [
       | None ↦ λ e. none_absurd (sym (ap is_some (sound.host.mapped page e)) ∙ h)
@@ -85,19 +81,18 @@ round_changed : (world : World) → IsSoundWorld world → is_precopy world.sour
 round_changed world kept precopy unswitched =
     let space = space_of world.source in
     let sound = kept.spaces.source_space in
-    record {
-      flat = kept.memory.flat;
-      holds = source_holds world kept (has_not_run world kept unswitched);
-      space = IsSoundSpace-registered space 0 HIGH_PAGE for_both sound;
-      modes = λ page. ap (λ s. contains s page) (registered_modes space kept.spaces.both_modes);
-      events = kept.spaces.source_events;
-      idle = λ h. never_idle world.source.phase precopy h;
-      protected = λ page h u. still_protected space page sound (kept.precopy.clean_protected unswitched page h u);
-      sendable = λ page h u.
-          let here = owed_is_present world.source page h in
-          (here, mapped_registered space page sound (present_mapped space page sound here));
-      copies = λ page h u. (h, u, refl);
-    }
+    let new = all_registered space in
+    let holds = source_holds world kept (has_not_run world kept unswitched) in
+    let registered = IsSoundSpace-registered space 0 HIGH_PAGE for_both sound in
+    let modes = λ (page : ℕ). ap (λ s. contains s page) (registered_modes space kept.spaces.both_modes) in
+    let idle = never_idle world.source.phase new world.source.log.clean (not_clean world.source) world.source.log.sent (precopy_started world.source.phase precopy) in
+    let protected : (page : ℕ) → contains world.source.log.clean page ≡ true → is_unread space.object.events page ≡ false → contains new.protected page ≡ true = λ page h u.
+    still_protected space page sound (kept.precopy.clean_protected unswitched page h u) in
+    let sendable : (page : ℕ) → contains (not_clean world.source) page ≡ true → is_unread space.object.events page ≡ false → (is_present space page ≡ true) × (contains new.object.protect page ≡ true) = λ page h u.
+    let here = owed_is_present world.source page h in
+    (here, mapped_registered space page sound (present_mapped space page sound here)) in
+    let copies : CopiesStay world.source (record world.source.guest { space = new }) world.source.log.clean = λ page h u. (h, u, refl) in
+    assumption
 
 pub kept-round : (world : World) → IsSoundWorld world → is_precopy world.source.phase ≡ true → IsSoundWorld (after_round world)
 kept-round world kept precopy =
@@ -153,30 +148,30 @@ started_next world kept idle unswitched up quiet =
     let ended = kept.pushing.ended_before in
     let epochs = kept.epochs.not_ahead in
     let one : start_wire world ≡ record { epoch = source.epoch + 1; frame = Advise } ∷ [] = ap (λ w. w ++ record { epoch = source.epoch + 1; frame = Advise } ∷ []) quiet.forward_none in
+    let next : Source = source_started source in
+    let new : World = record world { source = next; forward = record world.forward { frames = start_wire world } } in
+    let bare = has_not_run world kept unswitched in
+    let holds = source_holds world kept bare in
+    let sound = IsSoundSpace-registered space 0 HIGH_PAGE for_both kept.spaces.source_space in
+    let modes = λ (page : ℕ). ap (λ s. contains s page) (registered_modes space kept.spaces.both_modes) in
+    let unended : next.end_epoch ≢ next.epoch ⊎ (next.phase ≡ SourcePhase.Idle) = inl (λ e. absurd (omega (arith, ended, e))) in
+    let early : next.end_epoch ≤ next.epoch = omega (arith, ended) in
+    let fresh : world.up ≡ true → next.phase ≡ SourcePhase.Paused → next.end_epoch ≢ next.epoch = λ u paused. absurd (cc) in
+    let begun = never_idle next.phase (space_of next) source.log.clean source.log.todo source.log.sent refl in
+    let whole = subst (λ w. AreWhole (copies_of w)) (sym one) tt in
+    let protected : (page : ℕ) → contains source.log.clean page ≡ true → is_unread (space_of next).object.events page ≡ false → contains (space_of next).protected page ≡ true = λ page h u. no_page_absurd source.log.clean page empty.0 h in
+    let sendable : (page : ℕ) → contains source.log.todo page ≡ true → is_unread (space_of next).object.events page ≡ false → (is_present (space_of next) page ≡ true) × (contains (space_of next).object.protect page ≡ true) = λ page h u. no_page_absurd source.log.todo page empty.1 h in
+    let flight = flight_up new up (λ ran. none_absurd (sym bare ∙ ran))
+    (start_wires world.destination.phase next world.destination (start_wire world) world.back.frames next.epoch quiet.not_advised one quiet.back_none empty.0 (kept.copies.kept_advised quiet.not_advised)) in
+    let at : AreSoundEpochs next.epoch world.destination.phase world.destination.epoch (start_wire world) world.back.frames world.up =
     record {
-      flat = kept.memory.flat;
-      holds = source_holds world kept (has_not_run world kept unswitched);
-      space = IsSoundSpace-registered space 0 HIGH_PAGE for_both kept.spaces.source_space;
-      modes = λ page. ap (λ s. contains s page) (registered_modes space kept.spaces.both_modes);
-      events = kept.spaces.source_events;
-      phase = unswitched;
-      unswitched = unswitched;
-      remaining = before.0;
-      unended = inl (λ e. absurd (omega (arith, ended, e)));
-      before = omega (arith, ended);
-      fresh = λ u paused. absurd (cc);
-      idle = λ h. absurd (cc);
-      whole = subst (λ w. AreWhole (copies_of w)) (sym one) tt;
-      protected = λ page h u. no_page_absurd source.log.clean page empty.0 h;
-      sendable = λ page h u. no_page_absurd source.log.todo page empty.1 h;
-      down = λ h. none_absurd (sym h ∙ up);
-      wires = λ h. start_wires world.destination.phase (source_started source) world.destination (start_wire world) world.back.frames (source.epoch + 1) quiet.not_advised one quiet.back_none empty.0 (kept.copies.kept_advised quiet.not_advised);
-      forward_epoch = subst (AreOf (source.epoch + 1)) (sym one) (refl, tt);
-      back_epoch = subst (AreOf (source.epoch + 1)) (sym quiet.back_none) tt;
-      epochs = omega (arith, epochs);
-      epoch_at = λ h. subst (λ p. EpochAt p world.destination.epoch (source.epoch + 1)) (sym quiet.not_advised) tt;
-      held = fits-more world.forward.frames world.forward.held (source.epoch + 1) (Advise ∷ []) kept.held.forward_held;
-    }
+      forward_epoch = subst (AreOf next.epoch) (sym one) (refl, tt);
+      back_epoch = subst (AreOf next.epoch) (sym quiet.back_none) tt;
+      not_ahead = omega (arith, epochs);
+      epoch_at = λ h. subst (λ p. EpochAt p world.destination.epoch next.epoch) (sym quiet.not_advised) tt;
+    } in
+    let held = fits-more world.forward.frames world.forward.held next.epoch (Advise ∷ []) kept.held.forward_held in
+    assumption
 
 -- nothing is in flight before Start
 pub idle_forward : (world : World) → IsSoundWorld world → is_source_idle world.source.phase ≡ true → world.forward.frames ≡ []

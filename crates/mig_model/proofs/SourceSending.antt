@@ -1,178 +1,264 @@
--- The source sends the next page of a round, and keeps what every world keeps.
-use Rattle.std.proofs.Common.{◌≡◌, ℕ, ◌&&◌, ◌||◌, Bool, true, false, cond, not, eqb, ltb, Option, Some, None, List, [], ◌∷◌, ◌++◌, refl, sym, ap, ◌∙◌, ◌⊎◌, inl, inr, ⊎_elim, is_some, length, unwrap_or, subst}
+-- The source sends the next page of a round, or a run of neighbouring pages in one frame, and keeps what every world keeps.
+use Rattle.std.proofs.Common.{◌≡◌, ℕ, zero, suc, ◌+◌, Bool, true, false, cond, eqb, if◌then◌else◌, Option, Some, List, [], ◌∷◌, ◌++◌, refl, sym, ap, ◌∙◌, length, subst, arith, ◌&&◌, ◌||◌, not, ltb, ◌⊎◌, ⊎_elim, is_some, unwrap_or}
+use Rattle.std.proofs.lemmas.Bool.Decides.{nat_tests}
+use Rattle.mig_base.specs.Ranges.{in_range}
+use Rattle.std.specs.List.{list_all}
 use Rattle.std.specs.Ordering.{nat_cmp}
-use Rattle.std.specs.FinMap.{FinMap, get}
-use Rattle.std.specs.FinSet.{contains, insert}
-use Rattle.std.proofs.lemmas.Bool.{eqb-true, and_parts, or_right}
+use Rattle.std.specs.FinMap.{FinMap, get, insert}
+use Rattle.mig_model.specs.Wire.{Frame, Sent, page_frame, copies_in, kept_after, kept_with, run_copies}
+use Rattle.mig_model.specs.Wire.Frame.{Page, Zero, Run}
+use Rattle.mig_model.specs.Invariant.{Flow, flow_next, flow_after, copies_of, AreWhole, is_package, kept_by, IsSoundWorld, IsPrecopying, Wires, is_unread}
+use Rattle.mig_model.specs.Invariant.Flow.{BeforeAdvise, Copies}
+use Rattle.mig_model.specs.Source.{Source, bytes_of, run_of, in_space, is_precopy, space_of}
+use Rattle.mig_model.proofs.HostLemmas.{get-put}
+use Rattle.mig_model.specs.Migration.{World, after_run, after_send, is_changing, run_bound}
+use Rattle.mig_model.proofs.Facts.{none_absurd, zero_bytes, kept_page, copies_of-append, AreWhole-append, either, eqb-self, only_one, AreOf-one, no_event}
+use Rattle.mig_model.proofs.WireLemmas.{has_no_package, copies_in-page, page_flow, flow_sent, fits-append, flight_up}
+use Rattle.std.specs.FinSet as finset
+use Rattle.std.specs.FinSet.{FinSet, contains}
+use Rattle.std.proofs.lemmas.Bool.{and_parts, or_right}
 use Rattle.mig_base.specs.declared.phase.DestPhase.{DestPhase}
 use Rattle.mig_base.specs.declared.phase.SourcePhase.{SourcePhase}
 use Rattle.mig_base.specs.declared.TheConstants.{HIGH_PAGE}
-use Rattle.mig_base.specs.Bytes.{zero_page}
-use Rattle.mig_base.specs.Ranges.{in_range}
+use Rattle.mig_base.specs.Bytes.{contents, zero_page}
+use Rattle.mig_base.specs.Sets.{run_length}
 use Rattle.mig_base.proofs.RangeLemmas.{least_below_tells}
-use Rattle.mig_base.proofs.SetLemmas.{member_below, member_inserted, member_removed}
+use Rattle.mig_base.proofs.SetLemmas.{member_below, member_inserted, member_removed, member_run, member_with_range, member_without}
 use Rattle.mig_model.specs.Space.{Space, IsSoundSpace}
 use Rattle.mig_model.specs.Ioctls.{protected_in}
 use Rattle.mig_model.specs.Guest.{is_present}
-use Rattle.mig_model.specs.Wire.{Sent, page_frame}
-use Rattle.mig_model.specs.Migration.{World, after_send, is_changing}
-use Rattle.mig_model.specs.Invariant.{IsSoundWorld, IsPrecopying, Wires, Flow, AreWhole, flow_after, kept_by, is_unread}
-use Rattle.mig_model.specs.Invariant.Flow.{BeforeAdvise, Copies}
+use Rattle.mig_model.specs.Log.{Log, least_of, log_run_sent, log_sent}
 use Rattle.mig_model.proofs.IoctlLemmas.{IsSoundSpace-protected}
-use Rattle.mig_model.proofs.SourceKept.{source_holds, IsNext, renewed}
-use Rattle.mig_model.proofs.SendingLemmas.{copies_in-page, page_flow, flow_sent as one_sent}
-use Rattle.mig_model.proofs.SourceFrames.{copies_whole-push, kept_by-page}
-use Rattle.mig_model.proofs.SourceHandler.{has_not_run}
-use Rattle.mig_model.proofs.SourceTests.{in_one_is}
-use Rattle.mig_model.proofs.SourceRounds.{precopy_unswitched, never_idle, watched_below}
-use Rattle.mig_model.specs.Log.{least_of, present}
-use Rattle.mig_model.specs.Source.{bytes_of, is_precopy, page_sent, space_of}
-use Rattle.mig_model.proofs.HeldLemmas.{fits-append}
-use Rattle.mig_model.proofs.Facts.{none_absurd, either, only_one, AreOf-one, no_event}
+use Rattle.mig_model.proofs.SourceKept.{source_holds, renewed, never_idle, has_not_run, in_one_is}
+use Rattle.mig_model.proofs.SourceRounds.{precopy_unswitched, precopy_started, watched_below}
+
+-- The frame of a page
+
+-- it is kept as such
+pub kept_after-page_frame : (kept : FinMap nat_cmp (List ℕ)) (page : ℕ) (bytes : List ℕ) → length bytes ≡ 4096 → kept_after kept (page_frame page bytes) ≡ insert kept page bytes
+kept_after-page_frame kept page bytes n = kept_page (list_all (λ byte. eqb byte 0) bytes) kept page bytes (zero_bytes bytes n)
+
+no_package_by : (b : Bool) (page : ℕ) (bytes : List ℕ) → is_package (if b then Zero page else Page page bytes) ≡ false
+no_package_by b page bytes = grind arith
+
+-- One more frame
+
+pub copies_whole-push : (wire : List Sent) (sent : Sent) → AreWhole (copies_in sent.frame) → AreWhole (copies_of wire) → AreWhole (copies_of (wire ++ sent ∷ []))
+copies_whole-push wire sent whole are =
+    subst AreWhole (sym (copies_of-append wire (sent ∷ []))) (AreWhole-append (copies_of wire) (copies_of (sent ∷ [])) are (AreWhole-append (copies_in sent.frame) [] whole tt))
+
+-- what is kept once one more frame behind copies is taken
+pub kept_by-push : (wire : List Sent) (flow : Flow) (sent : Sent) (kept : FinMap nat_cmp (List ℕ)) → flow_after flow wire ≡ Some Copies → kept_by kept (wire ++ sent ∷ []) ≡ kept_by (kept_by kept wire) (sent ∷ [])
+kept_by-push wire flow sent kept h = (has_no_package flow kept wire (sent ∷ []) h).kept_then
+
+-- the page's own bytes are the newest then
+pub kept_by-page : (wire : List Sent) (flow : Flow) (kept : FinMap nat_cmp (List ℕ)) (epoch page : ℕ) (bytes : List ℕ) → flow_after flow wire ≡ Some Copies → length bytes ≡ 4096 → (q : ℕ) →
+    get (kept_by kept (wire ++ record { epoch = epoch; frame = page_frame page bytes } ∷ [])) q ≡ cond (eqb q page) (Some bytes) (get (kept_by kept wire) q)
+kept_by-page wire flow kept epoch page bytes h n q =
+    ap (λ m. get m q) (kept_by-push wire flow (record { epoch = epoch; frame = page_frame page bytes }) kept h
+    ∙ ap (λ b. cond b (kept_by kept wire) (kept_after (kept_by kept wire) (page_frame page bytes))) (no_package_by (list_all (λ byte. eqb byte 0) bytes) page bytes)
+    ∙ kept_after-page_frame (kept_by kept wire) page bytes n)
+    ∙ get-put (kept_by kept wire) page q bytes
+
+-- A run of pages
+
+later_in : (first count q : ℕ) → in_range (1 + first) count q ≡ true → in_range first (suc count) q ≡ true
+later_in first count q h = grind (arith, nat_tests)
+
+first_in : (first count : ℕ) → in_range first (suc count) first ≡ true
+first_in first count = grind (arith, nat_tests)
+
+-- its copies are whole pages
+pub run_whole : (node : Source) (first count : ℕ) → ((q : ℕ) → in_range first count q ≡ true → length (bytes_of node q) ≡ 4096) → AreWhole (run_copies first (run_of node first count))
+run_whole node first zero whole = tt
+run_whole node first (suc count) whole = (whole first (first_in first count), run_whole node (1 + first) count (λ q h. whole q (later_in first count q h)))
+
+none_in : (first q : ℕ) (x o : Option (List ℕ)) → o ≡ cond (in_range first 0 q) x o
+none_in first q x o = grind (arith, nat_tests)
+
+one_in : (f : ℕ → Option (List ℕ)) (first count q : ℕ) (o : Option (List ℕ)) → cond (in_range (1 + first) count q) (f q) (cond (eqb q first) (f first) o) ≡ cond (in_range first (suc count) q) (f q) o
+one_in f first count q o = grind (arith, nat_tests)
+
+get-kept_with : (node : Source) (kept : FinMap nat_cmp (List ℕ)) (first count q : ℕ) → get (kept_with kept (run_copies first (run_of node first count))) q ≡ cond (in_range first count q) (Some (bytes_of node q)) (get kept q)
+get-kept_with node kept first zero q = none_in first q (Some (bytes_of node q)) (get kept q)
+get-kept_with node kept first (suc count) q =
+    get-kept_with node (insert kept first (bytes_of node first)) (1 + first) count q
+    ∙ ap (cond (in_range (1 + first) count q) (Some (bytes_of node q))) (get-put kept first q (bytes_of node first))
+    ∙ one_in (λ page. Some (bytes_of node page)) first count q (get kept q)
+
+-- its pages' own bytes are the newest then
+pub kept_by-run : (wire : List Sent) (flow : Flow) (kept : FinMap nat_cmp (List ℕ)) (epoch : ℕ) (node : Source) (first count : ℕ) → flow_after flow wire ≡ Some Copies → (q : ℕ) →
+    get (kept_by kept (wire ++ record { epoch = epoch; frame = Run first (run_of node first count) } ∷ [])) q ≡ cond (in_range first count q) (Some (bytes_of node q)) (get (kept_by kept wire) q)
+kept_by-run wire flow kept epoch node first count h q =
+    ap (λ m. get m q) (kept_by-push wire flow (record { epoch = epoch; frame = Run first (run_of node first count) }) kept h) ∙ get-kept_with node (kept_by kept wire) first count q
 
 pub present_bytes : {X : Type 0} (o : Option X) (zeros : X) → is_some o ≡ true → Some (unwrap_or o zeros) ≡ o
-present_bytes None zeros h = none_absurd h
-present_bytes (Some x) zeros h = refl
+present_bytes o zeros h = grind arith
 
 pub protected_now : (low here present old : Bool) → low ≡ true → present ≡ true → (here || old) ≡ true → (low && cond here (true && present) old) ≡ true
-protected_now false here present old low is h = none_absurd low
-protected_now true true present old low is h = is
-protected_now true false present old low is h = h
+protected_now low here present old low_ is h = grind arith
 
--- the page that is sent is one of those to be sent, with no unread event
-record IsSent (world : World) (page : ℕ) : Type 0 where
-  present : is_present (space_of world.source) page ≡ true
-  watched : contains (space_of world.source).object.protect page ≡ true
-  whole : length (bytes_of world.source page) ≡ 4096
-  low : ltb page HIGH_PAGE ≡ true
+-- the pages are some of those to be sent, with no unread event
+record AreSent (space : Space) (first count : ℕ) : Type 0 where
+  present : (q : ℕ) → in_range first count q ≡ true → is_present space q ≡ true
+  watched : (q : ℕ) → in_range first count q ≡ true → contains space.object.protect q ≡ true
+  whole : (q : ℕ) → in_range first count q ≡ true → length (contents space.host.bytes q) ≡ 4096
+  low : (q : ℕ) → in_range first count q ≡ true → ltb q HIGH_PAGE ≡ true
 
-pub whole_bytes : (space : Space) (page : ℕ) (o : Option (List ℕ)) → IsSoundSpace space → get space.host.bytes page ≡ o → is_some o ≡ true → length (unwrap_or o zero_page) ≡ 4096
-whole_bytes space page None sound e h = none_absurd h
-whole_bytes space page (Some bytes) sound e h = sound.host.whole page bytes e
+whole_bytes : (space : Space) (page : ℕ) (o : Option (List ℕ)) → IsSoundSpace space → get space.host.bytes page ≡ o → is_some o ≡ true → length (unwrap_or o zero_page) ≡ 4096
+whole_bytes space page o sound e h = grind arith
 
-is_sent : (world : World) (page : ℕ) → IsSoundWorld world → world.source.switched ≡ false → (space_of world.source).object.events ≡ [] → least_of world.source.log.todo ≡ Some page → IsSent world page
-is_sent world page kept unswitched quiet found =
+are_sent : (world : World) (first count : ℕ) → IsSoundWorld world → world.source.switched ≡ false → (space_of world.source).object.events ≡ [] → ((q : ℕ) → in_range first count q ≡ true → contains world.source.log.todo q ≡ true) →
+    AreSent (space_of world.source) first count
+are_sent world first count kept unswitched quiet todo =
     let space = space_of world.source in
-    let least = least_below_tells (contains world.source.log.todo) HIGH_PAGE page found in
-    let was = kept.precopy.todo_sendable unswitched page least (ap (λ e. is_unread e page) quiet) in
+    let was = λ (q : ℕ) (h : in_range first count q ≡ true). kept.precopy.todo_sendable unswitched q (todo q h) (ap (λ e. is_unread e q) quiet) in
     record {
-      present = was.0;
-      watched = was.1;
-      whole = whole_bytes space page (get space.host.bytes page) kept.spaces.source_space refl was.0;
-      low = watched_below space page kept.spaces.source_space was.1;
+      present = λ q h. (was q h).0;
+      watched = λ q h. (was q h).1;
+      whole = λ q h. whole_bytes space q (get space.host.bytes q) kept.spaces.source_space refl (was q h).0;
+      low = λ q h. watched_below space q kept.spaces.source_space (was q h).1;
     }
 
-still_after : (world : World) (page q : ℕ) → IsSoundWorld world → world.source.switched ≡ false → IsSent world page → contains (insert world.source.log.clean page) q ≡ true → is_unread (space_of world.source).object.events q ≡ false →
-    contains (protected_in (space_of world.source) page 1 true).protected q ≡ true
-still_after world page q kept unswitched is h u =
+-- the frame carries the pages, and the log has them as clean and sent
+record IsCarried (space : Space) (old : Log) (first count : ℕ) (frame : Frame) (log : Log) : Type 0 where
+  clean_is : (q : ℕ) → contains log.clean q ≡ (in_range first count q || contains old.clean q)
+  sent_is : (q : ℕ) → contains log.sent q ≡ (in_range first count q || contains old.sent q)
+  todo_was : (q : ℕ) → contains log.todo q ≡ true → contains old.todo q ≡ true
+  whole : AreWhole (copies_in frame)
+  flow : flow_next Copies frame ≡ Some Copies
+  newest : (wire : List Sent) (flow : Flow) (kept : FinMap nat_cmp (List ℕ)) (epoch : ℕ) → flow_after flow wire ≡ Some Copies → (q : ℕ) →
+      get (kept_by kept (wire ++ record { epoch = epoch; frame = frame } ∷ [])) q ≡ cond (in_range first count q) (Some (contents space.host.bytes q)) (get (kept_by kept wire) q)
+
+-- neighbouring pages are protected, then read
+abbrev carried : Source → ℕ → ℕ → Log → ℕ → Source
+carried source first count log pages = record (in_space source (protected_in (space_of source) first count true)) { log = log; pages_sent = pages }
+
+abbrev carried_wire : World → Frame → List Sent
+carried_wire world frame = world.forward.frames ++ record { epoch = world.source.epoch; frame = frame } ∷ []
+
+still_after : (world : World) (first count : ℕ) (clean : FinSet nat_cmp) → IsSoundWorld world → world.source.switched ≡ false → AreSent (space_of world.source) first count →
+    ((q : ℕ) → contains clean q ≡ (in_range first count q || contains world.source.log.clean q)) →
+    (q : ℕ) → contains clean q ≡ true → is_unread (space_of world.source).object.events q ≡ false → contains (protected_in (space_of world.source) first count true).protected q ≡ true
+still_after world first count clean kept unswitched are clean_is q h u =
     let space = space_of world.source in
-    let one_holds : (eqb q page || contains world.source.log.clean q) ≡ true = sym (member_inserted world.source.log.clean page q) ∙ h in
-    let new : eqb q page ≡ true → contains (protected_in space page 1 true).protected q ≡ true = λ e.
-    let here = eqb-true q page e in
-    member_below _ HIGH_PAGE q ∙ protected_now (ltb q HIGH_PAGE) (in_range page 1 q) (is_present space q) (contains space.protected q) (ap (λ k. ltb k HIGH_PAGE) here ∙ is.low) (ap (is_present space) here ∙ is.present)
-    (ap (λ b. b || contains space.protected q) (only_one page q ∙ e)) in
-    let old : contains world.source.log.clean q ≡ true → contains (protected_in space page 1 true).protected q ≡ true = λ clean.
-    let was = kept.precopy.clean_protected unswitched q clean u in
-    member_below _ HIGH_PAGE q ∙ protected_now (ltb q HIGH_PAGE) (in_range page 1 q) (is_present space q) (contains space.protected q) (watched_below space q kept.spaces.source_space (kept.spaces.source_space.watched q was)) (kept.spaces.source_space.present q was)
-    (or_right (in_range page 1 q) (contains space.protected q) was) in
-    either (eqb q page) (contains world.source.log.clean q) one_holds new old
+    let now = protected_now (ltb q HIGH_PAGE) (in_range first count q) (is_present space q) (contains space.protected q) in
+    member_below _ HIGH_PAGE q ∙ either (in_range first count q) (contains world.source.log.clean q) (sym (clean_is q) ∙ h)
+    (λ e. now (are.low q e) (are.present q e) (ap (λ b. b || contains space.protected q) e))
+    (λ c. let was = kept.precopy.clean_protected unswitched q c u in
+    now (watched_below space q kept.spaces.source_space (kept.spaces.source_space.watched q was)) (kept.spaces.source_space.present q was) (or_right (in_range first count q) (contains space.protected q) was))
 
-abbrev page_wire : World → ℕ → List Sent
-page_wire world page = world.forward.frames ++ record { epoch = world.source.epoch; frame = page_frame page (bytes_of world.source page) } ∷ []
+here_or_before : (here : Bool) (bytes : List ℕ) (kept own : Option (List ℕ)) → (here ≡ true → Some bytes ≡ own) → (here ≡ false → kept ≡ own) → cond here (Some bytes) kept ≡ own
+here_or_before here bytes kept own first second = grind arith
 
-pub here_or_before : (here : Bool) (bytes : List ℕ) (kept own : Option (List ℕ)) → (here ≡ true → Some bytes ≡ own) → (here ≡ false → kept ≡ own) → cond here (Some bytes) kept ≡ own
-here_or_before true bytes kept own first second = first refl
-here_or_before false bytes kept own first second = second refl
+copied_or_before : (here : Bool) (bytes : List ℕ) (kept : Option (List ℕ)) → is_some (cond here (Some bytes) kept) ≡ true → (here ≡ true) ⊎ (is_some kept ≡ true)
+copied_or_before here bytes kept h = grind arith
 
-pub copied_or_before : (here : Bool) (bytes : List ℕ) (kept : Option (List ℕ)) → is_some (cond here (Some bytes) kept) ≡ true → (here ≡ true) ⊎ (is_some kept ≡ true)
-copied_or_before true bytes kept h = inl refl
-copied_or_before false bytes kept h = inr h
+was_clean : (here clean : Bool) → (here || clean) ≡ true → here ≡ false → clean ≡ true
+was_clean here clean h e = grind arith
 
-pub was_clean : (here clean : Bool) → (here || clean) ≡ true → here ≡ false → clean ≡ true
-was_clean true clean h e = none_absurd (sym e)
-was_clean false clean h e = h
-
--- the copies of the clean pages are right once the page's own is behind them
-sent_copies : (world : World) (page : ℕ) (flow : Flow) (kept : FinMap nat_cmp (List ℕ)) → IsSent world page → flow_after flow world.forward.frames ≡ Some Copies → IsPrecopying world.source kept world.forward.frames → IsPrecopying (page_sent world.source page) kept (page_wire world page)
-sent_copies world page flow kept is right old =
-    let source = world.source in
+-- the copies of the clean pages are right once those of these pages are behind them
+carried_copies : (source : Source) (first count : ℕ) (frame : Frame) (log : Log) (pages epoch : ℕ) (flow : Flow) (kept : FinMap nat_cmp (List ℕ)) (wire : List Sent) → AreSent (space_of source) first count →
+    IsCarried (space_of source) source.log first count frame log → flow_after flow wire ≡ Some Copies → IsPrecopying source kept wire →
+    IsPrecopying (carried source first count log pages) kept (wire ++ record { epoch = epoch; frame = frame } ∷ [])
+carried_copies source first count frame log pages epoch flow kept wire are is right old =
     let space = space_of source in
-    let bytes = bytes_of source page in
-    let newest = kept_by-page world.forward.frames flow kept source.epoch page bytes right is.whole in
+    let newest = is.newest wire flow kept epoch right in
     record {
       clean_copy = λ q h u.
-          newest q ∙ here_or_before (eqb q page) bytes (get (kept_by kept world.forward.frames) q) (get space.host.bytes q)
-          (λ e. present_bytes (get space.host.bytes page) zero_page is.present ∙ ap (get space.host.bytes) (sym (eqb-true q page e)))
-          (λ e. old.clean_copy q (was_clean (eqb q page) (contains source.log.clean q) (sym (member_inserted source.log.clean page q) ∙ h) e) u);
+          newest q ∙ here_or_before (in_range first count q) (contents space.host.bytes q) (get (kept_by kept wire) q) (get space.host.bytes q)
+          (λ e. present_bytes (get space.host.bytes q) zero_page (are.present q e))
+          (λ e. old.clean_copy q (was_clean (in_range first count q) (contains source.log.clean q) (sym (is.clean_is q) ∙ h) e) u);
       copies_sent = λ q h.
-          member_inserted source.log.sent page q ∙ ⊎_elim
-          (λ (e : eqb q page ≡ true). ap (λ b. b || contains source.log.sent q) e)
-          (λ (e : is_some (get (kept_by kept world.forward.frames) q) ≡ true). or_right (eqb q page) (contains source.log.sent q) (old.copies_sent q e))
-          (copied_or_before (eqb q page) bytes (get (kept_by kept world.forward.frames) q) (sym (ap is_some (newest q)) ∙ h));
+          is.sent_is q ∙ ⊎_elim
+          (λ (e : in_range first count q ≡ true). ap (λ b. b || contains source.log.sent q) e)
+          (λ (e : is_some (get (kept_by kept wire) q) ≡ true). or_right (in_range first count q) (contains source.log.sent q) (old.copies_sent q e))
+          (copied_or_before (in_range first count q) (contents space.host.bytes q) (get (kept_by kept wire) q) (sym (ap is_some (newest q)) ∙ h));
     }
 
-flow_sent : (flow : Flow) (wire : List Sent) (epoch page : ℕ) (bytes : List ℕ) → flow_after flow wire ≡ Some Copies → flow_after flow (wire ++ record { epoch = epoch; frame = page_frame page bytes } ∷ []) ≡ Some Copies
-flow_sent flow wire epoch page bytes right = one_sent flow Copies Copies wire (record { epoch = epoch; frame = page_frame page bytes }) right (page_flow page bytes).0
-
-wires_sent : (from : SourcePhase) (to : DestPhase) (world : World) (page : ℕ) → is_precopy from ≡ true → IsSent world page →
+wires_carried : (from : SourcePhase) (to : DestPhase) (world : World) (first count : ℕ) (frame : Frame) (log : Log) (pages : ℕ) → is_precopy from ≡ true → AreSent (space_of world.source) first count →
+    IsCarried (space_of world.source) world.source.log first count frame log →
     Wires (record world.source { phase = from }) (record world.destination { phase = to }) world.forward.frames world.back.frames world.urgent.frames →
-    Wires (record (page_sent world.source page) { phase = from }) (record world.destination { phase = to }) (page_wire world page) world.back.frames world.urgent.frames
-wires_sent SourcePhase.Precopy DestPhase.Idle world page now is wires = (
-  flow_sent BeforeAdvise world.forward.frames world.source.epoch page (bytes_of world.source page) wires.0,
+    Wires (record (carried world.source first count log pages) { phase = from }) (record world.destination { phase = to }) (carried_wire world frame) world.back.frames world.urgent.frames
+wires_carried SourcePhase.Precopy DestPhase.Idle world first count frame log pages now are is wires = (
+  flow_sent BeforeAdvise Copies Copies world.forward.frames (record { epoch = world.source.epoch; frame = frame }) wires.0 is.flow,
   wires.1,
-  sent_copies (record world { source = record world.source { phase = SourcePhase.Precopy } }) page BeforeAdvise world.destination.kept
-      (record { present = is.present; watched = is.watched; whole = is.whole; low = is.low }) wires.0 wires.2,
+  carried_copies (record world.source { phase = SourcePhase.Precopy }) first count frame log pages world.source.epoch BeforeAdvise world.destination.kept world.forward.frames are is wires.0 wires.2,
 )
-wires_sent SourcePhase.Precopy DestPhase.Advised world page now is wires = (
-  flow_sent Copies world.forward.frames world.source.epoch page (bytes_of world.source page) wires.0,
+wires_carried SourcePhase.Precopy DestPhase.Advised world first count frame log pages now are is wires = (
+  flow_sent Copies Copies Copies world.forward.frames (record { epoch = world.source.epoch; frame = frame }) wires.0 is.flow,
   wires.1,
-  sent_copies (record world { source = record world.source { phase = SourcePhase.Precopy } }) page Copies world.destination.kept
-      (record { present = is.present; watched = is.watched; whole = is.whole; low = is.low }) wires.0 wires.2,
+  carried_copies (record world.source { phase = SourcePhase.Precopy }) first count frame log pages world.source.epoch Copies world.destination.kept world.forward.frames are is wires.0 wires.2,
 )
-wires_sent SourcePhase.Precopy DestPhase.Discarding world page now is wires = wires
-wires_sent SourcePhase.Precopy DestPhase.Running world page now is wires = wires
-wires_sent SourcePhase.Precopy DestPhase.Paused world page now is wires = wires
-wires_sent SourcePhase.Precopy DestPhase.Ended world page now is wires = wires
-wires_sent SourcePhase.Idle to world page now is wires = none_absurd now
-wires_sent SourcePhase.Stopped to world page now is wires = none_absurd now
-wires_sent SourcePhase.Paused to world page now is wires = none_absurd now
-wires_sent SourcePhase.Released to world page now is wires = none_absurd now
+wires_carried SourcePhase.Precopy _ world first count frame log pages now are is wires = wires
+wires_carried _ to world first count frame log pages now are is wires = none_absurd now
 
-sent_next : (world : World) (page : ℕ) → IsSoundWorld world → is_precopy world.source.phase ≡ true → world.up ≡ true → world.source.switched ≡ false → IsSent world page →
-    IsNext world (page_sent world.source page) (page_wire world page) world.transcript
-sent_next world page kept precopy up unswitched is =
-    let source = world.source in
-    let space = space_of source in
+kept-carried : (world : World) (first count : ℕ) (frame : Frame) (log : Log) (pages : ℕ) → IsSoundWorld world → is_precopy world.source.phase ≡ true → world.up ≡ true → world.source.switched ≡ false → AreSent (space_of world.source) first count →
+    IsCarried (space_of world.source) world.source.log first count frame log →
+    IsSoundWorld (record world { source = carried world.source first count log pages; forward = record world.forward { frames = carried_wire world frame } })
+kept-carried world first count frame log pages kept precopy up unswitched are is =
+    let source = carried world.source first count log pages in
+    let new : World = record world { source = source; forward = record world.forward { frames = carried_wire world frame } } in
+    let bare = has_not_run world kept unswitched in
     let before = kept.pushing.before_switch unswitched in
+    let holds = source_holds world kept bare in
+    let space = IsSoundSpace-protected (space_of world.source) first count true are.watched kept.spaces.source_space in
+    let idle = never_idle source.phase (space_of source) log.clean log.todo log.sent (precopy_started source.phase precopy) in
+    let whole = copies_whole-push world.forward.frames (record { epoch = source.epoch; frame = frame }) is.whole kept.copies.copies_whole in
+    let protected = still_after world first count log.clean kept unswitched are is.clean_is in
+    let sendable = λ (q : ℕ) (h : contains log.todo q ≡ true) (u : is_unread (space_of source).object.events q ≡ false). kept.precopy.todo_sendable unswitched q (is.todo_was q h) u in
+    let flight = flight_up new up (λ ran. none_absurd (sym bare ∙ ran)) (wires_carried source.phase world.destination.phase world first count frame log pages precopy are is (kept.flight.wires up)) in
+    let forward_epoch = AreOf-one source.epoch world.forward.frames frame kept.epochs.forward_epoch in
+    let held = fits-append world.forward.frames (record { epoch = source.epoch; frame = frame } ∷ []) world.forward.held kept.held.forward_held in
+    renewed world source (carried_wire world frame) world.transcript kept bare (assumption)
+
+-- One page
+
+first_of_one : (page : ℕ) → in_range page 1 page ≡ true
+first_of_one page = only_one page page ∙ eqb-self page
+
+one_page : (f : ℕ → List ℕ) (page q : ℕ) (o : Option (List ℕ)) → cond (eqb q page) (Some (f page)) o ≡ cond (in_range page 1 q) (Some (f q)) o
+one_page f page q o = grind (arith, nat_tests)
+
+inserted_is : (set : FinSet nat_cmp) (page q : ℕ) → contains (finset.insert set page) q ≡ (in_range page 1 q || contains set q)
+inserted_is set page q = member_inserted set page q ∙ ap (λ b. b || contains set q) (sym (only_one page q))
+
+page_carried : (source : Source) (page : ℕ) → length (bytes_of source page) ≡ 4096 → IsCarried (space_of source) source.log page 1 (page_frame page (bytes_of source page)) (log_sent source.log page)
+page_carried source page whole =
     record {
-      flat = kept.memory.flat;
-      holds = source_holds world kept (has_not_run world kept unswitched);
-      space = IsSoundSpace-protected space page 1 true (λ q h. ap (contains space.object.protect) (in_one_is page q h) ∙ is.watched) kept.spaces.source_space;
-      modes = kept.spaces.both_modes;
-      events = kept.spaces.source_events;
-      phase = kept.phases.source_phase;
-      unswitched = unswitched;
-      remaining = before.0;
-      unended = before.1;
-      before = kept.pushing.ended_before;
-      fresh = kept.pushing.paused_fresh;
-      idle = λ h. never_idle source.phase precopy h;
-      whole = copies_whole-push world.forward.frames (record { epoch = source.epoch; frame = page_frame page (bytes_of source page) })
-          (subst AreWhole (sym (copies_in-page page (bytes_of source page) is.whole)) (is.whole, tt)) kept.copies.copies_whole;
-      protected = λ q h u. still_after world page q kept unswitched is h u;
-      sendable = λ q h u.
-          kept.precopy.todo_sendable unswitched q (and_parts (not (eqb q page)) (contains source.log.todo q) (sym (member_removed source.log.todo page q) ∙ h)).1 u;
-      down = λ h. none_absurd (sym h ∙ up);
-      wires = λ h. wires_sent source.phase world.destination.phase world page precopy is (kept.flight.wires h);
-      forward_epoch = AreOf-one source.epoch world.forward.frames (page_frame page (bytes_of source page)) kept.epochs.forward_epoch;
-      back_epoch = kept.epochs.back_epoch;
-      epochs = kept.epochs.not_ahead;
-      epoch_at = kept.epochs.epoch_at;
-      held = fits-append world.forward.frames _ world.forward.held kept.held.forward_held;
+      clean_is = inserted_is source.log.clean page;
+      sent_is = inserted_is source.log.sent page;
+      todo_was = λ q h. (and_parts (not (eqb q page)) (contains source.log.todo q) (sym (member_removed source.log.todo page q) ∙ h)).1;
+      whole = subst AreWhole (sym (copies_in-page page (bytes_of source page) whole)) (whole, tt);
+      flow = (page_flow page (bytes_of source page)).0;
+      newest = λ wire flow kept epoch h q.
+          kept_by-page wire flow kept epoch page (bytes_of source page) h whole q ∙ one_page (bytes_of source) page q (get (kept_by kept wire) q);
     }
 
 pub kept-send : (world : World) (page : ℕ) → IsSoundWorld world → least_of world.source.log.todo ≡ Some page → is_precopy world.source.phase ≡ true → world.up ≡ true → is_changing world.source.guest ≡ false → IsSoundWorld (after_send world page)
 kept-send world page kept found precopy up quiet =
     let unswitched = precopy_unswitched world.source.phase world.source.switched precopy kept.phases.source_phase in
-    renewed world (page_sent world.source page) (page_wire world page) world.transcript kept (has_not_run world kept unswitched)
-    (sent_next world page kept precopy up unswitched (is_sent world page kept unswitched (no_event (space_of world.source).object.events quiet) found))
+    let are = are_sent world page 1 kept unswitched (no_event (space_of world.source).object.events quiet)
+    (λ q h. ap (contains world.source.log.todo) (in_one_is page q h) ∙ least_below_tells (contains world.source.log.todo) HIGH_PAGE page found) in
+    kept-carried world page 1 _ _ _ kept precopy up unswitched are (page_carried world.source page (are.whole page (first_of_one page)))
+
+-- A run
+
+run_carried : (source : Source) (first count : ℕ) → AreSent (space_of source) first count → IsCarried (space_of source) source.log first count (Run first (run_of source first count)) (log_run_sent source.log first count)
+run_carried source first count are =
+    record {
+      clean_is = member_with_range source.log.clean first count;
+      sent_is = member_with_range source.log.sent first count;
+      todo_was = λ q h. (and_parts (contains source.log.todo q) (not (in_range first count q)) (sym (member_without source.log.todo first count q) ∙ h)).0;
+      whole = run_whole source first count are.whole;
+      flow = refl;
+      newest = λ wire flow kept epoch h. kept_by-run wire flow kept epoch source first count h;
+    }
+
+pub kept-run : (world : World) (first number count : ℕ) → IsSoundWorld world → number ≡ run_length world.source.log.todo first (run_bound count) → is_precopy world.source.phase ≡ true → world.up ≡ true → is_changing world.source.guest ≡ false →
+    IsSoundWorld (after_run world first number)
+kept-run world first number count kept many precopy up quiet =
+    let unswitched = precopy_unswitched world.source.phase world.source.switched precopy kept.phases.source_phase in
+    let are = are_sent world first number kept unswitched (no_event (space_of world.source).object.events quiet)
+    (λ q h. member_run world.source.log.todo first (run_bound count) q (ap (λ n. in_range first n q) (sym many) ∙ h)) in
+    kept-carried world first number _ _ _ kept precopy up unswitched are (run_carried world.source first number are)

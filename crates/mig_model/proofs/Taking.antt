@@ -1,5 +1,5 @@
 -- In a world that keeps what every world keeps, no frame is refused.
-use Rattle.std.proofs.Common.{◌≡◌, ℕ, Bool, true, false, Option, Some, None, List, [], ◌∷◌, ◌++◌, refl, sym, ap, ◌∙◌, subst, is_some}
+use Rattle.std.proofs.Common.{◌≡◌, ℕ, Bool, true, false, Option, None, List, [], ◌∷◌, ◌++◌, refl, sym, ap, ◌∙◌, subst, is_some, arith}
 use Rattle.std.proofs.lemmas.Bool.{false≢true}
 use Rattle.std.specs.Ordering.{nat_cmp}
 use Rattle.std.specs.FinMap.{get, contains_key}
@@ -40,8 +40,7 @@ copy_taken node epoch (Zero page ∷ copies) more wire sent rest own are is here
 copy_taken node epoch (_ ∷ copies) more wire sent rest own are is here = absurd are
 
 some_areas : (areas : Option Prot) (bytes : Option (List ℕ)) → (areas ≡ None → bytes ≡ None) → is_some bytes ≡ true → is_some areas ≡ true
-some_areas None bytes h has = absurd (false≢true (sym (ap is_some (h refl)) ∙ has))
-some_areas (Some prot) bytes h has = refl
+some_areas areas bytes h has = grind arith
 
 -- a Package that owes none, whose pages are those of a sound host
 package_good : (node : Destination) (host : Host) → IsSound host → node.kept ≡ host.bytes → IsGoodFrame node (Package host.areas finset.empty)

@@ -32,7 +32,6 @@ use Rattle.mig_model.proofs.FlightPromises.{none_precopy, owed_at}
 use Rattle.mig_model.proofs.FramesTaken.{owed_in}
 use Rattle.mig_model.proofs.PromiseLemmas.{is_switching}
 use Rattle.mig_model.proofs.ReachedLemmas.{reached-after_steps, reached-next}
-use Rattle.mig_model.proofs.SendingLemmas.{has_package}
 use Rattle.mig_model.proofs.SourceRounds.{precopy_unswitched}
 use Rattle.mig_model.proofs.StepCases.{MakesWorld, made-next, made-ok, made-effect}
 use Rattle.mig_model.proofs.Stopping.{in_phases}
@@ -40,7 +39,7 @@ use Rattle.mig_model.proofs.UrgentSteps.{runs_unstopped}
 use Rattle.mig_model.proofs.UrgentWire.{idle_unstopped, not_stopped, precopy_unstopped}
 use Rattle.mig_model.proofs.WaitingCommands.{package_next, same_ran}
 use Rattle.mig_model.proofs.WokenSteps.{handles, installs, takes, takes_urgent}
-use Rattle.mig_model.proofs.WireLemmas.{package_in-append}
+use Rattle.mig_model.proofs.WireLemmas.{package_in-append, has_package}
 
 -- From the Switch until the destination runs
 

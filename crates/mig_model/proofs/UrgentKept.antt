@@ -21,10 +21,10 @@ use Rattle.mig_model.specs.Log.{present, no_pages}
 use Rattle.mig_model.specs.Guest.{is_present}
 use Rattle.mig_model.specs.Space.{fresh_space}
 use Rattle.mig_model.proofs.Facts.{by_test, AreFaithful-append, copies_of-append, eqb-self, none_absurd, not_up, same_or_other, and_left}
-use Rattle.mig_model.proofs.SendingLemmas.{copies_of-page, has_copy-append}
 use Rattle.mig_model.proofs.Stopping.{in_phases, not_ended, or_true, present_bytes, stopped_at, stopped_not_released, was_there}
 use Rattle.mig_model.proofs.Taken.{IsTakenUrgent}
 use Rattle.mig_model.proofs.UrgentWire.{not_none}
+use Rattle.mig_model.proofs.WireLemmas.{copies_of-page, has_copy-append}
 
 -- PushUrgent
 

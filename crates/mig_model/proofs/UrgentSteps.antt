@@ -25,14 +25,13 @@ use Rattle.mig_model.specs.Log.{no_pages, present}
 use Rattle.mig_model.specs.Owed.{home}
 use Rattle.mig_model.proofs.Facts.{AreFaithful-append, AreOf-one, and_second, copies_of-append}
 use Rattle.mig_model.proofs.StepCases.{MakesWorld, made-next}
-use Rattle.mig_model.proofs.HeldLemmas.{fits-more, fits-moved, fits-none}
-use Rattle.mig_model.proofs.SendingLemmas.{copies_of-page}
 use Rattle.mig_model.proofs.Stopping.{not_ended, present_bytes}
 use Rattle.mig_model.proofs.FirstFrame.{comes, empty_not}
 use Rattle.mig_model.proofs.Delivery.{AllCame}
 use Rattle.mig_model.proofs.SourceRounds.{idle_forward}
 use Rattle.mig_model.proofs.UrgentWire.{are_copies-push, comes_advise, comes_resume, comes_unpaused, idle_not_paused, idle_unstopped, is_copy_page, none_faithful, none_of_epoch, not_stopped, other_bytes, other_forward, paused_unstopped, placed, precopy_unstopped, stopped_unpaused, told-push, told-sending, told_ended, told_open, told_page, all_came, not_none}
 use Rattle.mig_model.proofs.FramesTaken.{is_taken_back}
+use Rattle.mig_model.proofs.WireLemmas.{fits-more, fits-moved, fits-none, copies_of-page}
 
 pub urgent-first : (cpus epoch rounds : ℕ) → AreSoundUrgent (first_world_with cpus epoch rounds)
 urgent-first cpus epoch rounds =

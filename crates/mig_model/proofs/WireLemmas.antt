@@ -1,12 +1,20 @@
--- Frames in flight: what each word on a wire says of two wires joined, and of a wire to which frames were sent.
-use Rattle.std.proofs.Common.{◌≡◌, ℕ, ◌&&◌, ◌||◌, Bool, true, false, cond, Option, Some, None, is_some, List, [], ◌∷◌, ◌++◌, map, refl, sym, ap, ◌∙◌, append_assoc, if◌then◌else◌}
+-- Frames in flight: what each word on a wire says of two wires joined, of a wire to which frames were sent, and how many bytes of its first frame it holds.
+use Rattle.std.proofs.Common.{◌≡◌, ℕ, ◌&&◌, ◌||◌, Bool, true, false, cond, eqb, Option, Some, is_some, List, [], ◌∷◌, ◌++◌, map, refl, sym, ap, ◌∙◌, append_assoc, if◌then◌else◌, ◌+◌, ◌<◌, subst, arith, ltb, ◌-◌, length}
 use Rattle.std.specs.Option.{option_and_then}
 use Rattle.std.specs.Ordering.{nat_cmp}
 use Rattle.std.specs.FinMap.{FinMap}
-use Rattle.std.proofs.lemmas.Bool.{false≢true}
-use Rattle.mig_model.specs.Wire.{Frame, Sent, kept_after, sending}
-use Rattle.mig_model.specs.Wire.Frame.{Request}
-use Rattle.mig_model.specs.Invariant.{Flow, flow_next, flow_after, is_package, kept_by, behind, package_in, AreOf, is_request, is_done, are_requests, are_requests_and_done}
+use Rattle.mig_model.specs.Wire.{Frame, Sent, Copy, kept_after, sending, Wire, page_frame, copies_in}
+use Rattle.mig_model.specs.Wire.Frame.{Request, Page, Zero, Package}
+use Rattle.mig_model.specs.Invariant.{Flow, flow_next, flow_after, has_copy, is_package, kept_by, behind, package_in, copies_of, AreOf, AreFaithful, Wires, IsSoundFlight, is_request, is_done, are_requests, are_requests_and_done, HeldFits}
+use Rattle.mig_model.specs.Migration.{World, is_short, next}
+use Rattle.mig_model.specs.Source.{space_of}
+use Rattle.mig_model.proofs.Facts.{or_assoc, up_not_down, zero_bytes}
+use Rattle.std.proofs.lemmas.Bool.Decides.{nat_tests}
+use Rattle.mig_model.specs.Texts.{text_len}
+use Rattle.std.specs.List.{list_all}
+use Rattle.mig_base.specs.Bytes.{zero_page}
+use Rattle.mig_model.specs.Invariant.Flow.{BeforeAdvise, Copies, BeforePackage, Pushed, AfterEnd}
+use Rattle.mig_model.proofs.FirstFrame.{stays_late}
 
 -- Frames that are sent stand behind those in flight
 
@@ -22,8 +30,7 @@ sending-behind (sent ∷ wire) epoch (frame ∷ frames) =
 -- The order of the frames
 
 and_then_twice : {A : Type 0} {B : Type 0} {C : Type 0} (f : B → Option C) (g : A → Option B) (o : Option A) → option_and_then (λ x. option_and_then f (g x)) o ≡ option_and_then f (option_and_then g o)
-and_then_twice f g None = refl
-and_then_twice f g (Some x) = refl
+and_then_twice f g o = grind arith
 
 pub flow_after-append : (flow : Flow) (a b : List Sent) → flow_after flow (a ++ b) ≡ option_and_then (λ next. flow_after next b) (flow_after flow a)
 flow_after-append flow [] b = refl
@@ -32,6 +39,10 @@ flow_after-append flow (sent ∷ a) b =
     ∙ and_then_twice (λ next. flow_after next b) (λ next. flow_after next a) (flow_next flow sent.frame)
 
 -- Copies
+
+pub has_copy-append : (a b : List Copy) (page : ℕ) → has_copy (a ++ b) page ≡ (has_copy a page || has_copy b page)
+has_copy-append [] b page = refl
+has_copy-append (copy ∷ a) b page = ap (λ t. eqb copy.page page || t) (has_copy-append a b page) ∙ or_assoc (eqb copy.page page) (has_copy a page) (has_copy b page)
 
 -- Epochs
 
@@ -74,16 +85,14 @@ kept_by-append kept (sent ∷ a) b =
 -- The wire back
 
 and_assoc : (a b c : Bool) → (a && (b && c)) ≡ ((a && b) && c)
-and_assoc true b c = refl
-and_assoc false b c = refl
+and_assoc a b c = grind arith
 
 pub are_requests-append : (a b : List Sent) → are_requests (a ++ b) ≡ (are_requests a && are_requests b)
 are_requests-append [] b = refl
 are_requests-append (sent ∷ a) b = ap (λ t. is_request sent.frame && t) (are_requests-append a b) ∙ and_assoc (is_request sent.frame) (are_requests a) (are_requests b)
 
 done_step : (here before after : Bool) (x : Bool) → (before ≡ true → after ≡ true) → (here && before) ≡ true → ((here && after) || x) ≡ true
-done_step true before after x h e = ap (λ t. t || x) (h e)
-done_step false before after x h e = absurd (false≢true e)
+done_step here before after x h e = grind arith
 
 -- a Done behind requests
 pub are_requests_and_done-push : (wire : List Sent) (sent : Sent) → is_done sent.frame ≡ true → are_requests wire ≡ true → are_requests_and_done (wire ++ sent ∷ []) ≡ true
@@ -100,3 +109,115 @@ are_requests-sending epoch wire [] h = h
 are_requests-sending epoch wire (page ∷ pages) h =
     let one : Sent = record { epoch = epoch; frame = Request page } in
     are_requests-sending epoch (wire ++ one ∷ []) pages (are_requests-append wire (one ∷ []) ∙ ap (λ t. t && true) h)
+
+-- What is in flight while the link is up
+
+pub flight_up : (world : World) → world.up ≡ true → (world.destination.has_run ≡ true → AreFaithful (space_of world.source).host.bytes (copies_of world.forward.frames)) →
+    Wires world.source world.destination world.forward.frames world.back.frames world.urgent.frames →
+    IsSoundFlight world.source world.destination world.forward.frames world.back.frames world.urgent.frames world.up
+flight_up world up faithful wires = record { flight_faithful = faithful; down = λ down. up_not_down world.up up down; wires = λ h. wires }
+
+text_positive : (frame : Frame) → 0 < text_len frame
+text_positive frame = omega arith
+
+pub fits-none : (frames : List Sent) → HeldFits frames 0
+fits-none [] = refl
+fits-none (sent ∷ rest) = text_positive sent.frame
+
+first_fits : (held length : ℕ) → held ≡ 0 → 0 < length → held < length
+first_fits held length h l = omega arith
+
+pub fits-append : (frames more : List Sent) (held : ℕ) → HeldFits frames held → HeldFits (frames ++ more) held
+fits-append [] [] held h = h
+fits-append [] (sent ∷ more) held h = first_fits held (text_len sent.frame) h (text_positive sent.frame)
+fits-append (sent ∷ rest) more held h = h
+
+pub fits-more : (frames : List Sent) (held epoch : ℕ) (more : List Frame) → HeldFits frames held → HeldFits (sending frames epoch more) held
+fits-more frames held epoch [] h = h
+fits-more frames held epoch (frame ∷ more) h = fits-more (frames ++ record { epoch = epoch; frame = frame } ∷ []) held epoch more (fits-append frames (record { epoch = epoch; frame = frame } ∷ []) held h)
+
+still_fits : (held n length : ℕ) → ltb n (length - held) ≡ true → held + n < length
+still_fits held n length h = grind (arith, nat_tests)
+
+fits-first : (frames : List Sent) (sent : Sent) (rest : List Sent) (held : ℕ) → frames ≡ sent ∷ rest → held < text_len sent.frame → HeldFits frames held
+fits-first frames sent rest held is h = subst (λ f. HeldFits f held) (sym is) h
+
+-- bytes that complete no frame are held
+pub fits-moved : (wire : Wire) (n : ℕ) (sent : Sent) (rest : List Sent) → wire.frames ≡ sent ∷ rest → is_short wire sent.frame n ≡ true → HeldFits wire.frames (wire.held + n)
+fits-moved wire n sent rest is short = fits-first wire.frames sent rest (wire.held + n) is (still_fits wire.held n (text_len sent.frame) short)
+
+-- One frame more
+
+pub flow_sent : (flow before after : Flow) (wire : List Sent) (sent : Sent) → flow_after flow wire ≡ Some before → flow_next before sent.frame ≡ Some after → flow_after flow (wire ++ sent ∷ []) ≡ Some after
+flow_sent flow before after wire sent h n =
+    flow_after-append flow wire (sent ∷ []) ∙ ap (option_and_then (λ next. flow_after next (sent ∷ []))) h ∙ ap (option_and_then (λ next. Some next)) n
+
+-- Behind a Package
+
+-- a wire on which a Package is has the same Package, and the same is kept before it, whatever is put behind
+pub record HasPackage (kept : FinMap nat_cmp (List ℕ)) (wire more : List Sent) : Type 0 where
+  pub same : package_in (wire ++ more) ≡ package_in wire
+  pub kept_same : kept_by kept (wire ++ more) ≡ kept_by kept wire
+  pub behind_more : behind (wire ++ more) ≡ behind wire ++ more
+
+pub has_package : (kept : FinMap nat_cmp (List ℕ)) (wire more : List Sent) (frame : Frame) → package_in wire ≡ Some frame → HasPackage kept wire more
+has_package kept wire more frame h =
+    let some = ap is_some h in
+    record {
+      same = package_in-append wire more ∙ ap (λ b. cond b (package_in wire) (package_in more)) some;
+      kept_same = kept_by-append kept wire more ∙ ap (λ b. cond b (kept_by kept wire) (kept_by (kept_by kept wire) more)) some;
+      behind_more = behind-append wire more ∙ ap (λ b. cond b (behind wire ++ more) (behind more)) some;
+    }
+
+-- No Package yet: the wire is before its Discard
+
+plain_head : (flow : Flow) (frame : Frame) (rest : List Sent) → option_and_then (λ next. flow_after next rest) (flow_next flow frame) ≡ Some Copies → is_package frame ≡ false
+plain_head BeforePackage (Package areas owed commands) rest h = absurd (stays_late Pushed rest refl h)
+plain_head BeforeAdvise (Package areas owed commands) rest h = absurd (cc)
+plain_head Copies (Package areas owed commands) rest h = absurd (cc)
+plain_head Pushed (Package areas owed commands) rest h = absurd (cc)
+plain_head AfterEnd (Package areas owed commands) rest h = absurd (cc)
+plain_head flow _ rest h = refl
+
+step_by : {A : Type 0} (o : Option Flow) (rest : List Sent) → ((next : Flow) → flow_after next rest ≡ Some Copies → A) → option_and_then (λ next. flow_after next rest) o ≡ Some Copies → A
+step_by o rest next h = grind arith
+
+no_package : (flow : Flow) (wire : List Sent) → flow_after flow wire ≡ Some Copies → is_some (package_in wire) ≡ false
+no_package flow [] h = refl
+no_package flow (sent ∷ wire) h =
+    ap (λ b. is_some (cond b (Some sent.frame) (package_in wire))) (plain_head flow sent.frame wire h)
+    ∙ step_by (flow_next flow sent.frame) wire (λ next e. no_package next wire e) h
+
+pub record HasNoPackage (kept : FinMap nat_cmp (List ℕ)) (wire more : List Sent) : Type 0 where
+  pub plan : package_in (wire ++ more) ≡ package_in more
+  pub kept_then : kept_by kept (wire ++ more) ≡ kept_by (kept_by kept wire) more
+  pub behind_then : behind (wire ++ more) ≡ behind more
+
+-- a wire of copies alone, or of Advise and copies, has no Package
+pub has_no_package : (flow : Flow) (kept : FinMap nat_cmp (List ℕ)) (wire more : List Sent) → flow_after flow wire ≡ Some Copies → HasNoPackage kept wire more
+has_no_package flow kept wire more h =
+    let none = no_package flow wire h in
+    record {
+      plan = package_in-append wire more ∙ ap (λ b. cond b (package_in wire) (package_in more)) none;
+      kept_then = kept_by-append kept wire more ∙ ap (λ b. cond b (kept_by kept wire) (kept_by (kept_by kept wire) more)) none;
+      behind_then = behind-append wire more ∙ ap (λ b. cond b (behind wire ++ more) (behind more)) none;
+    }
+
+-- The frame of a page
+
+-- the copy in it has the page's bytes
+page_copy : (zeros : Bool) (page : ℕ) (bytes : List ℕ) → (zeros ≡ true → bytes ≡ zero_page) → copies_in (cond zeros (Zero page) (Page page bytes)) ≡ record { page = page; bytes = bytes } ∷ []
+page_copy zeros page bytes h = grind arith
+
+pub copies_in-page : (page : ℕ) (bytes : List ℕ) → length bytes ≡ 4096 → copies_in (page_frame page bytes) ≡ record { page = page; bytes = bytes } ∷ []
+copies_in-page page bytes whole = page_copy (list_all (λ byte. eqb byte 0) bytes) page bytes (λ e. zero_bytes bytes whole e)
+
+pub copies_of-page : (epoch page : ℕ) (bytes : List ℕ) → length bytes ≡ 4096 → copies_of (record { epoch = epoch; frame = page_frame page bytes } ∷ []) ≡ record { page = page; bytes = bytes } ∷ []
+copies_of-page epoch page bytes whole = ap (λ copies. copies ++ []) (copies_in-page page bytes whole)
+
+-- it is a copy in the order of frames
+frame_flow : (zeros : Bool) (page : ℕ) (bytes : List ℕ) → (flow_next Copies (cond zeros (Zero page) (Page page bytes)) ≡ Some Copies) × (flow_next Pushed (cond zeros (Zero page) (Page page bytes)) ≡ Some Pushed)
+frame_flow zeros page bytes = grind arith
+
+pub page_flow : (page : ℕ) (bytes : List ℕ) → (flow_next Copies (page_frame page bytes) ≡ Some Copies) × (flow_next Pushed (page_frame page bytes) ≡ Some Pushed)
+page_flow page bytes = frame_flow (list_all (λ byte. eqb byte 0) bytes) page bytes
