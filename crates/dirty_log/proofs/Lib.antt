@@ -1,0 +1,4 @@
+pub mod PageLemmas
+pub mod SpaceLemmas
+pub mod SendLemmas
+pub mod HandlerLemmas
