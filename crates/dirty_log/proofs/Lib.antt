@@ -2,3 +2,5 @@ pub mod PageLemmas
 pub mod SpaceLemmas
 pub mod SendLemmas
 pub mod HandlerLemmas
+pub mod KeptLemmas
+pub mod LentLemmas

@@ -116,15 +116,16 @@ same_bytes h = cc
 pub zero_shown : (space new : Space) (page : ℕ) (sent : Sent) → IsSent space new page sent → (sent ≡ Sent.Zero) ↔ (get new.host.bytes page ≡ Some zero_page)
 zero_shown space new page sent is =
     let shown = sent_shown space new page sent is in
-    let there = here_there space page is.accepted in
-    (λ h. shown ∙ ap (λ s. Some (sent_bytes s)) h,
-     λ h. zero_is sent page (contents space.host.bytes page) is.frame (same_bytes (present_bytes (get space.host.bytes page) zero_page there ∙ sym (ap (λ s. get s.host.bytes page) is.protects) ∙ h)))
+    let there = here_there space page is.accepted in (
+      λ h. shown ∙ ap (λ s. Some (sent_bytes s)) h,
+      λ h. zero_is sent page (contents space.host.bytes page) is.frame (same_bytes (present_bytes (get space.host.bytes page) zero_page there ∙ sym (ap (λ s. get s.host.bytes page) is.protects) ∙ h)),
+    )
 
 pub protected_shown : (space new : Space) (page : ℕ) (sent : Sent) → page < HIGH_PAGE → IsSent space new page sent → contains new.protected page ≡ true
 protected_shown space new page sent low is =
     ap (λ s. contains s.protected page) is.protects ∙ member_below _ HIGH_PAGE page
     ∙ protected_now (ltb page HIGH_PAGE) (in_range page 1 page) (is_present space page) (contains space.protected page) (lt-ltb page HIGH_PAGE low) (here_there space page is.accepted)
-      (ap (λ b. b || contains space.protected page) (in_range-true page 1 page (omega arith) (omega arith)))
+    (ap (λ b. b || contains space.protected page) (in_range-true page 1 page (omega arith) (omega arith)))
 
 -- Runs
 

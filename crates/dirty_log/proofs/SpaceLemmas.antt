@@ -175,9 +175,9 @@ all_of : (space : Space) → IsSoundSpace space → IsLent space → registered_
 unfolding is_one
 all_of space sound lent =
     ap (λ t. record space {
-               object = registered_where space.object t for_both;
-               protected = pages_where (λ page. contains space.protected page && (true || has_modes space.object page for_both || not (t page)));
-             })
+      object = registered_where space.object t for_both;
+      protected = pages_where (λ page. contains space.protected page && (true || has_modes space.object page for_both || not (t page)));
+    })
     (λ i q. all_there q (contains_key space.host.areas q) (lent.low q) (mapped_past space q sound) i)
 
 nowhere : (q : ℕ) (mapped : Bool) → (q < LOW_PAGE → mapped ≡ false) → (HIGH_PAGE ≤ q → mapped ≡ false) → (LOW_PAGE ≤ q → q < HIGH_PAGE → mapped ≡ false) → (in_range 0 1048576 q && mapped) ≡ false
@@ -246,9 +246,9 @@ one_area space page h =
     let registered = not_false (is_registered space.object page) (no_right (not (contains_key space.host.areas page)) (not (is_registered space.object page)) h) in
     one_every (λ q. is_registered space.object q && same_area space page q) page
     (and_from (is_registered space.object page) (same_area space page page) registered
-     (and_from (same_prot (get space.host.areas page) (get space.host.areas page) && same_bool (contains space.object.missing page) (contains space.object.missing page)) (same_bool (contains space.object.protect page) (contains space.object.protect page))
-      (and_from (same_prot (get space.host.areas page) (get space.host.areas page)) (same_bool (contains space.object.missing page) (contains space.object.missing page)) (same_prot_itself (get space.host.areas page) mapped) (same_bool_itself (contains space.object.missing page)))
-      (same_bool_itself (contains space.object.protect page))))
+    (and_from (same_prot (get space.host.areas page) (get space.host.areas page) && same_bool (contains space.object.missing page) (contains space.object.missing page)) (same_bool (contains space.object.protect page) (contains space.object.protect page))
+    (and_from (same_prot (get space.host.areas page) (get space.host.areas page)) (same_bool (contains space.object.missing page) (contains space.object.missing page)) (same_prot_itself (get space.host.areas page) mapped) (same_bool_itself (contains space.object.missing page)))
+    (same_bool_itself (contains space.object.protect page))))
 
 -- a missing page that is watched can be made zeros
 pub record CanZero (space : Space) (page : ℕ) : Type 0 where
@@ -293,7 +293,7 @@ zero_refused space now page start result stop can start_is row is =
     let answer : zeropage_answer space start 4096 0 ≡ put_answer start 1 1 0 Eexist = rw (zero_accepted space page start can start_is, one_missing space page start can start_is) refl in
     ⊎_elim (λ (h : (result ≡ result_of (zeropage_answer space start 4096 0)) × (now ≡ zeropaged space start 4096 0)). absurd (ok_no_err (sym (h.0 ∙ ap result_of answer) ∙ is)))
     (λ (h : (zeropage_error space start 4096 0 ≡ None) × IsShort space now start 1 0 (λ i. zero_page) false result).
-         let fewer = h.1.fewer in
-         let none : pages_put result ≡ 0 = omega (arith, fewer, one_missing space page start can start_is) in
-         h.1.space ∙ ap (λ n. installed space (start / 4096) n (λ i. zero_page) false) none ∙ installed_none space (start / 4096) (λ i. zero_page) can.sound)
+    let fewer = h.1.fewer in
+    let none : pages_put result ≡ 0 = omega (arith, fewer, one_missing space page start can start_is) in
+    h.1.space ∙ ap (λ n. installed space (start / 4096) n (λ i. zero_page) false) none ∙ installed_none space (start / 4096) (λ i. zero_page) can.sound)
     row

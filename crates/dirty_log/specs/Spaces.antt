@@ -6,6 +6,7 @@ use Rattle.mig_base.specs.declared.TheConstants.{LOW_PAGE}
 use Rattle.mig_model.specs.Space.{Space}
 use Rattle.mig_model.specs.Cpus.{Cpus}
 use Rattle.mig_model.specs.Guest.{is_present}
+use Rattle.mig_model.specs.Invariant.{is_unread}
 use Rattle.mig_model.specs.Ioctls.{has_events}
 use Rattle.mig_model.specs.Log.{Log}
 use Rattle.mig_model.specs.Source.{Source, first_source}
@@ -23,3 +24,7 @@ is_sendable space page = is_present space page && contains space.object.protect 
 -- a source that has this log, this space and these processors, and has done nothing
 abbrev pub source_of : Log → Space → Cpus → Source
 source_of log space cpus = record (first_source 0 0 0) { log = log; guest = record { space = space; cpus = cpus } }
+
+-- each clean page is protected, unless an unread event has changed it
+abbrev pub AreProtected : Log → Space → Type 0
+AreProtected log space = (page : ℕ) → contains log.clean page ≡ true → is_unread space.object.events page ≡ false → contains space.protected page ≡ true

@@ -17,6 +17,7 @@
 mod act;
 mod content;
 mod fault;
+pub mod laws;
 pub mod log;
 mod sent;
 mod sets;

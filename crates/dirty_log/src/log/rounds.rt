@@ -132,8 +132,7 @@ impl DirtyLog {
         ensures space { OnOk result (space.new ≡ protected_in space.old first count true) }
         ensures err { OnErr result ((self.new ≡ self.old) × (space.new ≡ space.old)) }
     {
-        let Ok(()) =
-            PageSet::insert_range_in_both(&mut self.clean, &mut self.sent, first, count)
+        let Ok(()) = PageSet::insert_range_in_both(&mut self.clean, &mut self.sent, first, count)
         else {
             return Err(Refusal::NoMemory);
         };

@@ -22,4 +22,4 @@ pub returns : goal.returns
 returns c =
     same_members _ _
     (λ q. c.loop-at.invariant.out q ∙ all_taken q c.loop-at.at (contains c.args.pages.now q) (contains c.args.other.now q) c.loop-at-test.false (c.ends_by_high_page.ensures q)
-     ∙ sym (member_kept c.args.pages.now (contains c.args.other.now) q))
+    ∙ sym (member_kept c.args.pages.now (contains c.args.other.now) q))

@@ -7,7 +7,7 @@ abbrev pub invariant-loop-at : goal.invariant-loop-at
 invariant-loop-at l = record {
   bound : l.at ≤ HIGH_PAGE;
   out : (q : ℕ) → contains l.pages q ≡ (contains l.fn.pages q && not (ltb q l.at && contains l.other q));
-  here : l.at < HIGH_PAGE → contains l.other l.at ≡ true
+  here : l.at < HIGH_PAGE → contains l.other l.at ≡ true;
 }
 
 abbrev pub decreases-loop-at : goal.decreases-loop-at

@@ -9,7 +9,7 @@ returns-then-not-is_sendable c =
     let page = c.loop-page.page in
     let at : first + (page - first) ≡ page = omega (arith, c.loop-page.auto.page) in
     sym (none_below-not (λ i. not (is_sendable c.args.space.now (first + i))) c.args.count (page - first) (omega (arith, c.loop-page-test.true, c.loop-page.auto.page))
-         (ap (λ q. not (is_sendable c.args.space.now q)) at ∙ ap not (sym c.is_sendable.ensures ∙ c.if-not-is_sendable.true)))
+    (ap (λ q. not (is_sendable c.args.space.now q)) at ∙ ap not (sym c.is_sendable.ensures ∙ c.if-not-is_sendable.true)))
 
 pub returns : goal.returns
 returns c =

@@ -9,7 +9,7 @@ returns-then-page-lt-HIGH_PAGE-clause-least c =
     let todo = ap (λ log. log.todo) c.self.view_is in
     rw (← todo)
     (sym (least_below-is (contains c.self.inside.todo) HIGH_PAGE c.next-page.result c.if-page-lt-HIGH_PAGE.true (c.next-page.ensures.here c.if-page-lt-HIGH_PAGE.true)
-          (λ q l. c.next-page.ensures.before q (omega arith) l)))
+    (λ q l. c.next-page.ensures.before q (omega arith) l)))
 
 pub returns-else-page-lt-HIGH_PAGE-clause-least : goal.returns-else-page-lt-HIGH_PAGE-clause-least
 returns-else-page-lt-HIGH_PAGE-clause-least c =

@@ -11,5 +11,5 @@ returns-clause-run c =
     let last : end ≡ c.args.first + (end - c.args.first) = omega (arith, c.next-end.ensures.range) in
     rw (← todo)
     (c.min.ensures
-     ∙ sym (run_length-is set c.args.first (end - c.args.first) c.args.most (λ q l m. c.next-end.ensures.before q l (omega (arith, m, c.next-end.ensures.range)))
-            (ap (contains set) (sym last) ∙ out_at_end set end c.next-end.ensures.here c.ends_by_high_page.ensures)))
+    ∙ sym (run_length-is set c.args.first (end - c.args.first) c.args.most (λ q l m. c.next-end.ensures.before q l (omega (arith, m, c.next-end.ensures.range)))
+    (ap (contains set) (sym last) ∙ out_at_end set end c.next-end.ensures.here c.ends_by_high_page.ensures)))
