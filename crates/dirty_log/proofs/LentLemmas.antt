@@ -19,7 +19,9 @@ use Rattle.mig_model.specs.Userfault.{Noted, Object, message_read, read_by, wait
 use Rattle.mig_model.specs.Space.{Space, IsSoundSpace, accessed_by, accessed, all_queued, call_messages, called, modes_after}
 use Rattle.mig_model.specs.Guest as machine
 use Rattle.mig_model.specs.Guest.{Fault, Guest, read_guest}
-use Rattle.mig_model.specs.Ioctls.{has_events}
+use Rattle.mig_base.specs.declared.command.Errno.{Errno}
+use Rattle.mig_model.specs.Ioctls as ioctls
+use Rattle.mig_model.specs.Ioctls.{has_events, left_by}
 use Rattle.mig_model.specs.Source.{Source, source_acted_by, space_of}
 use Rattle.mig_model.proofs.CommandLemmas.{memory-changed}
 use Rattle.mig_model.proofs.Facts.{none_absurd}
@@ -46,6 +48,15 @@ same_read (fault ∷ faults) object = record { enabled = refl; features = refl }
 pub read_lent : (guest : Guest) (noted : Noted) → IsLent guest.space → IsLent (read_guest guest noted.cpu noted.message).space
 read_lent guest noted lent =
     rw (read_space guest noted.cpu noted.message) (still_lent guest.space (record guest.space { object = message_read guest.space.object }) lent (same_read guest.space.object.faults guest.space.object) lent.low)
+
+left_lent : (error : Option Errno) (old new : Space) → IsLent old → IsLent new → IsLent (left_by error old new)
+left_lent None old new lent after = after
+left_lent (Some errno) old new lent after = lent
+
+pub read_space_lent : (space : Space) → IsLent space → IsLent (ioctls.read_space space)
+read_space_lent space lent =
+    left_lent (ioctls.read_error space) space (record space { object = message_read space.object }) lent
+    (still_lent space (record space { object = message_read space.object }) lent (same_read space.object.faults space.object) lent.low)
 
 pub acted_lent : (act : machine.Act) (node : Source) (page : ℕ) → IsLent (space_of node) → IsLent (space_of (source_acted_by act node page))
 acted_lent machine.Act.Unprotected node page lent = record { enabled = lent.enabled; events = lent.events; low = lent.low }

@@ -34,6 +34,7 @@ impl DirtyLog {
         ensures space { (noted : Noted) → next_message space.old.object ≡ Some noted → OnOk result (space.new ≡ (guest.read_guest (record { space = space.old; cpus = cpus.old }) noted.cpu noted.message).space) }
         ensures cpus { (noted : Noted) → next_message space.old.object ≡ Some noted → OnOk result (cpus.new ≡ (guest.read_guest (record { space = space.old; cpus = cpus.old }) noted.cpu noted.message).cpus) }
         ensures err { OnErr result ((self.new ≡ self.old) × (space.new ≡ space.old) × (cpus.new ≡ cpus.old)) }
+        ensures lent { IsLent space.new }
     {
         let Some(message) = space.next_message() else {
             return Err(Refusal::NothingThere);
@@ -87,6 +88,7 @@ impl DirtyLog {
         ensures act { (fault : guest.Fault) (rest : List guest.Fault) → self.old.held ≡ fault ∷ rest → IfOk result (λ done. (act_is done.0 ≡ source_act (source_of self.old space.old cpus.old) fault) × (done.1 ≡ 4096 * fault.page)) }
         ensures acted { (fault : guest.Fault) (rest : List guest.Fault) → self.old.held ≡ fault ∷ rest → OnOk result (source_of self.new space.new cpus.new ≡ source_acted (source_of self.old space.old cpus.old) fault) }
         ensures err { OnErr result ((self.new ≡ self.old) × (space.new ≡ space.old) × (cpus.new ≡ cpus.old)) }
+        ensures lent { IsLent space.new }
     {
         let Some(fault) = self.held.front() else {
             return Err(Refusal::NothingThere);

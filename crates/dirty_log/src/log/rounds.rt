@@ -30,6 +30,7 @@ impl DirtyLog {
         requires { IsLent space.old }
         ensures ok { OnOk result (space.new ≡ all_registered space.old) }
         ensures err { OnErr result (space.new ≡ space.old) }
+        ensures lent { IsLent space.new }
     {
         register_mapped(space)
     }
@@ -78,6 +79,7 @@ impl DirtyLog {
         ensures space { OnOk result (space.new ≡ protected_in space.old page 1 true) }
         ensures frame { IfOk result (λ sent. frame_of page sent ≡ page_frame page (contents space.old.host.bytes page)) }
         ensures err { OnErr result ((self.new ≡ self.old) × (space.new ≡ space.old)) }
+        ensures lent { IsLent space.new }
 
         // The same in the words of a reader: what is sent is what the page has when it is protected.
         ensures bytes { IfOk result (λ sent. get space.new.host.bytes page ≡ Some (bytes_of sent)) }
@@ -111,6 +113,7 @@ impl DirtyLog {
         ensures space { OnOk result (space.new ≡ protected_in space.old first count true) }
         ensures bytes { IfOk result (λ pages. (node : Source) → space_of node ≡ space.old → bytes_of_run pages.items ≡ run_of node first count) }
         ensures err { OnErr result ((self.new ≡ self.old) × (space.new ≡ space.old)) }
+        ensures lent { IsLent space.new }
     {
         ensure_sendable(space, first, count)?;
         let Ok(mut pages) = blank_pages(self.alloc, count) else {
