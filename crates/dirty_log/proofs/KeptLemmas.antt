@@ -62,12 +62,12 @@ sent_kept log space first count sound told kept page h u =
     let here = in_range first count page in
     let old = contains space.protected page in
     let cases : (here ≡ true) ⊎ (old ≡ true) =
-        ⊎_elim inl (λ (was : contains log.clean page ≡ true). inr (kept page was u)) (either here (contains log.clean page) (sym (member_with_range log.clean first count page) ∙ h)) in
+    ⊎_elim inl (λ (was : contains log.clean page ≡ true). inr (kept page was u)) (either here (contains log.clean page) (sym (member_with_range log.clean first count page) ∙ h)) in
     let there : is_present space page ≡ true =
-        ⊎_elim (λ (is : here ≡ true). page_there space first count page told (in_from first count page is) (in_to first count page is)) (λ (was : old ≡ true). sound.present page was) cases in
+    ⊎_elim (λ (is : here ≡ true). page_there space first count page told (in_from first count page is) (in_to first count page is)) (λ (was : old ≡ true). sound.present page was) cases in
     member_below _ HIGH_PAGE page
     ∙ protected_now (ltb page HIGH_PAGE) here (is_present space page) old (lt-ltb page HIGH_PAGE (below_high space page sound (mapped_if space page sound there))) there
-      (⊎_elim (λ (is : here ≡ true). or_left here old is) (λ (was : old ≡ true). or_right here old was) cases)
+    (⊎_elim (λ (is : here ≡ true). or_left here old is) (λ (was : old ≡ true). or_right here old was) cases)
 
 -- Messages
 

@@ -125,5 +125,5 @@ call_lent space cpu command sound lent =
     let modes = same_modes space.object command reply in
     let queued = same_all (modes_after space.object command reply) (call_messages space.object command reply) cpu in
     let after : IsBounded (memory (host_after space.host command)) =
-        λ addr out. ap (λ m. m addr) (memory-changed space.host command reply sound.host refl) ∙ changed_bounded (memory space.host) command reply (bounded space sound lent) refl addr out in
+    λ addr out. ap (λ m. m addr) (memory-changed space.host command reply sound.host refl) ∙ changed_bounded (memory space.host) command reply (bounded space sound lent) refl addr out in
     still_lent space _ lent (record { enabled = queued.enabled ∙ modes.enabled; features = queued.features ∙ modes.features }) (λ page l. bounded_low (host_after space.host command) page after l)

@@ -30,7 +30,8 @@ impl Sleepers {
         match self {
             Sleepers::OnPage(woken) => page == u64::from(woken),
             Sleepers::Between { start, end } => start / PAGE_SIZE <= page && page < end / PAGE_SIZE,
-            Sleepers::Span { start, len } => start / PAGE_SIZE <= page && page < end_page(start, len),
+            Sleepers::Span { start, len } => start / PAGE_SIZE <= page
+                && page < end_page(start, len),
             Sleepers::OnAnyPage => true,
         }
     }

@@ -9,9 +9,10 @@ returns-in_err-make_chunks-clause-err c =
 
 pub returns-in_err-make_chunks-2-clause-err : goal.returns-in_err-make_chunks-2-clause-err
 returns-in_err-make_chunks-2-clause-err c =
-    on_any_err c.from_residual-in_err-make_chunks-2.result
-    (same_shown c.one.inside.chunks.items c.make_chunks.new.chunks.items c.args.one.now c.one.invariant c.make_chunks.ensures.few c.one.view_is c.make_chunks.ensures.same,
-     same_shown c.other.inside.chunks.items c.make_chunks-2.new.chunks.items c.args.other.now c.other.invariant c.make_chunks-2.ensures.few c.other.view_is c.make_chunks-2.ensures.same)
+    on_any_err c.from_residual-in_err-make_chunks-2.result (
+      same_shown c.one.inside.chunks.items c.make_chunks.new.chunks.items c.args.one.now c.one.invariant c.make_chunks.ensures.few c.one.view_is c.make_chunks.ensures.same,
+      same_shown c.other.inside.chunks.items c.make_chunks-2.new.chunks.items c.args.other.now c.other.invariant c.make_chunks-2.ensures.few c.other.view_is c.make_chunks-2.ensures.same,
+    )
 
 pub returns-clause-one : goal.returns-clause-one
 returns-clause-one c =
