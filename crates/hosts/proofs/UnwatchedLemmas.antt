@@ -24,7 +24,7 @@ use Rattle.mig_model.specs.Space.{Space, access_of, accessed_by, accessed, is_ma
 use Rattle.mig_base.specs.Commands.{is_store, page_of, is_access}
 use Rattle.mig_model.proofs.CommandLemmas.{memory-changed}
 use Rattle.mig_model.proofs.SpaceLemmas.{IsSoundSpace-accessed, IsSoundSpace-called, no_member}
-use Rattle.mig_model.proofs..antt.{untold}
+use Rattle.mig_model.proofs.SourceCalls.{untold}
 use Rattle.hosts.specs.Spaces.{IsUnwatched}
 
 -- Accesses

@@ -80,6 +80,7 @@ moved_bounded memory addr old_size target new_size bounded inside at out =
     ap (λ t. cond t (cond (ltb (at - target) old_size) (memory (addr + (at - target))) (grown (memory addr))) (cond (in_range addr old_size at) None (memory at))) (outside target new_size at inside.low inside.high out)
     ∙ cond_none (in_range addr old_size at) (memory at) (bounded at out)
 
+-- a command changes no address outside the bounds
 pub changed_bounded : (memory : Memory) (command : Command) (reply : Reply) → IsBounded memory → reply ≡ reply_of memory command → IsBounded (changed memory command reply)
 changed_bounded memory (Store addr width value) Done bounded h = λ at out. written_none (in_range addr width at) (memory at) _ (bounded at out)
 changed_bounded memory (Mmap len prot place) (At start) bounded h = filled_bounded memory start len (zeros_with prot) bounded (mmap_inside memory len prot place start h)

@@ -293,7 +293,7 @@ IsUnregistered object = (page : ℕ) → is_registered object page ≡ false
 unwatched : (object : Object) (first count : ℕ) → IsUnregistered object → is_watched object first count ≡ false
 unwatched object first count none = ap not (none_below-from (λ i. is_registered object (first + i)) count (λ i l. none (first + i)))
 
-untold : (reason : Bool) (message : Message) → reason ≡ false → told reason message ≡ []
+pub untold : (reason : Bool) (message : Message) → reason ≡ false → told reason message ≡ []
 untold true message h = none_absurd (sym h)
 untold false message h = refl
 

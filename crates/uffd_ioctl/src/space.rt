@@ -102,6 +102,14 @@ impl Space {
         })
     }
 
+    /// A law of every space: a registered page is mapped, and a protected page is present and registered for write-protect faults.
+    /// The call does nothing.
+    pub fn is_in_order(&self)
+        ensures { machine.IsSoundSpace self.now }
+    {
+        let _ = &self.areas;
+    }
+
     /// The bytes of a page, if it is present.
     pub fn page(&self, page: PageNo) -> Option<&[u8; PAGE_BYTES]>
         ensures { option_copied result ≡ map.get self.now.host.bytes page }

@@ -1,6 +1,6 @@
 //! The processors of a guest.
 
-ghost use Rattle.std.specs.Prelude.{◌≡◌, ℕ, ◌==◌, ◌<◌, ◌≤◌, ◌↔◌, true, false, map, set, length, OnOk, OnErr, IfOk};
+ghost use Rattle.std.specs.Prelude.{◌≡◌, ℕ, ◌+◌, ◌==◌, ◌<◌, ◌≤◌, ◌↔◌, true, false, map, set, length, OnOk, OnErr, IfOk};
 ghost use Rattle.mig_base.specs.Commands.{is_access};
 ghost use Rattle.mig_model.specs.Cpus.{idle_processors, processor_at, outstanding, taken_over, all_woken, message_less};
 ghost use Rattle.mig_model.specs.Guest.{in_bytes};
@@ -189,6 +189,13 @@ impl Cpus {
         ensures { self.new ≡ all_woken (in_bytes start end) self.old }
     {
         self.wake(Sleepers::Between { start, end });
+    }
+
+    /// Wakes those that sleep on a page of the `len` bytes from `start` on, which may go past the greatest address.
+    pub fn wake_span(&mut self, start: Addr, len: u64)
+        ensures { self.new ≡ all_woken (in_bytes start (start + len)) self.old }
+    {
+        self.wake(Sleepers::Span { start, len });
     }
 
     /// Wakes all that sleep.

@@ -1,6 +1,6 @@
 //! Whom a call wakes.
 
-ghost use Rattle.std.specs.Prelude.{◌≡◌};
+ghost use Rattle.std.specs.Prelude.{◌≡◌, ◌+◌, ◌/◌};
 ghost use Rattle.mig_base.specs.Commands.{page_of};
 ghost use Rattle.mig_model.specs.Cpus.{woken_if, all_woken};
 
@@ -14,6 +14,8 @@ pub enum Sleepers {
     OnPage(PageNo),
     /// On a page from that of `start` up to, not with, that of `end`.
     Between { start: Addr, end: Addr },
+    /// On a page of the `len` bytes from `start` on.
+    Span { start: Addr, len: u64 },
     /// On any page.
     OnAnyPage,
 }
@@ -28,6 +30,8 @@ impl Sleepers {
         match self {
             Sleepers::OnPage(woken) => page == u64::from(woken),
             Sleepers::Between { start, end } => start / PAGE_SIZE <= page && page < end / PAGE_SIZE,
+            Sleepers::Span { start, len } => start / PAGE_SIZE <= page
+                && page < end_page(start, len),
             Sleepers::OnAnyPage => true,
         }
     }
@@ -50,6 +54,13 @@ impl Sleepers {
             *processor = self.wake_one(*processor);
         }
     }
+}
+
+/// The page of the address behind `len` bytes, whether or not that is an address.
+fn end_page(start: Addr, len: u64) -> u64
+    ensures { result ≡ (start + len) / 4096 }
+{
+    start / PAGE_SIZE + len / PAGE_SIZE + (start % PAGE_SIZE + len % PAGE_SIZE) / PAGE_SIZE
 }
 
 /// The page of a load or a store, at any address. 0 for a map call, in which no processor sleeps on a page.

@@ -1,0 +1,6 @@
+pub mod PageLemmas
+pub mod SpaceLemmas
+pub mod SendLemmas
+pub mod HandlerLemmas
+pub mod KeptLemmas
+pub mod LentLemmas

@@ -1,0 +1,20 @@
+-- How a proof tells logs apart, for models that contain them.
+use Rattle.std.specs.Prelude.{ℕ, Bool, List, refl}
+use Rattle.std.specs.Ordering.{nat_cmp}
+use Rattle.std.specs.FinSet as set
+use Rattle.std.specs.Coded.{Coded, code_by, coded×, coded_ℕ, coded_bool, coded_list}
+use Rattle.mig_model.specs.Guest.{Fault}
+use Rattle.mig_model.specs.Log.{Log}
+
+-- the code of a fault that is held
+abbrev pub coded_fault : Coded Fault
+coded_fault = code_by (ℕ × Bool) (coded× coded_ℕ coded_bool) (λ fault. (fault.page, fault.wp)) (λ p. record { page = p.0; wp = p.1 }) (λ _. refl)
+
+-- the code of a log
+abbrev pub coded_log : Coded Log
+coded_log =
+    code_by (set.FinSet nat_cmp × (set.FinSet nat_cmp × (set.FinSet nat_cmp × List Fault)))
+    (coded× (set.code coded_ℕ) (coded× (set.code coded_ℕ) (coded× (set.code coded_ℕ) (coded_list coded_fault))))
+    (λ log. (log.clean, (log.todo, (log.sent, log.held))))
+    (λ p. record { clean = p.0; todo = p.1.0; sent = p.1.1.0; held = p.1.1.1 })
+    (λ _. refl)

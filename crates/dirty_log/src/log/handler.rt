@@ -1,0 +1,131 @@
+//! What the source's handler makes of a log: messages that are read, and faults that are resolved.
+
+ghost use Rattle.std.specs.Prelude.{◌≡◌, ℕ, ◌*◌, ◌⊎◌, nat_lt, set, List, ◌∷◌, Some, None, Err, IfOk, IfErr, OnOk, OnErr};
+ghost use Rattle.std.specs.Option.{IsSome};
+ghost use Rattle.mig_model.specs.Userfault.{Noted, next_message};
+ghost use Rattle.mig_model.specs.Cpus.{all_woken, handed_over, message_less, processor_at};
+ghost use Rattle.mig_model.specs.Guest as guest;
+ghost use Rattle.mig_model.specs.Log as machine;
+ghost use Rattle.mig_model.specs.Migration.{event_effect};
+ghost use Rattle.mig_model.specs.Source.{source_act, source_acted};
+ghost use Rattle.dirty_log.specs.Acts.{act_is};
+ghost use Rattle.dirty_log.specs.Answers.{IsRefusedFor, act_refusal, read_answer};
+ghost use Rattle.dirty_log.specs.Spaces.{IsLent, source_of};
+
+use super::DirtyLog;
+use crate::act::Act;
+use crate::fault::Fault;
+use crate::sets::remove_changed;
+use crate::spaces::{act_of, make_zeros, unprotect};
+use mig_base::effect::Effect;
+use mig_base::refusal::Refusal;
+use mig_base::{Addr, Message, NoMemory, PAGE_SIZE, PageNo};
+use uffd_ioctl::Space;
+use vcpu::Cpus;
+
+impl DirtyLog {
+    /// Reads the next message, and answers what was read. A page fault is held. The pages of an event are neither clean nor to be sent,
+    /// those that sleep on pages that are gone are woken, and with the last message of its call the processor is handed its reply.
+    /// Refused as `NothingThere` where no message waits.
+    pub fn read(&mut self, space: &mut Space, cpus: &mut Cpus) -> Result<Effect, Refusal>
+        requires { IsLent space.old }
+        ensures answer { (result ≡ read_answer (record { space = space.old; cpus = cpus.old }) (next_message space.old.object)) ⊎ ((result ≡ Err Refusal.NoMemory) × IsSome (next_message space.old.object)) }
+        ensures log { (noted : Noted) → next_message space.old.object ≡ Some noted → OnOk result (self.new ≡ machine.log_read self.old noted.message) }
+        ensures space { (noted : Noted) → next_message space.old.object ≡ Some noted → OnOk result (space.new ≡ (guest.read_guest (record { space = space.old; cpus = cpus.old }) noted.cpu noted.message).space) }
+        ensures cpus { (noted : Noted) → next_message space.old.object ≡ Some noted → OnOk result (cpus.new ≡ (guest.read_guest (record { space = space.old; cpus = cpus.old }) noted.cpu noted.message).cpus) }
+        ensures err { OnErr result ((self.new ≡ self.old) × (space.new ≡ space.old) × (cpus.new ≡ cpus.old)) }
+        ensures lent { IsLent space.new }
+    {
+        let Some(message) = space.next_message() else {
+            return Err(Refusal::NothingThere);
+        };
+        let Ok(()) = self.hold(message) else {
+            return Err(Refusal::NoMemory);
+        };
+        let Ok((message, cpu)) = space.read_message() else {
+            unreachable!();
+        };
+        match message {
+            Message::PageFault { addr, wp, .. } => Ok(Effect::ReadFault { addr, wp }),
+            event => Ok(self.read_event(cpus, event, cpu)),
+        }
+    }
+
+    /// Holds a message if it is a page fault.
+    fn hold(&mut self, message: Message) -> Result<(), NoMemory>
+        ensures ok { OnOk result (self.new ≡ record self.old { held = guest.held_after self.old.held message }) }
+        ensures err { OnErr result (self.new ≡ self.old) }
+    {
+        if let Message::PageFault { addr, wp, .. } = message {
+            self.held.push_back(Fault::new(addr, wp))?;
+        }
+        Ok(())
+    }
+
+    /// An event of a processor was read.
+    fn read_event(&mut self, cpus: &mut Cpus, event: Message, cpu: u8) -> Effect
+        requires { guest.fault_count event ≡ 0 }
+        ensures effect { result ≡ event_effect event cpu (handed_over (processor_at cpus.old cpu)) }
+        ensures log { self.new ≡ record self.old { clean = machine.unchanged self.old.clean event; todo = machine.unchanged self.old.todo event } }
+        ensures cpus { cpus.new ≡ all_woken (guest.is_left_by event) (set cpus.old cpu (message_less (processor_at cpus.old cpu))) }
+    {
+        remove_changed(&mut self.clean, event);
+        remove_changed(&mut self.todo, event);
+        let reply = cpus.message_read(cpu).unwrap_or(None);
+        wake_left(cpus, event);
+        match reply {
+            Some(reply) => Effect::ReadLast { event, cpu, reply },
+            None => Effect::ReadEvent { event },
+        }
+    }
+
+    /// Resolves the first fault that is held, by what its page is now, and wakes those that sleep on the page: what was made of it, and
+    /// the address of its page. Refused as `NothingThere` where no fault is held, and as `Changing` while an event is unread.
+    pub fn act(&mut self, space: &mut Space, cpus: &mut Cpus) -> Result<(Act, Addr), Refusal>
+        requires lent { IsLent space.old }
+        ensures accepted { OnOk result (act_refusal self.old space.old ≡ None) }
+        ensures refused { IfErr result (λ refusal. IsRefusedFor (act_refusal self.old space.old) refusal) }
+        ensures act { (fault : guest.Fault) (rest : List guest.Fault) → self.old.held ≡ fault ∷ rest → IfOk result (λ done. (act_is done.0 ≡ source_act (source_of self.old space.old cpus.old) fault) × (done.1 ≡ 4096 * fault.page)) }
+        ensures acted { (fault : guest.Fault) (rest : List guest.Fault) → self.old.held ≡ fault ∷ rest → OnOk result (source_of self.new space.new cpus.new ≡ source_acted (source_of self.old space.old cpus.old) fault) }
+        ensures err { OnErr result ((self.new ≡ self.old) × (space.new ≡ space.old) × (cpus.new ≡ cpus.old)) }
+        ensures lent { IsLent space.new }
+    {
+        let Some(fault) = self.held.front() else {
+            return Err(Refusal::NothingThere);
+        };
+        if space.changing() > 0 {
+            return Err(Refusal::Changing);
+        }
+        let act = act_of(space, fault);
+        let (page, addr) = (fault.page(), fault.addr());
+        match act {
+            Act::Unprotected => {
+                unprotect(space, page as PageNo);
+                self.clean.remove(page as PageNo);
+            }
+            Act::Zeroed => {
+                let Ok(()) = make_zeros(space, page as PageNo) else {
+                    return Err(Refusal::NoMemory);
+                };
+            }
+            Act::Woke | Act::Forgot => {}
+        }
+        self.held.pop_front();
+        cpus.wake_span(addr, PAGE_SIZE);
+        Ok((act, addr))
+    }
+}
+
+/// Wakes those that sleep on pages that are gone, or have moved away.
+fn wake_left(cpus: &mut Cpus, event: Message)
+    requires { guest.fault_count event ≡ 0 }
+    ensures { cpus.new ≡ all_woken (guest.is_left_by event) cpus.old }
+{
+    match event {
+        Message::PageFault { .. } => unreachable!(),
+        Message::Remap { from, len, .. } => cpus.wake_span(from, len),
+        Message::Remove { start, end } | Message::Unmap { start, end } => {
+            cpus.wake_range(start, end);
+        }
+    }
+}

@@ -1,0 +1,161 @@
+//! What a round of pre-copy makes of a log: which pages it has to send, and each page that is sent.
+
+ghost use Rattle.std.specs.Prelude.{◌≡◌, ◌+◌, ◌<◌, ◌≤◌, ◌↔◌, true, Some, None, IfOk, IfErr, OnOk, OnErr};
+ghost use Rattle.std.specs.Option.{IfSome};
+ghost use Rattle.std.specs.FinMap.{get};
+ghost use Rattle.std.specs.FinSet.{contains};
+ghost use Rattle.mig_base.specs.Bytes.{contents, zero_page};
+ghost use Rattle.mig_base.specs.Sets.{run_length};
+ghost use Rattle.mig_base.specs.declared.TheConstants.{HIGH_PAGE};
+ghost use Rattle.mig_model.specs.Ioctls.{protected_in};
+ghost use Rattle.mig_model.specs.Log as machine;
+ghost use Rattle.mig_model.specs.Source.{Source, all_registered, run_of, space_of};
+ghost use Rattle.mig_model.specs.Wire.{page_frame};
+ghost use Rattle.dirty_log.specs.Answers.{IsRefusedFor, send_refusal};
+ghost use Rattle.dirty_log.specs.Sending.{frame_of, bytes_of, bytes_of_run};
+ghost use Rattle.dirty_log.specs.Spaces.{IsLent};
+
+use super::DirtyLog;
+use crate::content::{blank_page, blank_pages, read_page, read_pages};
+use crate::sent::Sent;
+use crate::sets::subtract;
+use crate::spaces::{are_sendable, protect, register_mapped};
+use mig_base::refusal::Refusal;
+use mig_base::{HIGH_PAGE, NoMemory, PAGE_BYTES, PageNo, PageSet};
+use uffd_ioctl::Space;
+
+impl DirtyLog {
+    /// Registers every mapped page for missing faults and for write-protect faults, by the areas of the space.
+    pub fn register_new(&self, space: &mut Space) -> Result<(), NoMemory>
+        requires { IsLent space.old }
+        ensures ok { OnOk result (space.new ≡ all_registered space.old) }
+        ensures err { OnErr result (space.new ≡ space.old) }
+        ensures lent { IsLent space.new }
+    {
+        register_mapped(space)
+    }
+
+    /// A round begins: it has to send the present pages that are not clean.
+    pub fn plan(&mut self, space: &Space) -> Result<(), NoMemory>
+        ensures ok { OnOk result (self.new ≡ record self.old { todo = machine.dirty space.now self.old }) }
+        ensures err { OnErr result (self.new ≡ self.old) }
+    {
+        space.is_in_order();
+        let mut todo = space.present()?;
+        subtract(&mut todo, &self.clean);
+        self.todo = todo;
+        Ok(())
+    }
+
+    /// The least page that this round still has to send.
+    pub fn next_page(&self) -> Option<PageNo>
+        ensures least { result ≡ machine.least_of self.now.todo }
+        ensures below { IfSome result (λ page. page < HIGH_PAGE) }
+    {
+        let page = self.todo.next(0, true);
+        if page < HIGH_PAGE { Some(page) } else { None }
+    }
+
+    /// How many pages from `first` on the round has to send without a gap, counted up to `most`.
+    pub fn run_length(&self, first: PageNo, most: u32) -> u32
+        requires { first ≤ HIGH_PAGE }
+        ensures run { result ≡ run_length self.now.todo first most }
+        ensures inside { first + result ≤ HIGH_PAGE }
+        ensures few { result ≤ most }
+    {
+        self.todo.ends_by_high_page();
+        let end = self.todo.next(first, false);
+        (end - first).min(most)
+    }
+
+    /// Write-protects a page, then reads what is to be sent of it. The page is clean from then on. Refused as `Changing` while an event is
+    /// unread, and as `PageNotSendable` where the page is missing or not registered for write-protect faults.
+    pub fn send_page(&mut self, space: &mut Space, page: PageNo) -> Result<Sent, Refusal>
+        requires lent { IsLent space.old }
+        requires page { page < HIGH_PAGE }
+        ensures accepted { OnOk result (send_refusal space.old page 1 ≡ None) }
+        ensures refused { IfErr result (λ refusal. IsRefusedFor (send_refusal space.old page 1) refusal) }
+        ensures log { OnOk result (self.new ≡ machine.log_sent self.old page) }
+        ensures space { OnOk result (space.new ≡ protected_in space.old page 1 true) }
+        ensures frame { IfOk result (λ sent. frame_of page sent ≡ page_frame page (contents space.old.host.bytes page)) }
+        ensures err { OnErr result ((self.new ≡ self.old) × (space.new ≡ space.old)) }
+        ensures lent { IsLent space.new }
+
+        // The same in the words of a reader: what is sent is what the page has when it is protected.
+        ensures bytes { IfOk result (λ sent. get space.new.host.bytes page ≡ Some (bytes_of sent)) }
+        ensures protected { OnOk result (contains space.new.protected page ≡ true) }
+        ensures zero { IfOk result (λ sent. (sent ≡ Sent.Zero) ↔ (get space.new.host.bytes page ≡ Some zero_page)) }
+    {
+        space.is_in_order();
+        ensure_sendable(space, page, 1)?;
+        let Ok(mut bytes) = blank_page(self.alloc) else {
+            return Err(Refusal::NoMemory);
+        };
+        self.mark_sent(space, page, 1)?;
+        read_page(space, page, &mut bytes);
+        Ok(Sent::of(bytes))
+    }
+
+    /// Write-protects the `count` pages from `first` on, then reads their bytes, in order; those of a page of zeros are read as well. The
+    /// pages are clean from then on. Refused as [`DirtyLog::send_page`] is, for any page of the range.
+    pub fn send_run(
+        &mut self,
+        space: &mut Space,
+        first: PageNo,
+        count: u32,
+    ) -> Result<Vec<Box<[u8; PAGE_BYTES]>>, Refusal>
+        requires lent { IsLent space.old }
+        requires some { 0 < count }
+        requires inside { first + count ≤ HIGH_PAGE }
+        ensures accepted { OnOk result (send_refusal space.old first count ≡ None) }
+        ensures refused { IfErr result (λ refusal. IsRefusedFor (send_refusal space.old first count) refusal) }
+        ensures log { OnOk result (self.new ≡ machine.log_run_sent self.old first count) }
+        ensures space { OnOk result (space.new ≡ protected_in space.old first count true) }
+        ensures bytes { IfOk result (λ pages. (node : Source) → space_of node ≡ space.old → bytes_of_run pages.items ≡ run_of node first count) }
+        ensures err { OnErr result ((self.new ≡ self.old) × (space.new ≡ space.old)) }
+        ensures lent { IsLent space.new }
+    {
+        ensure_sendable(space, first, count)?;
+        let Ok(mut pages) = blank_pages(self.alloc, count) else {
+            return Err(Refusal::NoMemory);
+        };
+        self.mark_sent(space, first, count)?;
+        read_pages(space, first, &mut pages);
+        Ok(pages)
+    }
+
+    /// Write-protects the pages of a range, all of which can be sent, and makes them clean.
+    fn mark_sent(&mut self, space: &mut Space, first: PageNo, count: u32) -> Result<(), Refusal>
+        requires lent { IsLent space.old }
+        requires some { 0 < count }
+        requires inside { first + count ≤ HIGH_PAGE }
+        requires sendable { send_refusal space.old first count ≡ None }
+        ensures memory { IfErr result (λ refusal. refusal ≡ Refusal.NoMemory) }
+        ensures log { OnOk result (self.new ≡ machine.log_run_sent self.old first count) }
+        ensures space { OnOk result (space.new ≡ protected_in space.old first count true) }
+        ensures err { OnErr result ((self.new ≡ self.old) × (space.new ≡ space.old)) }
+    {
+        let Ok(()) = PageSet::insert_range_in_both(&mut self.clean, &mut self.sent, first, count)
+        else {
+            return Err(Refusal::NoMemory);
+        };
+        self.todo.remove_range(first, count);
+        protect(space, first, count);
+        Ok(())
+    }
+}
+
+/// Refuses a range that has a page which cannot be sent now.
+fn ensure_sendable(space: &Space, first: PageNo, count: u32) -> Result<(), Refusal>
+    requires { first + count ≤ HIGH_PAGE }
+    ensures ok { OnOk result (send_refusal space.now first count ≡ None) }
+    ensures err { IfErr result (λ refusal. send_refusal space.now first count ≡ Some refusal) }
+{
+    if space.changing() > 0 {
+        return Err(Refusal::Changing);
+    }
+    if !are_sendable(space, first, count) {
+        return Err(Refusal::PageNotSendable);
+    }
+    Ok(())
+}

@@ -1,0 +1,55 @@
+//! What pages a set loses.
+
+ghost use Rattle.std.specs.Prelude.{◌≡◌, ◌+◌, ◌/◌, not};
+ghost use Rattle.std.specs.FinSet as set;
+ghost use Rattle.mig_model.specs.Guest.{in_bytes};
+ghost use Rattle.mig_model.specs.Log.{less, unchanged};
+
+use mig_base::{Addr, HIGH_PAGE, Message, PAGE_SIZE, PageSet};
+
+/// Takes the pages of another set out, run by run.
+pub fn subtract(pages: &mut PageSet, other: &PageSet)
+    ensures { pages.new ≡ less pages.old other.now }
+{
+    pages.ends_by_high_page();
+    let mut at = other.next(0, true);
+    while at < HIGH_PAGE {
+        let end = other.next(at, false);
+        pages.remove_range(at, end - at);
+        at = other.next(end, true);
+    }
+}
+
+/// Takes the pages out that an event changed.
+pub fn remove_changed(pages: &mut PageSet, event: Message)
+    ensures { pages.new ≡ unchanged pages.old event }
+{
+    match event {
+        Message::PageFault { .. } => {}
+        Message::Remap { from, to, len } => {
+            remove_span(pages, from, len);
+            remove_span(pages, to, len);
+        }
+        Message::Remove { start, end } | Message::Unmap { start, end } => {
+            remove_span(pages, start, end.saturating_sub(start));
+        }
+    }
+}
+
+/// Takes the pages of `len` bytes from an address on out, which may go past the address space.
+fn remove_span(pages: &mut PageSet, start: Addr, len: u64)
+    ensures { pages.new ≡ set.retain pages.old (λ page. not (in_bytes start (start + len) page)) }
+{
+    pages.ends_by_high_page();
+    let high = u64::from(HIGH_PAGE);
+    let first = (start / PAGE_SIZE).min(high);
+    let end = end_page(start, len).min(high);
+    pages.remove_range(first as u32, (end - first) as u32);
+}
+
+/// The page of the address behind `len` bytes, whether or not that is an address.
+fn end_page(start: Addr, len: u64) -> u64
+    ensures { result ≡ (start + len) / 4096 }
+{
+    start / PAGE_SIZE + len / PAGE_SIZE + (start % PAGE_SIZE + len % PAGE_SIZE) / PAGE_SIZE
+}
