@@ -1,9 +1,7 @@
 -- Clean pages stay protected.
-use Rattle.std.proofs.Common.{◌≡◌, ℕ, ◌+◌, ◌<◌, ◌≤◌, ◌&&◌, ◌||◌, ◌⊎◌, inl, inr, Bool, true, false, cond, not, eqb, ltb, lt-ltb, Option, Some, None, List, [], ◌∷◌, ◌++◌, refl, sym, ap, ◌∙◌, ⊎_elim, arith}
-use Rattle.std.specs.Ordering.{nat_cmp}
-use Rattle.std.specs.FinSet.{FinSet, contains, remove}
+use Rattle.std.proofs.Common.{◌≡◌, ℕ, ◌+◌, ◌<◌, ◌≤◌, ◌||◌, ◌⊎◌, inl, inr, Bool, true, false, cond, not, eqb, ltb, lt-ltb, Some, None, List, [], ◌∷◌, ◌++◌, refl, sym, ap, ◌∙◌, ⊎_elim, arith}
+use Rattle.std.specs.FinSet.{contains, remove}
 use Rattle.std.proofs.lemmas.Bool.{and_parts, or_parts, or_right}
-use Rattle.std.proofs.lemmas.Bool.Decides.{nat_tests}
 use Rattle.mig_base.specs.Commands.{is_access}
 use Rattle.mig_base.specs.declared.TheConstants.{HIGH_PAGE}
 use Rattle.mig_base.specs.declared.command.Access.{Access}
@@ -16,14 +14,14 @@ use Rattle.mig_base.specs.Ranges.{in_range}
 use Rattle.mig_base.proofs.RangeLemmas.{ranges}
 use Rattle.mig_base.proofs.SetLemmas.{member_below, member_removed, member_with_range}
 use Rattle.mig_model.specs.Host.{memory}
-use Rattle.mig_model.specs.Userfault.{Noted, Object, fault_queued, first_noted, next_of, next_message, read_by, rest_noted, waits_fault}
-use Rattle.mig_model.specs.Space.{Space, IsSoundSpace, accessed_by, accessed, all_queued, call_messages, called, modes_after}
+use Rattle.mig_model.specs.Userfault.{Noted, Object, first_noted, next_of, next_message, read_by, rest_noted, waits_fault}
+use Rattle.mig_model.specs.Space.{Space, IsSoundSpace, accessed_by, all_queued, call_messages, called, modes_after}
 use Rattle.mig_model.specs.Guest as machine
 use Rattle.mig_model.specs.Guest.{Fault, Guest, is_changed_by, is_present, read_guest}
 use Rattle.mig_model.specs.Invariant.{is_unread}
 use Rattle.mig_model.specs.Ioctls.{protected_in}
-use Rattle.mig_model.specs.Log.{Log, empty_log, log_read, log_run_sent, no_pages}
-use Rattle.mig_model.specs.Source.{Source, all_registered, source_act, source_acted, source_acted_by, space_of}
+use Rattle.mig_model.specs.Log.{Log, log_read, log_run_sent, no_pages}
+use Rattle.mig_model.specs.Source.{Source, all_registered, source_acted_by, space_of}
 use Rattle.mig_model.proofs.Facts.{modes_events, none_absurd}
 use Rattle.mig_model.proofs.SourceCalls.{untouched}
 use Rattle.mig_model.proofs.SourceKept.{no_page_absurd}

@@ -1,22 +1,20 @@
 -- A space that may be lent stays one.
-use Rattle.std.proofs.Common.{◌≡◌, ℕ, ◌*◌, ◌/◌, ◌<◌, ◌≤◌, ◌⊎◌, inl, inr, Bool, true, false, cond, Option, Some, None, List, [], ◌∷◌, is_some, refl, sym, ap, ◌∙◌, ⊎_elim, arith}
+use Rattle.std.proofs.Common.{◌≡◌, ℕ, ◌*◌, ◌/◌, ◌<◌, ◌≤◌, inl, Bool, true, false, cond, Option, Some, None, List, [], ◌∷◌, is_some, refl, sym, ap, ◌∙◌, ⊎_elim, arith}
 use Rattle.std.specs.FinMap.{get, contains_key}
 use Rattle.mig_base.specs.Commands.{is_access}
-use Rattle.mig_base.specs.declared.TheConstants.{HIGH, HIGH_PAGE, LOW, LOW_PAGE}
+use Rattle.mig_base.specs.declared.TheConstants.{HIGH, LOW, LOW_PAGE}
 use Rattle.mig_base.specs.declared.command.Access.{Access}
 use Rattle.mig_base.specs.declared.command.Access.TheVariants.{Answered, Missing, Protected}
 use Rattle.mig_base.specs.declared.command.Command.{Command}
 use Rattle.mig_base.specs.declared.command.Command.TheVariants.{Load, Store, Mmap, Munmap, Mremap, DontNeed}
-use Rattle.mig_base.specs.declared.command.Errno.TheVariants.{Enomem}
 use Rattle.mig_base.specs.declared.command.Reply.{Reply}
-use Rattle.mig_base.specs.declared.command.Reply.TheVariants.{At, Done, Refused}
+use Rattle.mig_base.specs.declared.command.Reply.TheVariants.{At, Done}
 use Rattle.mig_base.specs.declared.message.Message.{Message}
-use Rattle.mig_base.specs.declared.message.Message.TheVariants.{PageFault, Remap, Remove, Unmap}
-use Rattle.mig_base.specs.Flat.{changed, reply_of}
+use Rattle.mig_base.specs.Flat.{reply_of}
 use Rattle.mig_base.proofs.BoundLemmas.{IsBounded, changed_bounded}
 use Rattle.mig_model.specs.Host.{Host, host_after, host_changed, memory}
 use Rattle.mig_model.specs.Userfault.{Noted, Object, message_read, read_by, waits_fault}
-use Rattle.mig_model.specs.Space.{Space, IsSoundSpace, accessed_by, accessed, all_queued, call_messages, called, modes_after}
+use Rattle.mig_model.specs.Space.{Space, IsSoundSpace, accessed_by, all_queued, call_messages, called, modes_after}
 use Rattle.mig_model.specs.Guest as machine
 use Rattle.mig_model.specs.Guest.{Fault, Guest, read_guest}
 use Rattle.mig_base.specs.declared.command.Errno.{Errno}
