@@ -17,7 +17,7 @@ fits_value width value h l = grind (arith, nat_tests)
 fits_commands : (commands : List (Option Command)) → AreRightAccesses commands → AllByRecursion FitsCommand commands
 fits_commands [] h = tt
 fits_commands (None ∷ commands) h = (tt, fits_commands commands h)
-fits_commands (Some (Load addr width) ∷ commands) h = (let page = h.0.1.1 in omega (arith, page), fits_commands commands h.1)
+fits_commands (Some (Load addr width) ∷ commands) h = (h.0.1, fits_commands commands h.1)
 fits_commands (Some (Store addr width value) ∷ commands) h = grind (arith, nat_tests, fits_value, and_left, fits_commands commands h.1)
 fits_commands (Some command ∷ commands) h = absurd h.0
 

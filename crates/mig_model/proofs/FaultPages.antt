@@ -17,7 +17,7 @@ use Rattle.mig_base.specs.Commands.{is_access, page_of}
 use Rattle.mig_base.specs.Flat.{reply_of}
 use Rattle.mig_model.specs.Host.{memory}
 use Rattle.mig_model.specs.Userfault.{Noted, Object, fault_queued, next_message, next_of, read_by, thread_id, waits_fault}
-use Rattle.mig_model.specs.Space.{Space, access_of, accessed_by, call_messages, modes_after}
+use Rattle.mig_model.specs.Space.{Space, access_of, accessed_by}
 use Rattle.mig_model.specs.Cpus.{access_took}
 use Rattle.mig_model.specs.Guest.{Act, Fault, Guest, held_after, read_guest, rest_held, space_by, tried}
 use Rattle.mig_model.specs.Guest.Act.{Unprotected, Zeroed, Woke, Forgot, Requested}
@@ -29,11 +29,11 @@ use Rattle.mig_model.specs.Destination.{copy_came, destination_act, destination_
 use Rattle.mig_model.specs.Migration.{World, after_dest_read, after_source_read, after_steps, answer, first_world_with, guest_by, next, with_guest_by}
 use Rattle.mig_model.specs.Invariant.{AreRight, IsRight, IsSoundWorld}
 use Rattle.mig_model.specs.Promises.{IsReached}
-use Rattle.mig_model.specs.Bounds.{IsMapping, IsPage, IsRightAccess}
+use Rattle.mig_model.specs.Bounds.{IsMapping, IsPage}
 use Rattle.mig_model.proofs.Bounded.{IsBounded, bounded-first, bounded-next, has_memory}
 use Rattle.mig_model.proofs.FaultLemmas.{called_faults}
 use Rattle.mig_model.proofs.Registering.{pages_again}
-use Rattle.mig_model.proofs.RightCommands.{right_slept}
+use Rattle.mig_model.proofs.RightCommands.{right_slept, IsInside}
 use Rattle.mig_model.proofs.StepCases.{holds-made}
 use Rattle.mig_model.proofs.StepLemmas.{Leaves, leaves-next}
 
@@ -53,7 +53,7 @@ AreHeldPages (fault ∷ rest) = IsPage fault.page × AreHeldPages rest
 
 -- Commands
 
-access_page : (command : Command) → IsRightAccess command → IsPage (page_of command)
+access_page : (command : Command) → IsInside command → IsPage (page_of command)
 access_page (Load addr width) is = is.1
 access_page (Store addr width value) is = is.2
 access_page (Mmap len prot place) is = absurd is

@@ -7,7 +7,6 @@ use Rattle.std.specs.FinSet.{FinSet, contains, contains-retain, len, len-empty, 
 use Rattle.std.proofs.lemmas.Bool.{false≢true, and_parts}
 use lib.ListN.{length-map}
 use Rattle.mig_base.specs.declared.TheConstants.{LOW_PAGE, HIGH_PAGE, MAX_PAGES}
-use Rattle.mig_base.specs.declared.Prot.{Prot}
 use Rattle.mig_base.specs.declared.phase.Received.{Received}
 use Rattle.mig_base.proofs.PageLemmas.{count_below-contains_key}
 use Rattle.mig_base.proofs.SetLemmas.{member_below}

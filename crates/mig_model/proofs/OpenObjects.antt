@@ -18,9 +18,9 @@ use Rattle.mig_model.specs.Ioctls.{all_features, event_features}
 use Rattle.mig_model.specs.Guest.{Act, Guest, read_guest, space_by, tried}
 use Rattle.mig_model.specs.Owed.{home}
 use Rattle.mig_model.specs.Wire.{Copy, Frame}
-use Rattle.mig_model.specs.Wire.Frame.{Page, Zero, Package, Resume, Request, Recv, Done as Finished}
-use Rattle.mig_model.specs.Source.{is_precopy, is_released, is_source_idle, is_source_paused, source_act, source_acted_by, source_rebuilt, source_took, space_of}
-use Rattle.mig_model.specs.Destination.{copy_came, destination_act, destination_acted_by, destination_took, install_by, received_of, resumed_by, urgent_took}
+use Rattle.mig_model.specs.Wire.Frame.{Page, Zero}
+use Rattle.mig_model.specs.Source.{is_precopy, is_released, is_source_idle, source_act, source_acted_by, source_took, space_of}
+use Rattle.mig_model.specs.Destination.{destination_act, destination_acted_by, destination_took, install_by, urgent_took}
 use Rattle.mig_model.specs.Migration.{World, answer, first_world_with, guest_by, next, with_guest_by}
 use Rattle.mig_model.specs.Invariant.{IsSoundWorld}
 use Rattle.mig_model.proofs.Taken.{IsInPlaceBack}

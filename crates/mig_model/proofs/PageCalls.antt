@@ -1,12 +1,12 @@
 -- The calls that a handler makes for one page: what each of them answers where it is accepted, and the space that it leaves.
 use Rattle.mig_base.specs.declared.TheConstants.{LOW_PAGE, HIGH_PAGE}
 use Rattle.std.proofs.lemmas.Bool.Decides.{nat_tests}
-use Rattle.std.proofs.Common.{◌≡◌, ℕ, ◌+◌, ◌*◌, ◌/◌, ◌<◌, ◌≤◌, ◌&&◌, ◌||◌, Bool, true, false, not, eqb, ltb, Option, Some, None, is_some, unwrap_or, List, refl, sym, ap, ◌∙◌, arith, length, if◌then◌else◌, ◌-◌, ◌∷◌, []}
+use Rattle.std.proofs.Common.{◌≡◌, ℕ, ◌+◌, ◌*◌, ◌/◌, ◌<◌, ◌≤◌, ◌&&◌, ◌||◌, Bool, true, false, not, eqb, ltb, Option, None, is_some, unwrap_or, List, refl, sym, ap, ◌∙◌, arith, length, if◌then◌else◌, ◌-◌, ◌∷◌, []}
 use Rattle.std.specs.Prelude.{Ok}
 use Rattle.std.specs.Ordering.{nat_cmp}
 use Rattle.std.specs.FinMap.{FinMap, contains_key, insert}
 use Rattle.std.specs.FinSet.{contains}
-use Rattle.std.proofs.lemmas.Bool.{false≢true, and_from, not_from_true}
+use Rattle.std.proofs.lemmas.Bool.{and_from, not_from_true}
 use Rattle.std.proofs.lemmas.Bool.Decides.{nat_tests}
 use Rattle.mig_base.specs.declared.TheConstants.{LOW_PAGE, HIGH_PAGE}
 use Rattle.std.proofs.lemmas.List.{take_all}
@@ -24,11 +24,11 @@ use Rattle.mig_base.proofs.RangeLemmas.{least_below-none, none_below-from}
 use Rattle.mig_model.specs.Userfault.{changing, is_registered}
 use Rattle.mig_model.specs.Space.{Space}
 use Rattle.mig_model.specs.Guest.{Guest, in_bytes, resolved, is_present, zero_installed}
-use Rattle.mig_model.specs.Ioctls.{Put, answered_by, copy_error, copy_errors, handed, installed, is_bad_range, is_one_area, missing_run, protected_in, put_answer, put_by, put_pages, same_area, same_prot, writeprotect_error, writeprotect_errors, zeropage_error, zeropage_errors}
+use Rattle.mig_model.specs.Ioctls.{Put, answered_by, copy_error, copy_errors, handed, installed, is_bad_range, is_one_area, missing_run, protected_in, put_answer, put_by, put_pages, same_prot, writeprotect_error, writeprotect_errors, zeropage_error}
 use Rattle.mig_model.specs.Bounds.{IsPage}
 use Rattle.mig_model.specs.Handlers.{IsCopy, IsWake, IsWriteProtect, IsZeroPage, page_put, woken_by}
 use Rattle.mig_model.specs.Cpus.{all_woken}
-use Rattle.mig_model.proofs.Facts.{eqb-self, only_one}
+use Rattle.mig_model.proofs.Facts.{only_one}
 use Rattle.mig_model.proofs.Registering.{left_new, nothing_holds, pages_again, range_good}
 
 -- a page for which a call is made: the object is enabled, no event is unread, and the page may be mapped

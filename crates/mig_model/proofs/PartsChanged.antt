@@ -39,8 +39,8 @@ grows_if true wire epoch frames = grows_by wire epoch frames
 grows_if false wire epoch frames = as_it_was wire
 
 guest_by_alone : (ran : Bool) (world : World) (guest : Guest) → world.destination.has_run ≡ ran → GuestAlone world (with_guest_by ran world guest)
-guest_by_alone true world guest is = record { forward = refl; back = refl; urgent = refl; up = refl; source = λ h. refl; destination = λ h. absurd (false≢true (sym h ∙ is)) }
-guest_by_alone false world guest is = record { forward = refl; back = refl; urgent = refl; up = refl; source = λ h. absurd (false≢true (sym is ∙ h)); destination = λ h. refl }
+guest_by_alone true world guest is = record { forward = refl; back = refl; urgent = refl; up = refl; source = λ h. refl; destination = λ h. absurd (false≢true (sym h ∙ is)); source_guest = refl; destination_guest = refl }
+guest_by_alone false world guest is = record { forward = refl; back = refl; urgent = refl; up = refl; source = λ h. absurd (false≢true (sym is ∙ h)); destination = λ h. refl; source_guest = refl; destination_guest = refl }
 
 guest_alone : (world : World) (cpu : ℕ) (command : Command) → GuestAlone world (after_command world cpu command)
 guest_alone world cpu command = let alone = guest_by_alone world.destination.has_run world (tried (is_access command) (guest_of world) cpu command) refl in assumption

@@ -21,8 +21,6 @@ use Rattle.mig_model.specs.Invariant.{IsSoundWorld, IsPrecopying, IsSwitching, I
 use Rattle.mig_model.specs.Promises.{IsComplete, IsAlone, ArePaired, AreUnderWay}
 use Rattle.mig_model.proofs.Stopping.{in_phases}
 use Rattle.mig_model.proofs.SettledLemmas.{IsOneToOne-settled, values-settled, none-settled}
-use Rattle.mig_model.specs.Log.{present}
-use Rattle.mig_model.specs.Owed.{owed_after, settled_by}
 use Rattle.mig_model.specs.Source.{is_precopy, is_released, is_source_paused, is_stopped, released, source_act, source_act_by, space_of}
 use Rattle.mig_model.specs.Destination.{destination_act, destination_act_by, is_running, settled}
 use Rattle.mig_model.proofs.Facts.{none_absurd}

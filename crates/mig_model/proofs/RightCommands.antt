@@ -1,5 +1,5 @@
 -- A command that waits is a load or store whose form is right, of a page that may be mapped.
-use Rattle.std.proofs.Common.{◌≡◌, ℕ, zero, suc, ◌/◌, ◌^◌, ◌&&◌, Bool, true, false, not, ltb, Option, Some, None, is_some, List, [], ◌∷◌, refl, sym, ap, ◌∙◌, ⊎_elim, if◌then◌else◌}
+use Rattle.std.proofs.Common.{◌≡◌, ℕ, zero, suc, ◌/◌, ◌^◌, ◌&&◌, Bool, true, false, not, ltb, Option, Some, None, is_some, List, [], ◌∷◌, refl, sym, ap, ◌∙◌, ⊎_elim, if◌then◌else◌, ◌<◌, arith}
 use Rattle.std.proofs.lemmas.Bool.{false≢true, and_parts, ltb-true}
 use Rattle.std.proofs.lemmas.Option.{none-some}
 use Rattle.mig_base.specs.declared.Prot.{Prot}
@@ -45,7 +45,21 @@ access_form false o allows answer h = absurd (false≢true h)
 page_of_access : (space : Space) (addr : ℕ) → IsMapping space.host.areas → is_mapped (memory space.host) addr ≡ true → IsPage (addr / 4096)
 page_of_access space addr mapping h = mapping.pages (addr / 4096) (sym (ap (λ test. test addr) (is_mapped-memory space.host)) ∙ h)
 
-right_by : (space : Space) (command : Command) → IsMapping space.host.areas → is_access command ≡ true → is_made (reply_of (memory space.host) command) ≡ true → IsRightAccess command
+-- a load or store of the right form, whose page may be mapped
+abbrev pub IsInside : Command → Type 0
+IsInside (Load addr width) = (is_aligned addr width ≡ true) × IsPage (addr / 4096)
+IsInside (Store addr width value) = (is_aligned addr width ≡ true) × (value < 256 ^ width) × IsPage (addr / 4096)
+IsInside command = ⊥
+
+low_address : (addr : ℕ) → IsPage (addr / 4096) → addr < 2 ^ 64
+low_address addr is = let low = is.1 in omega (arith, low)
+
+right_form : (command : Command) → IsInside command → IsRightAccess command
+right_form (Load addr width) is = (is.0, low_address addr is.1)
+right_form (Store addr width value) is = (is.0, is.1, low_address addr is.2)
+right_form _ is = absurd is
+
+right_by : (space : Space) (command : Command) → IsMapping space.host.areas → is_access command ≡ true → is_made (reply_of (memory space.host) command) ≡ true → IsInside command
 right_by space (Load addr width) mapping is h = let form = access_form (is_aligned addr width) (memory space.host addr) _ _ h in (form.0, page_of_access space addr mapping form.1)
 right_by space (Store addr width value) mapping is h =
     let form = access_form (is_aligned addr width && ltb value (256 ^ width)) (memory space.host addr) _ _ h in
@@ -53,14 +67,14 @@ right_by space (Store addr width value) mapping is h =
     (both.0, ltb-true value (256 ^ width) both.1, page_of_access space addr mapping form.1)
 right_by space _ mapping is h = absurd (false≢true is)
 
-pub right_slept : (access : Bool) (space : Space) (command : Command) → access ≡ is_access command → IsMapping space.host.areas → took_by access space command ≡ Sleep → IsRightAccess command
+pub right_slept : (access : Bool) (space : Space) (command : Command) → access ≡ is_access command → IsMapping space.host.areas → took_by access space command ≡ Sleep → IsInside command
 right_slept true space command is mapping h = right_by space command mapping (sym is) (slept_made (is_made (reply_of (memory space.host) command)) _ _ h)
 right_slept false space command is mapping h = absurd (call_answered (reply_of (memory space.host) command) (queued_by space command) h)
 
 -- Where the guest runs
 
 abbrev pub AllRight : List CpuState → Type 0
-AllRight processors = (k : ℕ) (command : Command) → outstanding (processor_at processors k) ≡ Some command → IsRightAccess command
+AllRight processors = (k : ℕ) (command : Command) → outstanding (processor_at processors k) ≡ Some command → IsInside command
 
 abbrev pub AreRight : World → Type 0
 AreRight world = AllRight (guest_of world).cpus
@@ -90,4 +104,4 @@ right_one (Some command) rest h right = (h command refl, right)
 -- so are the commands of a Package
 pub right_commands : (processors : List CpuState) → AllRight processors → AreRightAccesses (commands_of processors)
 right_commands [] right = tt
-right_commands (processor ∷ rest) right = right_one (outstanding processor) (commands_of rest) (λ command h. right 0 command h) (right_commands rest (λ k command h. right (suc k) command h))
+right_commands (processor ∷ rest) right = right_one (outstanding processor) (commands_of rest) (λ command h. right_form command (right 0 command h)) (right_commands rest (λ k command h. right (suc k) command h))

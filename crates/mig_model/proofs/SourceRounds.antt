@@ -30,7 +30,6 @@ use Rattle.mig_model.specs.Source.{Source, all_registered, for_both, is_precopy,
 use Rattle.mig_model.specs.Destination.{Destination}
 use Rattle.mig_model.proofs.WireLemmas.{fits-more, flight_up}
 use Rattle.mig_model.proofs.Facts.{none_absurd, low_or, and_true, owed_is_present}
-use Rattle.mig_model.proofs.Stopping.{member_not_clean}
 
 -- The source makes rounds of pre-copy
 

@@ -1,5 +1,5 @@
 -- Each step that is not refused: what its tests tell, and what it makes. A fact about every step is one answer for each of these.
-use Rattle.std.proofs.Common.{◌≡◌, ℕ, ◌&&◌, ◌||◌, Bool, true, false, not, eqb, Option, Some, None, List, [], ◌∷◌, refl, sym, ◌+◌, ◌*◌, is_some}
+use Rattle.std.proofs.Common.{◌≡◌, ℕ, ◌&&◌, ◌||◌, Bool, true, false, not, eqb, Option, Some, None, List, [], ◌∷◌, refl, sym, ◌+◌, ◌*◌}
 use Rattle.std.specs.Prelude.{Ok, IsOk}
 use Rattle.std.specs.FinSet as finset
 use Rattle.std.specs.FinSet.{contains}

@@ -220,7 +220,7 @@ completes_answer world Step.SourceAct not =
     λ fault rest is started unswitched quiet h. still_not world.source.phase _ (worked_phase (source_act world.source fault) world fault.page) not h
 completes_answer world Step.Switch not = λ precopy up quiet h. absurd (false≢true h)
 completes_answer world (Step.DeliverBack n) not =
-    ((λ sent rest is short h. absurd (false≢true (sym not ∙ h))), (λ one more is full started up h. record { n = n; step_is = refl; sent = one; rest = more; first = is; last = released_by one.frame world.source not h }))
+    ((λ sent rest is short h. absurd (false≢true (sym not ∙ h))), (λ one more is full started up h. record { n = n; step_is = refl; sent = one; rest = more; first = is; full = full; last = released_by one.frame world.source not h }))
 completes_answer world (Step.Notice Side.Source) not = λ started unreleased down h. absurd (false≢true h)
 completes_answer world step not = assumption (λ (h : is_released world.source.phase ≡ true). absurd {A = Completes world step} (false≢true (sym not ∙ h)))
 

@@ -1,6 +1,6 @@
 -- Bounds that every world of the whole migration keeps, beside its invariant: with them each frame in flight has a text, and each call
 -- of a userfault object that a node makes is one that the object accepts.
-use Rattle.std.specs.Prelude.{◌≡◌, ℕ, ◌+◌, ◌*◌, ◌/◌, ◌^◌, ◌<◌, ◌≤◌, Bool, true, false, Option, Some, None, List, [], ◌∷◌, length}
+use Rattle.std.specs.Prelude.{◌≡◌, ℕ, ◌+◌, ◌*◌, ◌^◌, ◌<◌, ◌≤◌, Bool, true, false, Option, Some, None, List, [], ◌∷◌, length}
 use Rattle.std.specs.List.{All}
 use Rattle.std.specs.Ordering.{nat_cmp}
 use Rattle.std.specs.FinMap as finmap
@@ -71,10 +71,10 @@ abbrev pub ArePageBytes : List (List ℕ) → Type 0
 ArePageBytes [] = Unit {0}
 ArePageBytes (bytes ∷ pages) = IsPageBytes bytes × ArePageBytes pages
 
--- a load or store that can be made where its page is mapped: its width, address and value are right, and the page may be mapped
+-- a load or store of the right form, at an address of 64 bits
 abbrev pub IsRightAccess : Command → Type 0
-IsRightAccess (Load addr width) = (is_aligned addr width ≡ true) × IsPage (addr / PAGE_SIZE)
-IsRightAccess (Store addr width value) = (is_aligned addr width ≡ true) × (value < 256 ^ width) × IsPage (addr / PAGE_SIZE)
+IsRightAccess (Load addr width) = (is_aligned addr width ≡ true) × (addr < 2 ^ 64)
+IsRightAccess (Store addr width value) = (is_aligned addr width ≡ true) × (value < 256 ^ width) × (addr < 2 ^ 64)
 IsRightAccess command = ⊥
 
 -- so is each command that a processor still has to make

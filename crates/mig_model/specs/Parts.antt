@@ -18,7 +18,7 @@ pub record Shrinks (old new : Wire) : Type 0 where
   pub taken : List Sent
   pub is : old.frames ≡ taken ++ new.frames
 
--- the node that runs the guest, and the transcript
+-- the guest, at the node that runs it, and the transcript
 pub record GuestAlone (old new : World) : Type 0 where
   pub forward : new.forward ≡ old.forward
   pub back : new.back ≡ old.back
@@ -26,6 +26,8 @@ pub record GuestAlone (old new : World) : Type 0 where
   pub up : new.up ≡ old.up
   pub source : old.destination.has_run ≡ true → new.source ≡ old.source
   pub destination : old.destination.has_run ≡ false → new.destination ≡ old.destination
+  pub source_guest : new.source ≡ record old.source { guest = new.source.guest }
+  pub destination_guest : new.destination ≡ record old.destination { guest = new.destination.guest }
 
 -- the source, and the end of the wire to the destination
 pub record SourceAlone (old new : World) : Type 0 where

@@ -1,5 +1,5 @@
 -- The promises of the whole migration, as words for its laws.
-use Rattle.std.specs.Prelude.{◌≡◌, ℕ, ◌+◌, ◌-◌, ◌/◌, ◌||◌, nat_lt, ◌==◌, if◌then◌else◌, Bool, true, false, Some, None, List, [], Option, ◌∷◌, length, ◌≢◌, ◌<◌, ◌≤◌, is_some, IsOk}
+use Rattle.std.specs.Prelude.{◌≡◌, ℕ, ◌+◌, ◌-◌, ◌/◌, ◌||◌, nat_lt, ◌==◌, if◌then◌else◌, Bool, true, false, Some, None, List, [], Option, ◌∷◌, IsOk}
 use Rattle.std.specs.FinMap as finmap
 use Rattle.std.specs.FinMap.{get, contains_key}
 use Rattle.std.specs.FinSet.{contains}
@@ -19,8 +19,8 @@ use Rattle.mig_model.specs.Host.{memory}
 use Rattle.mig_base.specs.Commands.{is_access}
 use Rattle.mig_model.specs.Space.{Space, fresh_space}
 use Rattle.mig_model.specs.Wire.{Frame, Sent, wire_behind, wire_with}
-use Rattle.mig_model.specs.Wire.Frame.{Recv, Done, Advise, Page, Zero, Discard, Package, End, Resume, Request}
-use Rattle.mig_model.specs.Migration.{World, guest_of, first_world_with, after_steps, outcome, next}
+use Rattle.mig_model.specs.Wire.Frame.{Recv, Done}
+use Rattle.mig_model.specs.Migration.{World, guest_of, first_world_with, after_steps, outcome, next, is_short}
 use Rattle.mig_model.specs.Invariant.{copies_of, has_copy, AreFaithful, is_urgent_or_left}
 use Rattle.mig_model.specs.Cpus.{outstanding, processor_at}
 use Rattle.mig_model.specs.Cpus.Took.{Sleep}
@@ -209,6 +209,7 @@ pub record Completes (world : World) (step : Step) : Type 0 where
   pub sent : Sent
   pub rest : List Sent
   pub first : world.back.frames ≡ sent ∷ rest
+  pub full : is_short world.back sent.frame n ≡ false
   pub last : is_last sent.frame ≡ true
 
 -- none of the steps, made in turn, is refused

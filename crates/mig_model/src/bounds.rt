@@ -1,7 +1,7 @@
 //! Bounds that hold after every list of steps of the whole migration: of the guest's memory and of what is in flight. Each law is a
 //! function with an empty body, whose contract is the law.
 
-ghost use Rattle.std.specs.Prelude.{ℕ, ◌^◌, ◌<◌, ◌≢◌, List, length};
+ghost use Rattle.std.specs.Prelude.{◌≡◌, ℕ, ◌^◌, ◌<◌, ◌≢◌, List, length};
 ghost use Rattle.mig_base.specs.declared.command.Entry.{Entry};
 ghost use Rattle.mig_base.specs.declared.command.Command.{Command};
 ghost use Rattle.mig_base.specs.declared.command.Reply.TheVariants.{BadAccess};
@@ -26,11 +26,15 @@ pub fn memory_is_bounded()
     ensures world { (world : World) → IsReached world → HasBoundedMemory world }
 {}
 
+/// Each node has as many processors as the world was made with, after every list of steps.
+pub fn processors_stay()
+    ensures { (world : World) (reached : IsReached world) → (length world.source.guest.cpus ≡ reached.cpus) × (length world.destination.guest.cpus ≡ reached.cpus) }
+{}
+
 /// Every frame in flight has a text, on each of the three wires: its pages may be mapped, its counts and its epoch have 32 bits, its bytes
 /// are those of a page, and of a Package the pages are no more than may be mapped, and the commands are loads and stores that can be
-/// made, one for each processor. A guest has as many processors as a new world may have. So each can be told from its
-/// text. The length of such a text has 32 bits, and no
-/// memory answers such a load or store by BadAccess.
+/// made, one for each processor. A guest has as many processors as a new world may have. Each can be read back from its
+/// text, whose length has 32 bits, and no memory answers such a load or store by BadAccess.
 pub fn frames_have_texts()
     ensures in_flight { (world : World) → IsReached world → IsCpuCount (length world.source.guest.cpus) → HasGoodFrames world }
     ensures encodable { (epoch : ℕ) (frame : Frame) → epoch < 2 ^ 32 → IsFrame frame → IsEncodable Two epoch frame }

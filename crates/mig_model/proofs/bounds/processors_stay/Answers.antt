@@ -1,0 +1,7 @@
+use Rattle.std.proofs.Common.{◌∙◌}
+use Rattle.mig_model.proofs.Bounded.{bounded-reached}
+use Rattle.mig_model.proofs.WaitingAccesses.{as_many}
+use Rattle.mig_model.proofs.bounds.processors_stay.Goals as goal
+
+pub returns : goal.returns
+returns c world reached = let many = (bounded-reached world reached).ready.many in (many, as_many world reached ∙ many)
