@@ -6,9 +6,9 @@ use Rattle.mig_model.specs.Guest.{held_after}
 use Rattle.mig_model.specs.Log.{Log, log_read}
 use Rattle.dirty_log.proofs.PageLemmas.{none_out}
 
-fault_kept : (log : Log) (addr : ℕ) (write wp : Bool) → record log { held = held_after log.held (PageFault addr write wp) } ≡ log_read log (PageFault addr write wp)
-fault_kept log addr write wp = λ i. record { clean = none_out log.clean i; todo = none_out log.todo i; sent = log.sent; held = held_after log.held (PageFault addr write wp) }
+fault_kept : (log : Log) (addr : ℕ) (write wp : Bool) (tid : ℕ) → record log { held = held_after log.held (PageFault addr write wp tid) } ≡ log_read log (PageFault addr write wp tid)
+fault_kept log addr write wp tid = λ i. record { clean = none_out log.clean i; todo = none_out log.todo i; sent = log.sent; held = held_after log.held (PageFault addr write wp tid) }
 
 -- a page fault takes no page out
-pub fault_read : (log now : Log) (message : Message) (addr : ℕ) (write wp : Bool) → message ≡ PageFault addr write wp → now ≡ record log { held = held_after log.held message } → now ≡ log_read log message
-fault_read log now message addr write wp e h = h ∙ rw e (fault_kept log addr write wp)
+pub fault_read : (log now : Log) (message : Message) (addr : ℕ) (write wp : Bool) (tid : ℕ) → message ≡ PageFault addr write wp tid → now ≡ record log { held = held_after log.held message } → now ≡ log_read log message
+fault_read log now message addr write wp tid e h = h ∙ rw e (fault_kept log addr write wp tid)

@@ -1,7 +1,7 @@
 -- Clean pages stay protected.
-use Rattle.std.proofs.Common.{◌≡◌, ℕ, ◌+◌, ◌<◌, ◌≤◌, ◌||◌, ◌⊎◌, inl, inr, Bool, true, false, cond, not, eqb, ltb, lt-ltb, Some, None, List, [], ◌∷◌, ◌++◌, refl, sym, ap, ◌∙◌, ⊎_elim, arith}
+use Rattle.std.proofs.Common.{◌≡◌, ℕ, ◌+◌, ◌<◌, ◌≤◌, ◌⊎◌, inl, inr, Bool, true, false, cond, not, eqb, ltb, lt-ltb, Some, None, List, [], ◌∷◌, ◌++◌, refl, sym, ap, ◌∙◌, ⊎_elim, arith}
 use Rattle.std.specs.FinSet.{contains, remove}
-use Rattle.std.proofs.lemmas.Bool.{and_parts, or_parts, or_right}
+use Rattle.std.proofs.lemmas.Bool.{and_parts, or_parts, or_right, or_cases, or_left, not-true}
 use Rattle.mig_base.specs.Commands.{is_access}
 use Rattle.mig_base.specs.declared.TheConstants.{HIGH_PAGE}
 use Rattle.mig_base.specs.declared.command.Access.{Access}
@@ -22,7 +22,7 @@ use Rattle.mig_model.specs.Invariant.{is_unread}
 use Rattle.mig_model.specs.Ioctls.{protected_in}
 use Rattle.mig_model.specs.Log.{Log, log_read, log_run_sent, no_pages}
 use Rattle.mig_model.specs.Source.{Source, all_registered, source_acted_by, space_of}
-use Rattle.mig_model.proofs.Facts.{modes_events, none_absurd}
+use Rattle.mig_model.proofs.Facts.{modes_events}
 use Rattle.mig_model.proofs.SourceCalls.{untouched}
 use Rattle.mig_model.proofs.SourceKept.{no_page_absurd}
 use Rattle.mig_model.proofs.SourceMessages.{events_queued, is_unread-append, noted_all, tells}
@@ -42,25 +42,18 @@ registered_kept log space sound kept page h u =
     let was = kept page h u in
     member_below _ HIGH_PAGE page ∙ rw (watched_below space page sound (sound.watched page was), was) refl
 
-either : (a b : Bool) → (a || b) ≡ true → (a ≡ true) ⊎ (b ≡ true)
-either true b h = inl refl
-either false b h = inr h
-
 in_from : (first count page : ℕ) → in_range first count page ≡ true → first ≤ page
 in_from first count page h = grind (arith, ranges)
 
 in_to : (first count page : ℕ) → in_range first count page ≡ true → page < first + count
 in_to first count page h = grind (arith, ranges)
 
-or_left : (a b : Bool) → a ≡ true → (a || b) ≡ true
-or_left a b h = rw h refl
-
 pub sent_kept : (log : Log) (space : Space) (first count : ℕ) → IsSoundSpace space → send_refusal space first count ≡ None → AreProtected log space → AreProtected (log_run_sent log first count) (protected_in space first count true)
 sent_kept log space first count sound told kept page h u =
     let here = in_range first count page in
     let old = contains space.protected page in
     let cases : (here ≡ true) ⊎ (old ≡ true) =
-    ⊎_elim inl (λ (was : contains log.clean page ≡ true). inr (kept page was u)) (either here (contains log.clean page) (sym (member_with_range log.clean first count page) ∙ h)) in
+    ⊎_elim inl (λ (was : contains log.clean page ≡ true). inr (kept page was u)) (or_cases here (contains log.clean page) (sym (member_with_range log.clean first count page) ∙ h)) in
     let there : is_present space page ≡ true =
     ⊎_elim (λ (is : here ≡ true). page_there space first count page told (in_from first count page is) (in_to first count page is)) (λ (was : old ≡ true). sound.present page was) cases in
     member_below _ HIGH_PAGE page
@@ -81,20 +74,16 @@ was_unread [] object noted page next out u = rest_unread object.events noted pag
 was_unread (fault ∷ faults) object noted page next out u = u
 
 pub read_space : (guest : Guest) (cpu : ℕ) (message : Message) → (read_guest guest cpu message).space ≡ record guest.space { object = read_by guest.space.object.faults guest.space.object }
-read_space guest cpu (PageFault addr write wp) = refl
+read_space guest cpu (PageFault addr write wp tid) = refl
 read_space guest cpu (Remap from to len) = refl
 read_space guest cpu (Remove start end) = refl
 read_space guest cpu (Unmap start end) = refl
-
-not_true : (b : Bool) → not b ≡ true → b ≡ false
-not_true false h = refl
-not_true true h = none_absurd h
 
 pub read_kept : (log : Log) (guest : Guest) (noted : Noted) → next_message guest.space.object ≡ Some noted → AreProtected log guest.space → AreProtected (log_read log noted.message) (read_guest guest noted.cpu noted.message).space
 read_kept log guest noted next kept page h u =
     let is = read_space guest noted.cpu noted.message in
     let parts = and_parts (contains log.clean page) (not (is_changed_by noted.message page)) (sym (member_kept log.clean (is_changed_by noted.message) page) ∙ h) in
-    let unread = was_unread guest.space.object.faults guest.space.object noted page next (not_true _ parts.1) (sym (ap (λ s. is_unread s.object.events page) is) ∙ u) in
+    let unread = was_unread guest.space.object.faults guest.space.object noted page next (not-true _ parts.1) (sym (ap (λ s. is_unread s.object.events page) is) ∙ u) in
     ap (λ s. contains s.protected page) is ∙ kept page parts.0 unread
 
 -- Faults

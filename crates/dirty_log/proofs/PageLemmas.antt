@@ -2,10 +2,10 @@
 use Rattle.std.proofs.Common.{◌≡◌, ℕ, zero, suc, ◌+◌, ◌-◌, ◌/◌, ◌<◌, ◌≤◌, ◌&&◌, ◌||◌, Bool, true, false, not, ltb, min, refl, sym, ap, ◌∙◌, ⊎_elim, arith}
 use Rattle.std.specs.Ordering.{nat_cmp}
 use Rattle.std.specs.FinSet.{FinSet, contains, retain, contains-retain, nat_cmp-IsAntisymmetric}
+use Rattle.std.proofs.lemmas.Bool.{cases_lt}
 use Rattle.mig_base.specs.declared.TheConstants.{HIGH_PAGE}
 use Rattle.mig_base.specs.Ranges.{in_range}
 use Rattle.mig_base.specs.Sets.{without, run_length}
-use Rattle.mig_base.proofs.BitLemmas.{below_or_past}
 use Rattle.mig_base.proofs.RangeLemmas.{ranges}
 use Rattle.mig_base.proofs.SetLemmas.{same_members, member_without}
 use Rattle.mig_model.specs.Guest.{in_bytes}
@@ -56,7 +56,7 @@ none_out pages = same_members _ _ (λ q. none_out_at (contains pages q) ∙ sym 
 -- runs
 
 pub out_at_end : (s : FinSet nat_cmp) (end : ℕ) → (end < HIGH_PAGE → contains s end ≡ false) → ((q : ℕ) → HIGH_PAGE ≤ q → contains s q ≡ false) → contains s end ≡ false
-out_at_end s end here past = ⊎_elim here (past end) (below_or_past end HIGH_PAGE)
+out_at_end s end here past = ⊎_elim here (past end) (cases_lt end HIGH_PAGE)
 
 pub run_length-is : (s : FinSet nat_cmp) (first run most : ℕ) → ((q : ℕ) → first ≤ q → q < first + run → contains s q ≡ true) → contains s (first + run) ≡ false → run_length s first most ≡ min run most
 unfolding run_length

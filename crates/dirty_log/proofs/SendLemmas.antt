@@ -6,7 +6,7 @@ use Rattle.std.specs.FinMap.{get}
 use Rattle.std.specs.FinSet.{FinSet, contains, insert}
 use Rattle.std.specs.declared.boxed.Box.{Box}
 use Rattle.std.specs.declared.alloc.Global.{Global}
-use Rattle.std.proofs.lemmas.Bool.{and_parts}
+use Rattle.std.proofs.lemmas.Bool.{and_parts, not-false}
 use Rattle.std.proofs.lemmas.Bool.Decides.{nat_tests}
 use Rattle.std.proofs.lemmas.List.{map-append, take_more_set}
 use Rattle.mig_base.specs.declared.TheConstants.{HIGH_PAGE}
@@ -25,9 +25,9 @@ use Rattle.mig_model.specs.Ioctls.{protected_in}
 use Rattle.mig_model.specs.Log.{Log, log_run_sent, log_sent}
 use Rattle.mig_model.specs.Source.{Source, bytes_of, run_of}
 use Rattle.mig_model.specs.Wire.{Copy, Frame, copies_in, is_zeros, page_frame}
-use Rattle.mig_model.proofs.IoctlLemmas.{every_page, not_false}
+use Rattle.mig_model.proofs.IoctlLemmas.{every_page}
 use Rattle.mig_model.proofs.SourceSending.{present_bytes, protected_now, whole_bytes}
-use Rattle.mig_model.proofs.SendingLemmas.{copies_in-page}
+use Rattle.mig_model.proofs.WireLemmas.{copies_in-page}
 use Rattle.dirty_log.specs.Answers.{send_refusal}
 use Rattle.dirty_log.specs.Sending.{frame_of, bytes_of as sent_bytes, bytes_of_run}
 use Rattle.dirty_log.specs.Spaces.{is_sendable}
@@ -46,7 +46,7 @@ two_told false false x y h = (refl, refl)
 pub accepted : (space : Space) (first count : ℕ) → send_refusal space first count ≡ None → (changing space.object ≡ 0) × (is_every (is_sendable space) first count ≡ true)
 accepted space first count h =
     let told = two_told (ltb 0 (changing space.object)) (not (is_every (is_sendable space) first count)) Refusal.Changing Refusal.PageNotSendable h in
-    (none_unread (changing space.object) told.0, not_false (is_every (is_sendable space) first count) told.1)
+    (none_unread (changing space.object) told.0, not-false (is_every (is_sendable space) first count) told.1)
 
 -- each page is present
 pub page_there : (space : Space) (first count page : ℕ) → send_refusal space first count ≡ None → first ≤ page → page < first + count → is_present space page ≡ true

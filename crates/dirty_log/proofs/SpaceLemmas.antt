@@ -3,7 +3,7 @@ use Rattle.std.proofs.Common.{◌≡◌, ℕ, ◌+◌, ◌-◌, ◌*◌, ◌/◌
 use Rattle.std.specs.Ordering.{nat_cmp}
 use Rattle.std.specs.FinMap.{get, contains_key}
 use Rattle.std.specs.FinSet.{FinSet, contains}
-use Rattle.std.proofs.lemmas.Bool.{and_from, and_parts}
+use Rattle.std.proofs.lemmas.Bool.{and_from, and_parts, cases_lt, or_parts, false_from_ne_true, not_from_true, not-false}
 use Rattle.std.proofs.lemmas.Bool.Decides.{nat_tests}
 use Rattle.mig_base.specs.declared.TheConstants.{HIGH_PAGE, LOW_PAGE}
 use Rattle.mig_base.specs.declared.Prot.{Prot}
@@ -17,7 +17,6 @@ use Rattle.mig_base.specs.Codes.{prot_number}
 use Rattle.mig_base.specs.Ranges.{in_range}
 use Rattle.mig_base.specs.Sets.{pages_where}
 use Rattle.mig_base.specs.Tests.{first_holding, is_every, same_bool}
-use Rattle.mig_base.proofs.BitLemmas.{below_or_past}
 use Rattle.mig_base.proofs.RangeLemmas.{least_below-none, none_below-from, none_below_tells, ranges}
 use Rattle.mig_model.specs.Space.{Space, IsSoundSpace}
 use Rattle.mig_model.specs.Userfault.{changing, has_modes, is_registered, registered_where}
@@ -26,7 +25,7 @@ use Rattle.mig_model.specs.Ioctls.{answered_by, has_events, is_bad_range, is_bar
 use Rattle.mig_model.specs.Log.{present}
 use Rattle.mig_model.specs.Source.{all_registered, for_both}
 use Rattle.mig_model.proofs.Facts.{none_absurd, and_true}
-use Rattle.mig_model.proofs.IoctlLemmas.{every_page, not_false}
+use Rattle.mig_model.proofs.IoctlLemmas.{every_page}
 use Rattle.userfault.proofs.ModeLemmas.{is_pages_where}
 use Rattle.uffd_ioctl.specs.Puts.{IsShort, pages_put, result_of}
 use Rattle.uffd_ioctl.specs.Spaces.{ioctl_result}
@@ -34,7 +33,7 @@ use Rattle.uffd_ioctl.specs.declared.fault.Copied.{Copied}
 use Rattle.uffd_ioctl.specs.declared.fault.CopyFault.{CopyFault}
 use Rattle.uffd_ioctl.specs.declared.fault.IoctlFault.{IoctlFault}
 use Rattle.uffd_ioctl.specs.declared.fault.IoctlFault.TheVariants as fault
-use Rattle.uffd_ioctl.proofs.RegisterLemmas.{no_left, no_right, nothing_where, sound_low}
+use Rattle.uffd_ioctl.proofs.RegisterLemmas.{nothing_where, sound_low}
 use Rattle.dirty_log.specs.Spaces.{IsLent, is_sendable}
 
 -- Pages of a space
@@ -47,17 +46,13 @@ pub mapped_if : (space : Space) (page : ℕ) → IsSoundSpace space → is_prese
 mapped_if space page sound h = none_there (get space.host.areas page) (λ e. none_absurd (sym (ap is_some (sound.host.mapped page e)) ∙ h))
 
 pub from_low : (space : Space) (page : ℕ) → IsLent space → contains_key space.host.areas page ≡ true → LOW_PAGE ≤ page
-from_low space page lent h = ⊎_elim (λ (l : page < LOW_PAGE). none_absurd (sym (lent.low page l) ∙ h)) (λ l. l) (below_or_past page LOW_PAGE)
+from_low space page lent h = ⊎_elim (λ (l : page < LOW_PAGE). none_absurd (sym (lent.low page l) ∙ h)) (λ l. l) (cases_lt page LOW_PAGE)
 
 pub below_high : (space : Space) (page : ℕ) → IsSoundSpace space → contains_key space.host.areas page ≡ true → page < HIGH_PAGE
-below_high space page sound h = ⊎_elim (λ l. l) (λ (l : HIGH_PAGE ≤ page). none_absurd (sym (ap is_some (sound.host.bound page l)) ∙ h)) (below_or_past page HIGH_PAGE)
-
-not_true : (b : Bool) → (b ≡ true → ⊥) → b ≡ false
-not_true true h = absurd (h refl)
-not_true false h = refl
+below_high space page sound h = ⊎_elim (λ l. l) (λ (l : HIGH_PAGE ≤ page). none_absurd (sym (ap is_some (sound.host.bound page l)) ∙ h)) (cases_lt page HIGH_PAGE)
 
 pub protected_past : (space : Space) (page : ℕ) → IsSoundSpace space → HIGH_PAGE ≤ page → contains space.protected page ≡ false
-protected_past space page sound l = not_true (contains space.protected page) (λ h. let below = below_high space page sound (mapped_if space page sound (sound.present page h)) in omega (arith, l, below))
+protected_past space page sound l = false_from_ne_true (contains space.protected page) (λ h. let below = below_high space page sound (mapped_if space page sound (sound.present page h)) in omega (arith, l, below))
 
 pub present_is : (space : Space) (pages : FinSet nat_cmp) → IsSoundSpace space → ((q : ℕ) → contains pages q ≡ contains_key space.host.bytes q) → pages ≡ present space
 present_is space pages sound same = is_pages_where pages (λ q. is_present space q) same (λ q l. ap is_some (sound.host.mapped q (sound.host.bound q l)))
@@ -72,9 +67,6 @@ right_range first count low some high =
 
 five_none : {A : Type 0} (a b c d e : Bool) (v w x y z : A) → a ≡ false → b ≡ false → c ≡ false → d ≡ false → e ≡ false → first_holding ((a, v) ∷ (b, w) ∷ (c, x) ∷ (d, y) ∷ (e, z) ∷ []) ≡ None
 five_none a b c d e v w x y z h k l m n = rw (h, k, l, m, n) refl
-
-not_on : (b : Bool) → b ≡ true → not b ≡ false
-not_on b h = rw h refl
 
 none_unread : (count : ℕ) → count ≡ 0 → ltb 0 count ≡ false
 none_unread count h = rw h refl
@@ -104,8 +96,8 @@ protect_accepted space first count bits start len can few start_is len_is =
     let first_is : start / 4096 ≡ first = omega (arith, start_is) in
     let count_is : len / 4096 ≡ count = omega (arith, len_is) in
     five_none (not space.object.enabled) (ltb 2 bits) (is_bad_range start len) (ltb 0 (changing space.object)) _ Einval Einval Einval Eagain Enoent
-    (not_on space.object.enabled can.lent.enabled) (not_above bits 2 few) (rw (start_is, len_is) (right_range first count can.low can.some can.high)) (none_unread (changing space.object) can.quiet)
-    (rw (first_is, count_is) (not_on _ can.watched))
+    (not_from_true space.object.enabled can.lent.enabled) (not_above bits 2 few) (rw (start_is, len_is) (right_range first count can.low can.some can.high)) (none_unread (changing space.object) can.quiet)
+    (rw (first_is, count_is) (not_from_true _ can.watched))
 
 pub not_refused : {A : Type 0} (error : Option Errno) (answer : A) (result : Result A Errno) (errno : Errno) → error ≡ None → result ≡ answered_by error answer → result ≡ Err errno → ⊥
 not_refused None answer result errno h told is = ok_no_err (sym told ∙ is)
@@ -128,7 +120,7 @@ unfolding is_one
 bit_on = refl
 
 pub one_every : (test : ℕ → Bool) (page : ℕ) → test page ≡ true → is_every test page 1 ≡ true
-one_every test page h = none_below-from (λ i. not (test (page + i))) 1 (λ i l. not_on _ (ap test (omega (arith, l)) ∙ h))
+one_every test page h = none_below-from (λ i. not (test (page + i))) 1 (λ i l. not_from_true _ (ap test (omega (arith, l)) ∙ h))
 
 -- a protected page can be unprotected
 pub can_unprotect : (space : Space) (page : ℕ) → IsSoundSpace space → IsLent space → changing space.object ≡ 0 → contains space.protected page ≡ true → CanProtect space page 1
@@ -148,7 +140,7 @@ can_unprotect space page sound lent quiet h =
 pub all_watched : (space : Space) (first count : ℕ) → is_every (is_sendable space) first count ≡ true → is_every (λ page. contains space.object.protect page) first count ≡ true
 all_watched space first count h =
     none_below-from (λ i. not (contains space.object.protect (first + i))) count
-    (λ i l. not_on _ (and_parts (is_present space (first + i)) (contains space.object.protect (first + i)) (every_page (is_sendable space) first count (first + i) h (omega arith) (omega (arith, l)))).1)
+    (λ i l. not_from_true _ (and_parts (is_present space (first + i)) (contains space.object.protect (first + i)) (every_page (is_sendable space) first count (first + i) h (omega arith) (omega (arith, l)))).1)
 
 -- pages that can be sent can be protected
 pub can_protect : (space : Space) (first count : ℕ) → IsSoundSpace space → IsLent space → changing space.object ≡ 0 → 0 < count → first + count ≤ HIGH_PAGE → is_every (is_sendable space) first count ≡ true → CanProtect space first count
@@ -204,7 +196,7 @@ last_of a b c d e v w x y z h k l m = rw (h, k, l, m) refl
 register_told : (space : Space) → IsLent space → register_error space 65536 4294901760 3 ≡ cond (is_bare space 16 1048560) (Some Einval) None
 register_told space lent =
     last_of (not space.object.enabled) (not (has_events space.object)) false false (is_bare space 16 1048560) Einval Einval Einval Einval Einval
-    (not_on space.object.enabled lent.enabled) (not_on (has_events space.object) lent.events) refl refl
+    (not_from_true space.object.enabled lent.enabled) (not_from_true (has_events space.object) lent.events) refl refl
 
 all_by : (space : Space) (bare : Bool) → IsSoundSpace space → IsLent space → is_bare space 16 1048560 ≡ bare → left_by (cond bare (Some Einval) None) space (registered_in space 16 1048560 (mode_of 3)) ≡ all_registered space
 all_by space true sound lent h = bare_same space sound lent h
@@ -242,8 +234,8 @@ same_bool_itself false = refl
 -- a page of an area is an area of its own
 one_area : (space : Space) (page : ℕ) → is_forgotten space page ≡ false → is_one_area space page 1 ≡ true
 one_area space page h =
-    let mapped = not_false (contains_key space.host.areas page) (no_left (not (contains_key space.host.areas page)) (not (is_registered space.object page)) h) in
-    let registered = not_false (is_registered space.object page) (no_right (not (contains_key space.host.areas page)) (not (is_registered space.object page)) h) in
+    let mapped = not-false (contains_key space.host.areas page) (or_parts (not (contains_key space.host.areas page)) (not (is_registered space.object page)) h).0 in
+    let registered = not-false (is_registered space.object page) (or_parts (not (contains_key space.host.areas page)) (not (is_registered space.object page)) h).1 in
     one_every (λ q. is_registered space.object q && same_area space page q) page
     (and_from (is_registered space.object page) (same_area space page page) registered
     (and_from (same_prot (get space.host.areas page) (get space.host.areas page) && same_bool (contains space.object.missing page) (contains space.object.missing page)) (same_bool (contains space.object.protect page) (contains space.object.protect page))
@@ -261,11 +253,11 @@ pub record CanZero (space : Space) (page : ℕ) : Type 0 where
 zero_accepted : (space : Space) (page start : ℕ) → CanZero space page → start ≡ 4096 * page → zeropage_error space start 4096 0 ≡ None
 zero_accepted space page start can start_is =
     let page_is : start / 4096 ≡ page = omega (arith, start_is) in
-    let mapped = not_false (contains_key space.host.areas page) (no_left (not (contains_key space.host.areas page)) (not (is_registered space.object page)) can.watched) in
+    let mapped = not-false (contains_key space.host.areas page) (or_parts (not (contains_key space.host.areas page)) (not (is_registered space.object page)) can.watched).0 in
     let high = below_high space page can.sound mapped in
     five_none (not space.object.enabled) false (is_bad_range start 4096) (ltb 0 (changing space.object)) _ Einval Einval Einval Eagain Enoent
-    (not_on space.object.enabled can.lent.enabled) refl (rw start_is (right_range page 1 (from_low space page can.lent mapped) (omega arith) (omega (arith, high)))) (none_unread (changing space.object) can.quiet)
-    (rw page_is (not_on _ (one_area space page can.watched)))
+    (not_from_true space.object.enabled can.lent.enabled) refl (rw start_is (right_range page 1 (from_low space page can.lent mapped) (omega arith) (omega (arith, high)))) (none_unread (changing space.object) can.quiet)
+    (rw page_is (not_from_true _ (one_area space page can.watched)))
 
 one_missing : (space : Space) (page start : ℕ) → CanZero space page → start ≡ 4096 * page → missing_run space (start / 4096) 1 ≡ 1
 one_missing space page start can start_is =

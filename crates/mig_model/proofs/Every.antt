@@ -1,6 +1,6 @@
 -- A command, Start, Switch, End and what a node takes from a wire keep what every world keeps; so does every list of steps.
 use Rattle.std.proofs.Common.{◌≡◌, ℕ, Bool, true, sym, ◌+◌, false, List, [], ◌∷◌, ◌++◌, refl, ap, ◌∙◌, subst, ◌==◌, ◌^◌, ◌-◌, ◌||◌, not, ltb, Option, Some, None, arith}
-use Rattle.std.proofs.lemmas.Bool.{false≢true}
+use Rattle.std.proofs.lemmas.Bool.{false≢true, not-false}
 use Rattle.mig_base.specs.declared.command.Command.{Command}
 use Rattle.mig_base.specs.declared.step.SourcePhase.{SourcePhase}
 use Rattle.mig_base.specs.declared.step.SourcePhase.TheVariants as source
@@ -227,9 +227,6 @@ pub by_refusal : (P : World → Type 0) (refusal : Option Refusal) (old new : Wo
 by_refusal P None old new kept h = h refl
 by_refusal P (Some refusal) old new kept h = kept
 
-pub not_false : (b : Bool) → not b ≡ false → b ≡ true
-not_false b h = grind arith
-
 -- the first and the second test that no step passes which is accepted
 pub first_test : (a : Bool) (r : Refusal) (more : List (Bool × Refusal)) → first_holding ((a, r) ∷ more) ≡ None → a ≡ false
 first_test true r more h = absurd (cc)
@@ -247,13 +244,13 @@ pub IsKept-next : (world : World) (step : Step) → IsKept world → IsKept (nex
 unfolding next
 IsKept-next world (step.Issue cpu command) kept =
     by_refusal IsKept (refusal_of world (step.Issue cpu command)) world (issued world cpu command) kept
-    (λ h. IsKept-issued world cpu command (not_false (may_issue world command) (second_test (not (ltb cpu world.cpus)) (not (may_issue world command)) NoCpu Phase h)) kept)
+    (λ h. IsKept-issued world cpu command (not-false (may_issue world command) (second_test (not (ltb cpu world.cpus)) (not (may_issue world command)) NoCpu Phase h)) kept)
 IsKept-next world step.Start kept =
     by_refusal IsKept (refusal_of world step.Start) world (started world) kept
-    (λ h. IsKept-started world (not_false (is_idle world.source.phase) (first_test (not (is_idle world.source.phase)) Phase ((world.source.epoch == 2 ^ 32 - 1, CountUsed) ∷ []) h)) kept)
+    (λ h. IsKept-started world (not-false (is_idle world.source.phase) (first_test (not (is_idle world.source.phase)) Phase ((world.source.epoch == 2 ^ 32 - 1, CountUsed) ∷ []) h)) kept)
 IsKept-next world step.Switch kept =
     by_refusal IsKept (refusal_of world step.Switch) world (switched world) kept
-    (λ h. IsKept-switched world (not_false (is_precopy world.source.phase) (first_test (not (is_precopy world.source.phase)) Phase [] h)) kept)
+    (λ h. IsKept-switched world (not-false (is_precopy world.source.phase) (first_test (not (is_precopy world.source.phase)) Phase [] h)) kept)
 IsKept-next world step.Deliver kept = by_refusal IsKept (refusal_of world step.Deliver) world (delivered world world.forward) kept (λ h. IsKept-delivered world kept)
 IsKept-next world step.DeliverBack kept = by_refusal IsKept (refusal_of world step.DeliverBack) world (delivered_back world world.back) kept (λ h. IsKept-delivered_back world kept)
 IsKept-next world step.End kept =

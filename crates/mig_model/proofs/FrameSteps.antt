@@ -45,7 +45,7 @@ use Rattle.mig_model.proofs.FramesTaken.{is_taken_back}
 use Rattle.mig_model.proofs.MappingLemmas.{IsMapping-after, IsMapping-empty, host_tried}
 use Rattle.mig_model.proofs.RightCommands.{AllRight, AreRight, right_source}
 use Rattle.mig_model.proofs.SourceKept.{source_holds}
-use Rattle.mig_model.proofs.SourceRounds.{precopy_unswitched}
+use Rattle.mig_model.proofs.SourceRounds.{precopy_unswitched, precopy_started}
 use Rattle.mig_model.proofs.StepCases.{MakesWorld, made-next}
 use Rattle.mig_model.proofs.UrgentWire.{is_paused}
 use Rattle.mig_model.proofs.SetSizes.{only_where}
@@ -227,10 +227,6 @@ read_limited world noted h =
 acted_limited : {cpus : ℕ} → (act : Act) (world : World) (page : ℕ) → AreLimited cpus world → AreLimited cpus (record world { source = source_acted_by act world.source page })
 acted_limited Zeroed world page h = with_host _ h.areas (zeroed_bytes (space_of world.source).host.bytes page h.bytes) h
 acted_limited _ world page h = h
-
-precopy_started : (phase : SourcePhase) → is_precopy phase ≡ true → is_source_idle phase ≡ false
-precopy_started SourcePhase.Idle h = sym h
-precopy_started _ h = refl
 
 stopped_unreleased : (phase : SourcePhase) → is_stopped phase ≡ true → is_released phase ≡ false
 stopped_unreleased SourcePhase.Released h = sym h

@@ -105,7 +105,7 @@ record AreSent (space : Space) (first count : ℕ) : Type 0 where
   whole : (q : ℕ) → in_range first count q ≡ true → length (contents space.host.bytes q) ≡ 4096
   low : (q : ℕ) → in_range first count q ≡ true → ltb q HIGH_PAGE ≡ true
 
-whole_bytes : (space : Space) (page : ℕ) (o : Option (List ℕ)) → IsSoundSpace space → get space.host.bytes page ≡ o → is_some o ≡ true → length (unwrap_or o zero_page) ≡ 4096
+pub whole_bytes : (space : Space) (page : ℕ) (o : Option (List ℕ)) → IsSoundSpace space → get space.host.bytes page ≡ o → is_some o ≡ true → length (unwrap_or o zero_page) ≡ 4096
 whole_bytes space page o sound e h = grind arith
 
 are_sent : (world : World) (first count : ℕ) → IsSoundWorld world → world.source.switched ≡ false → (space_of world.source).object.events ≡ [] → ((q : ℕ) → in_range first count q ≡ true → contains world.source.log.todo q ≡ true) →

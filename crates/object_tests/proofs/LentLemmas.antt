@@ -9,7 +9,7 @@ use Rattle.mig_model.specs.Space.{Space, fresh_space}
 use Rattle.mig_model.specs.Ioctls.{handshaken}
 use Rattle.dirty_log.specs.Spaces.{IsLent}
 
-pub opened_lent : IsLent (handshaken fresh_space 170 77)
+pub opened_lent : IsLent (handshaken fresh_space 170 333)
 unfolding is_one none_below
 opened_lent = record { enabled = refl; events = refl; low = λ page l. ap is_some (get-empty nat_cmp page) }
 

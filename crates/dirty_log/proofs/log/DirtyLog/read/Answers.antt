@@ -12,7 +12,7 @@ returns-in-PageFault-clause-log c noted next =
     let message = ap (λ o. unwrap_or o noted.message) peeked in
     let read = ap (λ o. unwrap_or o (noted.message, noted.cpu)) (sym c.in-Ok-read_message.ensures.message ∙ ap (option_map (λ n. (n.message, n.cpu))) next) in
     let held = IfOk-at_ok _ c.in-Ok.is c.hold.ensures.ok in
-    fault_read c.args.self.now c.hold.new.self noted.message c.in-PageFault.addr c.in-PageFault.write c.in-PageFault.wp (sym (ap (λ p. p.0) read) ∙ c.in-PageFault.is) (held ∙ ap (λ m. record c.args.self.now { held = held_after c.args.self.now.held m }) message)
+    fault_read c.args.self.now c.hold.new.self noted.message c.in-PageFault.addr c.in-PageFault.write c.in-PageFault.wp c.in-PageFault.tid (sym (ap (λ p. p.0) read) ∙ c.in-PageFault.is) (held ∙ ap (λ m. record c.args.self.now { held = held_after c.args.self.now.held m }) message)
 
 pub returns-in_default-message-clause-lent : goal.returns-in_default-message-clause-lent
 returns-in_default-message-clause-lent c = rw c.read_message.ensures.space (read_space_lent c.args.space.now c.requires)
