@@ -26,13 +26,13 @@ use Rattle.mig_model.proofs.Facts.{modes_events}
 use Rattle.mig_model.proofs.SourceCalls.{untouched}
 use Rattle.mig_model.proofs.SourceKept.{no_page_absurd}
 use Rattle.mig_model.proofs.SourceMessages.{events_queued, is_unread-append, noted_all, tells}
-use Rattle.mig_model.proofs.SourceRounds.{watched_below}
+use Rattle.mig_model.proofs.SourceRounds.{watched_below, present_mapped}
 use Rattle.mig_model.proofs.SourceSending.{protected_now}
 use Rattle.dirty_log.specs.Answers.{send_refusal}
 use Rattle.dirty_log.specs.Spaces.{AreProtected}
 use Rattle.dirty_log.proofs.PageLemmas.{member_kept}
 use Rattle.dirty_log.proofs.SendLemmas.{page_there}
-use Rattle.dirty_log.proofs.SpaceLemmas.{below_high, mapped_if}
+use Rattle.dirty_log.proofs.SpaceLemmas.{below_high}
 
 pub none_clean : (log : Log) (space : Space) → log.clean ≡ no_pages → AreProtected log space
 none_clean log space none page h u = no_page_absurd log.clean page none h
@@ -57,7 +57,7 @@ sent_kept log space first count sound told kept page h u =
     let there : is_present space page ≡ true =
     ⊎_elim (λ (is : here ≡ true). page_there space first count page told (in_from first count page is) (in_to first count page is)) (λ (was : old ≡ true). sound.present page was) cases in
     member_below _ HIGH_PAGE page
-    ∙ protected_now (ltb page HIGH_PAGE) here (is_present space page) old (lt-ltb page HIGH_PAGE (below_high space page sound (mapped_if space page sound there))) there
+    ∙ protected_now (ltb page HIGH_PAGE) here (is_present space page) old (lt-ltb page HIGH_PAGE (below_high space page sound (present_mapped space page sound there))) there
     (⊎_elim (λ (is : here ≡ true). or_left here old is) (λ (was : old ≡ true). or_right here old was) cases)
 
 -- Messages

@@ -26,6 +26,7 @@ use Rattle.mig_model.proofs.Facts.{none_absurd}
 use Rattle.mig_model.proofs.HostLemmas.{memory-none, memory-some}
 use Rattle.dirty_log.specs.Spaces.{IsLent}
 use Rattle.dirty_log.proofs.KeptLemmas.{read_space}
+use Rattle.mig_base.proofs.TestLemmas.{missing_none}
 
 -- the object is enabled as before
 record SameFeatures (object new : Object) : Type 0 where
@@ -100,14 +101,10 @@ none_some : {X : Type 0} (o : Option X) → ((x : X) → o ≡ Some x → ⊥) �
 none_some None h = refl
 none_some (Some x) h = absurd (h x refl)
 
-no_area : {X : Type 0} (o : Option X) → is_some o ≡ false → o ≡ None
-no_area None h = refl
-no_area (Some x) h = none_absurd (sym h)
-
 bounded : (space : Space) → IsSoundSpace space → IsLent space → IsBounded (memory space.host)
 bounded space sound lent addr out =
     memory-none space.host addr
-    (⊎_elim (λ (l : addr < LOW). no_area (get space.host.areas (addr / 4096)) (lent.low (addr / 4096) (omega (arith, l)))) (λ (l : HIGH ≤ addr). sound.host.bound (addr / 4096) (omega (arith, l))) out)
+    (⊎_elim (λ (l : addr < LOW). missing_none (get space.host.areas (addr / 4096)) (lent.low (addr / 4096) (omega (arith, l)))) (λ (l : HIGH ≤ addr). sound.host.bound (addr / 4096) (omega (arith, l))) out)
 
 some_no_none : {X : Type 0} (x : X) → Some x ≡ None → ⊥
 some_no_none x h = cc

@@ -6,14 +6,12 @@ use Rattle.std.specs.FinSet.{FinSet, contains}
 use Rattle.std.proofs.lemmas.Bool.{and_from, and_parts, cases_lt, or_parts, false_from_ne_true, not_from_true, not-false}
 use Rattle.std.proofs.lemmas.Bool.Decides.{nat_tests}
 use Rattle.mig_base.specs.declared.TheConstants.{HIGH_PAGE, LOW_PAGE}
-use Rattle.mig_base.specs.declared.Prot.{Prot}
 use Rattle.mig_base.specs.declared.command.Errno.{Errno}
 use Rattle.mig_base.specs.declared.command.Errno.TheVariants.{Eagain, Eexist, Einval, Enoent}
 use Rattle.mig_base.specs.declared.wake.Wake.{Wake}
 use Rattle.mig_base.specs.declared.wake.Wake.TheVariants.{Nobody, Range}
 use Rattle.mig_base.specs.Bits.{is_one}
 use Rattle.mig_base.specs.Bytes.{zero_page}
-use Rattle.mig_base.specs.Codes.{prot_number}
 use Rattle.mig_base.specs.Ranges.{in_range}
 use Rattle.mig_base.specs.Sets.{pages_where}
 use Rattle.mig_base.specs.Tests.{first_holding, is_every, same_bool}
@@ -35,15 +33,11 @@ use Rattle.uffd_ioctl.specs.declared.fault.IoctlFault.{IoctlFault}
 use Rattle.uffd_ioctl.specs.declared.fault.IoctlFault.TheVariants as fault
 use Rattle.uffd_ioctl.proofs.RegisterLemmas.{nothing_where, sound_low}
 use Rattle.dirty_log.specs.Spaces.{IsLent, is_sendable}
+use Rattle.mig_model.proofs.SourceRounds.{present_mapped}
+use Rattle.mig_model.proofs.FrameFaults.{no_fewer}
+use Rattle.mig_model.proofs.PageCalls.{every_one, same_prot_self, same_bool_self}
 
 -- Pages of a space
-
-none_there : {X : Type 0} (o : Option X) → (o ≡ None → ⊥) → is_some o ≡ true
-none_there None h = absurd (h refl)
-none_there (Some x) h = refl
-
-pub mapped_if : (space : Space) (page : ℕ) → IsSoundSpace space → is_present space page ≡ true → contains_key space.host.areas page ≡ true
-mapped_if space page sound h = none_there (get space.host.areas page) (λ e. none_absurd (sym (ap is_some (sound.host.mapped page e)) ∙ h))
 
 pub from_low : (space : Space) (page : ℕ) → IsLent space → contains_key space.host.areas page ≡ true → LOW_PAGE ≤ page
 from_low space page lent h = ⊎_elim (λ (l : page < LOW_PAGE). none_absurd (sym (lent.low page l) ∙ h)) (λ l. l) (cases_lt page LOW_PAGE)
@@ -52,7 +46,7 @@ pub below_high : (space : Space) (page : ℕ) → IsSoundSpace space → contain
 below_high space page sound h = ⊎_elim (λ l. l) (λ (l : HIGH_PAGE ≤ page). none_absurd (sym (ap is_some (sound.host.bound page l)) ∙ h)) (cases_lt page HIGH_PAGE)
 
 pub protected_past : (space : Space) (page : ℕ) → IsSoundSpace space → HIGH_PAGE ≤ page → contains space.protected page ≡ false
-protected_past space page sound l = false_from_ne_true (contains space.protected page) (λ h. let below = below_high space page sound (mapped_if space page sound (sound.present page h)) in omega (arith, l, below))
+protected_past space page sound l = false_from_ne_true (contains space.protected page) (λ h. let below = below_high space page sound (present_mapped space page sound (sound.present page h)) in omega (arith, l, below))
 
 pub present_is : (space : Space) (pages : FinSet nat_cmp) → IsSoundSpace space → ((q : ℕ) → contains pages q ≡ contains_key space.host.bytes q) → pages ≡ present space
 present_is space pages sound same = is_pages_where pages (λ q. is_present space q) same (λ q l. ap is_some (sound.host.mapped q (sound.host.bound q l)))
@@ -70,9 +64,6 @@ five_none a b c d e v w x y z h k l m n = rw (h, k, l, m, n) refl
 
 none_unread : (count : ℕ) → count ≡ 0 → ltb 0 count ≡ false
 none_unread count h = rw h refl
-
-not_above : (a b : ℕ) → a ≤ b → ltb b a ≡ false
-not_above a b h = grind (arith, nat_tests)
 
 ok_no_err : {A E : Type 0} {a : A} {e : E} → Ok a ≡ Err e → ⊥
 ok_no_err h = cc
@@ -96,7 +87,7 @@ protect_accepted space first count bits start len can few start_is len_is =
     let first_is : start / 4096 ≡ first = omega (arith, start_is) in
     let count_is : len / 4096 ≡ count = omega (arith, len_is) in
     five_none (not space.object.enabled) (ltb 2 bits) (is_bad_range start len) (ltb 0 (changing space.object)) _ Einval Einval Einval Eagain Enoent
-    (not_from_true space.object.enabled can.lent.enabled) (not_above bits 2 few) (rw (start_is, len_is) (right_range first count can.low can.some can.high)) (none_unread (changing space.object) can.quiet)
+    (not_from_true space.object.enabled can.lent.enabled) (no_fewer bits 2 few) (rw (start_is, len_is) (right_range first count can.low can.some can.high)) (none_unread (changing space.object) can.quiet)
     (rw (first_is, count_is) (not_from_true _ can.watched))
 
 pub not_refused : {A : Type 0} (error : Option Errno) (answer : A) (result : Result A Errno) (errno : Errno) → error ≡ None → result ≡ answered_by error answer → result ≡ Err errno → ⊥
@@ -115,17 +106,10 @@ protect_left space now first count bits start len protect can few start_is len_i
     let count_is : len / 4096 ≡ count = omega (arith, len_is) in
     is ∙ rw (protect_accepted space first count bits start len can few start_is len_is) (rw (first_is, count_is, bit) refl)
 
-pub bit_on : is_one 1 0 ≡ true
-unfolding is_one
-bit_on = refl
-
-pub one_every : (test : ℕ → Bool) (page : ℕ) → test page ≡ true → is_every test page 1 ≡ true
-one_every test page h = none_below-from (λ i. not (test (page + i))) 1 (λ i l. not_from_true _ (ap test (omega (arith, l)) ∙ h))
-
 -- a protected page can be unprotected
 pub can_unprotect : (space : Space) (page : ℕ) → IsSoundSpace space → IsLent space → changing space.object ≡ 0 → contains space.protected page ≡ true → CanProtect space page 1
 can_unprotect space page sound lent quiet h =
-    let mapped = mapped_if space page sound (sound.present page h) in
+    let mapped = present_mapped space page sound (sound.present page h) in
     let high = below_high space page sound mapped in
     record {
       lent = lent;
@@ -133,7 +117,7 @@ can_unprotect space page sound lent quiet h =
       low = from_low space page lent mapped;
       some = omega arith;
       high = omega (arith, high);
-      watched = one_every (λ q. contains space.object.protect q) page (sound.watched page h);
+      watched = every_one (λ q. contains space.object.protect q) page (sound.watched page h);
     }
 
 -- each page of a range that can be sent is registered for write-protect faults
@@ -149,7 +133,7 @@ can_protect space first count sound lent quiet some high h =
     record {
       lent = lent;
       quiet = quiet;
-      low = from_low space first lent (mapped_if space first sound (and_parts (is_present space first) (contains space.object.protect first) here).0);
+      low = from_low space first lent (present_mapped space first sound (and_parts (is_present space first) (contains space.object.protect first) here).0);
       some = some;
       high = high;
       watched = all_watched space first count h;
@@ -220,27 +204,16 @@ refused_bare space result errno sound lent answer is =
 
 -- Zeros
 
-same_number : (n : ℕ) → eqb n n ≡ true
-same_number n = grind (arith, nat_tests)
-
-same_prot_itself : (prot : Option Prot) → is_some prot ≡ true → same_prot prot prot ≡ true
-same_prot_itself None h = none_absurd h
-same_prot_itself (Some prot) h = same_number (prot_number prot)
-
-same_bool_itself : (b : Bool) → same_bool b b ≡ true
-same_bool_itself true = refl
-same_bool_itself false = refl
-
 -- a page of an area is an area of its own
 one_area : (space : Space) (page : ℕ) → is_forgotten space page ≡ false → is_one_area space page 1 ≡ true
 one_area space page h =
     let mapped = not-false (contains_key space.host.areas page) (or_parts (not (contains_key space.host.areas page)) (not (is_registered space.object page)) h).0 in
     let registered = not-false (is_registered space.object page) (or_parts (not (contains_key space.host.areas page)) (not (is_registered space.object page)) h).1 in
-    one_every (λ q. is_registered space.object q && same_area space page q) page
+    every_one (λ q. is_registered space.object q && same_area space page q) page
     (and_from (is_registered space.object page) (same_area space page page) registered
     (and_from (same_prot (get space.host.areas page) (get space.host.areas page) && same_bool (contains space.object.missing page) (contains space.object.missing page)) (same_bool (contains space.object.protect page) (contains space.object.protect page))
-    (and_from (same_prot (get space.host.areas page) (get space.host.areas page)) (same_bool (contains space.object.missing page) (contains space.object.missing page)) (same_prot_itself (get space.host.areas page) mapped) (same_bool_itself (contains space.object.missing page)))
-    (same_bool_itself (contains space.object.protect page))))
+    (and_from (same_prot (get space.host.areas page) (get space.host.areas page)) (same_bool (contains space.object.missing page) (contains space.object.missing page)) (same_prot_self (get space.host.areas page) mapped) (same_bool_self (contains space.object.missing page)))
+    (same_bool_self (contains space.object.protect page))))
 
 -- a missing page that is watched can be made zeros
 pub record CanZero (space : Space) (page : ℕ) : Type 0 where

@@ -30,6 +30,7 @@ use Rattle.mig_base.specs.Tests.{is_empty}
 use Rattle.mig_model.specs.Space.{fresh_space}
 use Rattle.mig_model.proofs.HostLemmas.{get-put}
 use Rattle.mig_model.proofs.PackageTaken.{package_taken}
+use Rattle.mig_base.proofs.TestLemmas.{never_some}
 
 ends_by : (test : Bool) → cond test AfterEnd Pushed ≡ AfterEnd → test ≡ true
 ends_by test h = grind arith
@@ -46,9 +47,6 @@ nowhere remaining rest urgent arrivals origin none last came free h =
     sym (ap (λ b. (b || false) || false || false) (contains-empty nat_cmp origin))
     ∙ sym (λ i. is_urgent_or_left (none i) (came i) origin || has_copy (copies_of (last i)) origin || has_copy (free i) origin) ∙ h)
 
-pub none_owed : {X : Type 0} (o : Option X) → ((x : X) → o ≡ Some x → ⊥) → o ≡ None
-none_owed o x = grind arith
-
 pub end_taken : (epoch count : ℕ) (rest : List Sent) (world : World) →
     let old : World = at_state SourcePhase.Stopped DestPhase.Running true true (record { epoch = epoch; frame = End count } ∷ rest) world in
     world.destination.arrivals ≡ [] → world.urgent.frames ≡ [] → IsSoundWorld old → IsSoundWorld (delivered old old.forward.frames)
@@ -61,7 +59,7 @@ end_taken epoch count rest world free came kept =
     let flowing : IsFlowing old.source old.destination old.forward.frames old.urgent.frames = w.2 in
     let no_pair : world.destination.owed ≡ finmap.empty =
     same_pages world.destination.owed finmap.empty (λ page.
-    none_owed (get world.destination.owed page) (λ origin h. nowhere world.source.remaining rest world.urgent.frames world.destination.arrivals origin (kept.pushing.end_sent ended) last.0 came free (flowing.whereabouts page origin h))
+    never_some (get world.destination.owed page) (λ origin h. nowhere world.source.remaining rest world.urgent.frames world.destination.arrivals origin (kept.pushing.end_sent ended) last.0 came free (flowing.whereabouts page origin h))
     ∙ sym (get-empty nat_cmp page)) in
     let kept_advised : new.destination.phase ≡ DestPhase.Idle → new.destination.kept ≡ finmap.empty = λ h. cc in
     let flight = flight_up new refl kept.flight.flight_faithful (last.0, are_requests_and_done-push world.back.frames (record { epoch = world.destination.epoch; frame = Done }) refl w.1, ended) in

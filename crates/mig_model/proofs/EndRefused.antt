@@ -1,32 +1,20 @@
 -- End is refused exactly where a page remains.
-use Rattle.std.proofs.Common.{◌≡◌, ℕ, zero, suc, ◌<◌, ◌||◌, ◌⊎◌, ⊎_elim, inl, inr, Bool, true, false, not, eqb, Option, Some, None, is_some, if◌then◌else◌, [], ◌∷◌, refl, sym, ap, ◌∙◌, arith}
+use Rattle.std.proofs.Common.{◌≡◌, ℕ, ◌||◌, Bool, true, false, not, eqb, is_some, if◌then◌else◌, [], ◌∷◌, refl, sym, ap, ◌∙◌}
 use Rattle.std.specs.Prelude.{Ok, Err}
 use Rattle.std.specs.FinSet.{contains}
 use Rattle.mig_base.specs.declared.TheConstants.{HIGH_PAGE}
 use Rattle.mig_base.specs.declared.effect.Effect.{Effect}
 use Rattle.mig_base.specs.declared.refusal.Refusal.{Refusal}
 use Rattle.mig_base.specs.declared.schedule.Step.{Step}
-use Rattle.mig_base.specs.Ranges.{least_below}
-use Rattle.mig_base.proofs.RangeLemmas.{least_below-none}
+use Rattle.mig_base.proofs.RangeLemmas.{least_below-none, least_below-some}
 use Rattle.mig_model.specs.Log.{least_of}
 use Rattle.mig_model.specs.Source.{is_stopped, space_of}
 use Rattle.mig_model.specs.Migration.{World, Answer, after_end, made, outcome, outcome_by, unless}
 use Rattle.mig_model.specs.Invariant.{IsSoundWorld}
 use Rattle.mig_model.proofs.FrameFaults.{sound_below}
-use Rattle.mig_model.proofs.Facts.{below_or_at, none_absurd}
-
-kept_found : (o : Option ℕ) (test : Bool) (bound : ℕ) → (is_some o ≡ true) ⊎ (test ≡ true) → is_some (elim o [ Some least ↦ Some least | None ↦ (if test then Some bound else None) ]) ≡ true
-kept_found (Some least) test bound h = refl
-kept_found None true bound h = refl
-kept_found None false bound h = ⊎_elim (λ (e : false ≡ true). e) (λ (e : false ≡ true). e) h
+use Rattle.mig_model.proofs.Facts.{none_absurd}
 
 -- a number below the bound that passes is found, or a lesser one
-found_below : (test : ℕ → Bool) (bound q : ℕ) → q < bound → test q ≡ true → is_some (least_below test bound) ≡ true
-unfolding least_below
-found_below test zero q low h = absurd (omega (arith, low))
-found_below test (suc bound) q low h =
-    kept_found (least_below test bound) (test bound) bound (⊎_elim (λ (l : q < bound). inl (found_below test bound q l h)) (λ (e : q ≡ bound). inr (ap test (sym e) ∙ h)) (below_or_at q bound low))
-
 by_tests : (stopped unended up left : Bool) (answer : Answer) → stopped ≡ true → unended ≡ false → up ≡ true → unless ((not stopped || unended, Refusal.Phase) ∷ (not up, Refusal.Broken) ∷ (left, Refusal.PagesLeft) ∷ []) answer ≡ (if left then Err Refusal.PagesLeft else answer)
 unfolding unless
 by_tests true false true true answer s o u = refl
@@ -46,7 +34,7 @@ end_by world left stopped unended up is =
 pub end_left : (world : World) (q : ℕ) → IsSoundWorld world → is_stopped world.source.phase ≡ true → eqb world.source.end_epoch world.source.epoch ≡ false → world.up ≡ true → contains world.source.remaining q ≡ true → outcome world Step.End ≡ Err Refusal.PagesLeft
 end_left world q kept stopped unended up left =
     end_by world true stopped unended up
-    (found_below (contains world.source.remaining) HIGH_PAGE q (sound_below (space_of world.source) kept.spaces.source_space q (kept.pushing.remaining_present q left)) left)
+    (least_below-some (contains world.source.remaining) HIGH_PAGE q (sound_below (space_of world.source) kept.spaces.source_space q (kept.pushing.remaining_present q left)) left)
 
 pub end_sent : (world : World) → is_stopped world.source.phase ≡ true → eqb world.source.end_epoch world.source.epoch ≡ false → world.up ≡ true → ((q : ℕ) → contains world.source.remaining q ≡ false) → outcome world Step.End ≡ Ok Effect.EndSent
 end_sent world stopped unended up none =

@@ -90,7 +90,7 @@ mapped_few memory len prot (NoReplace addr) start h few = grind (arith, nat_test
 
 -- mremap
 
-some_or : {A : Type 0} (o : Option A) → (o ≡ None → ⊥) → is_some o ≡ true
+pub some_or : {A : Type 0} (o : Option A) → (o ≡ None → ⊥) → is_some o ≡ true
 some_or o h = grind (arith, nat_tests)
 
 moved_or_was : (target old : Bool) (put here : Option Cell) → is_some (cond target put (cond old None here)) ≡ true → (target || (is_some here && not old)) ≡ true

@@ -104,7 +104,7 @@ not_torn kept areas owed apart mapped kept_mapped =
     (none_empty _ (no_member owed (λ page. contains_key kept page || not (contains_key areas page)) (λ page h. torn_by (contains_key kept page) (contains_key areas page) (apart page h) (mapped page h))))
     (none_kept kept (λ page. not (contains_key areas page)) (λ page h. not_from_true (contains_key areas page) (kept_mapped page h)))
 
-no_fewer : (came told : ℕ) → came ≤ told → ltb told came ≡ false
+pub no_fewer : (came told : ℕ) → came ≤ told → ltb told came ≡ false
 no_fewer came told h = grind (arith, nat_tests)
 
 not_bad : (node : Destination) (frame : Frame) → IsGood node frame → is_bad node frame ≡ false

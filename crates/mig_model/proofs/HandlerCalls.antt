@@ -159,7 +159,7 @@ destination_forgets cpus world addr all faults answered =
 
 -- Send
 
-one_is_protect : is_one 1 0 ≡ true
+pub one_is_protect : is_one 1 0 ≡ true
 unfolding is_one
 one_is_protect = refl
 

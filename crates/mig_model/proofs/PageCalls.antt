@@ -44,13 +44,13 @@ page_range page is = range_good page 1 (omega arith) is.0 (let high = is.1 in om
 at_page : (page i : ℕ) → i < 1 → page + i ≡ page
 at_page page i l = omega (arith, l)
 
-every_one : (test : ℕ → Bool) (page : ℕ) → test page ≡ true → is_every test page 1 ≡ true
+pub every_one : (test : ℕ → Bool) (page : ℕ) → test page ≡ true → is_every test page 1 ≡ true
 every_one test page h = none_below-from (λ i. not (test (page + i))) 1 (λ i l. not_from_true (test (page + i)) (ap test (at_page page i l) ∙ h))
 
-same_prot_self : (o : Option Prot) → is_some o ≡ true → same_prot o o ≡ true
+pub same_prot_self : (o : Option Prot) → is_some o ≡ true → same_prot o o ≡ true
 same_prot_self o h = grind (arith, nat_tests)
 
-same_bool_self : (b : Bool) → same_bool b b ≡ true
+pub same_bool_self : (b : Bool) → same_bool b b ≡ true
 same_bool_self b = grind (arith, nat_tests)
 
 and_three : (a b c : Bool) → a ≡ true → b ≡ true → c ≡ true → (a && b && c) ≡ true

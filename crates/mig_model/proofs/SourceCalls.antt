@@ -15,13 +15,13 @@ use Rattle.mig_base.specs.declared.message.Message.TheVariants.{Remap, Unmap}
 use Rattle.mig_base.specs.Ranges.{in_range, lesser, none_below, pages_of, rounded, free_place}
 use Rattle.mig_base.specs.Pages.{remove_range}
 use Rattle.mig_base.specs.Sets.{without, moved_set}
-use Rattle.mig_base.specs.Flat.{is_mapped, has_one_prot, overlaps, reply_of}
+use Rattle.mig_base.specs.Flat.{is_mapped, has_one_prot, reply_of}
 use Rattle.mig_base.proofs.RangeLemmas.{none_below_tells, place_found, four_hold, none_below-from}
 use Rattle.mig_base.proofs.PageLemmas.{get-remove_range, get-moved_range}
 use Rattle.mig_base.proofs.SetLemmas.{member_without, member_below}
 use Rattle.mig_base.proofs.ReplyLemmas.{IsRemapped, found_inside, mremap_told, mmap_inside, munmap_whole, dontneed_done, dontneed_hole}
 use Rattle.mig_base.proofs.ReplyLemmas.IsWhere.{Shrunk, Grew, Moved, Told}
-use Rattle.mig_base.proofs.BoundLemmas.{one_prot_some}
+use Rattle.mig_base.proofs.BoundLemmas.{one_prot_some, apart_of}
 use Rattle.mig_model.specs.Host.{Host, memory, host_changed, IsSound}
 use Rattle.mig_base.specs.Commands.{is_access}
 use Rattle.mig_model.specs.Guest.{in_bytes}
@@ -76,10 +76,6 @@ mapped_page host addr size page one low high =
       | None ↦ λ e. absurd (one_prot_some (memory host) addr size (4096 * page - addr) one (omega arith) (memory-none host (addr + (4096 * page - addr)) (ap (get host.areas) at ∙ e)))
       | Some prot ↦ λ e. refl
     ] refl
-
--- two ranges that do not overlap
-apart_of : (a b c d : ℕ) → overlaps a b c d ≡ false → (c + d ≤ a) ⊎ (a + b ≤ c)
-apart_of a b c d h = grind (arith, nat_tests)
 
 not_both : (b : Bool) → b ≡ true → b ≡ false → ⊥
 not_both b is isnt = false≢true (sym isnt ∙ is)

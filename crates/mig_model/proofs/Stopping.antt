@@ -27,6 +27,7 @@ use Rattle.mig_base.proofs.RangeLemmas.{least_below-some}
 use Rattle.std.proofs.lemmas.Bool.Decides.{nat_tests}
 use Rattle.std.proofs.lemmas.List.{append_assoc}
 use Rattle.mig_model.proofs.Facts.{and_second}
+use Rattle.mig_base.proofs.TestLemmas.{cond_not}
 
 -- a world in these phases
 abbrev pub in_phases : SourcePhase → DestPhase → World → World
@@ -265,9 +266,6 @@ kept-end world kept stopped up other none = ended_in world.source.phase world.de
 
 pub member_less : (set other : FinSet nat_cmp) (q : ℕ) → contains (less set other) q ≡ (contains set q && not (contains other q))
 member_less set other q = contains-retain set (λ page. not (contains other page)) q (λ x e. ap (λ k. not (contains other k)) (sym (nat_cmp-IsAntisymmetric q x e)))
-
-cond_not : {A : Type 0} (b : Bool) (x y : A) → cond (not b) x y ≡ cond b y x
-cond_not b x y = grind arith
 
 pub get-discarded : (kept : FinMap nat_cmp (List ℕ)) (pages : FinSet nat_cmp) (q : ℕ) → get (kept_after kept (Discard pages)) q ≡ cond (contains pages q) None (get kept q)
 get-discarded kept pages q =
