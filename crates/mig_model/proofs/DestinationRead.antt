@@ -18,7 +18,7 @@ use Rattle.mig_base.proofs.PageLemmas.{same_pages}
 use Rattle.mig_model.specs.Host.{memory, Host, IsSound}
 use Rattle.mig_model.specs.Userfault.{Noted, next_message, next_of}
 use Rattle.mig_model.specs.Space.{IsSoundSpace, fresh_space}
-use Rattle.mig_model.specs.Guest.{Guest, Fault, is_present, took_by, tried}
+use Rattle.mig_model.specs.Guest.{counted, Guest, Fault, is_present, took_by, tried}
 use Rattle.mig_model.specs.Wire.{Sent, Copy}
 use Rattle.mig_model.specs.Migration.{World, after_dest_read, runs, guest_by, with_guest_by, after_command}
 use Rattle.mig_model.specs.Invariant.{IsSoundWorld, Wires, IsReceiving, IsFlowing, AreRight, AreFaults, AreFaithful, has_copy, seen_host, current_host, current_by}
@@ -189,7 +189,7 @@ event_in message cpu events world kept runs = event_read message cpu events worl
 fault_in : (message : Message) (cpu : ℕ) (faults events : List Noted) (world : World) → IsSoundWorld (at_queues (record { message = message; cpu = cpu } ∷ faults) events world) → world.destination.has_run ≡ true →
     IsSoundWorld (after_dest_read (at_queues (record { message = message; cpu = cpu } ∷ faults) events world) (record { message = message; cpu = cpu }))
 fault_in (PageFault addr write wp tid) cpu faults events world kept runs =
-    fault_read (record { message = PageFault addr write wp tid; cpu = cpu }) faults events world (world.destination.held ++ record { page = addr / 4096; wp = wp } ∷ []) (world.destination.faults + 1) kept runs
+    fault_read (record { message = PageFault addr write wp tid; cpu = cpu }) faults events world (world.destination.held ++ record { page = addr / 4096; wp = wp } ∷ []) (counted world.destination.faults 1) kept runs
 fault_in _ cpu faults events world kept runs = absurd kept.spaces.destination_faults.0
 
 read_in : (faults events : List Noted) (noted : Noted) (world : World) → next_of faults events ≡ Some noted → IsSoundWorld (at_queues faults events world) → world.destination.has_run ≡ true → IsSoundWorld (after_dest_read (at_queues faults events world) noted)
