@@ -1,11 +1,11 @@
 //! The two calls: a command that begins, and one that is tried again.
 
-ghost use Rattle.std.specs.Prelude.{◌≡◌, Some, None, option_to_list, unwrap_or, IfOk, IfErr, OnOk, OnErr};
+ghost use Rattle.std.specs.Prelude.{◌≡◌, None, option_to_list, unwrap_or, IfOk, IfErr, OnOk, OnErr};
 ghost use Rattle.mig_base.specs.Commands.{is_access};
-ghost use Rattle.mig_model.specs.Cpus.{entries_of, outstanding, processor_at};
-ghost use Rattle.mig_model.specs.Guest.{took_by, tried};
+ghost use Rattle.mig_model.specs.Cpus.{entries_of};
+ghost use Rattle.mig_model.specs.Guest.{tried};
 ghost use Rattle.mig_model.specs.Migration.{try_effect};
-ghost use Rattle.guest.specs.Answers.{guest_with, issue_refusal, retry_refusal};
+ghost use Rattle.guest.specs.Answers.{IsOutstanding, guest_with, issue_refusal, retry_refusal, took_in};
 
 use crate::took::Took;
 use crate::tried::Tried;
@@ -25,8 +25,8 @@ pub fn issue(
 ) -> Result<Tried, Refusal>
     ensures accepted { OnOk result (issue_refusal cpus.old cpu runs ≡ None) }
     ensures refused { IfErr result (λ refusal. refusal ≡ unwrap_or (issue_refusal cpus.old cpu runs) Refusal.NoMemory) }
-    ensures effect { IfOk result (λ done. done.effect ≡ try_effect cpu (took_by (is_access command) space.old command)) }
-    ensures entry { IfOk result (λ done. option_to_list done.entry ≡ entries_of cpu command (took_by (is_access command) space.old command)) }
+    ensures effect { IfOk result (λ done. done.effect ≡ try_effect cpu (took_in space.old command)) }
+    ensures entry { IfOk result (λ done. option_to_list done.entry ≡ entries_of cpu command (took_in space.old command)) }
     ensures guest { OnOk result (guest_with space.new cpus.new ≡ tried (is_access command) (guest_with space.old cpus.old) cpu command) }
     ensures err { OnErr result ((space.new ≡ space.old) × (cpus.new ≡ cpus.old)) }
 {
@@ -46,9 +46,9 @@ pub fn issue(
 pub fn retry(space: &mut Space, cpus: &mut Cpus, cpu: u8, runs: bool) -> Result<Tried, Refusal>
     ensures accepted { OnOk result (retry_refusal cpus.old cpu runs ≡ None) }
     ensures refused { IfErr result (λ refusal. refusal ≡ unwrap_or (retry_refusal cpus.old cpu runs) Refusal.NoMemory) }
-    ensures effect { (command : Command) → outstanding (processor_at cpus.old cpu) ≡ Some command → IfOk result (λ done. done.effect ≡ try_effect cpu (took_by (is_access command) space.old command)) }
-    ensures entry { (command : Command) → outstanding (processor_at cpus.old cpu) ≡ Some command → IfOk result (λ done. option_to_list done.entry ≡ entries_of cpu command (took_by (is_access command) space.old command)) }
-    ensures guest { (command : Command) → outstanding (processor_at cpus.old cpu) ≡ Some command → OnOk result (guest_with space.new cpus.new ≡ tried (is_access command) (guest_with space.old cpus.old) cpu command) }
+    ensures effect { (command : Command) → IsOutstanding cpus.old cpu command → IfOk result (λ done. done.effect ≡ try_effect cpu (took_in space.old command)) }
+    ensures entry { (command : Command) → IsOutstanding cpus.old cpu command → IfOk result (λ done. option_to_list done.entry ≡ entries_of cpu command (took_in space.old command)) }
+    ensures guest { (command : Command) → IsOutstanding cpus.old cpu command → OnOk result (guest_with space.new cpus.new ≡ tried (is_access command) (guest_with space.old cpus.old) cpu command) }
     ensures err { OnErr result ((space.new ≡ space.old) × (cpus.new ≡ cpus.old)) }
 {
     let command = cpus.woken(cpu)?;

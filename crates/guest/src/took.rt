@@ -4,8 +4,9 @@ ghost use Rattle.std.specs.Prelude.{◌≡◌, ◌<◌, set, length, option_to_l
 ghost use Rattle.mig_base.specs.Commands.{is_access};
 ghost use Rattle.mig_base.specs.declared.cpu_state.CpuState.{CpuState};
 ghost use Rattle.mig_model.specs.Cpus.{entries_of, processor_after, processor_at};
-ghost use Rattle.mig_model.specs.Guest.{space_by, took_by};
+ghost use Rattle.mig_model.specs.Guest.{space_by};
 ghost use Rattle.mig_model.specs.Migration.{try_effect};
+ghost use Rattle.guest.specs.Answers.{took_in};
 ghost use Rattle.guest.specs.Outcomes.{IsOutcome, took_of};
 
 use crate::tried::Tried;
@@ -28,7 +29,7 @@ pub enum Took {
 impl Took {
     /// Makes a command in the space. Out of memory changes nothing.
     pub fn of(space: &mut Space, cpu: u8, command: Command) -> Result<Self, NoMemory>
-        ensures took { IfOk result (λ took. took_of took ≡ took_by (is_access command) space.old command) }
+        ensures took { IfOk result (λ took. took_of took ≡ took_in space.old command) }
         ensures outcome { IfOk result (λ took. IsOutcome command took) }
         ensures space { OnOk result (space.new ≡ space_by (is_access command) space.old cpu command) }
         ensures err { OnErr result (space.new ≡ space.old) }
