@@ -5,7 +5,7 @@ use mig_base::cpu_state::CpuState;
 use mig_base::effect::Effect;
 use mig_base::flags::{ALL_FEATURES, API};
 use mig_base::refusal::Refusal;
-use mig_base::{Addr, Command, Entry, Message, PAGE_SIZE, Place, Prot, Reply};
+use mig_base::{Addr, Command, Message, PAGE_SIZE, Place, Prot, Reply};
 use std::alloc::Global;
 use std::process::Abort;
 use std::test::Fail;
@@ -51,7 +51,7 @@ enum Answer {
     Unfit(Tried),
     /// A page fault was read.
     Fault(Addr),
-    /// An event was read, with the last of its call a reply.
+    /// An event was read. The last of its call hands the reply over.
     Event(Option<Reply>),
     Is(CpuState),
 }
@@ -74,7 +74,7 @@ fn told(tried: Tried) -> Answer {
     }
 }
 
-/// The node: its space, its processors.
+/// A node: its space and its processors.
 #[derive(Drop)]
 struct Node {
     space: Space,
