@@ -56,7 +56,7 @@ registered_now low test missing protect low_ is = grind arith
 whole_range : (page : ℕ) → page < HIGH_PAGE → in_range 0 HIGH_PAGE page ≡ true
 whole_range page h = grind (arith, nat_tests)
 
-mapped_registered : (space : Space) (page : ℕ) → IsSoundSpace space → contains_key space.host.areas page ≡ true → contains (all_registered space).object.protect page ≡ true
+pub mapped_registered : (space : Space) (page : ℕ) → IsSoundSpace space → contains_key space.host.areas page ≡ true → contains (all_registered space).object.protect page ≡ true
 mapped_registered space page sound mapped =
     let low = low_or (λ h. false≢true (sym (ap is_some (sound.host.bound page h)) ∙ mapped)) in
     member_below _ HIGH_PAGE page
