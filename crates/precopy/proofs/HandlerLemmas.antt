@@ -2,14 +2,21 @@
 use Rattle.std.proofs.Common.{◌≡◌, ℕ, ◌*◌, ◌+◌, ◌&&◌, Bool, true, false, not, ltb, Option, Some, None, List, [], ◌∷◌, length, refl, sym, ap, ◌∙◌, inl, inr, ◌⊎◌, is_some, arith}
 use Rattle.std.specs.Prelude.{Ok, Err, Result, IsOk}
 use Rattle.std.specs.Option.{IsSome}
-use Rattle.mig_base.specs.Tests.{is_empty}
+use Rattle.std.proofs.lemmas.Bool.{false≢true}
+use Rattle.mig_base.specs.declared.message.Message.{Message}
+use Rattle.mig_base.specs.declared.message.Message.TheVariants.{PageFault, Remap, Remove, Unmap}
+use Rattle.mig_base.specs.declared.command.Reply.{Reply}
+use Rattle.mig_model.specs.Cpus.{handed_over, processor_at}
+use Rattle.precopy.specs.Telling.{faults_told}
+use Rattle.mig_base.specs.Tests.{first_holding, is_empty}
 use Rattle.mig_base.specs.declared.effect.Effect.{Effect}
 use Rattle.mig_base.specs.declared.refusal.Refusal.{Refusal}
 use Rattle.mig_base.specs.declared.schedule.Step.{Step}
 use Rattle.mig_model.specs.Userfault.{Noted, changing, next_message}
 use Rattle.mig_model.specs.Guest.{Fault, Guest, counted, fault_count, read_guest}
-use Rattle.mig_model.specs.Log.{log_read}
-use Rattle.mig_model.specs.Migration.{act_effect, outcome, read_effect, unless}
+use Rattle.mig_model.specs.Log.{Log, log_read}
+use Rattle.mig_model.specs.Space.{Space}
+use Rattle.mig_model.specs.Migration.{act_effect, event_effect, outcome, read_effect, unless}
 use Rattle.mig_model.specs.Source.{Source, source_act, source_acted, source_read, space_of}
 use Rattle.dirty_log.specs.Answers.{IsRefusedFor, act_refusal, read_answer}
 use Rattle.dirty_log.specs.Acts.{act_is}
@@ -17,11 +24,37 @@ use Rattle.dirty_log.specs.declared.act.Act.{Act}
 use Rattle.precopy.specs.Answers.{run_answer}
 use Rattle.precopy.specs.Steps.{IsMade, IsRefused}
 
+err_is : (one other : Refusal) → Err one ≡ Err other → one ≡ other
+err_is one other is = cc
+
 -- SourceRead
 
 read_by : (node : Source) (noted : Noted) → run_answer node ≡ Ok tt → next_message (space_of node).object ≡ Some noted → IsMade node Step.SourceRead (read_effect node.guest noted.cpu noted.message) [] (source_read node noted)
 unfolding unless
 read_by node noted runs next = grind arith
+
+told_count : (guest : Guest) (cpu : ℕ) (message : Message) (reply : Option Reply) → faults_told (event_effect message cpu reply) ≡ 0
+told_count guest cpu message None = refl
+told_count guest cpu message (Some reply) = refl
+
+-- a fault that was read is told as one
+pub faults_read : (guest : Guest) (cpu : ℕ) (message : Message) → faults_told (read_effect guest cpu message) ≡ fault_count message
+faults_read guest cpu (PageFault addr write wp tid) = refl
+faults_read guest cpu (Remap from to len) = told_count guest cpu (Remap from to len) (handed_over (processor_at guest.cpus cpu))
+faults_read guest cpu (Remove start end) = told_count guest cpu (Remove start end) (handed_over (processor_at guest.cpus cpu))
+faults_read guest cpu (Unmap start end) = told_count guest cpu (Unmap start end) (handed_over (processor_at guest.cpus cpu))
+
+-- the message that was read
+pub some_noted : (guest : Guest) (next : Option Noted) (effect : Effect) → (Ok effect ≡ read_answer guest next) ⊎ ((Ok effect ≡ Err Refusal.NoMemory) × IsSome next) →
+    (noted : Noted) × (next ≡ Some noted) × (effect ≡ read_effect guest noted.cpu noted.message)
+some_noted guest None effect (inl is) = absurd (let other : Ok effect ≡ Err Refusal.NothingThere = is in cc)
+some_noted guest None effect (inr is) = absurd (let other : Ok effect ≡ Err Refusal.NoMemory = is.0 in cc)
+some_noted guest (Some noted) effect (inl is) = (noted, refl, let same : Ok effect ≡ Ok (read_effect guest noted.cpu noted.message) = is in cc)
+some_noted guest (Some noted) effect (inr is) = absurd (let other : Ok effect ≡ Err Refusal.NoMemory = is.0 in cc)
+
+pub read_done : (node new : Source) (effect : Effect) (noted : Noted) → run_answer node ≡ Ok tt → next_message (space_of node).object ≡ Some noted → effect ≡ read_effect node.guest noted.cpu noted.message → new ≡ source_read node noted →
+    IsMade node Step.SourceRead effect [] new
+read_done node new effect noted runs next told is = rw (told, is) (read_by node noted runs next)
 
 pub read_refused : (node : Source) (refusal : Refusal) → run_answer node ≡ Err refusal → IsRefused node Step.SourceRead refusal
 unfolding unless outcome
@@ -35,6 +68,13 @@ pub read_lacks : (node : Source) (noted : Noted) → run_answer node ≡ Ok tt �
 unfolding unless outcome
 read_lacks node noted runs next = inr (refl, grind arith)
 
+pub read_stopped : (node : Source) (next : Option Noted) (refusal : Refusal) → run_answer node ≡ Ok tt → next_message (space_of node).object ≡ next →
+    (Err refusal ≡ read_answer node.guest next) ⊎ ((Err refusal ≡ Err Refusal.NoMemory) × IsSome next) → IsRefused node Step.SourceRead refusal
+read_stopped node None refusal runs next (inl is) = rw (let same : Err refusal ≡ Err Refusal.NothingThere = is in err_is refusal Refusal.NothingThere same) (read_nothing node runs next)
+read_stopped node None refusal runs next (inr is) = absurd (false≢true is.1)
+read_stopped node (Some noted) refusal runs next (inl is) = absurd (let other : Err refusal ≡ Ok (read_effect node.guest noted.cpu noted.message) = is in cc)
+read_stopped node (Some noted) refusal runs next (inr is) = rw (err_is refusal Refusal.NoMemory is.0) (read_lacks node noted runs next)
+
 -- SourceAct
 
 acted_by : (node : Source) (fault : Fault) (rest : List Fault) → run_answer node ≡ Ok tt → node.log.held ≡ fault ∷ rest → changing (space_of node).object ≡ 0 →
@@ -45,3 +85,20 @@ acted_by node fault rest runs held quiet = grind arith
 pub act_refused : (node : Source) (refusal : Refusal) → run_answer node ≡ Err refusal → IsRefused node Step.SourceAct refusal
 unfolding unless outcome
 act_refused node refusal is = inl (grind arith)
+
+pub act_lacks : (node : Source) (fault : Fault) (rest : List Fault) → run_answer node ≡ Ok tt → node.log.held ≡ fault ∷ rest → changing (space_of node).object ≡ 0 → IsRefused node Step.SourceAct Refusal.NoMemory
+unfolding unless outcome
+act_lacks node fault rest runs held quiet = inr (refl, grind arith)
+
+act_nothing : (node : Source) → run_answer node ≡ Ok tt → node.log.held ≡ [] → IsRefused node Step.SourceAct Refusal.NothingThere
+unfolding unless outcome
+act_nothing node runs held = inl (grind arith)
+
+act_changing : (node : Source) (fault : Fault) (rest : List Fault) → run_answer node ≡ Ok tt → node.log.held ≡ fault ∷ rest → ltb 0 (changing (space_of node).object) ≡ true → IsRefused node Step.SourceAct Refusal.Changing
+unfolding unless outcome
+act_changing node fault rest runs held busy = inl (grind arith)
+
+-- the fault that was resolved
+pub some_held : (log : Log) (space : Space) (held : List Fault) → log.held ≡ held → act_refusal log space ≡ None → (fault : Fault) × (rest : List Fault) × (log.held ≡ fault ∷ rest) × (changing space.object ≡ 0)
+some_held log space [] is h = absurd (let other : first_holding ((is_empty log.held, Refusal.NothingThere) ∷ []) ≡ None = grind arith in grind arith)
+some_held log space (fault ∷ rest) is h = (fault, rest, is, grind arith)

@@ -8,3 +8,8 @@ use Rattle.dirty_log.specs.Acts.{act_is}
 -- the effect of a fault that was resolved, at the address of its page
 abbrev pub act_told : Act → ℕ → Effect
 act_told act addr = act_effect (act_is act) addr
+
+-- 1 for a page fault that was read
+abbrev pub faults_told : Effect → ℕ
+faults_told (Effect.ReadFault addr wp) = 1
+faults_told effect = 0

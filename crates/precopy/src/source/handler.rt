@@ -4,7 +4,7 @@ ghost use Rattle.std.specs.Prelude.{◌≡◌, [], IfOk, IfErr, OnErr};
 ghost use Rattle.mig_base.specs.declared.schedule.Step.{Step};
 ghost use Rattle.precopy.specs.Answers.{run_answer};
 ghost use Rattle.precopy.specs.Steps.{IsMade, IsRefused};
-ghost use Rattle.precopy.specs.Telling.{act_told};
+ghost use Rattle.precopy.specs.Telling.{act_told, faults_told};
 
 use super::Source;
 use dirty_log::Act;
@@ -25,9 +25,7 @@ impl Source {
         self.ensure_running()?;
         self.space.is_in_order();
         let effect = self.log.read(&mut self.space, &mut self.cpus)?;
-        if let Effect::ReadFault { .. } = effect {
-            self.faults = self.faults.saturating_add(1);
-        }
+        self.faults = self.faults.saturating_add(faults_in(effect));
         Ok(effect)
     }
 
@@ -53,6 +51,16 @@ impl Source {
             _ if self.switched => Err(Refusal::Phase),
             _ => Ok(()),
         }
+    }
+}
+
+/// 1 for a page fault that was read.
+fn faults_in(effect: Effect) -> u64
+    ensures { result ≡ faults_told effect }
+{
+    match effect {
+        Effect::ReadFault { .. } => 1,
+        _ => 0,
     }
 }
 

@@ -16,7 +16,7 @@ returns-in_err-sent-clause-refused c =
     let stopped = λ (refusal : Refusal) (why : IsRefusedFor (send_refusal c.self.inside.space c.in_ok-page.page 1) refusal).
     send_stopped c.args.self.now c.in_ok-page.page refusal (sym c.next_to_send.ensures.answer ∙ c.in_ok-page.was) (rw (← c.self.view_is) c.self.invariant.todo) (rw (← c.self.view_is) why) in
     let p = err_from_is_err_and c.from_residual-in_err-sent.result c.from_residual-in_err-sent.ensures.1 in
-    rw (p.1, p.2) (stopped _ ?)
+    rw (p.1, p.2) (stopped _ c.in_err-sent.ensures.refused)
 
 pub invariant_of-self-2 : goal.invariant_of-self-2
 invariant_of-self-2 c =
