@@ -9,7 +9,9 @@
 #![tactic(auto)]
 
 pub mod frame;
+pub mod lengths;
 pub mod lists;
+mod rules;
 
 pub use crate::frame::Frame;
 pub use crate::lists::{PageBytes, Pages, Waiting};
