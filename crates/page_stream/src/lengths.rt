@@ -12,7 +12,9 @@ use mig_base::{Command, HIGH_PAGE, PAGE_SIZE, PageSet};
 pub const HEADER_LEN: u64 = 12;
 
 impl Frame {
-    /// How many bytes its text has, without making it. That of a well-formed frame fits 32 bits.
+    /// How many bytes its text has, header and body. No text is made and no memory taken: a set is walked by its runs.
+    ///
+    /// The length has to fit 64 bits. That of a well-formed frame fits 32.
     pub fn text_len(&self) -> u64
         requires { texts.text_len (frame_of self.now) < 2 ^ 64 }
         ensures { result ≡ texts.text_len (frame_of self.now) }

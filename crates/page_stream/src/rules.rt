@@ -2,7 +2,7 @@
 
 ghost use Rattle.std.specs.Prelude.{◌≡◌, ◌^◌, ◌↔◌, nat_lt, true, length, IsTrue};
 ghost use Rattle.mig_base.specs.Flat.{is_aligned as is_access, is_width};
-ghost use Rattle.mig_model.specs.Bounds.{AreFewPages, ArePages, AreRightAccesses, IsCpuCount, IsFrame, IsMapping, IsPage, IsRightAccess};
+ghost use Rattle.mig_model.specs.Bounds.{AreFewPages, ArePages, AreRightAccesses, IsCpuCount, IsFrame, IsMapping, IsPage};
 ghost use Rattle.page_stream.specs.Frames.{frame_of};
 ghost use Rattle.page_stream.specs.Rules.{IsRight, IsRunOf};
 
@@ -12,8 +12,11 @@ use area_map::AreaMap;
 use mig_base::{Addr, Command, HIGH_PAGE, LOW_PAGE, MAX_CPUS, MAX_PAGES, MAX_RUN, PageNo, PageSet};
 
 impl Frame {
-    /// Whether it may be sent: each number in it is of its kind, and nothing is too long. It looks at whole sets and maps, not at
-    /// each page.
+    /// Whether it may be sent. Its pages lie from `LOW_PAGE` up to `HIGH_PAGE`, and no map, and no set but that of a Discard, has
+    /// more than `MAX_PAGES`; a run has 1 to `MAX_RUN`. A Package is of 1 to `MAX_CPUS` processors, and those that wait do so for
+    /// an aligned load, or an aligned store whose value fits its width.
+    ///
+    /// It takes no memory, and goes by whole sets and maps, not page by page.
     pub fn is_well_formed(&self) -> bool
         ensures { IsTrue result ↔ IsFrame (frame_of self.now) }
     {
