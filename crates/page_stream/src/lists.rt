@@ -1,6 +1,8 @@
 //! The bytes and lists that frames hold: callers see each as a list.
 
-ghost use Rattle.std.specs.Prelude.{◌≡◌};
+ghost use Rattle.std.specs.Prelude.{◌≡◌, ◌<◌};
+ghost use Rattle.std.specs.List.{All};
+ghost use Rattle.mig_model.specs.Bounds.{ArePageBytes, IsPageBytes};
 
 use mig_base::{Command, PAGE_BYTES};
 use std::marker::Model;
@@ -33,6 +35,13 @@ impl PageBytes {
         self.bytes.as_slice()
     }
 
+    /// A law of every page: its bytes are as many as a page has, each below 256. The call does nothing.
+    pub fn are_whole(&self)
+        ensures { IsPageBytes self.now }
+    {
+        fill_a_page(&self.bytes);
+    }
+
     /// Hands the box over.
     pub fn into_box(self) -> Box<[u8; PAGE_BYTES]>
         ensures { result.value ≡ self }
@@ -40,6 +49,18 @@ impl PageBytes {
         self.bytes
     }
 }
+
+/// A law of every array of that type. The call does nothing.
+fn fill_a_page(bytes: &[u8; PAGE_BYTES])
+    ensures { IsPageBytes bytes.now }
+{
+    are_bytes(bytes);
+}
+
+/// A law of every slice of that type. The call does nothing.
+fn are_bytes(bytes: &[u8])
+    ensures { All (λ byte. byte < 256) bytes.now }
+{}
 
 /// The bytes of neighbouring pages, in order.
 #[derive(Drop)]
@@ -67,6 +88,15 @@ impl Pages {
         ensures { result.now ≡ self.now }
     {
         self.pages.as_slice()
+    }
+
+    /// A law of all pages: each has its bytes. The call does nothing.
+    pub fn are_whole(&self)
+        ensures { ArePageBytes self.now }
+    {
+        for page in self.as_slice() {
+            page.are_whole();
+        }
     }
 
     /// Hands the pages over.

@@ -24,7 +24,7 @@ use Rattle.dirty_log.specs.declared.act.Act.{Act}
 use Rattle.precopy.specs.Answers.{run_answer}
 use Rattle.precopy.specs.Steps.{IsMade, IsRefused}
 
-err_is : (one other : Refusal) → Err one ≡ Err other → one ≡ other
+err_is : (one other : Refusal) → ◌≡◌ {A = Result Effect Refusal} (Err one) (Err other) → one ≡ other
 err_is one other is = cc
 
 -- SourceRead
@@ -69,8 +69,8 @@ unfolding unless outcome
 read_lacks node noted runs next = inr (refl, grind arith)
 
 pub read_stopped : (node : Source) (next : Option Noted) (refusal : Refusal) → run_answer node ≡ Ok tt → next_message (space_of node).object ≡ next →
-    (Err refusal ≡ read_answer node.guest next) ⊎ ((Err refusal ≡ Err Refusal.NoMemory) × IsSome next) → IsRefused node Step.SourceRead refusal
-read_stopped node None refusal runs next (inl is) = rw (let same : Err refusal ≡ Err Refusal.NothingThere = is in err_is refusal Refusal.NothingThere same) (read_nothing node runs next)
+    (Err refusal ≡ read_answer node.guest next) ⊎ ((◌≡◌ {A = Result Effect Refusal} (Err refusal) (Err Refusal.NoMemory)) × IsSome next) → IsRefused node Step.SourceRead refusal
+read_stopped node None refusal runs next (inl is) = rw (err_is refusal Refusal.NothingThere is) (read_nothing node runs next)
 read_stopped node None refusal runs next (inr is) = absurd (false≢true is.1)
 read_stopped node (Some noted) refusal runs next (inl is) = absurd (let other : Err refusal ≡ Ok (read_effect node.guest noted.cpu noted.message) = is in cc)
 read_stopped node (Some noted) refusal runs next (inr is) = rw (err_is refusal Refusal.NoMemory is.0) (read_lacks node noted runs next)
