@@ -17,12 +17,12 @@ returns-in_err-effect-clause-refused c =
 
 pub invariant_of-self-2 : goal.invariant_of-self-2
 invariant_of-self-2 c =
-    let noted = some_noted _ _ c.in_ok-effect.effect c.in_ok-effect.ensures.answer in
-    read_order _ _ (record { space = c.self.inside.space; cpus = c.self.inside.cpus }) _ c.self.inside.log _ noted.0 noted.1.0 (c.in_ok-effect.ensures.space noted.0 noted.1.0) c.read.ensures.lent (c.in_ok-effect.ensures.log noted.0 noted.1.0) c.self.invariant
+    let read = some_noted (record { space = c.self.inside.space; cpus = c.self.inside.cpus }) _ c.in_ok-effect.effect c.in_ok-effect.ensures.answer in
+    read_order _ _ (record { space = c.self.inside.space; cpus = c.self.inside.cpus }) _ c.self.inside.log _ read.noted read.is (c.in_ok-effect.ensures.space read.noted read.is) c.read.ensures.lent (c.in_ok-effect.ensures.log read.noted read.is) c.self.invariant
 
 pub returns-clause-made : goal.returns-clause-made
 returns-clause-made c =
-    let noted = some_noted _ _ c.in_ok-effect.effect c.in_ok-effect.ensures.answer in
-    let faults = c.faults_in.ensures ∙ ap faults_told noted.1.1 ∙ faults_read _ noted.0.cpu noted.0.message in
-    read_done c.args.self.now _ c.in_ok-effect.effect noted.0 (sym c.ensure_running.ensures ∙ c.in_ok-ensure_running.was) (rw (← c.self.view_is) noted.1.0) (rw (← c.self.view_is) noted.1.1)
-    (rw (c.in_ok-effect.ensures.log noted.0 noted.1.0, c.in_ok-effect.ensures.space noted.0 noted.1.0, c.in_ok-effect.ensures.cpus noted.0 noted.1.0, c.saturating_add-self-inside.ensures, counted_is, faults, ← c.self.view_is) ?)
+    let read = some_noted (record { space = c.self.inside.space; cpus = c.self.inside.cpus }) _ c.in_ok-effect.effect c.in_ok-effect.ensures.answer in
+    let faults = c.faults_in.ensures ∙ ap faults_told read.told ∙ faults_read (record { space = c.self.inside.space; cpus = c.self.inside.cpus }) read.noted.cpu read.noted.message in
+    read_done c.args.self.now _ c.in_ok-effect.effect read.noted (sym c.ensure_running.ensures ∙ c.in_ok-ensure_running.was) (rw (← c.self.view_is) read.is) (rw (← c.self.view_is) read.told)
+    (rw (c.in_ok-effect.ensures.log read.noted read.is, c.in_ok-effect.ensures.space read.noted read.is, c.in_ok-effect.ensures.cpus read.noted read.is, c.saturating_add-self-inside.ensures, counted_is, faults, ← c.self.view_is) ?)
