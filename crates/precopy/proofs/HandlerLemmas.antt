@@ -7,7 +7,7 @@ use Rattle.mig_base.specs.declared.message.Message.{Message}
 use Rattle.mig_base.specs.declared.message.Message.TheVariants.{PageFault, Remap, Remove, Unmap}
 use Rattle.mig_base.specs.declared.command.Reply.{Reply}
 use Rattle.mig_model.specs.Cpus.{Cpus, handed_over, processor_at}
-use Rattle.precopy.specs.Telling.{faults_told}
+use Rattle.precopy.specs.Telling.{act_told, faults_told}
 use Rattle.mig_base.specs.Tests.{first_holding, is_empty}
 use Rattle.mig_base.specs.declared.effect.Effect.{Effect}
 use Rattle.mig_base.specs.declared.refusal.Refusal.{Refusal}
@@ -133,6 +133,10 @@ acted_parts (machine.Act.Requested origin) node page = refl
 pub acted_is : (node : Source) (space : Space) (cpus : Cpus) (log : Log) (fault : Fault) → source_of log space cpus ≡ source_acted (source_of node.log (space_of node) node.guest.cpus) fault →
     record node { guest = record { space = space; cpus = cpus }; log = log } ≡ source_acted node fault
 acted_is node space cpus log fault same = ap (λ other. record node { guest = other.guest; log = other.log }) same ∙ sym (acted_parts (source_act node fault) node fault.page)
+
+-- what is told of it
+pub told_is : (done : Act) (act : machine.Act) (addr at : ℕ) → act_is done ≡ act → addr ≡ at → act_told done addr ≡ act_effect act at
+told_is done act addr at is same = rw (is, same) refl
 
 pub act_done : (node new : Source) (effect : Effect) (held : IsHeld node.log (space_of node)) → run_answer node ≡ Ok tt → effect ≡ act_effect (source_act node held.fault) (4096 * held.fault.page) → new ≡ source_acted node held.fault →
     IsMade node Step.SourceAct effect [] new

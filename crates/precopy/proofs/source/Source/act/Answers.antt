@@ -4,7 +4,7 @@ use Rattle.std.specs.Prelude.{Ok}
 use Rattle.precopy.specs.Answers.{run_answer}
 use Rattle.mig_model.specs.Source.{source_acted, space_of}
 use Rattle.dirty_log.specs.Spaces.{source_of}
-use Rattle.precopy.proofs.HandlerLemmas.{IsHeld, act_done, act_refused, act_stopped, acted_is, some_held}
+use Rattle.precopy.proofs.HandlerLemmas.{IsHeld, act_done, act_refused, act_stopped, acted_is, told_is, some_held}
 use Rattle.precopy.proofs.OrderLemmas.{acted_order}
 use Rattle.precopy.proofs.source.Source.act.Goals as goal
 
@@ -31,4 +31,4 @@ pub returns-clause-made : goal.returns-clause-made
 returns-clause-made c =
     let done = c.in_ok-act.ensures.act (held c).fault (held c).rest (held c).is in
     let runs = sym c.ensure_running.ensures ∙ c.in_ok-ensure_running.was in
-    rw (← c.self.view_is) (act_done _ _ _ (held c) (subst (λ node. run_answer node ≡ Ok tt) (sym c.self.view_is) runs) (c.told_act.ensures ∙ rw (done.0, done.1) refl) (acted_is _ _ _ _ (held c).fault (acted c)))
+    rw (← c.self.view_is) (act_done _ _ _ (held c) (subst (λ node. run_answer node ≡ Ok tt) (sym c.self.view_is) runs) (c.told_act.ensures ∙ told_is _ _ _ _ done.0 done.1) (acted_is _ _ _ _ (held c).fault (acted c)))

@@ -25,4 +25,4 @@ returns-clause-made c =
     let read = some_noted (record { space = c.self.inside.space; cpus = c.self.inside.cpus }) _ c.in_ok-effect.effect c.in_ok-effect.ensures.answer in
     let faults = c.faults_in.ensures ∙ ap faults_told read.told ∙ faults_read (record { space = c.self.inside.space; cpus = c.self.inside.cpus }) read.noted.cpu read.noted.message in
     read_done c.args.self.now _ c.in_ok-effect.effect read.noted (sym c.ensure_running.ensures ∙ c.in_ok-ensure_running.was) (rw (← c.self.view_is) read.is) (rw (← c.self.view_is) read.told)
-    (rw (c.in_ok-effect.ensures.log read.noted read.is, c.in_ok-effect.ensures.space read.noted read.is, c.in_ok-effect.ensures.cpus read.noted read.is, c.saturating_add-self-inside.ensures, counted_is, faults, ← c.self.view_is) ?)
+    (rw (c.in_ok-effect.ensures.log read.noted read.is, c.in_ok-effect.ensures.space read.noted read.is, c.in_ok-effect.ensures.cpus read.noted read.is, c.saturating_add-self-inside.ensures, counted_is, faults, ← c.self.view_is) refl)
