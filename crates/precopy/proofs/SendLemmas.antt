@@ -1,23 +1,21 @@
 -- A page that the round sends next can be sent.
-use Rattle.std.proofs.Common.{◌≡◌, ℕ, ◌+◌, ◌<◌, Bool, true, false, not, ltb, Some, None, List, [], ◌∷◌, length, refl, sym, ap, ◌∙◌, inl, inr, ◌⊎◌, ⊎_elim, arith}
-use Rattle.std.specs.Prelude.{Ok, Err, Option}
+use Rattle.std.proofs.Common.{◌≡◌, ℕ, true, false, ltb, Some, None, List, [], ◌∷◌, length, refl, sym, ◌∙◌, inl, inr, arith}
+use Rattle.std.specs.Prelude.{Ok, Option}
 use Rattle.std.specs.FinSet.{contains}
-use Rattle.std.proofs.lemmas.Bool.{false≢true}
 use Rattle.mig_base.specs.declared.refusal.Refusal.{Refusal}
 use Rattle.mig_base.specs.declared.TheConstants.{HIGH_PAGE}
 use Rattle.mig_base.proofs.RangeLemmas.{least_below_tells}
 use Rattle.mig_base.specs.declared.schedule.Step.{Step}
 use Rattle.mig_base.specs.Ranges.{none_below}
-use Rattle.mig_base.specs.Tests.{is_every, first_holding}
 use Rattle.mig_model.specs.Userfault.{Noted}
 use Rattle.mig_model.specs.Invariant.{is_unread}
 use Rattle.mig_model.specs.Log.{least_of}
 use Rattle.mig_model.specs.Migration.{is_changing}
 use Rattle.mig_model.specs.Space.{Space}
-use Rattle.mig_model.specs.Source.{Source, is_precopy, space_of}
+use Rattle.mig_model.specs.Source.{Source, space_of}
 use Rattle.dirty_log.specs.Answers.{IsRefusedFor, send_refusal}
 use Rattle.dirty_log.specs.Spaces.{is_sendable}
-use Rattle.precopy.specs.Answers.{first_sent, send_answer}
+use Rattle.precopy.specs.Answers.{send_answer}
 use Rattle.precopy.specs.Order.{AreSendable}
 use Rattle.precopy.specs.Steps.{IsRefused}
 use Rattle.precopy.proofs.StepLemmas.{send_lacks}

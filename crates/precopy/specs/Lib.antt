@@ -1,5 +1,6 @@
 pub mod Answers
 pub mod Codes
+pub mod Handing
 pub mod Order
 pub mod Sending
 pub mod Steps

@@ -116,7 +116,7 @@ impl Source {
 }
 
 /// What is told of a page that was sent, and its frame.
-fn told_page(page: PageNo, sent: Sent) -> (Effect, Frame)
+pub(super) fn told_page(page: PageNo, sent: Sent) -> (Effect, Frame)
     ensures effect { result.0 ≡ sent_effect page sent }
     ensures frame { frame_of result.1 ≡ log.frame_of page sent }
 {
@@ -134,7 +134,7 @@ fn told_page(page: PageNo, sent: Sent) -> (Effect, Frame)
 }
 
 /// The next number of a count, or `CountUsed` where it is at its greatest value.
-fn next_count(count: u32) -> Result<u32, Refusal>
+pub(super) fn next_count(count: u32) -> Result<u32, Refusal>
     ensures { result ≡ counted_on count }
 {
     if count == u32::MAX {

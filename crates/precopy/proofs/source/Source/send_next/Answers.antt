@@ -1,11 +1,11 @@
-use Rattle.std.proofs.Common.{rules, refl, sym, ap, ◌∙◌}
+use Rattle.std.proofs.Common.{rules, refl, sym, ◌∙◌}
 use Rattle.std.proofs.lemmas.Result.{err_from_is_err_and}
 use Rattle.mig_base.specs.declared.refusal.Refusal.{Refusal}
 use Rattle.dirty_log.specs.Answers.{IsRefusedFor, send_refusal}
 use Rattle.dirty_log.proofs.SendLemmas.{one_sent}
 use Rattle.precopy.proofs.OrderLemmas.{sent_order}
 use Rattle.precopy.proofs.SendLemmas.{send_stopped}
-use Rattle.precopy.proofs.StepLemmas.{counted_is, send_done, send_lacks, send_refused}
+use Rattle.precopy.proofs.StepLemmas.{counted_is, send_done, send_refused}
 use Rattle.precopy.proofs.source.Source.send_next.Goals as goal
 
 pub returns-in_err-page-clause-refused : goal.returns-in_err-page-clause-refused
