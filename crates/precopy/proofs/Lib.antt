@@ -1,3 +1,4 @@
+pub mod CommandLemmas
 pub mod HandlerLemmas
 pub mod OrderLemmas
 pub mod SendLemmas

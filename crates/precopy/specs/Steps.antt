@@ -1,5 +1,6 @@
 -- What a call of a source answers: what the machine's step of its name does in a world that has this source.
 use Rattle.std.specs.Prelude.{◌≡◌, ◌⊎◌, List, Err, IsOk}
+use Rattle.mig_base.specs.declared.command.Entry.{Entry}
 use Rattle.mig_base.specs.declared.effect.Effect.{Effect}
 use Rattle.mig_base.specs.declared.refusal.Refusal.{Refusal}
 use Rattle.mig_base.specs.declared.schedule.Step.{Step}
@@ -14,6 +15,10 @@ world_of node = record (first_world 0) { source = node }
 -- the step was made: its effect, the frames that the source sends in its epoch, and the source after it
 abbrev pub IsMade : Source → Step → Effect → List Frame → Source → Type 0
 IsMade old step effect frames new = answer (world_of old) step ≡ made effect (source_sends (world_of old) new frames)
+
+-- a command was tried: its effect, what it enters in the transcript, and the source after it
+abbrev pub IsTried : Source → Step → Effect → List Entry → Source → Type 0
+IsTried old step effect entries new = answer (world_of old) step ≡ made effect (record (world_of old) { source = new; transcript = entries })
 
 -- it was refused: for the machine's reason, or for want of memory where the machine makes the step
 abbrev pub IsRefused : Source → Step → Refusal → Type 0

@@ -4,6 +4,7 @@ ghost use Rattle.std.specs.Prelude.{◌≡◌, ◌↔◌, false, IfOk, Err};
 ghost use Rattle.mig_model.specs.Source as machine;
 ghost use Rattle.vcpu.specs.Answers.{is_count};
 
+mod commands;
 mod handler;
 mod rounds;
 
