@@ -1,6 +1,7 @@
 pub mod CommandLemmas
 pub mod HandlerLemmas
 pub mod OrderLemmas
+pub mod RecoveryLemmas
 pub mod SendLemmas
 pub mod StepLemmas
 pub mod TodoLemmas
