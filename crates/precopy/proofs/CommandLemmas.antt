@@ -1,9 +1,6 @@
 -- What the machine makes of a command of the source's guest.
-use Rattle.std.proofs.Common.{◌≡◌, ℕ, ◌&&◌, ◌||◌, Bool, true, false, not, Option, Some, None, List, [], ◌∷◌, length, nat_lt, refl, sym, ap, ◌∙◌, inl, inr, unwrap_or, is_some, arith}
-use Rattle.std.specs.Prelude.{Ok, Err, IsOk}
-use Rattle.std.proofs.lemmas.Bool.{false≢true}
+use Rattle.std.proofs.Common.{◌≡◌, ℕ, Bool, true, false, not, Option, Some, None, List, refl, inl, inr, unwrap_or, arith}
 use Rattle.mig_base.specs.Commands.{is_access}
-use Rattle.mig_base.specs.Tests.{first_holding}
 use Rattle.mig_base.specs.declared.command.Command.{Command}
 use Rattle.mig_base.specs.declared.command.Entry.{Entry}
 use Rattle.mig_base.specs.declared.effect.Effect.{Effect}

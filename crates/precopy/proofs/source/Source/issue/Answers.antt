@@ -1,4 +1,4 @@
-use Rattle.std.proofs.Common.{refl, ap, ◌∙◌}
+use Rattle.std.proofs.Common.{refl, ap}
 use Rattle.std.proofs.lemmas.Result.{err_from_is_err_and}
 use Rattle.precopy.proofs.CommandLemmas.{issue_made, issue_refused, tried_order}
 use Rattle.precopy.proofs.source.Source.issue.Goals as goal

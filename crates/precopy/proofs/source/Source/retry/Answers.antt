@@ -1,4 +1,4 @@
-use Rattle.std.proofs.Common.{refl, not, ap, ◌∙◌}
+use Rattle.std.proofs.Common.{refl, not, ap}
 use Rattle.std.proofs.lemmas.Result.{err_from_is_err_and}
 use Rattle.precopy.proofs.CommandLemmas.{retry_made, retry_refused, tried_order, waiting}
 use Rattle.precopy.proofs.source.Source.retry.Goals as goal
