@@ -1,4 +1,5 @@
 -- What a source makes of a frame of the wire back.
+use Rattle.std.specs.Prelude.{Bool, true, false}
 use Rattle.mig_model.specs.Source.{Source, source_took}
 use Rattle.mig_model.specs.Wire.{Frame}
 
@@ -6,3 +7,8 @@ use Rattle.mig_model.specs.Wire.{Frame}
 abbrev pub source_heard : Source → Frame → Source
 source_heard node (Frame.Recv state owed) = node
 source_heard node frame = source_took node frame
+
+-- whether a frame asks for a page
+abbrev pub is_request : Frame → Bool
+is_request (Frame.Request page) = true
+is_request frame = false

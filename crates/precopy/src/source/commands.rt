@@ -18,8 +18,13 @@ impl Source {
         ensures err { OnErr result (self.new ≡ self.old) }
     {
         self.space.is_in_order();
-        let runs = !self.switched;
-        let tried = guest::issue(&mut self.space, &mut self.cpus, cpu, command, runs)?;
+        let tried = guest::issue(
+            &mut self.space,
+            &mut self.cpus,
+            cpu,
+            command,
+            !self.switched,
+        )?;
         Ok(tried)
     }
 
@@ -31,8 +36,7 @@ impl Source {
         ensures err { OnErr result (self.new ≡ self.old) }
     {
         self.space.is_in_order();
-        let runs = !self.switched;
-        let tried = guest::retry(&mut self.space, &mut self.cpus, cpu, runs)?;
+        let tried = guest::retry(&mut self.space, &mut self.cpus, cpu, !self.switched)?;
         Ok(tried)
     }
 }
