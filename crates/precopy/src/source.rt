@@ -6,6 +6,7 @@ ghost use Rattle.vcpu.specs.Answers.{is_count};
 
 mod handler;
 mod rounds;
+mod runs;
 
 use dirty_log::DirtyLog;
 use mig_base::flags::{ALL_FEATURES, API};
