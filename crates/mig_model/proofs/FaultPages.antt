@@ -215,8 +215,8 @@ dest_read_inside world noted kept is h =
 -- Steps
 
 inside-answer : (cpus : ℕ) (world : World) (step : Step) → IsBounded cpus world → HasFaultsInside world → Leaves HasFaultsInside (answer world step)
-inside-answer cpus world (Step.Issue cpu command) all h = holds-made _ world (Step.Issue cpu command) (λ there idle may. guest_inside world.destination.has_run world cpu command all.limited.areas (has_memory cpus world all).destination h)
-inside-answer cpus world (Step.Retry cpu) all h = holds-made _ world (Step.Retry cpu) (λ command waits woken may. guest_inside world.destination.has_run world cpu command all.limited.areas (has_memory cpus world all).destination h)
+inside-answer cpus world (Step.Issue cpu command) all h = holds-made _ world (Step.Issue cpu command) (λ there idle may. guest_inside world.destination.has_run world cpu command all.mapped (has_memory cpus world all).destination h)
+inside-answer cpus world (Step.Retry cpu) all h = holds-made _ world (Step.Retry cpu) (λ command waits woken may. guest_inside world.destination.has_run world cpu command all.mapped (has_memory cpus world all).destination h)
 inside-answer cpus world Step.Start all h = holds-made _ world Step.Start (λ idle unused. h)
 inside-answer cpus world Step.Round all h = holds-made _ world Step.Round (λ precopy quiet. h)
 inside-answer cpus world Step.Send all h = holds-made _ world Step.Send (λ page is precopy up quiet. h)

@@ -1,6 +1,5 @@
 -- Where a step zeroes, unprotects, protects, installs or registers, the call of the userfault object is accepted and does just that.
-use Rattle.mig_model.proofs.FrameSteps.{end_below, first_in, last_in, some_bound}
-use Rattle.std.proofs.Common.{◌≡◌, ℕ, ◌*◌, ◌&&◌, ◌||◌, Bool, true, false, not, ltb, Option, Some, None, List, ◌∷◌, refl, sym, ap, ◌∙◌, subst, length, if◌then◌else◌, IsOk, ◌<◌, ◌-◌, ◌+◌, arith}
+use Rattle.std.proofs.Common.{◌≡◌, ℕ, ◌*◌, ◌&&◌, ◌||◌, Bool, true, false, not, ltb, Option, Some, None, List, ◌∷◌, refl, sym, ap, ◌∙◌, subst, length, if◌then◌else◌, IsOk, ◌<◌, ◌≤◌, ◌-◌, ◌+◌, arith}
 use Rattle.std.proofs.lemmas.Bool.Decides.{nat_tests}
 use Rattle.std.specs.Prelude.{Ok}
 use Rattle.std.specs.Ordering.{nat_cmp}
@@ -83,7 +82,7 @@ source_zeroes cpus world addr all answered =
     let space = space_of world.source in
     let told = told_zeroed (source_act world.source fault) (4096 * fault.page) addr h in
     let there = not_forgotten space fault.page (source_served (is_forgotten space fault.page) (is_present space fault.page) _ told.0) in
-    let made = zero_page_made world.source.guest fault.page (record { enabled = (source_open cpus world all unswitched).enabled; quiet = quiet; inside = all.limited.areas.pages fault.page there.0 }) there.0 there.1 (source_zero world fault told.0) in
+    let made = zero_page_made world.source.guest fault.page (record { enabled = (source_open cpus world all unswitched).enabled; quiet = quiet; inside = all.mapped.pages fault.page there.0 }) there.0 there.1 (source_zero world fault told.0) in
     subst (λ a. IsZeroPage world.source.guest (after_source_act world fault).source.guest a) told.1
     (subst (λ act. IsZeroPage world.source.guest (source_acted_by act world.source fault.page).guest (4096 * fault.page)) (sym told.0) made))) answered refl
 
@@ -99,7 +98,7 @@ source_unprotects cpus world addr all answered =
     let watched = sound.watched fault.page guarded in
     let mapped = sound.mapped fault.page (or_right (contains space.object.missing fault.page) (contains space.object.protect fault.page) watched) in
     let made = write_protect_made world.source.guest (resolved world.source.guest fault.page (protected_in space fault.page 1 false)) fault.page 0 false
-    (record { enabled = (source_open cpus world all unswitched).enabled; quiet = quiet; inside = all.limited.areas.pages fault.page mapped }) watched refl (zero_is_no_one 0) refl (page_woken world.source.guest fault.page (protected_in space fault.page 1 false)) in
+    (record { enabled = (source_open cpus world all unswitched).enabled; quiet = quiet; inside = all.mapped.pages fault.page mapped }) watched refl (zero_is_no_one 0) refl (page_woken world.source.guest fault.page (protected_in space fault.page 1 false)) in
     subst (λ a. IsWriteProtect world.source.guest (after_source_act world fault).source.guest a 4096 0 (Range a 4096)) told.1
     (subst (λ act. IsWriteProtect world.source.guest (source_acted_by act world.source fault.page).guest (4096 * fault.page) 4096 0 (Range (4096 * fault.page) 4096)) (sym told.0) made))) answered refl
 
@@ -159,6 +158,18 @@ destination_forgets cpus world addr all faults answered =
 
 -- Send
 
+pub some_bound : (count : ℕ) → 0 < run_bound count
+some_bound count = grind (arith, nat_tests)
+
+pub last_in : (first number : ℕ) → 0 < number → in_range first number (first + (number - 1)) ≡ true
+last_in first number h = grind (arith, nat_tests, h)
+
+pub first_in : (first number : ℕ) → 0 < number → in_range first number first ≡ true
+first_in first number h = grind (arith, nat_tests, h)
+
+pub end_below : (first number : ℕ) → 0 < number → first + (number - 1) < HIGH_PAGE → first + number ≤ HIGH_PAGE
+end_below first number h l = omega (arith, h, l)
+
 pub one_is_protect : is_one 1 0 ≡ true
 unfolding is_one
 one_is_protect = refl
@@ -179,7 +190,7 @@ sent_protected cpus world page all found precopy quiet =
     let watched =
     (kept.precopy.todo_sendable unswitched page (least_below_tells (contains world.source.log.todo) HIGH_PAGE page found) (ap (λ events. is_unread events page) (no_event space.object.events quiet))).1 in
     let mapped = kept.spaces.source_space.mapped page (or_right (contains space.object.missing page) (contains space.object.protect page) watched) in
-    write_protect_made world.source.guest (record world.source.guest { space = protected_in space page 1 true }) page 1 true (record { enabled = (source_open cpus world all unswitched).enabled; quiet = quiet; inside = all.limited.areas.pages page mapped }) watched refl one_is_protect refl refl
+    write_protect_made world.source.guest (record world.source.guest { space = protected_in space page 1 true }) page 1 true (record { enabled = (source_open cpus world all unswitched).enabled; quiet = quiet; inside = all.mapped.pages page mapped }) watched refl one_is_protect refl refl
 
 pub page_protected : (cpus : ℕ) (world : World) (addr : ℕ) → IsBounded cpus world → outcome world Step.Send ≡ Ok (Effect.SentPage addr) → IsWriteProtect world.source.guest (next world Step.Send).source.guest addr 4096 1 Nobody
 page_protected cpus world addr all answered =
@@ -213,7 +224,7 @@ sent_run_protected cpus world first bound all found some precopy quiet =
     let number = run_length todo first bound in
     let more = run_length-some todo first bound (least_below_tells (contains todo) HIGH_PAGE first found) some in
     let watched = run_watched world first bound kept precopy quiet in
-    let inside : (q : ℕ) → in_range first number q ≡ true → IsPage q = λ q h. all.limited.areas.pages q (kept.spaces.source_space.mapped q (or_right (contains space.object.missing q) (contains space.object.protect q) (watched q h))) in
+    let inside : (q : ℕ) → in_range first number q ≡ true → IsPage q = λ q h. all.mapped.pages q (kept.spaces.source_space.mapped q (or_right (contains space.object.missing q) (contains space.object.protect q) (watched q h))) in
     let unswitched = precopy_unswitched world.source.phase world.source.switched precopy kept.phases.source_phase in
     range_protect_made world.source.guest (run_guest world first number) first number 1 true (source_open cpus world all unswitched).enabled quiet more (inside first (first_in first number more)).0
     (end_below first number more (inside (first + (number - 1)) (last_in first number more)).1) watched refl one_is_protect refl refl
@@ -317,13 +328,13 @@ both_registered space runs sound opened mapping are =
 pub start_registers : (cpus : ℕ) (world : World) (runs : List Run) → IsBounded cpus world → IsOk (outcome world Step.Start) → AreRunsOf (space_of world.source).host.areas runs → AreRegistered (space_of world.source) (space_of (next world Step.Start).source) runs 3
 start_registers cpus world runs all ok are =
     leaves-ok (λ new. AreRegistered (space_of world.source) (space_of new.source) runs 3) world Step.Start
-    (holds-made _ world Step.Start (λ idle unused. both_registered (space_of world.source) runs all.ready.kept.spaces.source_space (all.opened.source (idle_unreleased world.source.phase idle)) all.limited.areas are)) ok
+    (holds-made _ world Step.Start (λ idle unused. both_registered (space_of world.source) runs all.ready.kept.spaces.source_space (all.opened.source (idle_unreleased world.source.phase idle)) all.mapped are)) ok
 
 pub round_registers : (cpus : ℕ) (world : World) (runs : List Run) → IsBounded cpus world → IsOk (outcome world Step.Round) → AreRunsOf (space_of world.source).host.areas runs → AreRegistered (space_of world.source) (space_of (next world Step.Round).source) runs 3
 round_registers cpus world runs all ok are =
     leaves-ok (λ new. AreRegistered (space_of world.source) (space_of new.source) runs 3) world Step.Round
     (holds-made _ world Step.Round (λ precopy quiet.
-    both_registered (space_of world.source) runs all.ready.kept.spaces.source_space (source_open cpus world all (precopy_unswitched world.source.phase world.source.switched precopy all.ready.kept.phases.source_phase)) all.limited.areas are)) ok
+    both_registered (space_of world.source) runs all.ready.kept.spaces.source_space (source_open cpus world all (precopy_unswitched world.source.phase world.source.switched precopy all.ready.kept.phases.source_phase)) all.mapped are)) ok
 
 -- The run of the destination
 

@@ -10,7 +10,7 @@ use Rattle.mig_model.specs.Migration.{World, is_short, next}
 use Rattle.mig_model.specs.Source.{space_of}
 use Rattle.mig_model.proofs.Facts.{or_assoc, up_not_down, zero_bytes}
 use Rattle.std.proofs.lemmas.Bool.Decides.{nat_tests}
-use Rattle.mig_model.specs.Texts.{text_len}
+use Rattle.mig_model.specs.Lengths.{text_len}
 use Rattle.std.specs.List.{list_all}
 use Rattle.mig_base.specs.Bytes.{zero_page}
 use Rattle.mig_model.specs.Invariant.Flow.{BeforeAdvise, Copies, BeforePackage, Pushed, AfterEnd}

@@ -23,7 +23,7 @@ use Rattle.mig_model.specs.Source.{Source, bytes_of, is_released, not_clean, pac
 use Rattle.mig_model.specs.Destination.{Destination, act_frames, destination_act_by, destination_acted_by, destination_answers, is_running, received_of, recv_by}
 use Rattle.mig_model.specs.Migration.{World}
 use Rattle.mig_model.specs.Bounds.{AreFewPages, ArePageBytes, ArePages, AreUrgentFew, IsCpuCount, IsFrame, IsMapping, IsPage}
-use Rattle.mig_model.proofs.PageBytes.{AreBytes, HasBytes, contents_bytes}
+use Rattle.frame_texts.proofs.PageBytes.{AreBytes, HasBytes, contents_bytes}
 use Rattle.mig_model.proofs.CommandLemmas.{length-contents}
 use Rattle.mig_model.proofs.Facts.{owed_is_present, no_page}
 use Rattle.mig_model.proofs.RightCommands.{AllRight, right_commands}

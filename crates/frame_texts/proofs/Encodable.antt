@@ -5,8 +5,8 @@ use Rattle.std.specs.List.{AllByRecursion}
 use Rattle.mig_base.specs.declared.command.Command.{Command}
 use Rattle.mig_base.specs.declared.command.Command.TheVariants.{Load, Store}
 use Rattle.mig_base.specs.Flat.{is_width}
-use Rattle.mig_model.specs.Texts.{IsEncodable, FitsCommand, FitsText, HasWholePages}
-use Rattle.mig_model.specs.Texts.Version.{Two}
+use Rattle.frame_texts.specs.Texts.{IsEncodable, FitsCommand, FitsText, HasWholePages}
+use Rattle.frame_texts.specs.Texts.Version.{Two}
 use Rattle.mig_model.specs.Bounds.{IsFrame, AreRightAccesses, ArePageBytes}
 use Rattle.mig_model.specs.Wire.{Frame}
 use Rattle.mig_model.proofs.Facts.{and_left}

@@ -18,13 +18,14 @@ use Rattle.mig_base.specs.declared.phase.Received.{Received}
 use Rattle.mig_base.specs.Sets.{pages_where}
 use Rattle.mig_base.proofs.RangeLemmas.{count_below-few}
 use Rattle.mig_base.proofs.SetLemmas.{run_length-most}
-use Rattle.mig_model.specs.Texts.{list_below, begins_run, run_at, runs_of, begins_area, area_at, areas_of, Version, version_code, has_frame, tag_code, run_text, runs_text, area_text, areas_text, commands_text, state_code, body_text, header_text, text, HasWholePages, AreBelow, AreMappedBelow, FitsCommand, FitsText, IsEncodable}
+use Rattle.mig_model.specs.Lengths.{begins_run, begins_area}
+use Rattle.frame_texts.specs.Texts.{list_below, run_at, runs_of, area_at, areas_of, Version, version_code, has_frame, tag_code, run_text, runs_text, area_text, areas_text, commands_text, state_code, body_text, header_text, text, HasWholePages, AreBelow, AreMappedBelow, FitsCommand, FitsText, IsEncodable}
 use Rattle.mig_model.specs.Ioctls.{same_prot}
 use Rattle.std.specs.FinMap.{get}
 use Rattle.mig_model.specs.Wire.{Frame}
 use Rattle.mig_model.specs.Wire.Frame.{Advise, Page, Zero, Run, Discard, Package, End, Resume, Request, Recv, Done}
-use Rattle.mig_model.proofs.RunsAndAreas.{all_listed, runs_of-same, areas_of-same}
-use Rattle.mig_model.proofs.TextLemmas.{length-list_below}
+use Rattle.frame_texts.proofs.RunsAndAreas.{all_listed, runs_of-same, areas_of-same}
+use Rattle.frame_texts.proofs.TextLemmas.{length-list_below}
 
 -- Numbers
 

@@ -13,8 +13,6 @@ use Rattle.mig_base.specs.declared.phase.DestPhase.{DestPhase}
 use Rattle.mig_base.specs.declared.phase.Received.{Received}
 use Rattle.mig_base.specs.declared.phase.SourcePhase.{SourcePhase}
 use Rattle.mig_base.specs.declared.command.Command.{Command}
-use Rattle.mig_base.specs.declared.message.Message.{Message}
-use Rattle.mig_base.specs.declared.message.Message.TheVariants.{PageFault}
 use Rattle.mig_base.specs.declared.schedule.Side.{Side}
 use Rattle.mig_base.specs.declared.schedule.Step.{Step}
 use Rattle.mig_base.specs.Commands.{is_access}
@@ -35,15 +33,18 @@ use Rattle.mig_model.specs.Destination.{Destination, act_frames, destination_act
 use Rattle.mig_model.specs.Migration.{World, after_break, after_command, after_deliver, after_deliver_back, after_deliver_urgent, after_dest_act, after_end, after_notice, after_push, after_push_urgent, after_resume, after_run, after_send, after_source_read, after_start, after_switch, first_world_with, guest_by, guest_of, has_started, is_changing, is_used, next, run_bound, source_sends, with_guest_by}
 use Rattle.mig_model.specs.Invariant.{IsSoundWorld, PausedWires, Wires, is_unread}
 use Rattle.mig_model.proofs.Taken.{IsInPlaceBack}
-use Rattle.mig_model.specs.Bounds.{ArePages, AreUrgentFew, IsCpuCount, IsMapping, IsPage}
-use Rattle.mig_model.proofs.PageBytes.{HasBytes, changed_bytes, zeroed_bytes}
+use Rattle.mig_model.specs.Bounds.{ArePages, IsCpuCount, IsMapping, IsPage}
+use Rattle.frame_texts.proofs.PageBytes.{HasBytes, changed_bytes, zeroed_bytes}
 use Rattle.mig_model.proofs.WokenSteps.{stopped_switched, takes, takes_urgent}
 use Rattle.mig_model.proofs.Facts.{no_event, no_page}
 use Rattle.mig_model.proofs.FirstFrame.{empty_not}
-use Rattle.mig_model.proofs.FrameBounds.{AreBodies, AreListed, act_good, act_listed, answers_good, bodies-sending, bodies-sending_if, end_good, listed-without, page_good, present_page, rebuilt_good, run_good, requested_owed, switch_good}
+use Rattle.frame_texts.proofs.FrameBounds.{AreBodies, AreListed, act_good, act_listed, answers_good, bodies-sending, bodies-sending_if, end_good, listed-without, page_good, present_page, rebuilt_good, run_good, requested_owed, switch_good}
 use Rattle.mig_model.proofs.FramesTaken.{is_taken_back}
 use Rattle.mig_model.proofs.MappingLemmas.{IsMapping-after, IsMapping-empty, host_tried}
-use Rattle.mig_model.proofs.RightCommands.{AllRight, AreRight, right_source}
+use Rattle.mig_model.proofs.Bounded.{IsReady}
+use Rattle.mig_model.proofs.HandlerCalls.{end_below, first_in, last_in, some_bound}
+use Rattle.mig_model.proofs.SourceMapped.{read_host}
+use Rattle.mig_model.proofs.RightCommands.{AllRight, right_source}
 use Rattle.mig_model.proofs.SourceKept.{source_holds}
 use Rattle.mig_model.proofs.SourceRounds.{precopy_unswitched, precopy_started}
 use Rattle.mig_model.proofs.StepCases.{MakesWorld, made-next}
@@ -65,13 +66,6 @@ pub record IsLimited (cpus : ℕ) (from : SourcePhase) (epoch : ℕ) (host : Hos
 abbrev pub AreLimited : ℕ → World → Type 0
 AreLimited cpus world =
     IsLimited cpus world.source.phase world.source.epoch (space_of world.source).host world.source.log.sent world.destination.requests world.forward.frames world.back.frames world.urgent.frames
-
--- what else is kept, on which that rests
-pub record IsReady (cpus : ℕ) (world : World) : Type 0 where
-  pub kept : IsSoundWorld world
-  pub few : AreUrgentFew world
-  pub right : AreRight world
-  pub many : length world.source.guest.cpus ≡ cpus
 
 none_bytes : HasBytes finmap.empty
 none_bytes page bytes h = absurd (none-some bytes (sym (get-empty nat_cmp page) ∙ h))
@@ -172,9 +166,6 @@ record IsSendable (world : World) (first number : ℕ) : Type 0 where
   few : number ≤ 64
   present : (q : ℕ) → in_range first number q ≡ true → is_present (space_of world.source) q ≡ true
 
-pub some_bound : (count : ℕ) → 0 < run_bound count
-some_bound count = grind (arith, nat_tests)
-
 most_bound : (count : ℕ) → run_bound count ≤ 64
 most_bound count = grind (arith, nat_tests)
 
@@ -195,15 +186,6 @@ run_sendable world first number bound kept found many some most precopy quiet =
 ranged_pages : (set : FinSet nat_cmp) (first number : ℕ) → ArePages set → ((q : ℕ) → in_range first number q ≡ true → IsPage q) → ArePages (with_range set first number)
 ranged_pages set first number are is q h = one_more (in_range first number q) (contains set q) (is q) (are q) (sym (member_with_range set first number q) ∙ h)
 
-pub last_in : (first number : ℕ) → 0 < number → in_range first number (first + (number - 1)) ≡ true
-last_in first number h = grind (arith, nat_tests, h)
-
-pub first_in : (first number : ℕ) → 0 < number → in_range first number first ≡ true
-first_in first number h = grind (arith, nat_tests, h)
-
-pub end_below : (first number : ℕ) → 0 < number → first + (number - 1) < HIGH_PAGE → first + number ≤ HIGH_PAGE
-end_below first number h l = omega (arith, h, l)
-
 run_limited : {cpus : ℕ} → (world : World) (first number : ℕ) → IsSoundWorld world → IsSendable world first number → AreLimited cpus world → AreLimited cpus (after_run world first number)
 run_limited {cpus = cpus} world first number kept are h =
     let sound = kept.spaces.source_space.host in
@@ -214,10 +196,6 @@ run_limited {cpus = cpus} world first number kept are h =
       ranged_pages world.source.log.sent first number h.sent_pages pages,
       λ (c : IsCpuCount cpus). bodies-sending world.forward.frames world.source.epoch (Run first (run_of world.source first number) ∷ []) (h.to_destination c) (frame, tt),
     )
-
-read_host : (guest : Guest) (cpu : ℕ) (message : Message) → (read_guest guest cpu message).space.host ≡ guest.space.host
-read_host guest cpu (PageFault addr write wp tid) = refl
-read_host guest cpu _ = refl
 
 read_limited : {cpus : ℕ} → (world : World) (noted : Noted) → AreLimited cpus world → AreLimited cpus (after_source_read world noted)
 read_limited world noted h =

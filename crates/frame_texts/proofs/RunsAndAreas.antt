@@ -19,7 +19,8 @@ use Rattle.mig_base.proofs.PageLemmas.{same_pages}
 use Rattle.mig_base.proofs.RangeLemmas.{in_range-true}
 use Rattle.mig_base.proofs.SetLemmas.{same_members, member_below, member_run}
 use Rattle.mig_model.specs.Ioctls.{same_prot}
-use Rattle.mig_model.specs.Texts.{list_below, begins_run, run_at, runs_of, begins_area, area_at, areas_of, AreBelow, AreMappedBelow}
+use Rattle.mig_model.specs.Lengths.{begins_run, begins_area}
+use Rattle.frame_texts.specs.Texts.{list_below, run_at, runs_of, area_at, areas_of, AreBelow, AreMappedBelow}
 use Rattle.mig_model.proofs.Facts.{none_absurd, eqb-self, either, and_second, below_or_at, or_assoc, and_false}
 use Rattle.mig_model.proofs.SourceSending.{present_bytes}
 
