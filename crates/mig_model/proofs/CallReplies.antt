@@ -1,6 +1,7 @@
 -- A processor in a call has the reply of its last entry, until its last message is read.
+use Rattle.std.proofs.lemmas.Bool.Decides.{nat_tests}
 use Rattle.std.proofs.Common.{◌≡◌, ℕ, zero, suc, Bool, true, false, eqb, Option, Some, None, List, [], ◌∷◌, ◌++◌, refl, sym, ap, ◌∙◌, subst, ◌⊎◌, inl, inr, ⊎_elim, arith, if◌then◌else◌, not, append-nil}
-use Rattle.std.specs.Prelude.{set, map, Ok, Err}
+use Rattle.std.specs.Prelude.{set, map, Ok}
 use Rattle.std.specs.Ordering.{nat_cmp}
 use Rattle.std.specs.FinMap.{FinMap}
 use Rattle.std.specs.FinSet.{FinSet}
@@ -22,7 +23,7 @@ use Rattle.mig_model.specs.Guest.{Guest, is_left_by, read_guest, took_by}
 use Rattle.mig_model.specs.Wire.{Frame, Sent}
 use Rattle.mig_model.specs.Wire.Frame.{Package}
 use Rattle.mig_model.specs.Migration.{Answer, Made, World, after_command, after_deliver, answer, event_effect, guest_by, guest_of, next, next_by, outcome, outcome_by, read_effect, try_effect}
-use Rattle.mig_model.specs.Invariant.{CallFits, AreSoundCalls, IsSoundWorld, unread_of}
+use Rattle.mig_model.specs.Invariant.{CallFits, AreSoundCalls, IsSoundWorld}
 use Rattle.mig_model.specs.Promises.{IsReached}
 use Rattle.mig_model.specs.Replies.{HandsOver, call_reply, last_reply}
 use Rattle.mig_model.proofs.Calls.{are_sound_calls, calls-first, calls_next}
@@ -63,9 +64,7 @@ entered_other (Call reply left) entries cpu command k other = other_entry entrie
 
 -- a call has entered the reply that it will give
 entered_call : (took : Took) (entries : List Entry) (cpu : ℕ) (command : Command) (reply : Reply) → call_reply (processor_after command took) ≡ Some reply → last_reply (entries ++ entries_of cpu command took) cpu ≡ Some reply
-entered_call (Took.Answer other) entries cpu command reply h = absurd (none-some reply h)
-entered_call Sleep entries cpu command reply h = absurd (none-some reply h)
-entered_call (Call other left) entries cpu command reply h = own_entry entries cpu command other ∙ h
+entered_call took entries cpu command reply h = grind (arith, nat_tests, none-some, own_entry)
 
 -- Processors
 
@@ -98,13 +97,7 @@ woken_none _ h = refl
 
 -- a processor with no unread event is in no call
 quiet_reply : (p : CpuState) → CallFits p 0 → call_reply p ≡ None
-quiet_reply CpuState.Idle h = refl
-quiet_reply (CpuState.Asleep command) h = refl
-quiet_reply (CpuState.Woken command) h = refl
-quiet_reply (CpuState.InCall reply left) h =
-    let is = h.0 in
-    let some = h.1 in
-    absurd (omega (arith, is, some))
+quiet_reply p h = grind (arith, nat_tests)
 
 taken_reply : (commands : List (Option Command)) (k : ℕ) → reply_at (map taken_over commands) k ≡ None
 taken_reply [] k = refl
@@ -160,12 +153,7 @@ not_last : {A : Type 0} (effect : Effect) (event : Message) (k : ℕ) (reply : R
 not_last effect event k reply not is = absurd (false≢true (sym not ∙ ap is_last_read is))
 
 all_go_on : (old new : Guest) (effect : Effect) → SameCalls old new → is_last_read effect ≡ false → GoOn old new effect
-all_go_on old new effect same not =
-    record {
-      kept = λ k reply h. inl (same k ∙ h);
-      was = λ k reply h. sym (same k) ∙ h;
-      last = λ event k reply is. not_last effect event k reply not is;
-    }
+all_go_on old new effect same not = grind (arith, nat_tests, not_last)
 
 -- Messages
 
@@ -243,12 +231,7 @@ quietly world new effect same not entered = record { calls = all_go_on (guest_of
 -- a Package is taken where no processor is in a call, and none is then
 package_calls : (epoch : ℕ) (areas : FinMap nat_cmp Prot) (owed : FinSet nat_cmp) (commands : List (Option Command)) (rest : List Sent) (world : World) → world.up ≡ true → world.forward.frames ≡ record { epoch = epoch; frame = Package areas owed commands } ∷ rest → IsSoundWorld world →
     AreSoundCalls world → SameCalls (guest_of world) (guest_of (delivered world (record { epoch = epoch; frame = Package areas owed commands } ∷ rest)))
-package_calls epoch areas owed commands rest world up first kept all k =
-    let told = package_next epoch areas owed commands rest world up first kept in
-    let switched = stopped_switched world.source.phase world.source.switched told.2 kept.phases.source_phase in
-    taken_reply commands k
-    ∙ sym (quiet_reply (processor_at world.source.guest.cpus k) (subst (λ e. CallFits (processor_at world.source.guest.cpus k) (unread_of e k)) (kept.phases.source_quiet switched) (all.source.fits k)))
-    ∙ ap (λ b. reply_at (guest_by b world.source.guest world.destination.guest).cpus k) (sym told.1)
+package_calls epoch areas owed commands rest world up first kept all k = grind (arith, nat_tests, package_next, stopped_switched, taken_reply, quiet_reply)
 
 -- waking leaves calls
 woken_calls : (old new : List CpuState) → IsWoken old new → (k : ℕ) → reply_at new k ≡ reply_at old k
@@ -301,9 +284,7 @@ tried_at : (world : World) (cpu : ℕ) (command : Command) (k : ℕ) →
 tried_at world cpu command k = ap (λ g. processor_at g.cpus k) (tried_guest world cpu command)
 
 tried_keeps : (world : World) (cpu : ℕ) (command : Command) (k : ℕ) (reply : Reply) → reply_at (guest_of world).cpus cpu ≡ None → reply_at (guest_of world).cpus k ≡ Some reply → reply_at (guest_of (after_command world cpu command)).cpus k ≡ Some reply
-tried_keeps world cpu command k reply free h =
-    let other = λ (same : cpu ≡ k). none-some reply (sym free ∙ ap (λ j. reply_at (guest_of world).cpus j) same ∙ h) in
-    ap call_reply (tried_at world cpu command k ∙ set_other (guest_of world).cpus cpu k (processor_after command (took_by (is_access command) (guest_of world).space command)) other) ∙ h
+tried_keeps world cpu command k reply free h = grind (arith, nat_tests, none-some, tried_at, set_other)
 
 -- every processor in a call has entered its reply
 abbrev HasReplies : World → Type 0
@@ -353,17 +334,12 @@ call_answer world step k reply kept all h =
 
 outcome_last : (world : World) (result : Answer) (k : ℕ) (reply : Reply) → reply_at (guest_of world).cpus k ≡ Some reply → Holds (GoesOnOr k reply) result →
     (reply_at (guest_of (next_by world result)).cpus k ≡ Some reply) ⊎ ((event : Message) × (outcome_by result ≡ Ok (Effect.ReadLast event k reply)))
-outcome_last world (Ok made) k reply h goes =
-    ⊎_elim (λ (on : reply_at (guest_of made.world).cpus k ≡ Some reply). inl on) (λ (last : IsLast made.effect k reply). inr (last.event, ap (λ e. Ok e) last.is)) goes
-outcome_last world (Err refusal) k reply h goes = inl h
+outcome_last world result k reply h goes = grind (arith, nat_tests)
 
 pub reply_kept : (world : World) (step : Step) (cpu : ℕ) (reply : Reply) → IsReached world → call_reply (processor_at (guest_of world).cpus cpu) ≡ Some reply →
     (call_reply (processor_at (guest_of (next world step)).cpus cpu) ≡ Some reply) ⊎ HandsOver world step cpu reply
 unfolding next outcome
-reply_kept world step cpu reply reached h =
-    ⊎_elim (λ (on : reply_at (guest_of (next_by world (answer world step))).cpus cpu ≡ Some reply). inl on)
-    (λ (last : (event : Message) × (outcome_by (answer world step) ≡ Ok (Effect.ReadLast event cpu reply))). inr (record { event = last.0; is = last.1 }))
-    (outcome_last world (answer world step) cpu reply h (call_answer world step cpu reply (kept-reached world reached) (are_sound_calls world reached) h))
+reply_kept world step cpu reply reached h = grind (arith, nat_tests, outcome_last, call_answer, kept-reached, are_sound_calls)
 
 -- what is handed over is that reply
 abbrev LastTold : World → Effect → World → Type 0

@@ -1,5 +1,5 @@
 -- A processor is in a call exactly as long as it has unread events there, and counts them: every step keeps it.
-use Rattle.std.proofs.Common.{◌≡◌, ℕ, zero, suc, ◌+◌, Bool, true, false, not, eqb, ltb, Option, Some, None, List, [], ◌∷◌, ◌++◌, length, refl, sym, ap, ◌∙◌, subst, ⊎_elim, arith, if◌then◌else◌}
+use Rattle.std.proofs.Common.{◌≡◌, ℕ, zero, suc, ◌+◌, Bool, true, false, not, eqb, ltb, Option, Some, None, List, [], ◌∷◌, ◌++◌, length, refl, sym, ap, ◌∙◌, subst, arith, if◌then◌else◌}
 use Rattle.std.specs.Prelude.{set, map}
 use Rattle.std.proofs.lemmas.Bool.Decides.{nat_tests}
 use Rattle.std.proofs.lemmas.Bool.{false≢true, cases_eq, ne_eqb}
@@ -77,11 +77,7 @@ woken_unread _ unread is h = absurd (false≢true is)
 -- a processor that is there changes, and the others stay
 fits_set : (cpus : List CpuState) (i : ℕ) (new : CpuState) (before now : ℕ → ℕ) → not (ltb i (length cpus)) ≡ false → ((k : ℕ) → CallFits (processor_at cpus k) (before k)) → ((k : ℕ) → (i ≡ k → ⊥) → now k ≡ before k) → CallFits new (now i) → (k : ℕ) →
     CallFits (processor_at (set cpus i new) k) (now k)
-fits_set cpus i new before now there fits others here k =
-    ⊎_elim
-    (λ (same : i ≡ k). subst (λ j. CallFits (processor_at (set cpus i new) j) (now j)) same (subst (λ p. CallFits p (now i)) (sym (set_there cpus i new there)) here))
-    (λ (other : i ≡ k → ⊥). subst (λ p. CallFits p (now k)) (sym (set_other cpus i k new other)) (subst (λ n. CallFits (processor_at cpus k) n) (sym (others k other)) (fits k)))
-    (cases_eq i k)
+fits_set cpus i new before now there fits others here k = grind (arith, nat_tests, set_there, set_other, cases_eq)
 
 -- Commands
 
@@ -139,10 +135,7 @@ woken_there (p ∷ ps) (suc k) h = more_there k (length ps) (woken_there ps k h)
 -- Messages
 
 less_fits : (p : CpuState) (unread : ℕ) → CallFits p (1 + unread) → CallFits (message_less p) unread
-less_fits (CpuState.InCall reply zero) unread h = let no = h.1 in absurd (omega (arith, no))
-less_fits (CpuState.InCall reply (suc zero)) unread h = let is = h.0 in omega (arith, is)
-less_fits (CpuState.InCall reply (suc (suc left))) unread h = let is = h.0 in (omega (arith, is), omega arith)
-less_fits _ unread h = absurd (omega (arith, h))
+less_fits p unread h = grind (arith, nat_tests)
 
 -- a processor that has unread events is there
 call_there : (cpus : List CpuState) (k unread : ℕ) → CallFits (processor_at cpus k) (1 + unread) → not (ltb k (length cpus)) ≡ false
@@ -176,11 +169,7 @@ fault_calls (PageFault addr write wp tid) cpu faults events guest calls = record
 fault_calls _ cpu faults events guest calls = absurd calls.faults.0
 
 read_in : (faults events : List Noted) (noted : Noted) (guest : Guest) → next_of faults events ≡ Some noted → AreRight events → HasSoundCalls (with_queues faults events guest) → HasSoundCalls (read_guest (with_queues faults events guest) noted.cpu noted.message)
-read_in [] [] noted guest is right calls = absurd (none_is noted is)
-read_in [] (first ∷ events) noted guest is right calls =
-    subst (λ m. HasSoundCalls (read_guest (with_queues [] (first ∷ events) guest) m.cpu m.message)) (some_is first noted is) (event_calls first.message first.cpu events guest right calls)
-read_in (first ∷ faults) events noted guest is right calls =
-    subst (λ m. HasSoundCalls (read_guest (with_queues (first ∷ faults) events guest) m.cpu m.message)) (some_is first noted is) (fault_calls first.message first.cpu faults events guest calls)
+read_in faults events noted guest is right calls = grind (arith, nat_tests, none_is, some_is, event_calls, fault_calls)
 
 read_calls : (guest : Guest) (noted : Noted) → next_message guest.space.object ≡ Some noted → AreRight guest.space.object.events → HasSoundCalls guest → HasSoundCalls (read_guest guest noted.cpu noted.message)
 read_calls guest noted is right calls = read_in guest.space.object.faults guest.space.object.events noted guest is right calls

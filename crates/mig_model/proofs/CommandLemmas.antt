@@ -13,7 +13,7 @@ use Rattle.mig_base.specs.declared.command.Command.TheVariants.{Store, Mmap, Mun
 use Rattle.mig_base.specs.declared.command.Reply.{Reply}
 use Rattle.mig_base.specs.declared.command.Reply.TheVariants.{Done, At, BadAccess, Refused}
 use Rattle.mig_base.specs.Ranges.{rounded, pages_of}
-use Rattle.mig_base.specs.Bytes.{zero_page, contents, overwrite, low_bytes}
+use Rattle.mig_base.specs.Bytes.{zero_page, contents, low_bytes}
 use Rattle.mig_base.specs.Flat.{Memory, Cell, is_mapped, fill, zeros_with, clear, zeroed, moved, write, is_aligned, allows_store, access_reply, reply_of, changed}
 use Rattle.mig_base.proofs.ReplyLemmas.{IsRemapped, found_inside, mmap_inside, munmap_whole, dontneed_done, dontneed_hole, mremap_told}
 use Rattle.mig_base.proofs.ReplyLemmas.IsWhere.{Shrunk, Grew, Moved, Told}
@@ -62,14 +62,7 @@ memory-stored host addr width value sound form =
     memory-write host addr width value (contents host.bytes (addr / 4096)) (low_bytes value width) (reads_or_zero (get host.bytes (addr / 4096))) (length-contents host (addr / 4096) sound) (digits_low_bytes value width is.few) is.inside
 
 IsSound-stored : (host : Host) (addr width value : ℕ) → IsSound host → contains_key host.areas (addr / 4096) ≡ true → is_aligned addr width ≡ true → IsSound (host_changed host (Store addr width value) Done)
-IsSound-stored host addr width value sound mapped form =
-    let is = aligned_inside addr width form in
-    let inside = is.inside in
-    let digits = digits_low_bytes value width is.few in
-    let count = digits.count in
-    let whole = length-contents host (addr / 4096) sound in
-    IsSound-put host (addr / 4096) (overwrite (contents host.bytes (addr / 4096)) (addr % 4096) (low_bytes value width)) sound mapped
-    (length-overwrite (contents host.bytes (addr / 4096)) (low_bytes value width) (addr % 4096) (omega arith) ∙ whole)
+IsSound-stored host addr width value sound mapped form = grind (arith, nat_tests, aligned_inside, digits_low_bytes, length-contents, IsSound-put, length-overwrite)
 
 -- Ranges
 

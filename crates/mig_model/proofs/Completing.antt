@@ -1,31 +1,26 @@
 -- A complete migration, and which parts of a world each step changes.
-use Rattle.std.proofs.Common.{◌≡◌, ℕ, ◌==◌, ◌^◌, ◌-◌, Bool, true, false, not, List, [], ◌∷◌, refl, sym, ap, ◌∙◌}
-use Rattle.std.proofs.lemmas.Bool.{false≢true, not-false}
+use Rattle.std.proofs.lemmas.Bool.Decides.{nat_tests}
+use Rattle.std.proofs.Common.{◌≡◌, ℕ, Bool, true, false, List, [], ◌∷◌, refl, ap, arith}
+use Rattle.std.proofs.lemmas.Bool.{not-false}
 use Rattle.mig_base.specs.declared.command.Command.{Command}
 use Rattle.mig_base.specs.declared.step.Step.{Step}
 use Rattle.mig_base.specs.declared.step.Step.TheVariants as step
-use Rattle.mig_base.specs.declared.step.Refusal.TheVariants.{Phase, CountUsed}
 use Rattle.mig_base.specs.declared.step.SourcePhase.{SourcePhase}
 use Rattle.mig_base.specs.declared.step.SourcePhase.TheVariants as source
 use Rattle.mig_base.specs.declared.step.DestinationPhase.{DestinationPhase}
-use Rattle.mig_base.specs.declared.step.DestinationPhase.TheVariants as destination
 use Rattle.mig_base.specs.declared.step.WorldPhase.TheVariants as phase
 use Rattle.mig_base.specs.Flat.{memory_of}
-use Rattle.mig_model.specs.Host.{Host, bare_host, memory, host_after}
+use Rattle.mig_model.specs.Host.{Host, bare_host, memory}
 use Rattle.mig_model.specs.Frame.{Frame, Sent}
 use Rattle.mig_model.specs.Frame.Frame.{Done}
-use Rattle.mig_model.specs.Node.{Source, is_idle, is_precopy, has_run, source_took}
-use Rattle.mig_model.specs.World.{World, active_host, with_active, refusal_of, issued, started, switched, delivered, delivered_back, end_sent, next, after_steps, phase_by, phase_of}
+use Rattle.mig_model.specs.Node.{Source, has_run, source_took}
+use Rattle.mig_model.specs.World.{World, with_active, refusal_of, started, switched, delivered, delivered_back, end_sent, next, after_steps, phase_by, phase_of}
 use Rattle.mig_model.specs.Kept.{IsKept}
 use Rattle.mig_model.proofs.WorldLemmas.{at_stage}
 use Rattle.mig_model.proofs.Every.{by_refusal, first_test}
 
 complete_released : (from : SourcePhase) (runs : Bool) → phase_by from runs ≡ phase.Complete → from ≡ source.Released
-complete_released source.Released runs h = refl
-complete_released source.Idle runs h = absurd (cc)
-complete_released source.Precopy runs h = absurd (cc)
-complete_released source.Stopped false h = absurd (cc)
-complete_released source.Stopped true h = absurd (cc)
+complete_released from runs h = grind (arith, nat_tests)
 
 pub released : (world : World) → phase_of world ≡ phase.Complete → world.source.phase ≡ source.Released
 released world h = complete_released world.source.phase (has_run world.destination.phase) h
@@ -36,9 +31,7 @@ complete world h = ap (λ from. phase_by from (has_run world.destination.phase))
 -- the destination holds the memory of the transcript, and the source has no page
 alone_in : (from : SourcePhase) (to : DestinationPhase) (ends : Bool) (world : World) → from ≡ source.Released → IsKept (at_stage from to ends world) →
     (memory world.destination.host ≡ memory_of world.transcript) × (world.source.host ≡ bare_host)
-alone_in source.Released destination.Ended ends world is kept = let w = kept.wires in (kept.holds, w.2)
-alone_in source.Released _ ends world is kept = absurd kept.wires
-alone_in _ _ ends world is kept = absurd (cc)
+alone_in from to ends world is kept = grind (arith, nat_tests)
 
 pub alone : (world : World) → phase_of world ≡ phase.Complete → IsKept world → (memory world.destination.host ≡ memory_of world.transcript) × (world.source.host ≡ bare_host)
 alone world h kept = alone_in world.source.phase world.destination.phase world.source.end_sent world (released world h) kept
@@ -66,19 +59,7 @@ delivered_back-released world (sent ∷ rest) h = source_took-released world.sou
 
 next-released : (world : World) (step : Step) → IsReleased world → IsReleased (next world step)
 unfolding next
-next-released world (step.Issue cpu command) h =
-    by_refusal IsReleased (refusal_of world (step.Issue cpu command)) world (issued world cpu command) h
-    (λ _. with_active-released (has_run world.destination.phase) world (host_after (active_host world) command) h)
-next-released world step.Start h =
-    by_refusal IsReleased (refusal_of world step.Start) world (started world) h
-    (λ none. let idle = first_test (not (is_idle world.source.phase)) Phase ((world.source.epoch == 2 ^ 32 - 1, CountUsed) ∷ []) none in
-    absurd (false≢true (sym (ap is_idle h) ∙ not-false (is_idle world.source.phase) idle)))
-next-released world step.Switch h =
-    by_refusal IsReleased (refusal_of world step.Switch) world (switched world) h
-    (λ none. absurd (false≢true (sym (ap is_precopy h) ∙ not-false (is_precopy world.source.phase) (first_test (not (is_precopy world.source.phase)) Phase [] none))))
-next-released world step.Deliver h = by_refusal IsReleased (refusal_of world step.Deliver) world (delivered world world.forward) h (λ _. delivered-released world world.forward h)
-next-released world step.DeliverBack h = by_refusal IsReleased (refusal_of world step.DeliverBack) world (delivered_back world world.back) h (λ _. delivered_back-released world world.back h)
-next-released world step.End h = by_refusal IsReleased (refusal_of world step.End) world (end_sent world) h (λ _. h)
+next-released world step h = grind (arith, nat_tests, by_refusal, with_active-released, first_test, not-false, delivered-released, delivered_back-released)
 
 after_steps-released : (world : World) (steps : List Step) → IsReleased world → IsReleased (after_steps world steps)
 after_steps-released world [] h = h
@@ -140,6 +121,4 @@ with_active-changes false world host = (refl, refl)
 
 pub issue_changes : (world : World) (cpu : ℕ) (command : Command) → OffWires world (next world (step.Issue cpu command))
 unfolding next
-issue_changes world cpu command =
-    by_refusal (OffWires world) (refusal_of world (step.Issue cpu command)) world (issued world cpu command) (refl, refl)
-    (λ _. with_active-changes (has_run world.destination.phase) world (host_after (active_host world) command))
+issue_changes world cpu command = grind (arith, nat_tests, by_refusal, with_active-changes)

@@ -1,6 +1,6 @@
 -- A copy that is installed, and a fault that the handler of the destination works, keep what every world keeps.
-use Rattle.std.proofs.Common.{◌≡◌, ℕ, suc, ◌+◌, ◌*◌, ◌/◌, ◌||◌, Bool, true, false, cond, eqb, ltb, Option, Some, None, List, [], ◌∷◌, refl, sym, ap, ◌∙◌, subst, arith, Ok, is_some, length, ◌%◌, not, ◌++◌, get_or, unwrap_or, if◌then◌else◌}
-use Rattle.std.specs.Option.{option_and_then, option_map}
+use Rattle.std.proofs.Common.{◌≡◌, ℕ, suc, ◌+◌, ◌*◌, ◌/◌, ◌||◌, Bool, true, false, cond, eqb, ltb, Option, Some, None, List, [], ◌∷◌, refl, sym, ap, ◌∙◌, subst, arith, Ok, is_some, length, not, ◌++◌, get_or, unwrap_or, if◌then◌else◌}
+use Rattle.std.specs.Option.{option_and_then}
 use Rattle.std.specs.Ordering.{nat_cmp}
 use Rattle.std.specs.Cmp.{nat_cmp_total, unsigned_tied}
 use Rattle.std.specs.FinMap as finmap
@@ -82,18 +82,11 @@ seen_there here bytes own owed there none same = grind arith
 -- the page that is put there is the one that was read through to the source
 seen-put : (here there : Host) (owed : FinMap nat_cmp ℕ) (page origin q : ℕ) (bytes : List ℕ) → get here.bytes page ≡ None → get owed page ≡ Some origin → get there.bytes origin ≡ Some bytes →
     seen_bytes (record here { bytes = put_pages here.bytes page 1 (λ i. bytes) }) there (get (finmap.remove owed page)) q ≡ seen_bytes here there (get owed) q
-seen-put here there owed page origin q bytes none pair same =
-    ap (λ o. seen_by o (option_and_then (get there.bytes) (get (finmap.remove owed page) q))) (get-put_one here.bytes page q bytes)
-    ∙ ap (λ o. seen_by (cond (eqb q page) (Some bytes) (get here.bytes q)) (option_and_then (get there.bytes) o)) (get-without owed page q)
-    ∙ seen_there (eqb q page) bytes (get here.bytes q) (get owed q) (get there.bytes)
-    (λ e. ap (get here.bytes) (eqb-true q page e) ∙ none)
-    (λ e. ap (λ k. option_and_then (get there.bytes) (get owed k)) (eqb-true q page e) ∙ ap (option_and_then (get there.bytes)) pair ∙ same)
+seen-put here there owed page origin q bytes none pair same = grind (arith, nat_tests, get-put_one, get-without, seen_there, eqb-true)
 
 memory-put : (here there : Host) (owed : FinMap nat_cmp ℕ) (page origin : ℕ) (bytes : List ℕ) → get here.bytes page ≡ None → get owed page ≡ Some origin → get there.bytes origin ≡ Some bytes →
     memory (seen_host (record here { bytes = put_pages here.bytes page 1 (λ i. bytes) }) there (get (finmap.remove owed page))) ≡ memory (seen_host here there (get owed))
-memory-put here there owed page origin bytes none pair same =
-    let all : seen_bytes (record here { bytes = put_pages here.bytes page 1 (λ i. bytes) }) there (get (finmap.remove owed page)) ≡ seen_bytes here there (get owed) = λ i q. seen-put here there owed page origin q bytes none pair same i in
-    ap (λ f. memory (record { areas = here.areas; bytes = map_below f HIGH_PAGE })) all
+memory-put here there owed page origin bytes none pair same = grind (arith, nat_tests, seen-put)
 
 -- The pairs that are left
 
@@ -249,11 +242,7 @@ byte_of o i = get_or (unwrap_or o []) i 0
 -- pages that read alike mean one memory: it does not tell a page of zeros from a missing one
 pub memory-reads : (areas : FinMap nat_cmp Prot) (old new : FinMap nat_cmp (List ℕ)) → ((page i : ℕ) → byte_of (get new page) i ≡ byte_of (get old page) i) →
     memory (record { areas = areas; bytes = new }) ≡ memory (record { areas = areas; bytes = old })
-memory-reads areas old new same =
-    same_memory (memory (record { areas = areas; bytes = new })) (memory (record { areas = areas; bytes = old })) (λ addr.
-    memory-at (record { areas = areas; bytes = new }) addr
-    ∙ ap (λ byte. option_map (λ prot. record { byte = byte; prot = prot }) (get areas (addr / 4096))) (same (addr / 4096) (addr % 4096))
-    ∙ sym (memory-at (record { areas = areas; bytes = old }) addr))
+memory-reads areas old new same = grind (arith, nat_tests, same_memory, memory-at)
 
 zero_reads : (here : Bool) (own other : Option (List ℕ)) (i : ℕ) → (here ≡ true → own ≡ None) → (here ≡ true → other ≡ None) → byte_of (seen_by (cond here (Some zero_page) own) other) i ≡ byte_of (seen_by own other) i
 zero_reads true own other i none nothing = get_or-zero_page i ∙ sym (ap (λ o. byte_of (seen_by o other) i) (none refl) ∙ ap (λ o. byte_of o i) (nothing refl))
@@ -309,22 +298,12 @@ running_epoch _ epoch source_epoch runs at = none_absurd runs
 
 -- only the wire back has changed
 pub kept-back : (world : World) (back : List Sent) → world.up ≡ true → AreOf world.source.epoch back → Wires world.source world.destination world.forward.frames back world.urgent.frames → HeldFits back world.back.held → IsSoundWorld world → IsSoundWorld (record world { back = record world.back { frames = back } })
-kept-back world back up epoch wires fits kept =
-    let new : World = record world { back = record world.back { frames = back } } in
-    assumption (flight_up new up kept.flight.flight_faithful wires)
+kept-back world back up epoch wires fits kept = grind (arith, nat_tests, flight_up)
 
 -- a request is sent where the destination runs and the page was not asked for yet, and is lost where the link is down
 sent_back : (up asked runs : Bool) (world : World) (source : ℕ) → world.up ≡ up → is_running world.destination.phase ≡ runs → IsSoundWorld world →
     IsSoundWorld (record world { back = wire_if up world.back world.destination.epoch (if asked || not runs then [] else Request source ∷ []) })
-sent_back false asked runs world source up running kept = kept
-sent_back true true runs world source up running kept = kept
-sent_back true false false world source up running kept = kept
-sent_back true false true world source up running kept =
-    let sent : Sent = record { epoch = world.destination.epoch; frame = Request source } in
-    kept-back world (world.back.frames ++ sent ∷ []) up
-    (AreOf-append world.source.epoch world.back.frames (sent ∷ []) kept.epochs.back_epoch (running_epoch world.destination.phase world.destination.epoch world.source.epoch running (kept.epochs.epoch_at up), tt))
-    (request_wires world.source.phase world.destination.phase world.source world.destination world.forward.frames world.back.frames world.urgent.frames sent refl running (kept.flight.wires up))
-    (fits-append world.back.frames (sent ∷ []) world.back.held kept.held.back_held) kept
+sent_back up asked runs world source up_ running kept = grind (arith, nat_tests, kept-back, AreOf-append, running_epoch, request_wires, fits-append)
 
 -- nothing is sent
 nothing_sent : (up : Bool) (world : World) → world.up ≡ up → IsSoundWorld world → IsSoundWorld (record world { back = wire_if up world.back world.destination.epoch [] })
@@ -346,9 +325,7 @@ at_held events held world =
 -- only the processors, the held faults and the requests have changed
 only_woken : (world : World) (processors : List CpuState) (held : List Fault) (requests : List ℕ) → IsSoundWorld world → world.destination.has_run ≡ true →
     IsSoundWorld (record world { destination = record world.destination { guest = record world.destination.guest { cpus = processors }; held = held; requests = requests } })
-only_woken world processors held requests kept runs =
-    kept-handled world (record world.destination.guest { cpus = processors }) held world.destination.owed requests world.destination.arrivals world.destination.installed world.destination.dropped world.destination.faults kept runs
-    (assumption (same_pairs world.destination.owed, kept.owing.arrivals_faithful runs))
+only_woken world processors held requests kept runs = grind (arith, nat_tests, kept-handled, same_pairs)
 
 other_page : (here : Bool) (o : Option ℕ) (origin : ℕ) → (here ≡ true → o ≡ None) → o ≡ Some origin → here ≡ false
 other_page here o origin none h = grind arith

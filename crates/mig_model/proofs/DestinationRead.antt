@@ -1,5 +1,6 @@
 -- What a step of the destination has to show, and that a message that is read and a command keep what every world keeps.
-use Rattle.std.proofs.Common.{◌≡◌, ℕ, ◌+◌, ◌/◌, ◌<◌, Bool, true, false, Some, None, List, [], ◌∷◌, ◌++◌, refl, sym, ap, ◌∙◌, subst, arith, append-nil}
+use Rattle.std.proofs.lemmas.Bool.Decides.{nat_tests}
+use Rattle.std.proofs.Common.{◌≡◌, ℕ, ◌<◌, Bool, true, false, Some, None, List, [], ◌∷◌, ◌++◌, refl, sym, ap, ◌∙◌, subst, arith, append-nil}
 use Rattle.std.specs.Ordering.{nat_cmp}
 use Rattle.std.specs.FinMap as finmap
 use Rattle.std.specs.FinMap.{FinMap, get, get-empty}
@@ -86,14 +87,7 @@ still_receiving source node new state back values old =
 
 still_flowing : (source : Source) (node new : Destination) (forward urgent : List Sent) → ((page origin : ℕ) → get new.owed page ≡ Some origin → (other : ℕ) × (get node.owed other ≡ Some origin)) →
     ((page origin : ℕ) → get new.owed page ≡ Some origin → has_copy node.arrivals origin ≡ true → has_copy new.arrivals origin ≡ true) → IsFlowing source node forward urgent → IsFlowing source new forward urgent
-still_flowing source node new forward urgent values copies old =
-    record {
-      whereabouts = λ page origin h.
-          let was = values page origin h in
-          let before = old.whereabouts was.0 origin was.1 in
-          let come = copies page origin h in
-          grind arith;
-    }
+still_flowing source node new forward urgent values copies old = grind (arith, nat_tests)
 
 pub wires_handled : (from : SourcePhase) (to : DestPhase) (source : Source) (node : Destination) (forward back urgent : List Sent) (guest : Guest) (held : List Fault) (owed : FinMap nat_cmp ℕ) (requests : List ℕ) (arrivals : List Copy) (installed dropped faults : ℕ) →
     ((page origin : ℕ) → get owed page ≡ Some origin → (other : ℕ) × (get node.owed other ≡ Some origin)) →
@@ -119,17 +113,7 @@ runs_memory false world h = absurd (false≢true h)
 
 pub kept-handled : (world : World) (guest : Guest) (held : List Fault) (owed : FinMap nat_cmp ℕ) (requests : List ℕ) (arrivals : List Copy) (installed dropped faults : ℕ) → IsSoundWorld world → world.destination.has_run ≡ true → IsHandled world guest owed arrivals →
     IsSoundWorld (record world { destination = handled world.destination guest held owed requests arrivals installed dropped faults })
-kept-handled world guest held owed requests arrivals installed dropped faults kept runs new =
-    let node : Destination = handled world.destination guest held owed requests arrivals installed dropped faults in
-    let next : World = record world { destination = node } in
-    let holds : memory (current_host next) ≡ memory_of next.transcript = runs_memory world.destination.has_run next runs ∙ new.same_memory ∙ sym (runs_memory world.destination.has_run world runs) ∙ kept.memory.holds in
-    let not_run : next.destination.has_run ≡ false → (owed ≡ finmap.empty) × (guest.space ≡ fresh_space) × (arrivals ≡ []) = λ h. up_not_down world.destination.has_run runs h in
-    let origins_present : (page origin : ℕ) → get owed page ≡ Some origin → is_present (space_of world.source) origin ≡ true = λ page origin h.
-    let was = new.values page origin h in
-    kept.owing.origins_present was.0 origin was.1 in
-    let wires : next.up ≡ true → Wires next.source next.destination next.forward.frames next.back.frames next.urgent.frames = λ up.
-    wires_handled world.source.phase world.destination.phase world.source world.destination world.forward.frames world.back.frames world.urgent.frames guest held owed requests arrivals installed dropped faults new.values new.copies (kept.flight.wires up) in
-    assumption
+kept-handled world guest held owed requests arrivals installed dropped faults kept runs new = grind (arith, nat_tests, runs_memory, up_not_down, wires_handled)
 
 -- A message is read
 
@@ -146,9 +130,7 @@ nothing_owed : (owed : FinMap nat_cmp ℕ) → owed ≡ finmap.empty → (page :
 nothing_owed owed h page = ap (λ m. get m page) h ∙ get-empty nat_cmp page
 
 empty-after : (message : Message) (owed : FinMap nat_cmp ℕ) → owed ≡ finmap.empty → owed_table_after message owed ≡ finmap.empty
-empty-after message owed h =
-    same_pages (owed_table_after message owed) finmap.empty (λ page.
-    get-owed_table_after message owed page ∙ none-after message (get owed) (nothing_owed owed h) page ∙ sym (get-empty nat_cmp page))
+empty-after message owed h = grind (arith, nat_tests, same_pages, get-owed_table_after, none-after, nothing_owed)
 
 -- an event is read: the settled relation is as it was, and the owed table is what the event makes of it
 event_read : (message : Message) (cpu : ℕ) (events : List Noted) (world : World) (processors : List CpuState) (faults : ℕ) →
@@ -188,9 +170,7 @@ event_in message cpu events world kept runs = event_read message cpu events worl
 
 fault_in : (message : Message) (cpu : ℕ) (faults events : List Noted) (world : World) → IsSoundWorld (at_queues (record { message = message; cpu = cpu } ∷ faults) events world) → world.destination.has_run ≡ true →
     IsSoundWorld (after_dest_read (at_queues (record { message = message; cpu = cpu } ∷ faults) events world) (record { message = message; cpu = cpu }))
-fault_in (PageFault addr write wp tid) cpu faults events world kept runs =
-    fault_read (record { message = PageFault addr write wp tid; cpu = cpu }) faults events world (world.destination.held ++ record { page = addr / 4096; wp = wp } ∷ []) (world.destination.faults + 1) kept runs
-fault_in _ cpu faults events world kept runs = absurd kept.spaces.destination_faults.0
+fault_in message cpu faults events world kept runs = grind (arith, nat_tests, fault_read)
 
 read_in : (faults events : List Noted) (noted : Noted) (world : World) → next_of faults events ≡ Some noted → IsSoundWorld (at_queues faults events world) → world.destination.has_run ≡ true → IsSoundWorld (after_dest_read (at_queues faults events world) noted)
 read_in [] [] noted world is kept runs = absurd (none_is noted is)
@@ -235,11 +215,7 @@ pub current_seen : (world : World) → world.destination.has_run ≡ true → cu
 current_seen world ran = ap (λ b. current_by b world.destination.guest.space.host (space_of world.source).host (settled world.destination)) ran
 
 pub sound_seen : (world : World) → IsSoundWorld world → IsSound (seen_host world.destination.guest.space.host (space_of world.source).host (settled world.destination))
-sound_seen world kept =
-    let space = world.destination.guest.space in
-    let far = kept.spaces.source_space in
-    let here = kept.spaces.destination_space in
-    IsSound-seen space.host (space_of world.source).host (settled world.destination) here.host far.host (watched_mapped space (settled world.destination) here (pairs_watched space (settled world.destination) kept.owing.pairs_missing))
+sound_seen world kept = grind (arith, nat_tests, IsSound-seen, watched_mapped, pairs_watched)
 
 -- the world once a command is tried where `runs` tells
 abbrev tried_at : Bool → World → ℕ → Command → World

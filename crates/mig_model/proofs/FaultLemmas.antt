@@ -2,7 +2,6 @@
 use Rattle.std.proofs.lemmas.Bool.Decides.{nat_tests}
 use Rattle.std.proofs.Common.{◌≡◌, ℕ, Bool, true, false, List, [], ◌∷◌, ◌++◌, sym, subst, if◌then◌else◌, arith}
 use Rattle.mig_base.specs.declared.command.Access.{Access}
-use Rattle.mig_base.specs.declared.command.Access.TheVariants.{Answered, Missing, Protected}
 use Rattle.mig_base.specs.declared.command.Command.{Command}
 use Rattle.mig_base.specs.declared.message.Message.TheVariants.{PageFault}
 use Rattle.mig_model.specs.Userfault.{Noted, Object, fault_queued, thread_id, waits_fault}
@@ -24,9 +23,7 @@ AreFaults-queued object addr write wp cpu are =
     fault_waits (waits_fault object.faults addr wp) object _ are (AreFaults-push object.faults (record { message = PageFault addr write wp (thread_id object cpu); cpu = cpu }) tt are)
 
 accessed_faults : (access : Access) (space : Space) (cpu : ℕ) (command : Command) → AreFaults space.object.faults → AreFaults (accessed_by access space cpu command).object.faults
-accessed_faults (Answered reply) space cpu command are = are
-accessed_faults Missing space cpu command are = AreFaults-queued space.object _ _ _ cpu are
-accessed_faults Protected space cpu command are = AreFaults-queued space.object _ _ _ cpu are
+accessed_faults access space cpu command are = grind (arith, nat_tests, AreFaults-queued)
 
 pub AreFaults-accessed : (space : Space) (cpu : ℕ) (command : Command) → AreFaults space.object.faults → AreFaults (accessed space cpu command).object.faults
 AreFaults-accessed space cpu command are = accessed_faults (access_of space command) space cpu command are

@@ -1,12 +1,13 @@
 -- Which frame can be the first of the wire to the destination: one that is in place.
-use Rattle.std.proofs.Common.{◌≡◌, ℕ, Bool, true, false, Option, Some, None, is_some, List, [], ◌∷◌, refl, sym, ap, ◌∙◌}
+use Rattle.std.proofs.lemmas.Bool.Decides.{nat_tests}
+use Rattle.std.proofs.Common.{◌≡◌, ℕ, Bool, true, false, Option, Some, None, is_some, List, [], ◌∷◌, refl, sym, ap, ◌∙◌, arith}
 use Rattle.std.specs.Option.{option_and_then}
 use Rattle.std.proofs.lemmas.Bool.{false≢true}
 use Rattle.std.proofs.lemmas.Option.{none-some}
 use Rattle.mig_base.specs.declared.phase.DestPhase.{DestPhase}
 use Rattle.mig_base.specs.declared.phase.SourcePhase.{SourcePhase}
 use Rattle.mig_model.specs.Wire.{Frame, Sent}
-use Rattle.mig_model.specs.Wire.Frame.{Page, Zero, Run, Discard, Package, End, Resume}
+use Rattle.mig_model.specs.Wire.Frame.{Page, Zero, Run, Resume}
 use Rattle.mig_model.specs.Migration.{World, after_deliver, after_deliver_back, next}
 use Rattle.mig_model.specs.Invariant.{Flow, flow_next, flow_after, Wires}
 use Rattle.mig_model.specs.Invariant.Flow.{BeforeAdvise, Copies, BeforePackage, Pushed, AfterEnd}
@@ -47,15 +48,7 @@ is_late Copies = false
 is_late flow = true
 
 late_next : (flow next : Flow) (frame : Frame) → is_late flow ≡ true → flow_next flow frame ≡ Some next → is_late next ≡ true
-late_next BeforeAdvise next frame late h = absurd (false≢true late)
-late_next Copies next frame late h = absurd (false≢true late)
-late_next BeforePackage next (Package areas owed commands) late h = ap (λ o. elim o [ None ↦ true | Some flow ↦ is_late flow ]) (sym h)
-late_next BeforePackage next _ late h = absurd (none-some next h)
-late_next Pushed next (Page page bytes) late h = ap (λ o. elim o [ None ↦ true | Some flow ↦ is_late flow ]) (sym h)
-late_next Pushed next (Zero page) late h = ap (λ o. elim o [ None ↦ true | Some flow ↦ is_late flow ]) (sym h)
-late_next Pushed next (End count) late h = ap (λ o. elim o [ None ↦ true | Some flow ↦ is_late flow ]) (sym h)
-late_next Pushed next _ late h = absurd (none-some next h)
-late_next AfterEnd next frame late h = absurd (none-some next h)
+late_next flow next frame late h = grind (arith, nat_tests, none-some)
 
 -- behind a Discard the wire does not come back to copies that are kept
 pub stays_late : (flow : Flow) (wire : List Sent) → is_late flow ≡ true → flow_after flow wire ≡ Some Copies → ⊥
@@ -95,11 +88,7 @@ comes SourcePhase.Paused DestPhase.Paused Resume = true
 comes from to frame = false
 
 copy_first : (frame : Frame) (rest : List Sent) → option_and_then (λ next. flow_after next rest) (flow_next Copies frame) ≡ Some Copies → has_copies frame ≡ true
-copy_first (Page page bytes) rest h = refl
-copy_first (Zero page) rest h = refl
-copy_first (Run first pages) rest h = refl
-copy_first (Discard pages) rest h = absurd (ends_late rest h)
-copy_first _ rest h = absurd (none-some Copies h)
+copy_first frame rest h = grind (arith, nat_tests, ends_late, none-some)
 
 resume_first : (sent : Sent) (rest : List Sent) (epoch : ℕ) → sent ∷ rest ≡ record { epoch = epoch; frame = Resume } ∷ [] → comes SourcePhase.Paused DestPhase.Paused sent.frame ≡ true
 resume_first sent rest epoch h = ap (λ (wire : List Sent). elim wire [ [] ↦ false | s ∷ _ ↦ comes SourcePhase.Paused DestPhase.Paused s.frame ]) h

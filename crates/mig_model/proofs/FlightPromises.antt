@@ -1,7 +1,6 @@
 -- What a Package or a Recv that is in flight tells, whatever the phases are; and what a Switch owes.
-use Rattle.std.proofs.Common.{◌≡◌, ℕ, ◌&&◌, Bool, true, false, not, ltb, Option, Some, None, is_some, List, [], ◌∷◌, refl, sym, ap, ◌∙◌, subst, arith, IsOk, ◌⊎◌, ⊎_elim, ◌≤◌, if◌then◌else◌}
+use Rattle.std.proofs.Common.{◌≡◌, ℕ, ◌&&◌, Bool, true, false, not, ltb, Option, Some, None, is_some, List, [], ◌∷◌, refl, sym, ap, ◌∙◌, subst, arith, IsOk, ◌⊎◌, ◌≤◌, if◌then◌else◌}
 use Rattle.std.specs.Option.{option_and_then}
-use Rattle.std.specs.FinMap.{get}
 use Rattle.std.specs.FinSet.{contains}
 use Rattle.std.proofs.lemmas.Bool.Decides.{nat_tests}
 use Rattle.std.proofs.lemmas.Bool.{false≢true, true_from_ne_false, and_parts, or_from}
@@ -14,12 +13,12 @@ use Rattle.mig_base.specs.declared.schedule.Step.{Step}
 use Rattle.mig_base.specs.Tests.{is_empty}
 use Rattle.mig_base.proofs.TestLemmas.{none_is_some}
 use Rattle.mig_model.specs.Wire.{Frame, Sent, wire_with}
-use Rattle.mig_model.specs.Wire.Frame.{Page, Zero, Package, End, Request, Done}
+use Rattle.mig_model.specs.Wire.Frame.{Request, Done}
 use Rattle.mig_model.specs.Guest.{is_present}
 use Rattle.mig_model.specs.Source.{not_clean, space_of, switch_frames}
 use Rattle.mig_model.specs.Migration.{World, outcome, next}
 use Rattle.mig_model.specs.Invariant.{IsSoundWorld, IsSwitching, IsReceiving, Flow, flow_next, flow_after, package_in, is_package, is_request, is_done, are_requests, are_requests_and_done}
-use Rattle.mig_model.specs.Invariant.Flow.{BeforeAdvise, Copies, BeforePackage, Pushed, AfterEnd}
+use Rattle.mig_model.specs.Invariant.Flow.{BeforeAdvise, Copies, Pushed, AfterEnd}
 use Rattle.mig_model.specs.Promises.{has_recv, is_running_recv}
 use Rattle.mig_model.proofs.FirstFrame.{stays_late}
 use Rattle.mig_model.proofs.Stopping.{in_phases, member_not_clean}
@@ -35,12 +34,7 @@ is_past AfterEnd = true
 is_past flow = false
 
 past_next : (flow next : Flow) (frame : Frame) → is_past flow ≡ true → flow_next flow frame ≡ Some next → (is_past next ≡ true) × (is_package frame ≡ false)
-past_next Pushed next (Page page bytes) past h = (ap (λ o. elim o [ None ↦ true | Some flow ↦ is_past flow ]) (sym h), refl)
-past_next Pushed next (Zero page) past h = (ap (λ o. elim o [ None ↦ true | Some flow ↦ is_past flow ]) (sym h), refl)
-past_next Pushed next (End count) past h = (ap (λ o. elim o [ None ↦ true | Some flow ↦ is_past flow ]) (sym h), refl)
-past_next Pushed next _ past h = absurd (none-some next h)
-past_next AfterEnd next frame past h = absurd (none-some next h)
-past_next _ next frame past h = absurd (false≢true past)
+past_next flow next frame past h = grind (arith, nat_tests, none-some)
 
 not_here : (here : Bool) (frame : Frame) (rest : Option Frame) → here ≡ false → is_some (if here then Some frame else rest) ≡ true → is_some rest ≡ true
 not_here true frame rest h there = absurd (false≢true (sym h))
@@ -59,12 +53,7 @@ none_past flow end (sent ∷ rest) past h there =
 
 -- a Package goes to a later place, from which the wire does not come back
 package_next : (flow next : Flow) (frame : Frame) → is_package frame ≡ true → flow_next flow frame ≡ Some next → next ≡ Pushed
-package_next BeforePackage next (Package areas owed commands) is h = sym (ap (λ o. elim o [ None ↦ Pushed | Some flow ↦ flow ]) h)
-package_next BeforeAdvise next (Package areas owed commands) is h = absurd (none-some next h)
-package_next Copies next (Package areas owed commands) is h = absurd (none-some next h)
-package_next Pushed next (Package areas owed commands) is h = absurd (none-some next h)
-package_next AfterEnd next (Package areas owed commands) is h = absurd (none-some next h)
-package_next flow next _ is h = absurd (false≢true is)
+package_next flow next frame is h = grind (arith, nat_tests, none-some)
 
 here_or_later : {A : Type 0} (here : Bool) (frame : Frame) (rest : Option Frame) → is_some (if here then Some frame else rest) ≡ true → (here ≡ true → A) → (is_some rest ≡ true → A) → A
 here_or_later true frame rest there now later = now refl
@@ -143,28 +132,7 @@ no_recv wire none there = absurd (false≢true (sym none ∙ there))
 
 recv_in_phases : (from : SourcePhase) (to : DestPhase) (world : World) → world.up ≡ true → IsSoundWorld (in_phases from to world) → has_recv world.back.frames ≡ true →
     IsReceiving (in_phases from to world).source (in_phases from to world).destination Received.Running world.back.frames
-recv_in_phases SourcePhase.Idle to world up kept there = no_recv world.back.frames (ap has_recv (kept.flight.wires up).2) there
-recv_in_phases SourcePhase.Precopy DestPhase.Idle world up kept there = no_recv world.back.frames (ap has_recv (kept.flight.wires up).1) there
-recv_in_phases SourcePhase.Precopy DestPhase.Advised world up kept there = no_recv world.back.frames (ap has_recv (kept.flight.wires up).1) there
-recv_in_phases SourcePhase.Precopy DestPhase.Discarding world up kept there = absurd (kept.flight.wires up)
-recv_in_phases SourcePhase.Precopy DestPhase.Running world up kept there = absurd (kept.flight.wires up)
-recv_in_phases SourcePhase.Precopy DestPhase.Paused world up kept there = absurd (kept.flight.wires up)
-recv_in_phases SourcePhase.Precopy DestPhase.Ended world up kept there = absurd (kept.flight.wires up)
-recv_in_phases SourcePhase.Stopped DestPhase.Idle world up kept there = no_recv world.back.frames (ap has_recv (kept.flight.wires up).1) there
-recv_in_phases SourcePhase.Stopped DestPhase.Advised world up kept there = no_recv world.back.frames (ap has_recv (kept.flight.wires up).1) there
-recv_in_phases SourcePhase.Stopped DestPhase.Discarding world up kept there = no_recv world.back.frames (ap has_recv (kept.flight.wires up).1) there
-recv_in_phases SourcePhase.Stopped DestPhase.Running world up kept there = no_recv world.back.frames (requests_no_recv world.back.frames (kept.flight.wires up).1) there
-recv_in_phases SourcePhase.Stopped DestPhase.Paused world up kept there = absurd (kept.flight.wires up)
-recv_in_phases SourcePhase.Stopped DestPhase.Ended world up kept there = no_recv world.back.frames (ended_no_recv world.back.frames (kept.flight.wires up).1) there
-recv_in_phases SourcePhase.Paused DestPhase.Idle world up kept there = absurd (kept.flight.wires up)
-recv_in_phases SourcePhase.Paused DestPhase.Advised world up kept there = no_recv world.back.frames (ap has_recv (kept.flight.wires up).1) there
-recv_in_phases SourcePhase.Paused DestPhase.Discarding world up kept there = absurd (kept.flight.wires up)
-recv_in_phases SourcePhase.Paused DestPhase.Running world up kept there = (kept.flight.wires up).1
-recv_in_phases SourcePhase.Paused DestPhase.Paused world up kept there = no_recv world.back.frames (ap has_recv (kept.flight.wires up).1) there
-recv_in_phases SourcePhase.Paused DestPhase.Ended world up kept there =
-    let receiving = (kept.flight.wires up).1 in
-    no_recv world.back.frames (ap has_recv receiving.first ∙ requests_no_recv receiving.rest receiving.requests) there
-recv_in_phases SourcePhase.Released to world up kept there = no_recv world.back.frames (ap has_recv (kept.flight.wires up).2) there
+recv_in_phases from to world up kept there = grind (arith, nat_tests, no_recv, requests_no_recv, ended_no_recv)
 
 pub recv_tells : (world : World) → IsSoundWorld world → has_recv world.back.frames ≡ true → IsReceiving world.source world.destination Received.Running world.back.frames
 recv_tells world kept there =
@@ -176,13 +144,7 @@ below_or_not : (page : ℕ) → (ltb page HIGH_PAGE ≡ true) ⊎ (HIGH_PAGE ≤
 below_or_not page = grind (arith, nat_tests)
 
 present_low : (world : World) (page : ℕ) → IsSoundWorld world → (ltb page HIGH_PAGE && is_present (space_of world.source) page) ≡ is_present (space_of world.source) page
-present_low world page kept =
-    elim (is_present (space_of world.source) page) as (λ b. is_present (space_of world.source) page ≡ b → (ltb page HIGH_PAGE && b) ≡ b) [
-      | true ↦ λ is.
-          ⊎_elim (λ (low : ltb page HIGH_PAGE ≡ true). ap (λ b. b && true) low)
-          (λ (high : HIGH_PAGE ≤ page). absurd (none_is_some (get (space_of world.source).host.bytes page) (kept.spaces.source_space.host.mapped page (kept.spaces.source_space.host.bound page high)) is)) (below_or_not page)
-      | false ↦ λ is. and_false (ltb page HIGH_PAGE)
-    ] refl
+present_low world page kept = grind (arith, nat_tests, none_is_some, below_or_not, and_false)
 
 pub owed_at : (world : World) (page : ℕ) → IsSoundWorld world → contains (not_clean world.source) page ≡ (is_present (space_of world.source) page && not (contains world.source.log.clean page))
 owed_at world page kept = member_not_clean world.source page ∙ ap (λ b. b && not (contains world.source.log.clean page)) (present_low world page kept)

@@ -1,5 +1,5 @@
 -- A frame that is taken has no fault, but for having to wait.
-use Rattle.std.proofs.Common.{◌≡◌, ℕ, ◌≤◌, ◌&&◌, ◌||◌, Bool, true, false, not, eqb, leb, ltb, Option, Some, None, List, [], ◌∷◌, refl, sym, ap, ◌∙◌, length, arith, cond, is_some, subst, ◌<◌, if◌then◌else◌}
+use Rattle.std.proofs.Common.{◌≡◌, ℕ, ◌≤◌, ◌&&◌, ◌||◌, Bool, true, false, not, eqb, leb, ltb, Option, Some, None, List, [], ◌∷◌, refl, sym, ap, ◌∙◌, arith, cond, is_some, ◌<◌, if◌then◌else◌}
 use Rattle.std.specs.Prelude.{Ok, Err, Result}
 use Rattle.std.specs.Ordering.{nat_cmp}
 use Rattle.std.specs.FinMap as finmap
@@ -10,7 +10,6 @@ use Rattle.std.proofs.lemmas.Bool.{false≢true, and_from, eq-eqb, leb-true, lt-
 use Rattle.std.proofs.lemmas.Bool.Decides.{nat_tests}
 use Rattle.mig_base.specs.declared.Prot.{Prot}
 use Rattle.mig_base.specs.declared.fault.BackFault.{BackFault}
-use Rattle.mig_base.specs.declared.fault.RebuildFault.{RebuildFault}
 use Rattle.mig_base.specs.declared.fault.TakeFault.{TakeFault}
 use Rattle.mig_base.specs.declared.phase.Received.{Received}
 use Rattle.mig_base.specs.Tests.{first_holding, is_empty}
@@ -21,16 +20,16 @@ use Rattle.mig_base.specs.declared.effect.Effect.{Effect}
 use Rattle.mig_base.specs.declared.refusal.Refusal.{Refusal}
 use Rattle.mig_base.specs.declared.schedule.Step.{Step}
 use Rattle.mig_model.specs.Space.{Space, IsSoundSpace}
-use Rattle.mig_model.specs.Migration.{World, Made, Answer, after_deliver, after_move, deliver_first, frame_effect, has_started, is_early, is_end, is_short, made, outcome, outcome_by, unless}
+use Rattle.mig_model.specs.Migration.{World, Made, Answer, after_deliver, frame_effect, has_started, is_early, is_end, is_short, made, outcome, outcome_by, unless}
 use Rattle.mig_model.specs.Invariant.{IsSoundWorld}
 use Rattle.mig_model.proofs.SourceRounds.{idle_forward}
-use Rattle.mig_model.specs.Wire.{Frame, Sent, Copy, is_copy}
-use Rattle.mig_model.specs.Wire.Frame.{Advise, Package, End, Resume, Request, Recv, Done}
+use Rattle.mig_model.specs.Wire.{Frame, Sent, Copy}
+use Rattle.mig_model.specs.Wire.Frame.{Advise, End, Recv}
 use Rattle.mig_model.specs.Guest.{is_present}
-use Rattle.mig_model.specs.Log.{less, no_pages, present}
-use Rattle.mig_model.specs.Source.{Source, is_source_idle, is_stopped, space_of}
-use Rattle.mig_model.specs.Destination.{Destination, is_running}
-use Rattle.mig_model.specs.Faults.{frame_fault, back_fault, rebuild_fault, take_fault, urgent_fault, wait_fault, is_bad, is_bad_owed, is_in_place, is_in_place_back, is_of_epoch, is_too_soon, is_torn}
+use Rattle.mig_model.specs.Log.{no_pages, present}
+use Rattle.mig_model.specs.Source.{Source, space_of}
+use Rattle.mig_model.specs.Destination.{Destination}
+use Rattle.mig_model.specs.Faults.{frame_fault, back_fault, rebuild_fault, take_fault, urgent_fault, wait_fault, is_bad, is_in_place_back, is_of_epoch, is_too_soon, is_torn}
 use Rattle.mig_model.proofs.Taken.{IsTaken, IsTakenUrgent, IsGood, IsOwnEpoch, IsInPlaceBack}
 use Rattle.mig_model.proofs.Facts.{low_or, none_absurd}
 
@@ -60,9 +59,7 @@ no_member set test h q =
     contains-retain set test q (λ x e. ap test (sym (nat_cmp-IsAntisymmetric q x e))) ∙ and_none (contains set q) (test q) (h q)
 
 gone : {X : Type 0} (keep : Bool) (o : Option X) → (is_some o ≡ true → keep ≡ false) → cond keep o None ≡ None
-gone true None h = refl
-gone true (Some x) h = none_absurd (sym (h refl))
-gone false o h = refl
+gone keep o h = grind (arith, nat_tests, none_absurd)
 
 none_kept : {X : Type 0} (map : FinMap nat_cmp X) (keep : ℕ → Bool) → ((q : ℕ) → contains_key map q ≡ true → keep q ≡ false) → not (eqb (finmap.len (retain_keys map keep)) 0) ≡ false
 none_kept {X} map keep h =
@@ -77,10 +74,7 @@ empty_is [] h = refl
 empty_is (copy ∷ rest) h = none_absurd h
 
 soon_by : (none free all : Bool) → (free ≡ true → all ≡ true → none ≡ true) → (not none && free && all) ≡ false
-soon_by true free all h = refl
-soon_by false true true h = absurd (false≢true (h refl refl))
-soon_by false true false h = refl
-soon_by false false all h = refl
+soon_by none free all h = grind (arith, nat_tests)
 
 not_too_soon : (node : Destination) (frame : Frame) → IsGood node frame → is_too_soon node frame ≡ false
 not_too_soon node (End urgent) good =
@@ -90,48 +84,32 @@ not_too_soon node Advise good = refl
 not_too_soon node _ good = refl
 
 of_epoch : (own epoch : ℕ) (node : Destination) (frame : Frame) → own ≡ node.epoch → IsOwnEpoch node epoch frame → is_of_epoch own epoch frame ≡ true
-of_epoch own epoch node Advise is h = refl
-of_epoch own epoch node Resume is h = lt-ltb own epoch (subst (λ e. e < epoch) (sym is) h)
-of_epoch own epoch node _ is h = eq-eqb epoch own (h ∙ sym is)
+of_epoch own epoch node frame is h = grind (arith, nat_tests, lt-ltb, eq-eqb)
 
 torn_by : (kept mapped : Bool) → kept ≡ false → mapped ≡ true → (kept || not mapped) ≡ false
 torn_by kept mapped h k = or_from kept (not mapped) h (not_from_true mapped k)
 
 not_torn : (kept : FinMap nat_cmp (List ℕ)) (areas : FinMap nat_cmp Prot) (owed : FinSet nat_cmp) → ((page : ℕ) → contains owed page ≡ true → contains_key kept page ≡ false) →
     ((page : ℕ) → contains owed page ≡ true → contains_key areas page ≡ true) → ((page : ℕ) → contains_key kept page ≡ true → contains_key areas page ≡ true) → is_torn kept areas owed ≡ false
-not_torn kept areas owed apart mapped kept_mapped =
-    or_from _ _
-    (none_empty _ (no_member owed (λ page. contains_key kept page || not (contains_key areas page)) (λ page h. torn_by (contains_key kept page) (contains_key areas page) (apart page h) (mapped page h))))
-    (none_kept kept (λ page. not (contains_key areas page)) (λ page h. not_from_true (contains_key areas page) (kept_mapped page h)))
+not_torn kept areas owed apart mapped kept_mapped = grind (arith, nat_tests, or_from, none_empty, no_member, torn_by, none_kept, not_from_true)
 
 pub no_fewer : (came told : ℕ) → came ≤ told → ltb told came ≡ false
 no_fewer came told h = grind (arith, nat_tests)
 
 not_bad : (node : Destination) (frame : Frame) → IsGood node frame → is_bad node frame ≡ false
-not_bad node (Package areas owed commands) good =
-    or_from (is_torn node.kept areas owed) (not (eqb (length commands) (length node.guest.cpus))) (not_torn node.kept areas owed good.0 good.1 good.2) (not_from_true _ (eq-eqb (length commands) (length node.guest.cpus) good.3))
-not_bad node (End urgent) good = no_fewer node.urgent_taken urgent good.0
-not_bad node _ good = refl
+not_bad node frame good = grind (arith, nat_tests, or_from, not_torn, not_from_true, eq-eqb, no_fewer)
 
 -- a frame that is taken is not wrong
 pub no_frame_fault : (node : Destination) (sent : Sent) → IsTaken node sent → frame_fault node sent.epoch sent.frame ≡ None
-no_frame_fault node sent taken =
-    three_none (not (is_in_place node.phase sent.frame) || is_too_soon node sent.frame) (not (is_of_epoch node.epoch sent.epoch sent.frame)) (is_bad node sent.frame) TakeFault.OutOfPlace TakeFault.StaleEpoch TakeFault.BadFrame
-    (or_from (not (is_in_place node.phase sent.frame)) (is_too_soon node sent.frame) (not_from_true (is_in_place node.phase sent.frame) taken.in_place) (not_too_soon node sent.frame taken.good))
-    (not_from_true (is_of_epoch node.epoch sent.epoch sent.frame) (of_epoch node.epoch sent.epoch node sent.frame refl taken.own_epoch)) (not_bad node sent.frame taken.good)
+no_frame_fault node sent taken = grind (arith, nat_tests, three_none, or_from, not_from_true, not_too_soon, of_epoch, not_bad)
 
 pub no_urgent_fault : (node : Destination) (sent : Sent) → IsTakenUrgent node sent → urgent_fault node sent.epoch sent.frame ≡ None
-no_urgent_fault node sent taken =
-    two_none (not (is_running node.phase && is_copy sent.frame)) (not (eqb sent.epoch node.epoch)) TakeFault.OutOfPlace TakeFault.StaleEpoch
-    (not_from_true (is_running node.phase && is_copy sent.frame) (and_from (is_running node.phase) (is_copy sent.frame) taken.runs taken.copy)) (not_from_true (eqb sent.epoch node.epoch) (eq-eqb sent.epoch node.epoch taken.own_epoch))
+no_urgent_fault node sent taken = grind (arith, nat_tests, two_none, not_from_true, and_from, eq-eqb)
 
 -- The source
 
 in_place_back : (node : Source) (frame : Frame) → IsInPlaceBack node frame → is_in_place_back node frame ≡ true
-in_place_back node (Request page) place = place
-in_place_back node Done place = and_from (is_stopped node.phase) (eqb node.end_epoch node.epoch) place.0 (eq-eqb node.end_epoch node.epoch place.1)
-in_place_back node (Recv state owed) place = place.0
-in_place_back node _ place = absurd place
+in_place_back node frame place = grind (arith, nat_tests, and_from, eq-eqb)
 
 pub no_back_fault : (node : Source) (sent : Sent) → IsInPlaceBack node sent.frame → sent.epoch ≡ node.epoch → back_fault node sent.epoch sent.frame ≡ None
 no_back_fault node sent place own =
@@ -143,22 +121,13 @@ none_listed owed none = ap (λ s. not (eqb (finset.len s) 0)) none ∙ ap (λ n.
 -- a Recv that is taken lists what the source has
 pub no_rebuild_fault : (node : Source) (state : Received) (owed : FinSet nat_cmp) → ((page : ℕ) → is_present (space_of node) page ≡ true → contains (present (space_of node)) page ≡ true) → IsInPlaceBack node (Recv state owed) →
     rebuild_fault node state owed ≡ None
-no_rebuild_fault node Received.NotRun owed below place = none_first (is_bad_owed node Received.NotRun owed) RebuildFault.BadOwed None (none_listed owed (place.2 (λ h. cc))) refl
-no_rebuild_fault node Received.Running owed below place =
-    none_first (is_bad_owed node Received.Running owed) RebuildFault.BadOwed None
-    (or_from (not node.switched) (not (eqb (finset.len (less owed (present (space_of node)))) 0)) (not_from_true node.switched (place.3 (λ h. cc)))
-    (none_empty (less owed (present (space_of node))) (no_member owed (λ page. not (contains (present (space_of node)) page)) (λ page h. not_from_true (contains (present (space_of node)) page) (below page (place.1 page h)))))) refl
-no_rebuild_fault node Received.Ended owed below place =
-    none_first (is_bad_owed node Received.Ended owed) RebuildFault.BadOwed None
-    (or_from (not node.switched) (not (eqb (finset.len owed) 0)) (not_from_true node.switched (place.3 (λ h. cc))) (none_listed owed (place.2 (λ h. cc)))) refl
+no_rebuild_fault node state owed below place = grind (arith, nat_tests, none_first, none_listed, or_from, not_from_true, none_empty, no_member)
 
 -- A Deliver that completes a frame
 
 passes : (started up : Bool) (answer : Answer) → started ≡ true → up ≡ true → unless ((not started, Refusal.Phase) ∷ (not up, Refusal.Broken) ∷ []) answer ≡ answer
 unfolding unless
-passes true true answer s u = refl
-passes false up answer s u = none_absurd s
-passes true false answer s u = none_absurd u
+passes started up answer s u = grind (arith, nat_tests, none_absurd)
 
 -- the two reasons for which it may be refused
 abbrev waits : World → Sent → List (Bool × Refusal)
@@ -167,9 +136,7 @@ waits world sent = (is_end sent.frame && not (is_empty world.destination.arrival
 completed : (world : World) (n : ℕ) (sent : Sent) (rest : List Sent) → has_started world ≡ true → world.up ≡ true → world.forward.frames ≡ sent ∷ rest → is_short world.forward sent.frame n ≡ false →
     outcome world (Step.Deliver n) ≡ outcome_by (unless (waits world sent) (made (frame_effect sent.frame) (after_deliver world sent rest)))
 unfolding outcome
-completed world n sent rest started up first full =
-    ap outcome_by (passes (has_started world) world.up (deliver_first world n world.forward.frames) started up ∙ ap (deliver_first world n) first
-    ∙ ap (λ b. if b then made (Effect.Moved n) (after_move world n) else unless (waits world sent) (made (frame_effect sent.frame) (after_deliver world sent rest))) full)
+completed world n sent rest started up first full = grind (arith, nat_tests, passes)
 
 abbrev fault_by : (install early : Bool) → Option TakeFault
 fault_by install early = first_holding ((install, TakeFault.InstallFirst) ∷ (early, TakeFault.UrgentFirst) ∷ [])
@@ -185,9 +152,7 @@ answer_to None new = Ok new.effect
 
 told_by : (install early : Bool) (new : Made) → answer_by install early new ≡ answer_to (fault_by install early) new
 unfolding unless
-told_by true early new = refl
-told_by false true new = refl
-told_by false false new = refl
+told_by install early new = grind (arith, nat_tests)
 
 -- a frame that is not wrong has no fault but for having to wait
 only_waits : (node : Destination) (sent : Sent) (fault : Option TakeFault) → frame_fault node sent.epoch sent.frame ≡ None → take_fault node sent.epoch sent.frame ≡ fault → wait_fault node sent.frame ≡ fault
@@ -215,14 +180,7 @@ unstarted false frames sent rest none first = refl
 unstarted true frames sent rest none first = absurd (let e : sent ∷ rest ≡ [] = sym first ∙ none refl in cc)
 
 pub is_full : (world : World) (n : ℕ) (sent : Sent) (rest : List Sent) → IsSoundWorld world → world.up ≡ true → world.forward.frames ≡ sent ∷ rest → is_short world.forward sent.frame n ≡ false → IsTaken world.destination sent → IsFull world n sent rest
-is_full world n sent rest kept up first full taken =
-    record {
-      started = unstarted (is_source_idle world.source.phase) world.forward.frames sent rest (idle_forward world kept) first;
-      up = up;
-      first = first;
-      full = full;
-      right = no_frame_fault world.destination sent taken;
-    }
+is_full world n sent rest kept up first full taken = grind (arith, nat_tests, unstarted, idle_forward, no_frame_fault)
 
 pub sound_below : (space : Space) → IsSoundSpace space → (page : ℕ) → is_present space page ≡ true → page < HIGH_PAGE
 sound_below space sound page h = low_or (λ high. false≢true (sym (ap is_some (sound.host.mapped page (sound.host.bound page high))) ∙ h))

@@ -25,7 +25,7 @@ use Rattle.mig_model.specs.Userfault.{Object, enabled_with, fresh_object, has_mo
 use Rattle.mig_model.specs.Space.{Space, IsSoundSpace, fresh_space}
 use Rattle.mig_model.specs.Ioctls.{all_features, event_features, handshake_error, handshaken, has_unknown, installed, is_feature, mode_of, protected_in, registered_in}
 use Rattle.mig_model.specs.Guest.{Act, is_forgotten, is_present, Guest, resolved, Fault}
-use Rattle.mig_model.specs.Guest.Act.{Unprotected, Zeroed, Woke, Forgot, Requested}
+use Rattle.mig_model.specs.Guest.Act.{Unprotected, Zeroed, Woke, Forgot}
 use Rattle.mig_model.specs.Log.{least_of, no_pages}
 use Rattle.mig_model.specs.Owed.{home, settled_by}
 use Rattle.mig_model.specs.Wire.{Copy, Frame, Sent, is_zeros}
@@ -104,18 +104,10 @@ source_unprotects cpus world addr all answered =
 
 -- a fault for which nothing is to be done: the sleepers of its page are woken
 told_woke : (act : Act) (a b : ℕ) → act_effect act a ≡ Effect.Woke b → (act ≡ Woke) × (a ≡ b)
-told_woke Woke a b h = (refl, cc)
-told_woke Unprotected a b h = absurd (cc)
-told_woke Zeroed a b h = absurd (cc)
-told_woke Forgot a b h = absurd (cc)
-told_woke (Requested origin) a b h = absurd (cc)
+told_woke act a b h = grind (arith, nat_tests)
 
 told_forgot : (act : Act) (a b : ℕ) → act_effect act a ≡ Effect.Forgot b → (act ≡ Forgot) × (a ≡ b)
-told_forgot Forgot a b h = (refl, cc)
-told_forgot Unprotected a b h = absurd (cc)
-told_forgot Zeroed a b h = absurd (cc)
-told_forgot Woke a b h = absurd (cc)
-told_forgot (Requested origin) a b h = absurd (cc)
+told_forgot act a b h = grind (arith, nat_tests)
 
 held_page : (held : List Fault) (fault : Fault) (rest : List Fault) → held ≡ fault ∷ rest → AreHeldPages held → IsPage fault.page
 held_page held fault rest is are = (subst AreHeldPages is are).0

@@ -27,7 +27,7 @@ use Rattle.mig_model.specs.Invariant.{IsSoundWorld, IsFlowing, IsSwitching, AreO
 use Rattle.mig_model.proofs.FirstFrame.{at_state, delivered}
 use Rattle.mig_model.specs.Log.{no_pages}
 use Rattle.mig_model.specs.Owed.{own_places}
-use Rattle.mig_model.specs.Source.{Source, commands_of, space_of}
+use Rattle.mig_model.specs.Source.{Source, space_of}
 use Rattle.mig_model.specs.Destination.{assembled, settled}
 use Rattle.mig_model.proofs.WireLemmas.{fits-none, flight_up}
 use Rattle.mig_model.proofs.Facts.{none_or}
@@ -54,9 +54,7 @@ own_tells low owed q origin h = grind arith
 
 -- what a pair of the table tells
 pub own_place : (owed : FinSet nat_cmp) (page origin : ℕ) → get (own_places owed HIGH_PAGE) page ≡ Some origin → (page < HIGH_PAGE) × (contains owed page ≡ true) × (origin ≡ page)
-own_place owed page origin h =
-    let told = own_tells (ltb page HIGH_PAGE) (contains owed page) page origin (sym (get-own_places owed HIGH_PAGE page) ∙ h) in
-    (ltb-true page HIGH_PAGE told.0, told.1, told.2)
+own_place owed page origin h = grind (arith, nat_tests, own_tells, get-own_places, ltb-true)
 
 -- The space that is put together
 
@@ -94,21 +92,11 @@ IsRest host owed kept = (page : ℕ) → get kept page ≡ (if contains owed pag
 -- a host of the source's areas with these pages is sound
 sound_rest : (host : Host) (owed : FinSet nat_cmp) (areas : FinMap nat_cmp Prot) (kept : FinMap nat_cmp (List ℕ)) → areas ≡ host.areas → IsRest host owed kept → IsSound host →
     ((page : ℕ) (bytes : List ℕ) → get kept page ≡ Some bytes → length bytes ≡ 4096) → IsSound (record { areas = areas; bytes = kept })
-sound_rest host owed areas kept same rest sound whole =
-    record {
-      bound = λ page l. ap (λ a. get a page) same ∙ sound.bound page l;
-      mapped = λ page h. rest page ∙ none_or (contains owed page) (get host.bytes page) (sound.mapped page (sym (ap (λ a. get a page) same) ∙ h));
-      whole = whole;
-    }
+sound_rest host owed areas kept same rest sound whole = grind (arith, nat_tests, none_or)
 
 seen_rest : (low owed : Bool) (q : ℕ) (pages : FinMap nat_cmp (List ℕ)) (here : Option (List ℕ)) (own : Option ℕ) → here ≡ cond owed None (get pages q) → own ≡ cond (low && owed) (Some q) None → (low ≡ false → get pages q ≡ None) →
     cond low (elim here [ Some bytes ↦ Some bytes | None ↦ option_and_then (get pages) own ]) None ≡ get pages q
-seen_rest false owed q pages here own kept place none = sym (none refl)
-seen_rest true true q pages here own kept place none =
-    (λ i. elim (kept i) [ Some bytes ↦ Some bytes | None ↦ option_and_then (get pages) (place i) ])
-seen_rest true false q pages here own kept place none =
-    (λ i. elim (kept i) [ Some bytes ↦ Some bytes | None ↦ option_and_then (get pages) (place i) ])
-    ∙ elim (get pages q) as (λ o. elim o [ Some bytes ↦ Some bytes | None ↦ None ] ≡ o) [ None ↦ refl | Some bytes ↦ refl ]
+seen_rest low owed q pages here own kept place none = grind (arith, nat_tests)
 
 -- with what is owed it is the memory of the source
 pub seen_source : (host : Host) (owed : FinSet nat_cmp) (areas : FinMap nat_cmp Prot) (kept : FinMap nat_cmp (List ℕ)) → areas ≡ host.areas → IsRest host owed kept → IsSound host →
@@ -138,16 +126,7 @@ record IsPlan (source : Source) (kept : FinMap nat_cmp (List ℕ)) (rest urgent 
 
 plan_of : (source : Source) (kept : FinMap nat_cmp (List ℕ)) (rest urgent : List Sent) (epoch : ℕ) (areas : FinMap nat_cmp Prot) (owed : FinSet nat_cmp) (commands : List (Option Command)) →
     IsSwitching source kept (record { epoch = epoch; frame = Package areas owed commands } ∷ rest) urgent → IsPlan source kept rest urgent areas owed
-plan_of source kept rest urgent epoch areas owed commands w =
-    let plan : Some (Package areas owed commands) ≡ Some (Package (space_of source).host.areas w.owed (commands_of source.guest.cpus)) = w.plan in
-    let same_owed : w.owed ≡ owed = cc in
-    record {
-      same = cc;
-      owed_present = subst (λ (o : FinSet nat_cmp). (page : ℕ) → contains o page ≡ true → is_present (space_of source) page ≡ true) same_owed w.owed_present;
-      kept_rest = subst (λ (o : FinSet nat_cmp). IsRest (space_of source).host o kept) same_owed w.kept_rest;
-      whereabouts = subst (λ (o : FinSet nat_cmp). (page : ℕ) → contains o page ≡ true → (is_urgent_or_left source.remaining urgent page || has_copy (copies_of rest) page) ≡ true) same_owed w.whereabouts;
-      faithful = w.faithful;
-    }
+plan_of source kept rest urgent epoch areas owed commands w = grind (arith, nat_tests)
 
 pub package_taken : (epoch : ℕ) (areas : FinMap nat_cmp Prot) (owed : FinSet nat_cmp) (commands : List (Option Command)) (rest : List Sent) (world : World) →
     let old : World = at_state SourcePhase.Stopped DestPhase.Discarding false true (record { epoch = epoch; frame = Package areas owed commands } ∷ rest) world in

@@ -1,7 +1,7 @@
 -- The calls that a handler makes for one page: what each of them answers where it is accepted, and the space that it leaves.
 use Rattle.mig_base.specs.declared.TheConstants.{LOW_PAGE, HIGH_PAGE}
 use Rattle.std.proofs.lemmas.Bool.Decides.{nat_tests}
-use Rattle.std.proofs.Common.{◌≡◌, ℕ, ◌+◌, ◌*◌, ◌/◌, ◌<◌, ◌≤◌, ◌&&◌, ◌||◌, Bool, true, false, not, eqb, ltb, Option, None, is_some, unwrap_or, List, refl, sym, ap, ◌∙◌, arith, length, if◌then◌else◌, ◌-◌, ◌∷◌, []}
+use Rattle.std.proofs.Common.{◌≡◌, ℕ, ◌+◌, ◌*◌, ◌/◌, ◌<◌, ◌≤◌, ◌&&◌, ◌||◌, Bool, true, false, not, eqb, ltb, Option, None, is_some, unwrap_or, List, sym, ap, ◌∙◌, arith, length, if◌then◌else◌}
 use Rattle.std.specs.Prelude.{Ok}
 use Rattle.std.specs.Ordering.{nat_cmp}
 use Rattle.std.specs.FinMap.{FinMap, contains_key, insert}
@@ -12,7 +12,7 @@ use Rattle.mig_base.specs.declared.TheConstants.{LOW_PAGE, HIGH_PAGE}
 use Rattle.std.proofs.lemmas.List.{take_all}
 use Rattle.mig_base.specs.declared.Prot.{Prot}
 use Rattle.mig_base.specs.declared.command.Errno.{Errno}
-use Rattle.mig_base.specs.declared.command.Errno.TheVariants.{Eexist, Einval}
+use Rattle.mig_base.specs.declared.command.Errno.TheVariants.{Eexist}
 use Rattle.mig_base.specs.declared.wake.Wake.TheVariants.{Nobody, Range}
 use Rattle.mig_base.specs.Bits.{is_one}
 use Rattle.mig_base.specs.Bytes.{zero_page}
@@ -24,7 +24,7 @@ use Rattle.mig_base.proofs.RangeLemmas.{least_below-none, none_below-from}
 use Rattle.mig_model.specs.Userfault.{changing, is_registered}
 use Rattle.mig_model.specs.Space.{Space}
 use Rattle.mig_model.specs.Guest.{Guest, in_bytes, resolved, is_present, zero_installed}
-use Rattle.mig_model.specs.Ioctls.{Put, answered_by, copy_error, copy_errors, handed, installed, is_bad_range, is_one_area, missing_run, protected_in, put_answer, put_by, put_pages, same_prot, writeprotect_error, writeprotect_errors, zeropage_error}
+use Rattle.mig_model.specs.Ioctls.{Put, answered_by, copy_error, copy_errors, handed, installed, is_bad_range, is_one_area, missing_run, protected_in, put_answer, put_by, put_pages, same_prot, zeropage_error}
 use Rattle.mig_model.specs.Bounds.{IsPage}
 use Rattle.mig_model.specs.Handlers.{IsCopy, IsWake, IsWriteProtect, IsZeroPage, page_put, woken_by}
 use Rattle.mig_model.specs.Cpus.{all_woken}
@@ -72,10 +72,7 @@ one_put addr = ap (λ b. record { bytes = 4096; fault = None; wake = if b then N
 
 -- the range of a page is that page
 page_bytes : (page q : ℕ) → eqb q page ≡ in_bytes (4096 * page) (4096 * page + 4096) q
-page_bytes page q =
-    sym (only_one page q)
-    ∙ ap (λ n. in_range page n q) (omega arith)
-    ∙ ap (λ p. in_range p ((4096 * page + 4096) / 4096 - 4096 * page / 4096) q) (sym (pages_again page))
+page_bytes page q = grind (arith, nat_tests, only_one, pages_again)
 
 pub page_woken : (guest : Guest) (page : ℕ) (space : Space) → (resolved guest page space).cpus ≡ woken_by (Range (4096 * page) 4096) guest.cpus
 page_woken guest page space = let same : (λ q. eqb q page) ≡ in_bytes (4096 * page) (4096 * page + 4096) = λ i q. page_bytes page q i in ap (λ test. all_woken test guest.cpus) same
@@ -151,27 +148,7 @@ pub range_protect_made : (guest new : Guest) (first count bits : ℕ) (protect :
     ((q : ℕ) → in_range first count q ≡ true → contains guest.space.object.protect q ≡ true) → ltb 2 bits ≡ false → is_one bits 0 ≡ protect → new.space ≡ protected_in guest.space first count protect →
     new.cpus ≡ woken_by (if eqb bits 0 then Range (4096 * first) (4096 * count) else Nobody) guest.cpus →
     IsWriteProtect guest new (4096 * first) (4096 * count) bits (if eqb bits 0 then Range (4096 * first) (4096 * count) else Nobody)
-range_protect_made guest new first count bits protect enabled quiet some low high watched few mode leaves wakes =
-    let space = guest.space in
-    let test = λ (q : ℕ). contains space.object.protect q in
-    let every : is_every test (4096 * first / 4096) (4096 * count / 4096) ≡ true =
-    ap (λ q. is_every test q (4096 * count / 4096)) (pages_again first) ∙ ap (λ n. is_every test first n) (pages_again count)
-    ∙ none_below-from (λ i. not (test (first + i))) count (λ i l. not_from_true (test (first + i)) (watched (first + i) (in_run first count i l))) in
-    let accepted =
-    nothing_holds (writeprotect_errors space (4096 * first) (4096 * count) bits) (
-      not_from_true space.object.enabled enabled,
-      (few, (range_good first count some low high, (quiet, (not_from_true (is_every test (4096 * first / 4096) (4096 * count / 4096)) every, tt)))),
-    ) in
-    record {
-      answer = answered_new (writeprotect_error space (4096 * first) (4096 * count) bits) _ accepted;
-      leaves = leaves
-          ∙ sym
-          (left_new (writeprotect_error space (4096 * first) (4096 * count) bits) space _ accepted
-          ∙ ap (λ q. protected_in space q (4096 * count / 4096) (is_one bits 0)) (pages_again first)
-          ∙ ap (λ n. protected_in space first n (is_one bits 0)) (pages_again count)
-          ∙ ap (λ b. protected_in space first count b) mode);
-      wakes = wakes;
-    }
+range_protect_made guest new first count bits protect enabled quiet some low high watched few mode leaves wakes = grind (arith, nat_tests, pages_again, none_below-from, not_from_true, in_run, nothing_holds, range_good, answered_new, left_new)
 
 only_itself : (page q : ℕ) → in_range page 1 q ≡ true → page ≡ q
 only_itself page q h = grind (arith, nat_tests, h)
@@ -184,9 +161,4 @@ write_protect_made guest new page bits protect is watched few mode leaves wakes 
 -- UFFDIO_WAKE
 
 pub wake_made : (guest : Guest) (page : ℕ) → guest.space.object.enabled ≡ true → IsPage page → IsWake guest (resolved guest page guest.space) (4096 * page)
-wake_made guest page enabled is =
-    record {
-      answer = answered_new _ (Range (4096 * page) 4096) (nothing_holds ((not guest.space.object.enabled, Einval) ∷ (is_bad_range (4096 * page) 4096, Einval) ∷ []) (not_from_true guest.space.object.enabled enabled, (page_range page is, tt)));
-      leaves = refl;
-      wakes = page_woken guest page guest.space;
-    }
+wake_made guest page enabled is = grind (arith, nat_tests, answered_new, nothing_holds, not_from_true, page_range, page_woken)

@@ -3,7 +3,6 @@ use Rattle.std.proofs.Common.{◌≡◌, ℕ, ◌≤◌, ◌||◌, Bool, true, f
 use Rattle.std.specs.Option.{option_and_then}
 use Rattle.std.specs.Ordering.{nat_cmp}
 use Rattle.std.specs.FinMap.{FinMap, get, get-empty}
-use Rattle.std.specs.FinSet.{contains}
 use Rattle.std.proofs.lemmas.Bool.Decides.{nat_tests}
 use Rattle.std.proofs.lemmas.Bool.{false≢true, or_left, true_from_ne_false}
 use Rattle.std.proofs.lemmas.Option.{none-some}
@@ -53,12 +52,7 @@ ended_told : (phase : DestPhase) (ran ended : Bool) → phase ≡ DestPhase.Ende
 ended_told phase ran ended is told = subst (λ p. RanAt p ran ended) is told
 
 ran_in : (from : SourcePhase) (world : World) → is_released from ≡ true → IsSoundWorld (in_phases from world.destination.phase world) → (world.destination.ended ≡ true) × (world.destination.has_run ≡ true)
-ran_in SourcePhase.Released world released kept =
-    let up = true_from_ne_false world.up (λ h. (kept.flight.down h).3 refl) in
-    let ended = ended_told world.destination.phase world.destination.has_run world.destination.ended (kept.flight.wires up).0 kept.phases.destination_phase in
-    (ended, kept.phases.ended_after_run ended)
-ran_in SourcePhase.Idle world released kept = none_absurd released
-ran_in _ world released kept = none_absurd released
+ran_in from world released kept = grind (arith, nat_tests, true_from_ne_false, ended_told, none_absurd)
 
 -- the destination of a migration that is complete has run
 pub complete_ran : (world : World) → IsSoundWorld world → IsComplete world → world.destination.has_run ≡ true
@@ -92,18 +86,7 @@ is_alone world kept complete = complete_in world.source.phase world complete kep
 -- Pairs
 
 pub are_paired : (world : World) → IsSoundWorld world → ArePaired world
-are_paired world kept =
-    record {
-      one_to_one = kept.owing.one_to_one;
-      present = kept.owing.origins_present;
-      settled_one_to_one = λ page other origin h k. IsOneToOne-settled world.destination.guest.space.object.events (get world.destination.owed) kept.owing.one_to_one page other origin h k;
-      settled_present = λ page origin h. let pair = values-settled world.destination.guest.space.object.events (get world.destination.owed) page origin h in kept.owing.origins_present pair.0 origin pair.1;
-      mapped = λ page origin h.
-          kept.spaces.destination_space.mapped page (or_left (contains world.destination.guest.space.object.missing page) (contains world.destination.guest.space.object.protect page) (kept.owing.pairs_missing page origin h).0);
-      registered = λ page origin h. (kept.owing.pairs_missing page origin h).0;
-      missing = λ page origin h. (kept.owing.pairs_missing page origin h).1;
-      ended = kept.owing.ended_empty;
-    }
+are_paired world kept = grind (arith, nat_tests, IsOneToOne-settled, values-settled, or_left)
 
 -- Whereabouts
 
@@ -116,21 +99,12 @@ whereabouts_in SourcePhase.Stopped _ world stopped ran up kept page origin owed 
 whereabouts_in _ to world stopped ran up kept page origin owed = none_absurd stopped
 
 pub are_under_way : (world : World) → IsSoundWorld world → AreSoundUrgent world → world.destination.has_run ≡ true → AreUnderWay world
-are_under_way world kept urgent ran =
-    record {
-      whereabouts = λ up stopped. whereabouts_in world.source.phase world.destination.phase world stopped ran up kept;
-      in_flight = kept.flight.flight_faithful ran;
-      urgent = urgent.faithful;
-      arrived = kept.owing.arrivals_faithful ran;
-    }
+are_under_way world kept urgent ran = grind (arith, nat_tests, whereabouts_in)
 
 -- What is in flight
 
 precopying_in : (from : SourcePhase) (to : DestPhase) (world : World) → is_precopy from ≡ true → world.up ≡ true → IsSoundWorld (in_phases from to world) → IsPrecopying (in_phases from to world).source world.destination.kept world.forward.frames
-precopying_in SourcePhase.Precopy DestPhase.Idle world precopy up kept = (kept.flight.wires up).2
-precopying_in SourcePhase.Precopy DestPhase.Advised world precopy up kept = (kept.flight.wires up).2
-precopying_in SourcePhase.Precopy _ world precopy up kept = absurd (kept.flight.wires up)
-precopying_in _ to world precopy up kept = none_absurd precopy
+precopying_in from to world precopy up kept = grind (arith, nat_tests, none_absurd)
 
 pub is_precopying : (world : World) → IsSoundWorld world → world.up ≡ true → is_precopy world.source.phase ≡ true → IsPrecopying world.source world.destination.kept world.forward.frames
 is_precopying world kept up precopy = precopying_in world.source.phase world.destination.phase world precopy up kept
@@ -147,9 +121,7 @@ is_switching world kept up stopped ran = switching_in world.source.phase world.d
 
 receiving_in : (from : SourcePhase) (to : DestPhase) (world : World) → is_source_paused from ≡ true → is_running to ≡ true → world.up ≡ true → IsSoundWorld (in_phases from to world) →
     IsReceiving (in_phases from to world).source (in_phases from to world).destination Received.Running world.back.frames
-receiving_in SourcePhase.Paused DestPhase.Running world paused runs up kept = (kept.flight.wires up).1
-receiving_in SourcePhase.Paused _ world paused runs up kept = none_absurd runs
-receiving_in _ to world paused runs up kept = none_absurd paused
+receiving_in from to world paused runs up kept = grind (arith, nat_tests, none_absurd)
 
 pub is_receiving : (world : World) → IsSoundWorld world → world.up ≡ true → is_source_paused world.source.phase ≡ true → is_running world.destination.phase ≡ true → IsReceiving world.source world.destination Received.Running world.back.frames
 is_receiving world kept up paused runs = receiving_in world.source.phase world.destination.phase world paused runs up kept
@@ -157,9 +129,7 @@ is_receiving world kept up paused runs = receiving_in world.source.phase world.d
 -- The zero pages of the handlers
 
 source_zero_by : (forgotten present protected : Bool) → source_act_by forgotten present protected ≡ Zeroed → present ≡ false
-source_zero_by false false protected h = refl
-source_zero_by false true true h = absurd (cc)
-source_zero_by _ _ _ h = absurd (cc)
+source_zero_by forgotten present protected h = grind (arith, nat_tests)
 
 pub source_zero : (world : World) (fault : Fault) → source_act world.source fault ≡ Zeroed → is_present (space_of world.source) fault.page ≡ false
 source_zero world fault h = source_zero_by _ (is_present (space_of world.source) fault.page) _ h

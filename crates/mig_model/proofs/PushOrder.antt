@@ -1,13 +1,12 @@
 -- After a Push no Switch of its epoch is made, and no Recv of its epoch is taken.
+use Rattle.std.proofs.lemmas.Bool.Decides.{nat_tests}
 use Rattle.std.proofs.Common.{◌≡◌, ℕ, ◌+◌, ◌<◌, Bool, true, false, not, List, ◌∷◌, refl, sym, ◌∙◌, subst, ◌⊎◌, inl, inr, ⊎_elim, arith, IsOk, if◌then◌else◌}
 use Rattle.std.proofs.lemmas.Bool.{false≢true}
-use Rattle.mig_base.specs.declared.phase.Received.{Received}
 use Rattle.mig_base.specs.declared.phase.SourcePhase.{SourcePhase}
-use Rattle.mig_base.specs.declared.schedule.Side.{Side}
 use Rattle.mig_base.specs.declared.schedule.Step.{Step}
 use Rattle.mig_base.specs.declared.schedule.Ticket.{Ticket}
 use Rattle.mig_model.specs.Wire.{Frame, Sent}
-use Rattle.mig_model.specs.Wire.Frame.{Recv, Done}
+use Rattle.mig_model.specs.Wire.Frame.{Recv}
 use Rattle.mig_model.specs.Guest.{Act, Guest}
 use Rattle.mig_model.specs.Guest.Act.{Unprotected}
 use Rattle.mig_model.specs.Invariant.{IsSoundWorld, SwitchedAt, AreSoundUrgent}
@@ -15,7 +14,7 @@ use Rattle.mig_model.proofs.EveryStep.{by_steps, kept-next}
 use Rattle.mig_model.proofs.FramesTaken.{is_taken_back}
 use Rattle.mig_model.proofs.SourceRounds.{precopy_unswitched}
 use Rattle.mig_model.proofs.WokenSteps.{stopped_switched}
-use Rattle.mig_model.specs.Source.{Source, is_source_idle, is_source_paused, is_stopped, source_act, source_acted_by, source_took}
+use Rattle.mig_model.specs.Source.{Source, is_source_idle, is_source_paused, is_stopped, source_acted_by, source_took}
 use Rattle.mig_model.specs.Migration.{World, after_steps, next, outcome, with_guest_by}
 use Rattle.mig_model.specs.Promises.{is_recv}
 use Rattle.mig_model.proofs.Taken.{IsInPlaceBack}
@@ -75,13 +74,7 @@ rebuilt_epoch false one other epoch a b = b
 
 taken_pushed : (frame : Frame) (pushed : ℕ) (node : Source) (up : Bool) → up ≡ true → (is_recv frame ≡ true → is_source_paused node.phase ≡ true) → HasPushed pushed node.epoch node.switched node.phase up →
     HasPushed pushed (source_took node frame).epoch (source_took node frame).switched (source_took node frame).phase up
-taken_pushed (Recv Received.NotRun owed) pushed node up linked paused h =
-    resumed_later pushed node.epoch node.switched node.phase up linked (paused refl) h (λ more. inl (subst (λ e. pushed < e) (sym (rebuilt_epoch node.switched _ _ node.epoch refl refl)) more))
-taken_pushed (Recv Received.Running owed) pushed node up linked paused h = resumed_later pushed node.epoch node.switched node.phase up linked (paused refl) h (λ more. inl more)
-taken_pushed (Recv Received.Ended owed) pushed node up linked paused h = resumed_later pushed node.epoch node.switched node.phase up linked (paused refl) h (λ more. inl more)
-taken_pushed Done pushed node up linked paused h =
-    ⊎_elim (λ (more : pushed < node.epoch). inl more) (λ (one : (node.epoch ≡ pushed) × (node.switched ≡ true) × (up ≡ true → is_source_paused node.phase ≡ false)). inr (one.0, one.1, λ u. refl)) h
-taken_pushed _ pushed node up linked paused h = h
+taken_pushed frame pushed node up linked paused h = grind (arith, nat_tests, resumed_later, rebuilt_epoch)
 
 recv_paused : (frame : Frame) (node : Source) → IsInPlaceBack node frame → is_recv frame ≡ true → is_source_paused node.phase ≡ true
 recv_paused (Recv state owed) node place is = place.0
@@ -93,26 +86,7 @@ down_pushed pushed epoch switched old new before h =
     ⊎_elim (λ (more : pushed < epoch). inl more) (λ (one : (epoch ≡ pushed) × (switched ≡ true) × (before ≡ true → is_source_paused old ≡ false)). inr (one.0, one.1, λ u. absurd (false≢true u))) h
 
 pushed_answer : (pushed : ℕ) (world : World) (step : Step) → IsSoundWorld world → PushedIn pushed world → MakesWorld (PushedIn pushed) world step
-pushed_answer pushed world (Step.Issue cpu command) kept h = λ there idle may. guest_alike world.destination.has_run pushed world _ h
-pushed_answer pushed world (Step.Retry cpu) kept h = λ command is woken may. guest_alike world.destination.has_run pushed world _ h
-pushed_answer pushed world Step.Start kept h =
-    λ idle unused. later pushed world.source.epoch world.source.switched world.source.phase world.up (idle_unswitched world.source.phase world.source.switched idle kept.phases.source_phase) h (λ more. inl (one_later pushed world.source.epoch more))
-pushed_answer pushed world Step.SourceAct kept h =
-    λ fault rest is started unswitched quiet. alike pushed world.source _ world.up (act_alike (source_act world.source fault) world.source fault.page) h
-pushed_answer pushed world Step.Switch kept h =
-    λ precopy up quiet.
-    later pushed world.source.epoch world.source.switched world.source.phase world.up (precopy_unswitched world.source.phase world.source.switched precopy kept.phases.source_phase) h (λ more. inl more)
-pushed_answer pushed world (Step.DeliverBack n) kept h =
-    ((λ sent rest is short. h), (λ sent rest is full started up. taken_pushed sent.frame pushed world.source world.up up (recv_paused sent.frame world.source (is_taken_back world sent rest kept up is)) h))
-pushed_answer pushed world Step.Break kept h = λ started unreleased up. down_pushed pushed world.source.epoch world.source.switched world.source.phase world.source.phase world.up h
-pushed_answer pushed world (Step.Notice Side.Source) kept h =
-    λ started unreleased down.
-    subst (λ u. HasPushed pushed world.source.epoch world.source.switched SourcePhase.Paused u) (sym down) (down_pushed pushed world.source.epoch world.source.switched world.source.phase SourcePhase.Paused world.up h)
-pushed_answer pushed world Step.Resume kept h =
-    λ from to down unused.
-    ⊎_elim (λ (more : pushed < world.source.epoch). inl (one_later pushed world.source.epoch more))
-    (λ (one : (world.source.epoch ≡ pushed) × (world.source.switched ≡ true) × (world.up ≡ true → is_source_paused world.source.phase ≡ false)). inl (next_later pushed world.source.epoch one.0)) h
-pushed_answer pushed world _ kept h = assumption
+pushed_answer pushed world step kept h = grind (arith, nat_tests, guest_alike, later, idle_unswitched, one_later, alike, act_alike, precopy_unswitched, taken_pushed, recv_paused, is_taken_back, down_pushed, next_later)
 
 pushed_steps : (pushed : ℕ) (world : World) (steps : List Step) → IsSoundWorld world → AreSoundUrgent world → PushedIn pushed world → PushedIn pushed (after_steps world steps)
 pushed_steps pushed world steps = by_steps (PushedIn pushed) (λ old step kept urgent h. made-next (PushedIn pushed) old step h (pushed_answer pushed old step kept h)) world steps

@@ -1,5 +1,6 @@
 -- A command that waits is a load or store whose form is right, of a page that may be mapped.
-use Rattle.std.proofs.Common.{◌≡◌, ℕ, zero, suc, ◌/◌, ◌^◌, ◌&&◌, Bool, true, false, not, ltb, Option, Some, None, is_some, List, [], ◌∷◌, refl, sym, ap, ◌∙◌, ⊎_elim, if◌then◌else◌, ◌<◌, arith}
+use Rattle.std.proofs.lemmas.Bool.Decides.{nat_tests}
+use Rattle.std.proofs.Common.{◌≡◌, ℕ, zero, suc, ◌/◌, ◌^◌, Bool, true, false, not, Option, Some, None, is_some, List, [], ◌∷◌, refl, sym, ap, ◌∙◌, ⊎_elim, if◌then◌else◌, ◌<◌, arith}
 use Rattle.std.proofs.lemmas.Bool.{false≢true, and_parts, ltb-true}
 use Rattle.std.proofs.lemmas.Option.{none-some}
 use Rattle.mig_base.specs.declared.Prot.{Prot}
@@ -38,9 +39,7 @@ call_answered reply zero h = let other : Answer reply ≡ Sleep = h in cc
 call_answered reply (suc left) h = let other : Call reply (suc left) ≡ Sleep = h in cc
 
 access_form : (right : Bool) (o : Option Cell) (allows : Prot → Bool) (answer : Reply) → is_made (if right then access_reply o allows answer else BadAccess) ≡ true → (right ≡ true) × (is_some o ≡ true)
-access_form true (Some cell) allows answer h = (refl, refl)
-access_form true None allows answer h = absurd (false≢true h)
-access_form false o allows answer h = absurd (false≢true h)
+access_form right o allows answer h = grind (arith, nat_tests)
 
 page_of_access : (space : Space) (addr : ℕ) → IsMapping space.host.areas → is_mapped (memory space.host) addr ≡ true → IsPage (addr / 4096)
 page_of_access space addr mapping h = mapping.pages (addr / 4096) (sym (ap (λ test. test addr) (is_mapped-memory space.host)) ∙ h)
@@ -55,17 +54,10 @@ low_address : (addr : ℕ) → IsPage (addr / 4096) → addr < 2 ^ 64
 low_address addr is = let low = is.1 in omega (arith, low)
 
 right_form : (command : Command) → IsInside command → IsRightAccess command
-right_form (Load addr width) is = (is.0, low_address addr is.1)
-right_form (Store addr width value) is = (is.0, is.1, low_address addr is.2)
-right_form _ is = absurd is
+right_form command is = grind (arith, nat_tests, low_address)
 
 right_by : (space : Space) (command : Command) → IsMapping space.host.areas → is_access command ≡ true → is_made (reply_of (memory space.host) command) ≡ true → IsInside command
-right_by space (Load addr width) mapping is h = let form = access_form (is_aligned addr width) (memory space.host addr) _ _ h in (form.0, page_of_access space addr mapping form.1)
-right_by space (Store addr width value) mapping is h =
-    let form = access_form (is_aligned addr width && ltb value (256 ^ width)) (memory space.host addr) _ _ h in
-    let both = and_parts (is_aligned addr width) (ltb value (256 ^ width)) form.0 in
-    (both.0, ltb-true value (256 ^ width) both.1, page_of_access space addr mapping form.1)
-right_by space _ mapping is h = absurd (false≢true is)
+right_by space command mapping is h = grind (arith, nat_tests, access_form, page_of_access, and_parts, ltb-true)
 
 pub right_slept : (access : Bool) (space : Space) (command : Command) → access ≡ is_access command → IsMapping space.host.areas → took_by access space command ≡ Sleep → IsInside command
 right_slept true space command is mapping h = right_by space command mapping (sym is) (slept_made (is_made (reply_of (memory space.host) command)) _ _ h)

@@ -1,4 +1,5 @@
 -- The settled owed relation once a map call has queued its events: it changes as the pages do.
+use Rattle.std.proofs.lemmas.Bool.Decides.{nat_tests}
 use Rattle.std.proofs.Common.{◌≡◌, ℕ, ◌+◌, ◌-◌, ◌*◌, ◌/◌, ◌<◌, ◌≤◌, ◌&&◌, Bool, true, false, cond, Option, Some, None, List, [], ◌∷◌, ◌++◌, refl, sym, ap, ◌∙◌, subst, arith, if◌then◌else◌}
 use Rattle.std.proofs.lemmas.Bool.{not-false}
 use Rattle.mig_base.specs.declared.message.Message.{Message}
@@ -101,9 +102,7 @@ pub remove_right : (owed : ℕ → Option ℕ) (start n page : ℕ) → owed_aft
 remove_right owed start n page = ap (λ k. cond (in_range (start / 4096) k page) None (owed page)) (let k : (start + 4096 * n) / 4096 - start / 4096 ≡ n = omega arith in k)
 
 pub cut_right : (owed : ℕ → Option ℕ) (addr n m page : ℕ) → owed_after (Unmap (addr + 4096 * n) (addr + 4096 * m)) owed page ≡ gone owed (addr / 4096 + n) (m - n) page
-cut_right owed addr n m page =
-    ap (λ k. cond (in_range ((addr + 4096 * n) / 4096) k page) None (owed page)) (range_of addr n m)
-    ∙ ap (λ k. cond (in_range k (m - n) page) None (owed page)) (let k : (addr + 4096 * n) / 4096 ≡ addr / 4096 + n = omega arith in k)
+cut_right owed addr n m page = grind (arith, nat_tests, range_of)
 
 pub remap_right : (owed : ℕ → Option ℕ) (addr target n page : ℕ) → owed_after (Remap addr target (4096 * n)) owed page ≡ shifted owed (addr / 4096) (target / 4096) n page
 remap_right owed addr target n page = ap (λ k. shifted owed (addr / 4096) (target / 4096) k page) (let k : 4096 * n / 4096 ≡ n = omega arith in k)

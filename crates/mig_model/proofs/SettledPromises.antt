@@ -1,6 +1,7 @@
 -- What each step does to the settled relation: a map call changes it as it changes the pages, an install takes away its own pair, and
 -- no other step changes it.
-use Rattle.std.proofs.Common.{◌≡◌, ℕ, ◌/◌, ◌*◌, Bool, true, false, cond, eqb, Option, Some, None, List, [], ◌∷◌, refl, sym, ap, ◌∙◌, subst, if◌then◌else◌, IsOk}
+use Rattle.std.proofs.lemmas.Bool.Decides.{nat_tests}
+use Rattle.std.proofs.Common.{◌≡◌, ℕ, ◌/◌, ◌*◌, Bool, true, false, cond, eqb, Option, Some, None, List, [], ◌∷◌, refl, sym, ap, ◌∙◌, subst, if◌then◌else◌, IsOk, arith}
 use Rattle.std.specs.Prelude.{Ok}
 use Rattle.std.specs.Ordering.{nat_cmp}
 use Rattle.std.specs.Cmp.{nat_cmp_total, unsigned_tied}
@@ -12,17 +13,15 @@ use Rattle.mig_base.specs.declared.schedule.Side.{Side}
 use Rattle.mig_base.specs.declared.schedule.Step.{Step}
 use Rattle.mig_base.specs.declared.command.Command.{Command}
 use Rattle.mig_base.specs.declared.command.Access.{Access}
-use Rattle.mig_base.specs.declared.command.Access.TheVariants.{Answered, Missing, Protected}
 use Rattle.mig_base.specs.declared.message.Message.{Message}
 use Rattle.mig_base.specs.declared.message.Message.TheVariants.{PageFault, Remap, Remove, Unmap}
 use Rattle.mig_base.specs.Flat.{reply_of}
-use Rattle.mig_base.specs.Commands.{is_access, page_of}
+use Rattle.mig_base.specs.Commands.{is_access}
 use Rattle.mig_model.specs.Host.{memory}
-use Rattle.mig_model.specs.Userfault.{Noted, Object, waits_fault, next_of}
-use Rattle.mig_model.specs.Space.{Space, access_of, accessed_by}
+use Rattle.mig_model.specs.Userfault.{Noted, Object, next_of}
+use Rattle.mig_model.specs.Space.{Space, accessed_by}
 use Rattle.mig_model.specs.Guest.{tried, Act}
 use Rattle.mig_model.specs.Wire.{Frame, Sent, Copy}
-use Rattle.mig_model.specs.Wire.Frame.{Package}
 use Rattle.mig_model.specs.Guest.Act.{Unprotected}
 use Rattle.mig_model.specs.Migration.{World, with_guest_by, guest_by, next, outcome, install_effect, after_command, after_dest_read, guest_of, runs, start}
 use Rattle.mig_model.specs.Invariant.{IsSoundWorld, AreFaults, AreRight}
@@ -43,9 +42,7 @@ use Rattle.mig_model.proofs.Facts.{some_is, dropped_not, page_again, no_event}
 called_by : (ran access : Bool) (world : World) (cpu : ℕ) (command : Command) → ran ≡ true → access ≡ false → IsSoundWorld world → (page : ℕ) →
     settled (with_guest_by ran world (tried access (guest_by ran world.source.guest world.destination.guest) cpu command)).destination page
     ≡ owed_changed (settled world.destination) command (reply_of (memory world.destination.guest.space.host) command) page
-called_by false access world cpu command runs is kept page = absurd (false≢true runs)
-called_by true true world cpu command runs is kept page = absurd (false≢true (sym is))
-called_by true false world cpu command runs is kept page = ap (λ f. f page) (settled_then world.destination.guest.space (get world.destination.owed) cpu command (ready_of world kept))
+called_by ran access world cpu command runs is kept page = grind (arith, nat_tests, settled_then, ready_of)
 
 pub settled_call : (world : World) (cpu : ℕ) (command : Command) → IsSoundWorld world → world.destination.has_run ≡ true → is_access command ≡ false → (page : ℕ) →
     IsOk (outcome world (Step.Issue cpu command)) → settled (next world (Step.Issue cpu command)).destination page ≡ owed_changed (settled world.destination) command (reply_of (memory world.destination.guest.space.host) command) page
@@ -92,16 +89,11 @@ queued_events true object other h = refl
 queued_events false object other h = h
 
 pub accessed_events : (access : Access) (space : Space) (cpu : ℕ) (command : Command) → (accessed_by access space cpu command).object.events ≡ space.object.events
-accessed_events (Answered reply) space cpu command = refl
-accessed_events Missing space cpu command = queued_events (waits_fault space.object.faults (4096 * page_of command) false) space.object _ refl
-accessed_events Protected space cpu command = queued_events (waits_fault space.object.faults (4096 * page_of command) true) space.object _ refl
+accessed_events access space cpu command = grind (arith, nat_tests, queued_events)
 
 accessed_by_node : (ran access : Bool) (world : World) (cpu : ℕ) (command : Command) → ran ≡ true → access ≡ true → (page : ℕ) →
     settled (with_guest_by ran world (tried access (guest_by ran world.source.guest world.destination.guest) cpu command)).destination page ≡ settled world.destination page
-accessed_by_node false access world cpu command runs is page = absurd (false≢true runs)
-accessed_by_node true false world cpu command runs is page = absurd (false≢true is)
-accessed_by_node true true world cpu command runs is page =
-    ap (λ events. settled_by events (get world.destination.owed) page) (accessed_events (access_of world.destination.guest.space command) world.destination.guest.space cpu command)
+accessed_by_node ran access world cpu command runs is page = grind (arith, nat_tests, accessed_events)
 
 settled_try : (world : World) (cpu : ℕ) (command : Command) → world.destination.has_run ≡ true → is_access command ≡ true → (page : ℕ) → settled (after_command world cpu command).destination page ≡ settled world.destination page
 settled_try world cpu command ran is page = accessed_by_node world.destination.has_run (is_access command) world cpu command ran is page
@@ -158,9 +150,7 @@ taken_settled old new page is = ap (λ events. settled_by events (get new.owed) 
 -- a destination that has run takes no Package
 frame_settled : (frame : Frame) (epoch : ℕ) (rest : List Sent) (world : World) → IsSoundWorld world → world.up ≡ true → world.destination.has_run ≡ true → world.forward.frames ≡ record { epoch = epoch; frame = frame } ∷ rest → (page : ℕ) →
     settled (destination_took world.destination epoch frame) page ≡ settled world.destination page
-frame_settled (Package areas owed commands) epoch rest world kept up ran first page =
-    absurd (false≢true (sym (package_next epoch areas owed commands rest world up first kept).1 ∙ ran))
-frame_settled frame epoch rest world kept up ran first page = taken_settled _ _ page (takes frame world.destination epoch refl)
+frame_settled frame epoch rest world kept up ran first page = grind (arith, nat_tests, package_next, taken_settled, takes)
 
 settled_answer : (world : World) (step : Step) → IsSoundWorld world → AreAccesses world → world.destination.has_run ≡ true → leaves_settled step ≡ true → (page : ℕ) → MakesWorld (SettledAs world page) world step
 settled_answer world (Step.Issue cpu command) kept waits ran leaves page = λ there idle may. settled_try world cpu command ran leaves page

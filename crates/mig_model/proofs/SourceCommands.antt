@@ -1,14 +1,14 @@
 -- A command that is tried at the source, before it has stopped, keeps what every world keeps.
-use Rattle.std.proofs.Common.{◌≡◌, append-nil, ℕ, ◌/◌, ◌&&◌, ◌||◌, Bool, true, false, cond, not, eqb, if◌then◌else◌, Some, List, [], ◌∷◌, ◌++◌, refl, sym, ap, ◌∙◌, subst, is_some, arith}
+use Rattle.std.proofs.lemmas.Bool.Decides.{nat_tests}
+use Rattle.std.proofs.Common.{◌≡◌, append-nil, ℕ, ◌&&◌, ◌||◌, Bool, true, false, cond, not, eqb, if◌then◌else◌, Some, List, [], ◌∷◌, ◌++◌, refl, sym, ap, ◌∙◌, subst, is_some, arith}
 use Rattle.std.specs.Ordering.{nat_cmp}
 use Rattle.std.specs.FinMap.{FinMap, get, insert, contains_key}
 use Rattle.std.specs.FinSet.{contains}
 use Rattle.std.proofs.lemmas.Bool.{eqb-true, false_from_ne_true, and_from, or_right, or_parts}
 use Rattle.mig_base.specs.declared.cpu_state.CpuState.{CpuState}
 use Rattle.mig_base.specs.declared.command.Command.{Command}
-use Rattle.mig_base.specs.declared.command.Command.TheVariants.{Load, Store}
+use Rattle.mig_base.specs.declared.command.Command.TheVariants.{Store}
 use Rattle.mig_base.specs.declared.command.Reply.{Reply}
-use Rattle.mig_base.specs.declared.command.Reply.TheVariants.{Done}
 use Rattle.mig_base.specs.declared.command.Access.{Access}
 use Rattle.mig_base.specs.declared.command.Access.TheVariants.{Answered, Missing, Protected}
 use Rattle.mig_base.specs.Flat.{reply_of, memory_of, IsFlatRun}
@@ -33,10 +33,7 @@ use Rattle.mig_model.proofs.WorldLemmas.{entry_of, flat_after, holds_after}
 -- Loads and stores that are answered
 
 present_after : (host : Host) (command : Command) (reply : Reply) (page : ℕ) → is_access command ≡ true → contains_key host.bytes page ≡ true → contains_key (host_changed host command reply).bytes page ≡ true
-present_after host (Load addr width) reply page access h = h
-present_after host (Store addr width value) Done page access h = ap is_some (get-put host.bytes (addr / 4096) page _) ∙ some_either (eqb page (addr / 4096)) _ (get host.bytes page) h
-present_after host (Store addr width value) _ page access h = h
-present_after host _ reply page access h = none_absurd access
+present_after host command reply page access h = grind (arith, nat_tests, get-put, some_either, none_absurd)
 
 never_answered : (missing protect : Bool) (reply other : Reply) → protect ≡ true → cond missing Missing (cond protect Protected (Answered reply)) ≡ Answered other → ⊥
 never_answered missing protect reply other p h = grind arith
@@ -54,22 +51,11 @@ answer_by space page reply =
 -- a store that is made is of another page than a protected one
 stored_elsewhere : (space : Space) (addr width value page : ℕ) (made other : Reply) → made ≡ reply_of (memory space.host) (Store addr width value) → access_of space (Store addr width value) ≡ Answered other →
     contains space.object.protect page ≡ true → contains space.protected page ≡ true → get (host_changed space.host (Store addr width value) made).bytes page ≡ get space.host.bytes page
-stored_elsewhere space addr width value page Done other is answered watched protected =
-    let there : eqb page (addr / 4096) ≡ false =
-    false_from_ne_true (eqb page (addr / 4096)) (λ e.
-    let here = eqb-true page (addr / 4096) e in
-    never_answered (not (contains_key space.host.bytes (addr / 4096)) && contains space.object.missing (addr / 4096)) (contains space.object.protect (addr / 4096) && contains space.protected (addr / 4096)) Done other
-    (and_from _ _ (ap (contains space.object.protect) (sym here) ∙ watched) (ap (contains space.protected) (sym here) ∙ protected))
-    (subst (λ r. answer_by space (addr / 4096) r ≡ Answered other) (sym is) answered)) in
-    other_page space.host.bytes (addr / 4096) page _ there
-stored_elsewhere space addr width value page _ other is answered watched protected = refl
+stored_elsewhere space addr width value page made other is answered watched protected = grind (arith, nat_tests, false_from_ne_true, eqb-true, never_answered, and_from, other_page)
 
 elsewhere : (space : Space) (command : Command) (page : ℕ) (other : Reply) → is_access command ≡ true → access_of space command ≡ Answered other → contains space.object.protect page ≡ true → contains space.protected page ≡ true →
     get (host_after space.host command).bytes page ≡ get space.host.bytes page
-elsewhere space (Load addr width) page other access answered watched protected = refl
-elsewhere space (Store addr width value) page other access answered watched protected =
-    stored_elsewhere space addr width value page (reply_of (memory space.host) (Store addr width value)) other refl answered watched protected
-elsewhere space _ page other access answered watched protected = none_absurd access
+elsewhere space command page other access answered watched protected = grind (arith, nat_tests, stored_elsewhere, none_absurd)
 
 answered_changed : (world : World) (cpu : ℕ) (command : Command) (reply : Reply) (processors : List CpuState) → IsSoundWorld world → world.destination.has_run ≡ false → world.source.switched ≡ false → is_access command ≡ true →
     access_of (space_of world.source) command ≡ Answered reply →

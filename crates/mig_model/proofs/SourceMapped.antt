@@ -1,15 +1,14 @@
 -- The pages that the source has mapped lie in the address space, and there are not too many, after every step.
-use Rattle.std.proofs.Common.{◌≡◌, ℕ, Bool, true, false, refl, sym, subst}
+use Rattle.std.proofs.lemmas.Bool.Decides.{nat_tests}
+use Rattle.std.proofs.Common.{◌≡◌, ℕ, Bool, true, false, refl, sym, subst, arith}
 use Rattle.mig_base.specs.declared.command.Command.{Command}
 use Rattle.mig_base.specs.declared.message.Message.{Message}
 use Rattle.mig_base.specs.declared.message.Message.TheVariants.{PageFault}
-use Rattle.mig_base.specs.declared.phase.Received.{Received}
 use Rattle.mig_base.specs.declared.schedule.Side.{Side}
 use Rattle.mig_base.specs.declared.schedule.Step.{Step}
 use Rattle.mig_base.specs.Commands.{is_access}
 use Rattle.mig_model.specs.Guest.{Act, Guest, read_guest, tried}
 use Rattle.mig_model.specs.Wire.{Frame}
-use Rattle.mig_model.specs.Wire.Frame.{Recv, Done}
 use Rattle.mig_model.specs.Source.{Source, source_acted_by, source_took, space_of}
 use Rattle.mig_model.specs.Migration.{World, guest_by, next, with_guest_by}
 use Rattle.mig_model.specs.Invariant.{IsSoundWorld}
@@ -38,11 +37,7 @@ acted_mapped Act.Zeroed node page h = h
 acted_mapped _ node page h = h
 
 took_mapped : (frame : Frame) (switched : Bool) (node : Source) → IsMapped node → IsMapped (source_took (record node { switched = switched }) frame)
-took_mapped (Recv Received.NotRun owed) true node h = h
-took_mapped (Recv Received.NotRun owed) false node h = h
-took_mapped (Recv Received.Ended owed) switched node h = IsMapping-empty
-took_mapped Done switched node h = IsMapping-empty
-took_mapped _ switched node h = h
+took_mapped frame switched node h = grind (arith, nat_tests, IsMapping-empty)
 
 mapped-answer : (world : World) (step : Step) → IsSoundWorld world → IsMapped world.source → MakesWorld (λ new. IsMapped new.source) world step
 mapped-answer world (Step.Issue cpu command) kept h = λ there idle may. command_mapped world.destination.has_run world cpu command refl kept h

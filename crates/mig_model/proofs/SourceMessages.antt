@@ -1,5 +1,5 @@
 -- The messages of a map call: each is right, and together they tell of every registered page that the call changes.
-use Rattle.std.proofs.Common.{◌≡◌, append-nil, ℕ, ◌+◌, ◌-◌, ◌*◌, ◌/◌, ◌<◌, ◌≤◌, ◌&&◌, ◌||◌, Bool, true, false, not, ltb, List, [], ◌∷◌, ◌++◌, refl, sym, ap, ◌∙◌, ◌⊎◌, inl, inr, ⊎_elim, arith, append_assoc}
+use Rattle.std.proofs.Common.{◌≡◌, append-nil, ℕ, ◌+◌, ◌-◌, ◌*◌, ◌/◌, ◌<◌, ◌≤◌, ◌&&◌, ◌||◌, Bool, true, false, not, ltb, List, [], ◌∷◌, ◌++◌, refl, sym, ap, ◌∙◌, ◌⊎◌, arith, append_assoc}
 use Rattle.std.proofs.lemmas.Bool.Decides.{nat_tests}
 use Rattle.std.proofs.lemmas.Bool.{false≢true, false_from_ne_true, cases_lt, and_from, or_parts}
 use Rattle.mig_base.specs.declared.TheConstants.{HIGH, HIGH_PAGE}
@@ -79,9 +79,7 @@ in_bytes-pages start count page = let n : (start + 4096 * count) / 4096 - start 
 -- a registered page of which nothing is told lies outside of a range of which it would be told
 pub outside_told : (reason : Bool) (message : Message) (object : Object) (first count page : ℕ) → (in_range first count page ≡ true → is_changed_by message page ≡ true) → reason ≡ true → is_registered object page ≡ true →
     tells (told (reason && is_watched object first count) message) page ≡ false → in_range first count page ≡ false
-outside_told reason message object first count page covers reasoned registered h =
-    false_from_ne_true (in_range first count page) (λ inside.
-    false≢true (sym (untold (reason && is_watched object first count) (is_changed_by message page) message page refl (and_from reason _ reasoned (watched_page object first count page registered inside)) h) ∙ covers inside))
+outside_told reason message object first count page covers reasoned registered h = grind (arith, nat_tests, false_from_ne_true, untold, and_from, watched_page)
 
 pub unmapped_outside : (object : Object) (start count page : ℕ) → is_registered object page ≡ true → tells (told (is_watched object (start / 4096) count) (Unmap start (start + 4096 * count))) page ≡ false → in_range (start / 4096) count page ≡ false
 unmapped_outside object start count page registered h =
@@ -95,9 +93,7 @@ pub lesser_is : (a b : ℕ) → (lesser a b ≡ a) ⊎ (lesser a b ≡ b)
 lesser_is a b = grind (arith, nat_tests)
 
 below_end : (start count page end : ℕ) → page < HIGH_PAGE → start / 4096 ≤ page → page < start / 4096 + count → (end ≡ start + 4096 * count) ⊎ (end ≡ HIGH) → in_bytes start end page ≡ true
-below_end start count page end below low high (inl e) = rw (e, in_bytes-pages start count page) (grind (arith, nat_tests))
-below_end start count page end below low high (inr e) =
-    let n : start / 4096 + (end / 4096 - start / 4096) ≡ 1048576 = omega (arith, e) in grind (arith, nat_tests, n)
+below_end start count page end below low high h7 = grind (arith, nat_tests, in_bytes-pages)
 
 -- the same where the range is told to its end, or to the end of the address space
 pub dropped_outside : (object : Object) (start count page : ℕ) → page < HIGH_PAGE → is_registered object page ≡ true → tells (told (is_watched object (start / 4096) count) (Remove start (lesser (start + 4096 * count) HIGH))) page ≡ false →
@@ -115,14 +111,8 @@ Stays from count to new_count page =
     ((in_range to new_count page ≡ true) × (ltb (page - to) count ≡ true) × (from + (page - to) ≡ page)) ⊎ ((in_range to new_count page ≡ false) × (in_range from count page ≡ false))
 
 pub stays_there : (from count new_count page : ℕ) → (new_count < count → in_range (from + new_count) (count - new_count) page ≡ false) → in_range (from + count) (new_count - count) page ≡ false → Stays from count from new_count page
-stays_there from count new_count page tail growth = ⊎_elim
-    (λ (shorter : new_count < count). let out = tail shorter in grind (arith, nat_tests))
-    (λ (longer : count ≤ new_count). grind (arith, nat_tests))
-    (cases_lt new_count count)
+stays_there from count new_count page tail growth = grind (arith, nat_tests, cases_lt)
 
 pub moved_away : (from count to new_count page : ℕ) → in_range to new_count page ≡ false → (new_count < count → in_range (from + new_count) (count - new_count) page ≡ false) → in_range from (lesser count new_count) page ≡ false →
     in_range from count page ≡ false
-moved_away from count to new_count page out tail head = ⊎_elim
-    (λ (shorter : new_count < count). let more = tail shorter in grind (arith, nat_tests))
-    (λ (longer : count ≤ new_count). grind (arith, nat_tests))
-    (cases_lt new_count count)
+moved_away from count to new_count page out tail head = grind (arith, nat_tests, cases_lt)

@@ -1,11 +1,11 @@
 -- The source begins a migration, or a round of pre-copy, and keeps what every world keeps.
-use Rattle.std.proofs.Common.{◌≡◌, ◌≢◌, ◌⊎◌, ◌≤◌, ℕ, ◌+◌, ◌<◌, ◌&&◌, Bool, true, false, cond, not, ltb, if◌then◌else◌, Some, None, List, [], ◌∷◌, ◌++◌, refl, sym, ap, ◌∙◌, subst, inl, arith, is_some}
+use Rattle.std.proofs.Common.{◌≡◌, ◌≢◌, ◌⊎◌, ◌≤◌, ℕ, ◌+◌, ◌<◌, ◌&&◌, Bool, true, false, cond, not, ltb, if◌then◌else◌, List, [], ◌∷◌, ◌++◌, refl, sym, ap, ◌∙◌, subst, inl, arith, is_some}
 use Rattle.std.specs.Ordering.{nat_cmp}
 use Rattle.std.specs.FinMap as finmap
 use Rattle.std.specs.FinMap.{FinMap, get, contains_key, get-empty}
 use Rattle.std.specs.FinSet.{contains}
 use Rattle.std.proofs.lemmas.Bool.Decides.{nat_tests}
-use Rattle.std.proofs.lemmas.Bool.{false≢true, true_from_ne_false, lt-ltb, and_from, or_right}
+use Rattle.std.proofs.lemmas.Bool.{true_from_ne_false, lt-ltb, and_from, or_right}
 use Rattle.mig_base.specs.declared.phase.DestPhase.{DestPhase}
 use Rattle.mig_base.specs.declared.phase.SourcePhase.{SourcePhase}
 use Rattle.mig_base.specs.declared.TheConstants.{HIGH_PAGE}
@@ -57,18 +57,10 @@ whole_range : (page : ℕ) → page < HIGH_PAGE → in_range 0 HIGH_PAGE page �
 whole_range page h = grind (arith, nat_tests)
 
 mapped_registered : (space : Space) (page : ℕ) → IsSoundSpace space → contains_key space.host.areas page ≡ true → contains (all_registered space).object.protect page ≡ true
-mapped_registered space page sound mapped =
-    let low = low_or (λ h. false≢true (sym (ap is_some (sound.host.bound page h)) ∙ mapped)) in
-    member_below _ HIGH_PAGE page
-    ∙ registered_now (ltb page HIGH_PAGE) (is_mapped_in space 0 HIGH_PAGE page) (contains space.object.missing page) (contains space.object.protect page) (lt-ltb page HIGH_PAGE low)
-    (and_from (in_range 0 HIGH_PAGE page) (contains_key space.host.areas page) (whole_range page low) mapped)
+mapped_registered space page sound mapped = grind (arith, nat_tests, low_or, member_below, registered_now, lt-ltb, and_from, whole_range)
 
 pub present_mapped : (space : Space) (page : ℕ) → IsSoundSpace space → is_present space page ≡ true → contains_key space.host.areas page ≡ true
-present_mapped space page sound h =
-    elim (get space.host.areas page) as (λ o. get space.host.areas page ≡ o → is_some o ≡ true) [
-      | None ↦ λ e. none_absurd (sym (ap is_some (sound.host.mapped page e)) ∙ h)
-      | Some prot ↦ λ e. refl
-    ] refl
+present_mapped space page sound h = grind (arith, nat_tests, none_absurd)
 
 still_protected : (space : Space) (page : ℕ) → IsSoundSpace space → contains space.protected page ≡ true → contains (all_registered space).protected page ≡ true
 still_protected space page sound h = member_below _ HIGH_PAGE page ∙ rw (watched_below space page sound (sound.watched page h)) (and_true (contains space.protected page) ∙ h)
@@ -94,10 +86,7 @@ round_changed world kept precopy unswitched =
     assumption
 
 pub kept-round : (world : World) → IsSoundWorld world → is_precopy world.source.phase ≡ true → IsSoundWorld (after_round world)
-kept-round world kept precopy =
-    let unswitched = precopy_unswitched world.source.phase world.source.switched precopy kept.phases.source_phase in
-    changed world (record world.source.guest { space = all_registered (space_of world.source) }) world.source.log.clean (not_clean world.source) world.source.log.held (world.source.rounds + 1) world.source.faults world.transcript kept
-    (has_not_run world kept unswitched) unswitched (round_changed world kept precopy unswitched)
+kept-round world kept precopy = grind (arith, nat_tests, precopy_unswitched, changed, has_not_run, round_changed)
 
 -- Start
 
@@ -115,9 +104,7 @@ record IsQuiet (to : DestPhase) (forward back : List Sent) : Type 0 where
   back_none : back ≡ []
 
 idle_wires : (from : SourcePhase) (source : Source) (destination : Destination) (forward back urgent : List Sent) → from ≡ SourcePhase.Idle → Wires (record source { phase = from }) destination forward back urgent → IsQuiet destination.phase forward back
-idle_wires from source destination forward back urgent idle wires =
-    let now = subst (λ p. Wires (record source { phase = p }) destination forward back urgent) idle wires in
-    record { not_advised = now.0; forward_none = now.1; back_none = now.2 }
+idle_wires from source destination forward back urgent idle wires = grind (arith, nat_tests)
 
 no_copy : {A : Type 0} (kept : FinMap nat_cmp (List ℕ)) (page : ℕ) → kept ≡ finmap.empty → contains_key kept page ≡ true → A
 no_copy kept page none h = none_absurd (sym (ap is_some (ap (λ m. get m page) none ∙ get-empty nat_cmp page)) ∙ h)
@@ -174,21 +161,10 @@ started_next world kept idle unswitched up quiet =
 
 -- nothing is in flight before Start
 pub idle_forward : (world : World) → IsSoundWorld world → is_source_idle world.source.phase ≡ true → world.forward.frames ≡ []
-idle_forward world kept is_idle =
-    let idle = idle_is world.source.phase is_idle in
-    let up = true_from_ne_false world.up (λ down. (kept.flight.down down).2 idle) in
-    (idle_wires world.source.phase world.source world.destination world.forward.frames world.back.frames world.urgent.frames idle (kept.flight.wires up)).forward_none
+idle_forward world kept is_idle = grind (arith, nat_tests, idle_is, true_from_ne_false, idle_wires)
 
 pub idle_back : (world : World) → IsSoundWorld world → is_source_idle world.source.phase ≡ true → world.back.frames ≡ []
-idle_back world kept is_idle =
-    let idle = idle_is world.source.phase is_idle in
-    let up = true_from_ne_false world.up (λ down. (kept.flight.down down).2 idle) in
-    (idle_wires world.source.phase world.source world.destination world.forward.frames world.back.frames world.urgent.frames idle (kept.flight.wires up)).back_none
+idle_back world kept is_idle = grind (arith, nat_tests, idle_is, true_from_ne_false, idle_wires)
 
 pub kept-start : (world : World) → IsSoundWorld world → is_source_idle world.source.phase ≡ true → IsSoundWorld (after_start world)
-kept-start world kept is_idle =
-    let idle = idle_is world.source.phase is_idle in
-    let unswitched = idle_unswitched world.source.phase world.source.switched idle kept.phases.source_phase in
-    let up = true_from_ne_false world.up (λ down. (kept.flight.down down).2 idle) in
-    renewed world (source_started world.source) (start_wire world) world.transcript kept (has_not_run world kept unswitched)
-    (started_next world kept idle unswitched up (idle_wires world.source.phase world.source world.destination world.forward.frames world.back.frames world.urgent.frames idle (kept.flight.wires up)))
+kept-start world kept is_idle = grind (arith, nat_tests, idle_is, idle_unswitched, true_from_ne_false, renewed, has_not_run, started_next, idle_wires)

@@ -1,5 +1,5 @@
 -- The source sends the next page of a round, or a run of neighbouring pages in one frame, and keeps what every world keeps.
-use Rattle.std.proofs.Common.{◌≡◌, ℕ, zero, suc, ◌+◌, Bool, true, false, cond, eqb, if◌then◌else◌, Option, Some, List, [], ◌∷◌, ◌++◌, refl, sym, ap, ◌∙◌, length, subst, arith, ◌&&◌, ◌||◌, not, ltb, ◌⊎◌, ⊎_elim, is_some, unwrap_or}
+use Rattle.std.proofs.Common.{◌≡◌, ℕ, zero, suc, ◌+◌, Bool, true, false, cond, eqb, if◌then◌else◌, Option, Some, List, [], ◌∷◌, ◌++◌, sym, ap, ◌∙◌, length, subst, arith, ◌&&◌, ◌||◌, ltb, ◌⊎◌, is_some, unwrap_or}
 use Rattle.std.proofs.lemmas.Bool.Decides.{nat_tests}
 use Rattle.mig_base.specs.Ranges.{in_range}
 use Rattle.std.specs.List.{list_all}
@@ -54,11 +54,7 @@ kept_by-push wire flow sent kept h = (has_no_package flow kept wire (sent ∷ []
 -- the page's own bytes are the newest then
 pub kept_by-page : (wire : List Sent) (flow : Flow) (kept : FinMap nat_cmp (List ℕ)) (epoch page : ℕ) (bytes : List ℕ) → flow_after flow wire ≡ Some Copies → length bytes ≡ 4096 → (q : ℕ) →
     get (kept_by kept (wire ++ record { epoch = epoch; frame = page_frame page bytes } ∷ [])) q ≡ cond (eqb q page) (Some bytes) (get (kept_by kept wire) q)
-kept_by-page wire flow kept epoch page bytes h n q =
-    ap (λ m. get m q) (kept_by-push wire flow (record { epoch = epoch; frame = page_frame page bytes }) kept h
-    ∙ ap (λ b. cond b (kept_by kept wire) (kept_after (kept_by kept wire) (page_frame page bytes))) (no_package_by (list_all (λ byte. eqb byte 0) bytes) page bytes)
-    ∙ kept_after-page_frame (kept_by kept wire) page bytes n)
-    ∙ get-put (kept_by kept wire) page q bytes
+kept_by-page wire flow kept epoch page bytes h n q = grind (arith, nat_tests, kept_by-push, no_package_by, kept_after-page_frame, get-put)
 
 -- A run of pages
 
@@ -110,15 +106,7 @@ whole_bytes space page o sound e h = grind arith
 
 are_sent : (world : World) (first count : ℕ) → IsSoundWorld world → world.source.switched ≡ false → (space_of world.source).object.events ≡ [] → ((q : ℕ) → in_range first count q ≡ true → contains world.source.log.todo q ≡ true) →
     AreSent (space_of world.source) first count
-are_sent world first count kept unswitched quiet todo =
-    let space = space_of world.source in
-    let was = λ (q : ℕ) (h : in_range first count q ≡ true). kept.precopy.todo_sendable unswitched q (todo q h) (ap (λ e. is_unread e q) quiet) in
-    record {
-      present = λ q h. (was q h).0;
-      watched = λ q h. (was q h).1;
-      whole = λ q h. whole_bytes space q (get space.host.bytes q) kept.spaces.source_space refl (was q h).0;
-      low = λ q h. watched_below space q kept.spaces.source_space (was q h).1;
-    }
+are_sent world first count kept unswitched quiet todo = grind (arith, nat_tests, whole_bytes, watched_below)
 
 -- the frame carries the pages, and the log has them as clean and sent
 record IsCarried (space : Space) (old : Log) (first count : ℕ) (frame : Frame) (log : Log) : Type 0 where
@@ -140,13 +128,7 @@ carried_wire world frame = world.forward.frames ++ record { epoch = world.source
 still_after : (world : World) (first count : ℕ) (clean : FinSet nat_cmp) → IsSoundWorld world → world.source.switched ≡ false → AreSent (space_of world.source) first count →
     ((q : ℕ) → contains clean q ≡ (in_range first count q || contains world.source.log.clean q)) →
     (q : ℕ) → contains clean q ≡ true → is_unread (space_of world.source).object.events q ≡ false → contains (protected_in (space_of world.source) first count true).protected q ≡ true
-still_after world first count clean kept unswitched are clean_is q h u =
-    let space = space_of world.source in
-    let now = protected_now (ltb q HIGH_PAGE) (in_range first count q) (is_present space q) (contains space.protected q) in
-    member_below _ HIGH_PAGE q ∙ either (in_range first count q) (contains world.source.log.clean q) (sym (clean_is q) ∙ h)
-    (λ e. now (are.low q e) (are.present q e) (ap (λ b. b || contains space.protected q) e))
-    (λ c. let was = kept.precopy.clean_protected unswitched q c u in
-    now (watched_below space q kept.spaces.source_space (kept.spaces.source_space.watched q was)) (kept.spaces.source_space.present q was) (or_right (in_range first count q) (contains space.protected q) was))
+still_after world first count clean kept unswitched are clean_is q h u = grind (arith, nat_tests, protected_now, member_below, either, watched_below, or_right)
 
 here_or_before : (here : Bool) (bytes : List ℕ) (kept own : Option (List ℕ)) → (here ≡ true → Some bytes ≡ own) → (here ≡ false → kept ≡ own) → cond here (Some bytes) kept ≡ own
 here_or_before here bytes kept own first second = grind arith
@@ -161,20 +143,7 @@ was_clean here clean h e = grind arith
 carried_copies : (source : Source) (first count : ℕ) (frame : Frame) (log : Log) (pages epoch : ℕ) (flow : Flow) (kept : FinMap nat_cmp (List ℕ)) (wire : List Sent) → AreSent (space_of source) first count →
     IsCarried (space_of source) source.log first count frame log → flow_after flow wire ≡ Some Copies → IsPrecopying source kept wire →
     IsPrecopying (carried source first count log pages) kept (wire ++ record { epoch = epoch; frame = frame } ∷ [])
-carried_copies source first count frame log pages epoch flow kept wire are is right old =
-    let space = space_of source in
-    let newest = is.newest wire flow kept epoch right in
-    record {
-      clean_copy = λ q h u.
-          newest q ∙ here_or_before (in_range first count q) (contents space.host.bytes q) (get (kept_by kept wire) q) (get space.host.bytes q)
-          (λ e. present_bytes (get space.host.bytes q) zero_page (are.present q e))
-          (λ e. old.clean_copy q (was_clean (in_range first count q) (contains source.log.clean q) (sym (is.clean_is q) ∙ h) e) u);
-      copies_sent = λ q h.
-          is.sent_is q ∙ ⊎_elim
-          (λ (e : in_range first count q ≡ true). ap (λ b. b || contains source.log.sent q) e)
-          (λ (e : is_some (get (kept_by kept wire) q) ≡ true). or_right (in_range first count q) (contains source.log.sent q) (old.copies_sent q e))
-          (copied_or_before (in_range first count q) (contents space.host.bytes q) (get (kept_by kept wire) q) (sym (ap is_some (newest q)) ∙ h));
-    }
+carried_copies source first count frame log pages epoch flow kept wire are is right old = grind (arith, nat_tests, here_or_before, present_bytes, was_clean, or_right, copied_or_before)
 
 wires_carried : (from : SourcePhase) (to : DestPhase) (world : World) (first count : ℕ) (frame : Frame) (log : Log) (pages : ℕ) → is_precopy from ≡ true → AreSent (space_of world.source) first count →
     IsCarried (space_of world.source) world.source.log first count frame log →
@@ -224,16 +193,7 @@ inserted_is : (set : FinSet nat_cmp) (page q : ℕ) → contains (finset.insert 
 inserted_is set page q = member_inserted set page q ∙ ap (λ b. b || contains set q) (sym (only_one page q))
 
 page_carried : (source : Source) (page : ℕ) → length (bytes_of source page) ≡ 4096 → IsCarried (space_of source) source.log page 1 (page_frame page (bytes_of source page)) (log_sent source.log page)
-page_carried source page whole =
-    record {
-      clean_is = inserted_is source.log.clean page;
-      sent_is = inserted_is source.log.sent page;
-      todo_was = λ q h. (and_parts (not (eqb q page)) (contains source.log.todo q) (sym (member_removed source.log.todo page q) ∙ h)).1;
-      whole = subst AreWhole (sym (copies_in-page page (bytes_of source page) whole)) (whole, tt);
-      flow = (page_flow page (bytes_of source page)).0;
-      newest = λ wire flow kept epoch h q.
-          kept_by-page wire flow kept epoch page (bytes_of source page) h whole q ∙ one_page (bytes_of source) page q (get (kept_by kept wire) q);
-    }
+page_carried source page whole = grind (arith, nat_tests, inserted_is, and_parts, member_removed, copies_in-page, page_flow, kept_by-page, one_page)
 
 pub kept-send : (world : World) (page : ℕ) → IsSoundWorld world → least_of world.source.log.todo ≡ Some page → is_precopy world.source.phase ≡ true → world.up ≡ true → is_changing world.source.guest ≡ false → IsSoundWorld (after_send world page)
 kept-send world page kept found precopy up quiet =
@@ -245,15 +205,7 @@ kept-send world page kept found precopy up quiet =
 -- A run
 
 run_carried : (source : Source) (first count : ℕ) → AreSent (space_of source) first count → IsCarried (space_of source) source.log first count (Run first (run_of source first count)) (log_run_sent source.log first count)
-run_carried source first count are =
-    record {
-      clean_is = member_with_range source.log.clean first count;
-      sent_is = member_with_range source.log.sent first count;
-      todo_was = λ q h. (and_parts (contains source.log.todo q) (not (in_range first count q)) (sym (member_without source.log.todo first count q) ∙ h)).0;
-      whole = run_whole source first count are.whole;
-      flow = refl;
-      newest = λ wire flow kept epoch h. kept_by-run wire flow kept epoch source first count h;
-    }
+run_carried source first count are = grind (arith, nat_tests, member_with_range, and_parts, member_without, run_whole, kept_by-run)
 
 pub kept-run : (world : World) (first number count : ℕ) → IsSoundWorld world → number ≡ run_length world.source.log.todo first (run_bound count) → is_precopy world.source.phase ≡ true → world.up ≡ true → is_changing world.source.guest ≡ false →
     IsSoundWorld (after_run world first number)

@@ -65,18 +65,7 @@ stays pages first count page out h = ap is_some (get-remove_range pages first co
 taken_out : (areas new_areas : PageMap Prot) (bytes : PageMap (List ℕ)) (missing protect protected : Set) (first count : ℕ) → IsWatched areas bytes missing protect protected →
     ((page : ℕ) → in_range first count page ≡ false → contains_key areas page ≡ true → contains_key new_areas page ≡ true) →
     IsWatched new_areas (remove_range bytes first count) (without missing first count) (without protect first count) (without protected first count)
-taken_out areas new_areas bytes missing protect protected first count old areas_stay =
-    record {
-      mapped = λ page h.
-          let left = both_left (contains missing page) (contains protect page) (in_range first count page)
-          (sym (ap (λ a. a || (contains protect page && not (in_range first count page))) (member_without missing first count page))
-          ∙ sym (ap (λ b. contains (without missing first count) page || b) (member_without protect first count page)) ∙ h) in
-          areas_stay page left.0 (old.mapped page left.1);
-      present = λ page h. let left = left_of protected first count page h in stays bytes first count page left.0 (old.present page left.1);
-      watched = λ page h.
-          let left = left_of protected first count page h in
-          member_without protect first count page ∙ ap (λ a. a && not (in_range first count page)) (old.watched page left.1) ∙ ap not left.0;
-    }
+taken_out areas new_areas bytes missing protect protected first count old areas_stay = grind (arith, nat_tests, both_left, member_without, left_of, stays)
 
 given : (areas : PageMap Prot) (first count page : ℕ) (prot : Prot) → in_range first count page ≡ false → contains_key areas page ≡ true → contains_key (set_range areas first count prot) page ≡ true
 given areas first count page prot out h = ap is_some (get-set_range areas first count prot page ∙ ap (λ b. cond b (Some prot) (get areas page)) out) ∙ h
@@ -84,12 +73,7 @@ given areas first count page prot out h = ap is_some (get-set_range areas first 
 -- Pages made missing: what is registered stays
 dropped : (areas : PageMap Prot) (bytes : PageMap (List ℕ)) (missing protect protected : Set) (first count : ℕ) → IsWatched areas bytes missing protect protected →
     IsWatched areas (remove_range bytes first count) missing protect (without protected first count)
-dropped areas bytes missing protect protected first count old =
-    record {
-      mapped = old.mapped;
-      present = λ page h. let left = left_of protected first count page h in stays bytes first count page left.0 (old.present page left.1);
-      watched = λ page h. old.watched page (left_of protected first count page h).1;
-    }
+dropped areas bytes missing protect protected first count old = grind (arith, nat_tests, left_of, stays)
 
 -- Pages moved
 
@@ -114,26 +98,7 @@ moved_watched low new old from p1 p2 w1 w2 wg one two h = grind (arith, nat_test
 
 moved_parts : (areas : PageMap Prot) (bytes : PageMap (List ℕ)) (missing protect protected : Set) (from count to new_count : ℕ) (mode : Mode) → contains_key areas from ≡ true → IsWatched areas bytes missing protect protected →
     IsWatched (moved_range areas from count to new_count (get areas from)) (moved_range bytes from count to new_count None) (moved_set missing from count to new_count mode.missing) (moved_set protect from count to new_count mode.protect) (moved_set protected from count to new_count false)
-moved_parts areas bytes missing protect protected from count to new_count mode some old =
-    record {
-      mapped = λ page h.
-          ap is_some (get-moved_range areas from count to new_count page (get areas from))
-          ∙ moved_mapped (ltb page HIGH_PAGE) (in_range to new_count page) (ltb (page - to) count) (in_range from count page)
-          (contains missing (from + (page - to))) (contains missing page) (contains protect (from + (page - to))) (contains protect page) mode.missing mode.protect
-          (get areas (from + (page - to))) (get areas from) (get areas page) (old.mapped (from + (page - to))) some (old.mapped page)
-          (sym (ap (λ a. a || in_moved (contains protect) from count to new_count mode.protect page) (member_moved missing from count to new_count page mode.missing))
-          ∙ sym (ap (λ b. contains (moved_set missing from count to new_count mode.missing) page || b) (member_moved protect from count to new_count page mode.protect)) ∙ h);
-      present = λ page h.
-          ap is_some (get-moved_range bytes from count to new_count page None)
-          ∙ moved_present (ltb page HIGH_PAGE) (in_range to new_count page) (ltb (page - to) count) (in_range from count page)
-          (contains protected (from + (page - to))) (contains protected page) (get bytes (from + (page - to))) (get bytes page) (old.present (from + (page - to))) (old.present page)
-          (sym (member_moved protected from count to new_count page false) ∙ h);
-      watched = λ page h.
-          member_moved protect from count to new_count page mode.protect
-          ∙ moved_watched (ltb page HIGH_PAGE) (in_range to new_count page) (ltb (page - to) count) (in_range from count page)
-          (contains protected (from + (page - to))) (contains protected page) (contains protect (from + (page - to))) (contains protect page) mode.protect (old.watched (from + (page - to))) (old.watched page)
-          (sym (member_moved protected from count to new_count page false) ∙ h);
-    }
+moved_parts areas bytes missing protect protected from count to new_count mode some old = grind (arith, nat_tests, get-moved_range, moved_mapped, member_moved, moved_present, moved_watched)
 
 -- Map calls
 
@@ -184,21 +149,10 @@ keeps_itself : (host : Host) → Keeps host host
 keeps_itself host = record { areas = refl; present = λ page h. h }
 
 accessed_host : (host : Host) (command : Command) (reply : Reply) → is_access command ≡ true → Keeps host (host_changed host command reply)
-accessed_host host (Load addr width) reply access = keeps_itself host
-accessed_host host (Store addr width value) Done access = record { areas = refl; present = λ page h. more_present host.bytes (addr / 4096) page _ h }
-accessed_host host (Store addr width value) _ access = keeps_itself host
-accessed_host host _ reply access = none_absurd access
+accessed_host host command reply access = grind (arith, nat_tests, keeps_itself, more_present, none_absurd)
 
 answered_sound : (space : Space) (command : Command) → is_access command ≡ true → IsSoundSpace space → IsSoundSpace (record space { host = host_after space.host command })
-answered_sound space command access sound =
-    let reply = reply_of (memory space.host) command in
-    let keeps = accessed_host space.host command reply access in
-    record {
-      host = IsSound-changed space.host command reply sound.host refl;
-      mapped = λ page h. ap (λ areas. contains_key areas page) keeps.areas ∙ sound.mapped page h;
-      present = λ page h. keeps.present page (sound.present page h);
-      watched = sound.watched;
-    }
+answered_sound space command access sound = grind (arith, nat_tests, accessed_host, IsSound-changed)
 
 faulted_sound : (space : Space) (addr : ℕ) (write wp : Bool) (cpu : ℕ) → IsSoundSpace space → IsSoundSpace (record space { object = fault_queued space.object addr write wp cpu })
 faulted_sound space addr write wp cpu sound = grind (arith, nat_tests)
@@ -218,13 +172,7 @@ none_registered : (a b : Bool) → a ≡ false → b ≡ false → (a || b) ≡ 
 none_registered a b ha hb h = grind (arith, nat_tests)
 
 pub IsSoundSpace-fresh : IsSoundSpace fresh_space
-IsSoundSpace-fresh =
-    record {
-      host = IsSound-empty;
-      mapped = λ page h. absurd (none_registered (contains {R = nat_cmp} empty page) (contains {R = nat_cmp} empty page) (no_member page) (no_member page) h);
-      present = λ page h. none_absurd (sym (no_member page) ∙ h);
-      watched = λ page h. none_absurd (sym (no_member page) ∙ h);
-    }
+IsSoundSpace-fresh = grind (arith, nat_tests, IsSound-empty, none_registered, no_member, none_absurd)
 
 -- What an access answers
 

@@ -1,8 +1,8 @@
 -- A migration that is complete stays complete.
-use Rattle.std.proofs.Common.{◌≡◌, ℕ, Bool, true, false, List, ◌∷◌, refl, sym, ap, ◌∙◌}
+use Rattle.std.proofs.lemmas.Bool.Decides.{nat_tests}
+use Rattle.std.proofs.Common.{◌≡◌, ℕ, Bool, true, false, List, ◌∷◌, refl, sym, ap, ◌∙◌, arith}
 use Rattle.std.proofs.lemmas.Bool.{false≢true, true_from_ne_false}
 use Rattle.mig_base.specs.declared.phase.SourcePhase.{SourcePhase}
-use Rattle.mig_base.specs.declared.schedule.Side.{Side}
 use Rattle.mig_base.specs.declared.schedule.Step.{Step}
 use Rattle.mig_base.specs.declared.command.Command.{Command}
 use Rattle.mig_base.specs.Tests.{is_empty}
@@ -15,7 +15,7 @@ use Rattle.mig_model.specs.Invariant.{IsSoundWorld}
 use Rattle.mig_model.specs.Promises.{IsComplete}
 use Rattle.mig_model.proofs.Stopping.{in_phases}
 use Rattle.mig_model.proofs.StepCases.{MakesWorld, made-next}
-use Rattle.mig_model.specs.Source.{is_precopy, is_released, is_source_idle, is_stopped, released, source_act, source_acted_by}
+use Rattle.mig_model.specs.Source.{is_precopy, is_released, is_source_idle, is_stopped, released, source_acted_by}
 use Rattle.mig_model.proofs.Facts.{none_absurd}
 
 -- A released source is in no other phase
@@ -58,19 +58,7 @@ nothing_back : (world : World) (sent : Sent) (rest : List Sent) → IsSoundWorld
 nothing_back world sent rest kept done is = false≢true (ap is_empty (sym is) ∙ back_empty_in world.source.phase world done kept)
 
 complete-answer : (world : World) (step : Step) → IsSoundWorld world → IsComplete world → MakesWorld IsComplete world step
-complete-answer world (Step.Issue cpu command) kept done = λ there idle may. still world.source.phase _ (command_phase world cpu command) done
-complete-answer world (Step.Retry cpu) kept done = λ command waits woken may. still world.source.phase _ (command_phase world cpu command) done
-complete-answer world Step.Start kept done = λ idle unused. absurd (not_idle world.source.phase done idle)
-complete-answer world Step.Round kept done = λ precopy quiet. absurd (not_precopy world.source.phase done precopy)
-complete-answer world Step.Send kept done = λ page is precopy up quiet. absurd (not_precopy world.source.phase done precopy)
-complete-answer world (Step.SendRun count) kept done = λ first number is many precopy up quiet. absurd (not_precopy world.source.phase done precopy)
-complete-answer world Step.SourceAct kept done = λ fault rest is started unswitched quiet. still world.source.phase _ (worked_phase (source_act world.source fault) world fault.page) done
-complete-answer world Step.Switch kept done = λ precopy up quiet. absurd (not_precopy world.source.phase done precopy)
-complete-answer world (Step.DeliverBack n) kept done = ((λ sent rest is short. done), (λ sent rest is full started up. absurd (nothing_back world sent rest kept done is)))
-complete-answer world (Step.Push ticket) kept done = λ stopped up own present remains. absurd (not_stopped world.source.phase done stopped)
-complete-answer world (Step.PushUrgent ticket) kept done = λ stopped up own present remains. absurd (not_stopped world.source.phase done stopped)
-complete-answer world (Step.Notice Side.Source) kept done = λ started unreleased down. absurd (false≢true (sym unreleased ∙ done))
-complete-answer world _ kept done = assumption
+complete-answer world step kept done = grind (arith, nat_tests, still, command_phase, not_idle, not_precopy, worked_phase, nothing_back, not_stopped)
 
 pub complete-next : (world : World) (step : Step) → IsSoundWorld world → IsComplete world → IsComplete (next world step)
 complete-next world step kept done = made-next IsComplete world step done (complete-answer world step kept done)

@@ -1,9 +1,10 @@
 -- Each step that is not refused: what its tests tell, and what it makes. A fact about every step is one answer for each of these.
-use Rattle.std.proofs.Common.{◌≡◌, ℕ, ◌&&◌, ◌||◌, Bool, true, false, not, eqb, Option, Some, None, List, [], ◌∷◌, refl, sym, ◌+◌, ◌*◌}
+use Rattle.std.proofs.lemmas.Bool.Decides.{nat_tests}
+use Rattle.std.proofs.Common.{◌≡◌, ℕ, ◌&&◌, ◌||◌, Bool, true, false, not, eqb, Option, Some, None, List, [], ◌∷◌, refl, ◌+◌, ◌*◌, arith}
 use Rattle.std.specs.Prelude.{Ok, IsOk}
 use Rattle.std.specs.FinSet as finset
 use Rattle.std.specs.FinSet.{contains}
-use Rattle.std.proofs.lemmas.Bool.{false≢true, not-false, and_parts, or_parts}
+use Rattle.std.proofs.lemmas.Bool.{not-false, and_parts, or_parts}
 use Rattle.mig_base.specs.declared.TheConstants.{PAGE_SIZE}
 use Rattle.mig_base.specs.declared.command.Command.{Command}
 use Rattle.mig_base.specs.declared.effect.Effect.{Effect}
@@ -83,9 +84,7 @@ Makes Q world Step.Resume =
 
 -- the source has started and still runs the processors
 unswitched : (a b : Bool) → not (not a && not b) ≡ false → (a ≡ false) × (b ≡ false)
-unswitched false false h = (refl, refl)
-unswitched true b h = absurd (false≢true (sym h))
-unswitched false true h = absurd (false≢true (sym h))
+unswitched a b h = grind (arith, nat_tests)
 
 -- what a step finds
 holds-some : {A : Type 0} (Q : Made → Type 0) (f : Option A → Answer) (o : Option A) → Holds Q (f None) → ((x : A) → o ≡ Some x → Holds Q (f (Some x))) → Holds Q (f o)

@@ -4,9 +4,7 @@ use Rattle.std.specs.Prelude.{Ok}
 use Rattle.std.specs.FinMap.{get}
 use Rattle.std.specs.FinSet.{contains}
 use Rattle.std.proofs.lemmas.Bool.Decides.{nat_tests}
-use Rattle.std.proofs.lemmas.Bool.{false≢true}
 use Rattle.mig_base.specs.declared.effect.Effect.{Effect}
-use Rattle.mig_base.specs.declared.schedule.Side.{Side}
 use Rattle.mig_base.specs.declared.schedule.Step.{Step}
 use Rattle.mig_base.specs.declared.schedule.Ticket.{Ticket}
 use Rattle.mig_base.specs.declared.command.Command.{Command}
@@ -102,16 +100,7 @@ abbrev RemainedIn : World → ℕ → World → Type 0
 RemainedIn world q new = contains new.source.remaining q ≡ true → contains world.source.remaining q ≡ true
 
 remaining_answer : (world : World) (step : Step) (q : ℕ) → keeps_remaining step ≡ true → MakesWorld (RemainedIn world q) world step
-remaining_answer world (Step.Issue cpu command) q keeps = λ there idle may h. sym (tried_remaining world cpu command q) ∙ h
-remaining_answer world (Step.Retry cpu) q keeps = λ command waits woken may h. sym (tried_remaining world cpu command q) ∙ h
-remaining_answer world Step.SourceAct q keeps = λ fault rest is started unswitched quiet h. sym (worked_remaining (source_act world.source fault) world.source fault.page q) ∙ h
-remaining_answer world Step.Switch q keeps = absurd (false≢true keeps)
-remaining_answer world (Step.DeliverBack n) q keeps = absurd (false≢true keeps)
-remaining_answer world (Step.Push ticket) q keeps =
-    λ stopped up own present remains h. and_second (not (eqb q ticket.page)) (contains world.source.remaining q) (sym (member_removed world.source.remaining ticket.page q) ∙ h)
-remaining_answer world (Step.PushUrgent ticket) q keeps = λ stopped up own present remains h. and_second (not (eqb q ticket.page)) (contains world.source.remaining q) (sym (member_removed world.source.remaining ticket.page q) ∙ h)
-remaining_answer world (Step.Notice Side.Source) q keeps = assumption
-remaining_answer world _ q keeps = assumption
+remaining_answer world step q keeps = grind (arith, nat_tests, tried_remaining, worked_remaining, and_second, member_removed)
 
 pub remaining_shrinks : (world : World) (step : Step) (q : ℕ) → keeps_remaining step ≡ true → contains (next world step).source.remaining q ≡ true → contains world.source.remaining q ≡ true
 remaining_shrinks world step q keeps = made-next (RemainedIn world q) world step (λ h. h) (remaining_answer world step q keeps)

@@ -17,7 +17,7 @@ use Rattle.mig_model.specs.Wire.{Sent, Copy, page_frame, kept_after}
 use Rattle.mig_model.specs.Wire.Frame.{End, Discard, Package}
 use Rattle.mig_model.specs.Guest.{is_present}
 use Rattle.mig_model.specs.Migration.{World, after_end, after_push, after_serve, after_switch, is_changing}
-use Rattle.mig_model.specs.Invariant.{IsSoundWorld, IsSoundLog, IsSoundPushing, Wires, StoppedWires, IsSwitching, Flow, flow_after, flow_of, copies_of, has_copy, AreFaithful, AreWhole, behind, is_urgent_or_left, AreSoundPhases, PrecopyWires, IsPrecopying, is_unread, kept_by, package_in}
+use Rattle.mig_model.specs.Invariant.{IsSoundWorld, IsSoundLog, IsSoundPushing, StoppedWires, IsSwitching, Flow, flow_after, flow_of, copies_of, has_copy, AreFaithful, AreWhole, behind, is_urgent_or_left, AreSoundPhases, PrecopyWires, IsPrecopying, is_unread, kept_by, package_in}
 use Rattle.mig_model.specs.Invariant.Flow.{BeforeAdvise, Copies, BeforePackage, Pushed, AfterEnd}
 use Rattle.mig_model.proofs.WireLemmas.{flow_sent, has_package, copies_of-page, page_flow, fits-more, has_copy-append, flight_up, has_no_package}
 use Rattle.mig_model.specs.Log.{least_of, no_pages, present, less}
@@ -120,26 +120,13 @@ stopped_not_paused h = cc
 pub pushing_stopped : (source : Source) (up : Bool) → source.switched ≡ true → (source.end_epoch ≡ source.epoch → source.remaining ≡ no_pages) →
     ((page : ℕ) → contains source.remaining page ≡ true → is_present (space_of source) page ≡ true) → source.end_epoch ≤ source.epoch →
     IsSoundPushing SourcePhase.Stopped source.switched up source.epoch source.end_epoch (space_of source) source.remaining
-pushing_stopped source up switched end_sent present before =
-    record {
-      before_switch = λ h. absurd (false≢true (sym h ∙ switched));
-      end_sent = end_sent;
-      remaining_present = present;
-      ended_before = before;
-      paused_fresh = λ h paused. absurd (stopped_not_paused paused);
-      released_empty = λ h. absurd (stopped_not_released h);
-    }
+pushing_stopped source up switched end_sent present before = grind (arith, nat_tests, stopped_not_paused, stopped_not_released)
 
 stopped_not_idle : SourcePhase.Stopped ≢ SourcePhase.Idle
 stopped_not_idle h = cc
 
 pub log_stopped : (source : Source) → source.switched ≡ true → IsSoundLog SourcePhase.Stopped source.switched (space_of source) source.log.clean source.log.todo source.log.sent
-log_stopped source switched =
-    record {
-      idle_source = λ h. absurd (stopped_not_idle h);
-      clean_protected = λ h. absurd (false≢true (sym h ∙ switched));
-      todo_sendable = λ h. absurd (false≢true (sym h ∙ switched));
-    }
+log_stopped source switched = grind (arith, nat_tests, stopped_not_idle)
 
 pub was_there : (remaining : FinSet nat_cmp) (page q : ℕ) → contains (finset.remove remaining page) q ≡ true → contains remaining q ≡ true
 was_there remaining page q h = and_second (not (eqb q page)) (contains remaining q) (sym (member_removed remaining page q) ∙ h)
@@ -181,11 +168,7 @@ served_wires DestPhase.Ended world pages old = old
 served_wires _ world pages old = (old.0, old.1, record { owed = old.2.owed; plan = old.2.plan; owed_present = old.2.owed_present; kept_rest = old.2.kept_rest; whereabouts = old.2.whereabouts; faithful = old.2.faithful })
 
 served_in : (from : SourcePhase) (to : DestPhase) (world : World) (pages : List ℕ) → is_stopped from ≡ true → IsSoundWorld (in_phases from to world) → IsSoundWorld (after_serve (in_phases from to world) pages)
-served_in SourcePhase.Stopped to world pages stopped kept =
-    let new : World = after_serve (stopped_at to world) pages in
-    let wires : new.up ≡ true → Wires new.source new.destination new.forward.frames new.back.frames new.urgent.frames = λ up. served_wires to world pages (kept.flight.wires up) in
-    assumption
-served_in _ to world pages stopped kept = none_absurd stopped
+served_in from to world pages stopped kept = grind (arith, nat_tests, served_wires, none_absurd)
 
 pub kept-serve : (world : World) (pages : List ℕ) → IsSoundWorld world → is_stopped world.source.phase ≡ true → IsSoundWorld (after_serve world pages)
 kept-serve world pages kept stopped = served_in world.source.phase world.destination.phase world pages stopped kept
@@ -281,10 +264,7 @@ owed_or_none low present bytes is low_ = grind arith
 -- one page: what is kept of it once it was discarded or not is its bytes, unless it is owed
 rest_of : (clean sent low present : Bool) (k bytes : Option (List ℕ)) → (clean ≡ true → k ≡ bytes) → (is_some k ≡ true → sent ≡ true) → present ≡ is_some bytes → (present ≡ true → low ≡ true) →
     cond (sent && not clean) None k ≡ cond ((low && present) && not clean) None bytes
-rest_of true sent low present k bytes same was is below =
-    ap (λ b. cond b None k) (and_false sent) ∙ same refl ∙ sym (ap (λ b. cond b None bytes) (and_false (low && present)))
-rest_of false sent low present k bytes same was is below =
-    ap (λ b. cond b None k) (and_true sent) ∙ gone_or_none sent k was ∙ owed_or_none low present bytes is below ∙ sym (ap (λ b. cond b None bytes) (and_true (low && present)))
+rest_of clean sent low present k bytes same was is below = grind (arith, nat_tests, and_false, and_true, gone_or_none, owed_or_none)
 
 -- the two frames of a switch
 abbrev discard_frame : Source → Sent

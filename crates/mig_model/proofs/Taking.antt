@@ -1,4 +1,5 @@
 -- In a world that keeps what every world keeps, no frame is refused.
+use Rattle.std.proofs.lemmas.Bool.Decides.{nat_tests}
 use Rattle.std.proofs.Common.{◌≡◌, ℕ, Bool, true, false, Option, None, List, [], ◌∷◌, ◌++◌, refl, sym, ap, ◌∙◌, subst, is_some, arith}
 use Rattle.std.proofs.lemmas.Bool.{false≢true}
 use Rattle.std.specs.Ordering.{nat_cmp}
@@ -88,17 +89,7 @@ first_taken_back node wire first sent others rest is here taken = subst (IsTaken
 
 takes_back_in : (from : SourcePhase) (to : DestinationPhase) (ends : Bool) (world : World) (sent : Sent) (rest : List Sent) → IsKept (at_stage from to ends world) →
     world.back ≡ sent ∷ rest → IsTakenBack (record world.source { phase = from; end_sent = ends }) sent
-takes_back_in source.Stopped destination.Ended ends world sent rest kept here =
-    let w = kept.wires in first_taken_back (record world.source { phase = source.Stopped; end_sent = ends }) world.back _ sent _ rest w.1 here (w.2, refl)
-takes_back_in source.Idle destination.Idle ends world sent rest kept here = let w = kept.wires in absurd (none_is_first world.back sent rest w.1 here)
-takes_back_in source.Precopy destination.Idle ends world sent rest kept here = let w = kept.wires in absurd (none_is_first world.back sent rest w.1 here)
-takes_back_in source.Precopy destination.Advised ends world sent rest kept here = let w = kept.wires in absurd (none_is_first world.back sent rest w.1 here)
-takes_back_in source.Stopped destination.Idle ends world sent rest kept here = let w = kept.wires in absurd (none_is_first world.back sent rest w.2 here)
-takes_back_in source.Stopped destination.Advised ends world sent rest kept here = let w = kept.wires in absurd (none_is_first world.back sent rest w.2 here)
-takes_back_in source.Stopped destination.Discarding ends world sent rest kept here = let w = kept.wires in absurd (none_is_first world.back sent rest w.1 here)
-takes_back_in source.Stopped destination.Running ends world sent rest kept here = let w = kept.wires in absurd (none_is_first world.back sent rest w.1 here)
-takes_back_in source.Released destination.Ended ends world sent rest kept here = let w = kept.wires in absurd (none_is_first world.back sent rest w.1 here)
-takes_back_in _ _ ends world sent rest kept here = absurd kept.wires
+takes_back_in from to ends world sent rest kept here = grind (arith, nat_tests, first_taken_back, none_is_first)
 
 -- the source takes the first frame of the wire back
 pub kept_takes_back : (world : World) (sent : Sent) (rest : List Sent) → IsKept world → world.back ≡ sent ∷ rest → IsTakenBack world.source sent

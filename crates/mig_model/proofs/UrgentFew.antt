@@ -19,9 +19,8 @@ use Rattle.mig_model.specs.Guest.{Guest, Act, is_present, tried}
 use Rattle.mig_model.specs.Guest.Act.{Unprotected}
 use Rattle.mig_model.specs.Log.{present}
 use Rattle.mig_model.specs.Wire.{Frame, Sent}
-use Rattle.mig_model.specs.Wire.Frame.{Request, Recv, Done}
 use Rattle.mig_model.specs.Migration.{World, after_command, after_deliver_back, after_switch, first_world_with, guest_of, next, runs, with_guest_by}
-use Rattle.mig_model.specs.Source.{Source, is_precopy, is_released, is_stopped, not_clean, source_act, source_acted_by, source_rebuilt, space_of}
+use Rattle.mig_model.specs.Source.{Source, is_precopy, is_released, is_stopped, source_act, source_acted_by, source_rebuilt, space_of}
 use Rattle.mig_model.specs.Invariant.{AreSoundUrgent, IsSoundWorld}
 use Rattle.mig_model.specs.Promises.{IsReached}
 use Rattle.mig_model.proofs.Taken.{IsInPlaceBack}
@@ -50,10 +49,7 @@ no_page_past space q l = member_below (λ page. is_present space page) HIGH_PAGE
 
 -- a set of present pages has no more than there are
 pub few_present : (space : Space) (set : FinSet nat_cmp) → IsSound space.host → ((page : ℕ) → contains set page ≡ true → is_present space page ≡ true) → len set ≤ len (present space)
-few_present space set sound h =
-    len-part set (present space)
-    (λ q m. member_below (λ page. is_present space page) HIGH_PAGE q ∙ inside q HIGH_PAGE (is_present space q) (present_below space q sound (h q m)) (h q m))
-    (no_page_past space)
+few_present space set sound h = grind (arith, nat_tests, len-part, member_below, inside, present_below, no_page_past)
 
 -- Sums
 
@@ -89,12 +85,7 @@ acted_few Unprotected world page not h = before _ _ _ not h
 acted_few _ world page not h = before _ _ _ not h
 
 switch_few : (world : World) → IsSoundWorld world → is_precopy world.source.phase ≡ true → AreUrgentFew world → AreUrgentFew (after_switch world)
-switch_few world kept precopy h =
-    let none = h.before_switch (precopy_unswitched world.source.phase world.source.switched precopy kept.phases.source_phase) in
-    record {
-      before_switch = λ s. none;
-      few = λ s p. sum_fresh world.source.urgent_sent (len (not_clean world.source)) _ none (few_present (space_of world.source) (not_clean world.source) kept.spaces.source_space.host (λ page m. owed_is_present world.source page m));
-    }
+switch_few world kept precopy h = grind (arith, nat_tests, precopy_unswitched, sum_fresh, few_present, owed_is_present)
 
 push_few : (world : World) (page : ℕ) → contains world.source.remaining page ≡ true → AreUrgentFew world →
     IsUrgentFew world.source.phase world.source.switched world.source.urgent_sent (space_of world.source) (finset.remove world.source.remaining page)
@@ -103,12 +94,7 @@ push_few world page remains h =
 
 push_urgent_few : (world : World) (page : ℕ) → IsSoundWorld world → is_stopped world.source.phase ≡ true → contains world.source.remaining page ≡ true → AreUrgentFew world →
     IsUrgentFew world.source.phase world.source.switched (world.source.urgent_sent + 1) (space_of world.source) (finset.remove world.source.remaining page)
-push_urgent_few world page kept stopped remains h =
-    let switched = stopped_switched world.source.phase world.source.switched stopped kept.phases.source_phase in
-    record {
-      before_switch = λ s. absurd (false≢true (sym s ∙ switched));
-      few = λ s p. sum_moved world.source.urgent_sent (len world.source.remaining) _ _ (h.few s p) (len-removed world.source.remaining page remains) (len-some world.source.remaining page remains);
-    }
+push_urgent_few world page kept stopped remains h = grind (arith, nat_tests, stopped_switched, sum_moved, len-removed, len-some)
 
 -- Frames that the source takes
 
@@ -120,27 +106,12 @@ rebuilt_few false owed source none = record { before_switch = λ s. none; few = 
 
 back_few : (frame : Frame) (epoch : ℕ) (rest : List Sent) (world : World) → IsSoundWorld world → AreSoundUrgent world → world.up ≡ true → IsInPlaceBack world.source frame → AreUrgentFew world →
     AreUrgentFew (after_deliver_back world (record { epoch = epoch; frame = frame }) rest)
-back_few (Recv Received.NotRun owed) epoch rest world kept urgent up place h = rebuilt_few world.source.switched owed world.source (urgent.fresh up (is_paused world.source.phase place.0))
-back_few (Recv Received.Running owed) epoch rest world kept urgent up place h =
-    record {
-      before_switch = h.before_switch;
-      few = λ s p.
-          sum_fresh world.source.urgent_sent (len owed) _ (urgent.fresh up (is_paused world.source.phase place.0))
-          (few_present (space_of world.source) owed kept.spaces.source_space.host place.1);
-    }
-back_few (Recv Received.Ended owed) epoch rest world kept urgent up place h = record { before_switch = h.before_switch; few = λ s p. absurd (false≢true (sym p)) }
-back_few Done epoch rest world kept urgent up place h = record { before_switch = h.before_switch; few = λ s p. absurd (false≢true (sym p)) }
-back_few (Request page) epoch rest world kept urgent up place h = h
-back_few _ epoch rest world kept urgent up place h = absurd place
+back_few frame epoch rest world kept urgent up place h = grind (arith, nat_tests, rebuilt_few, is_paused, sum_fresh, few_present)
 
 -- The channel
 
 resume_few : (world : World) → IsSoundWorld world → AreUrgentFew world → IsUrgentFew world.source.phase world.source.switched 0 (space_of world.source) world.source.remaining
-resume_few world kept h =
-    record {
-      before_switch = λ s. refl;
-      few = λ s p. sum_fresh 0 (len world.source.remaining) _ refl (few_present (space_of world.source) world.source.remaining kept.spaces.source_space.host kept.pushing.remaining_present);
-    }
+resume_few world kept h = grind (arith, nat_tests, sum_fresh, few_present)
 
 notices_few : (world : World) → is_released world.source.phase ≡ false → AreUrgentFew world → IsUrgentFew SourcePhase.Paused world.source.switched world.source.urgent_sent (space_of world.source) world.source.remaining
 notices_few world unreleased h = record { before_switch = h.before_switch; few = λ s p. h.few s unreleased }

@@ -1,4 +1,5 @@
 -- What every world keeps of the urgent wire is kept by every step.
+use Rattle.std.proofs.lemmas.Bool.Decides.{nat_tests}
 use Rattle.std.proofs.Common.{◌≡◌, ◌≢◌, ℕ, suc, ◌+◌, ◌||◌, Bool, true, false, not, Option, Some, None, List, [], ◌∷◌, ◌++◌, refl, sym, ap, ◌∙◌, subst, arith, length}
 use Rattle.std.specs.FinMap.{get}
 use Rattle.std.specs.FinSet.{contains}
@@ -10,16 +11,14 @@ use Rattle.mig_base.specs.declared.phase.Received.{Received}
 use Rattle.mig_base.specs.declared.schedule.Side.{Side}
 use Rattle.mig_base.specs.declared.schedule.Step.{Step}
 use Rattle.mig_base.specs.declared.command.Command.{Command}
-use Rattle.mig_base.specs.Commands.{is_access}
-use Rattle.mig_base.specs.Bytes.{zero_page}
-use Rattle.mig_model.specs.Wire.{Frame, Sent, Wire, Copy, is_copy, page_frame, sending, wire_behind}
-use Rattle.mig_model.specs.Wire.Frame.{Advise, Page, Zero, Run, Discard, Package, End, Resume, Request, Recv, Done}
-use Rattle.mig_model.specs.Migration.{World, after_break, after_command, after_deliver, after_deliver_back, after_deliver_urgent, after_end, after_move_urgent, after_notice, after_push_urgent, after_resume, after_start, after_switch, first_world_with, guest_of, is_early, is_short, next, runs, source_sends, with_guest_by}
-use Rattle.mig_model.specs.Guest.{Guest, Act, is_present, tried}
+use Rattle.mig_model.specs.Wire.{Frame, Sent, Wire, Copy, page_frame, sending, wire_behind}
+use Rattle.mig_model.specs.Wire.Frame.{Run, End, Done}
+use Rattle.mig_model.specs.Migration.{World, after_break, after_command, after_deliver, after_deliver_back, after_deliver_urgent, after_end, after_move_urgent, after_notice, after_push_urgent, after_resume, after_start, after_switch, first_world_with, is_early, is_short, next, runs, source_sends, with_guest_by}
+use Rattle.mig_model.specs.Guest.{Guest, Act, is_present}
 use Rattle.mig_model.specs.Guest.Act.{Unprotected}
-use Rattle.mig_model.specs.Source.{Source, is_stopped, bytes_of, is_precopy, is_source_idle, package_frames, rebuild_frames, released, source_act, source_acted_by, source_rebuilt, space_of, switch_frames, run_of}
-use Rattle.mig_model.specs.Destination.{Destination, copy_came, destination_act, destination_acted_by, destination_took, install_by, is_dest_paused, received_of, resumed_by, urgent_came}
-use Rattle.mig_model.specs.Invariant.{AreFaithful, AreSoundUrgent, AreTold, IsSoundWorld, RanAt, SwitchedAt, Wires, are_copies, copies_of}
+use Rattle.mig_model.specs.Source.{Source, is_stopped, bytes_of, is_precopy, is_source_idle, rebuild_frames, source_act, source_acted_by, source_rebuilt, space_of, switch_frames, run_of}
+use Rattle.mig_model.specs.Destination.{Destination, copy_came, destination_act, destination_acted_by, install_by, is_dest_paused, resumed_by, urgent_came}
+use Rattle.mig_model.specs.Invariant.{AreFaithful, AreSoundUrgent, AreTold, IsSoundWorld, RanAt, SwitchedAt, Wires, copies_of}
 use Rattle.mig_model.proofs.Taken.{IsInPlaceBack}
 use Rattle.mig_model.specs.Log.{no_pages, present}
 use Rattle.mig_model.specs.Owed.{home}
@@ -34,20 +33,7 @@ use Rattle.mig_model.proofs.FramesTaken.{is_taken_back}
 use Rattle.mig_model.proofs.WireLemmas.{fits-more, fits-moved, fits-none, copies_of-page}
 
 pub urgent-first : (cpus epoch rounds : ℕ) → AreSoundUrgent (first_world_with cpus epoch rounds)
-urgent-first cpus epoch rounds =
-    record {
-      copies = refl;
-      of_epoch = tt;
-      faithful = tt;
-      stopped = λ h. refl;
-      down = λ h. refl;
-      ended = λ h. refl;
-      counted = λ up other. refl;
-      told = tt;
-      fresh = λ up paused. refl;
-      none_taken = λ h. refl;
-      fits = refl;
-    }
+urgent-first cpus epoch rounds = grind (arith, nat_tests)
 
 -- Processors and handlers
 
@@ -56,14 +42,10 @@ guest_urgent true world guest not h = h
 guest_urgent false world guest not h = other_bytes guest.space.host.bytes (not refl) h
 
 pub runs_unstopped : (switched ran : Bool) (phase : SourcePhase) → (not switched || ran) ≡ true → SwitchedAt phase switched → ran ≡ false → is_stopped phase ≡ false
-runs_unstopped false ran phase may at bare = not_stopped phase false at refl
-runs_unstopped true true phase may at bare = absurd (false≢true (sym bare))
-runs_unstopped true false phase may at bare = absurd (false≢true may)
+runs_unstopped switched ran phase may at bare = grind (arith, nat_tests, not_stopped)
 
 command_urgent : (world : World) (cpu : ℕ) (command : Command) → IsSoundWorld world → runs world ≡ true → AreSoundUrgent world → AreSoundUrgent (after_command world cpu command)
-command_urgent world cpu command kept may h =
-    guest_urgent world.destination.has_run world (tried (is_access command) (guest_of world) cpu command)
-    (runs_unstopped world.source.switched world.destination.has_run world.source.phase may kept.phases.source_phase) h
+command_urgent world cpu command kept may h = grind (arith, nat_tests, guest_urgent, runs_unstopped)
 
 acted_urgent : (act : Act) (world : World) (page : ℕ) → is_stopped world.source.phase ≡ false → AreSoundUrgent world → AreSoundUrgent (record world { source = source_acted_by act world.source page })
 acted_urgent Unprotected world page not h = other_bytes _ not h
@@ -80,13 +62,7 @@ installed_urgent (Some page) world copy rest h = h
 -- The source
 
 start_urgent : (world : World) → IsSoundWorld world → is_source_idle world.source.phase ≡ true → AreSoundUrgent world → AreSoundUrgent (after_start world)
-start_urgent world kept idle h =
-    let none = h.stopped (idle_unstopped world.source.phase idle) in
-    assumption (
-      none_of_epoch (world.source.epoch + 1) world.urgent.frames none,
-      subst (λ w. AreTold (world.source.epoch + 1) world.source.end_epoch world.source.urgent_sent (w ++ record { epoch = world.source.epoch + 1; frame = Advise } ∷ [])) (sym (idle_forward world kept idle)) (tt, tt),
-      λ (paused : SourcePhase.Precopy ≡ SourcePhase.Paused). absurd {A = world.source.urgent_sent ≡ 0} (cc),
-    )
+start_urgent world kept idle h = grind (arith, nat_tests, idle_unstopped, none_of_epoch, idle_forward)
 
 switch_urgent : (world : World) → is_precopy world.source.phase ≡ true → AreSoundUrgent world → AreSoundUrgent (after_switch world)
 switch_urgent world precopy h =
@@ -111,10 +87,7 @@ end_urgent world h =
 -- while the destination has ended End was sent in this epoch
 ended_told : (from : SourcePhase) (to : DestPhase) (source : Source) (node : Destination) (forward back urgent : List Sent) → is_stopped from ≡ true → to ≡ DestPhase.Ended →
     Wires (record source { phase = from }) (record node { phase = to }) forward back urgent → source.end_epoch ≡ source.epoch
-ended_told SourcePhase.Stopped to source node forward back urgent stopped is w =
-    let now = subst (λ p. Wires (record source { phase = SourcePhase.Stopped }) (record node { phase = p }) forward back urgent) is w in now.2
-ended_told SourcePhase.Idle to source node forward back urgent stopped is w = absurd (false≢true stopped)
-ended_told _ to source node forward back urgent stopped is w = absurd (false≢true stopped)
+ended_told from to source node forward back urgent stopped is w = grind (arith, nat_tests)
 
 one_more : (count taken sent more : ℕ) → count ≡ taken + sent → more ≡ sent + 1 → count + 1 ≡ taken + more
 one_more count taken sent more h m = omega (arith, h, m)
@@ -152,21 +125,12 @@ Taken world epoch frame rest = AreSoundUrgent (after_deliver world (record { epo
 moved_on : (world : World) (node : Destination) (rest : List Sent) (back : Wire) → world.destination.phase ≢ DestPhase.Paused → node.urgent_taken ≡ world.destination.urgent_taken → (node.has_run ≡ false → world.destination.has_run ≡ false) →
     (node.phase ≡ DestPhase.Ended → world.urgent.frames ≡ []) → AreTold world.source.epoch world.source.end_epoch world.source.urgent_sent rest → AreSoundUrgent world →
     AreSoundUrgent (record world { destination = node; forward = wire_behind rest; back = back })
-moved_on world node rest back other same bare ended told h =
-    assumption (
-      λ (up : world.up ≡ true) (p : node.phase ≢ DestPhase.Paused). h.counted up other ∙ ap (λ n. n + length world.urgent.frames) (sym same),
-      λ (r : node.has_run ≡ false). same ∙ h.none_taken (bare r),
-    )
+moved_on world node rest back other same bare ended told h = grind (arith, nat_tests)
 
 -- a frame that leaves the destination's phase and counts
 stays_on : (world : World) (node : Destination) (rest : List Sent) (back : Wire) → node.phase ≡ world.destination.phase → node.urgent_taken ≡ world.destination.urgent_taken → node.has_run ≡ world.destination.has_run →
     AreTold world.source.epoch world.source.end_epoch world.source.urgent_sent rest → AreSoundUrgent world → AreSoundUrgent (record world { destination = node; forward = wire_behind rest; back = back })
-stays_on world node rest back phase same ran told h =
-    assumption (
-      λ (e : node.phase ≡ DestPhase.Ended). h.ended (sym phase ∙ e),
-      λ (up : world.up ≡ true) (p : node.phase ≢ DestPhase.Paused). h.counted up (λ e. p (phase ∙ e)) ∙ ap (λ n. n + length world.urgent.frames) (sym same),
-      λ (r : node.has_run ≡ false). same ∙ h.none_taken (sym ran ∙ r),
-    )
+stays_on world node rest back phase same ran told h = grind (arith, nat_tests)
 
 came_on : (ran : Bool) (node : Destination) (copy : Copy) → ((copy_came ran node copy).phase ≡ node.phase) × ((copy_came ran node copy).urgent_taken ≡ node.urgent_taken) × ((copy_came ran node copy).has_run ≡ node.has_run)
 came_on true node copy = (refl, refl, refl)
@@ -185,40 +149,7 @@ all_none count taken left c t l = omega (arith, c, t, l)
 
 taken_urgent : (frame : Frame) (epoch : ℕ) (rest : List Sent) (world : World) → IsSoundWorld world → world.up ≡ true → comes world.source.phase world.destination.phase frame ≡ true → AllCame frame world →
     AreTold world.source.epoch world.source.end_epoch world.source.urgent_sent rest → AreSoundUrgent world → Taken world epoch frame rest
-taken_urgent Advise epoch rest world kept up comes came told h =
-    let idle = comes_advise world.source.phase world.destination.phase comes in
-    let bare = idle_bare world.destination.phase world.destination.has_run world.destination.ended idle kept.phases.destination_phase in
-    let none : world.destination.urgent_taken ≡ 0 = h.none_taken bare in
-    moved_on world (destination_took world.destination epoch Advise) rest world.back (λ p. idle_not_paused (sym idle ∙ p)) (sym none) (λ r. r) (λ e. absurd (cc)) told h
-taken_urgent (Page page bytes) epoch rest world kept up comes came told h =
-    let on = came_on world.destination.has_run world.destination (record { page = page; bytes = bytes }) in stays_on world (destination_took world.destination epoch (Page page bytes)) rest world.back on.0 on.1 on.2 told h
-taken_urgent (Zero page) epoch rest world kept up comes came told h =
-    let on = came_on world.destination.has_run world.destination (record { page = page; bytes = zero_page }) in stays_on world (destination_took world.destination epoch (Zero page)) rest world.back on.0 on.1 on.2 told h
-taken_urgent (Run first pages) epoch rest world kept up comes came told h = stays_on world (destination_took world.destination epoch (Run first pages)) rest world.back refl refl refl told h
-taken_urgent (Discard pages) epoch rest world kept up comes came told h =
-    moved_on world (destination_took world.destination epoch (Discard pages)) rest world.back (comes_unpaused world.source.phase world.destination.phase (Discard pages) comes refl) refl (λ r. r) (λ e. absurd (cc)) told h
-taken_urgent (Package areas owed commands) epoch rest world kept up comes came told h =
-    moved_on world (destination_took world.destination epoch (Package areas owed commands)) rest world.back (comes_unpaused world.source.phase world.destination.phase (Package areas owed commands) comes refl) refl (λ r. absurd (false≢true (sym r))) (λ e. absurd (cc)) told h
-taken_urgent (End count) epoch rest world kept up comes came told h =
-    moved_on world (destination_took world.destination epoch (End count)) rest world.back (comes_unpaused world.source.phase world.destination.phase (End count) comes refl) refl (λ r. r) (λ e. came count refl) told h
-taken_urgent Resume epoch rest world kept up comes came told h =
-    let paused = comes_resume world.source.phase world.destination.phase comes in
-    let none = h.stopped (ap is_stopped paused) in
-    let zero_taken : (destination_took world.destination epoch Resume).urgent_taken ≡ 0 = resumed_on (received_of world.destination) (record world.destination { epoch = epoch; urgent_taken = 0 }) in
-    record {
-      copies = h.copies;
-      of_epoch = h.of_epoch;
-      faithful = h.faithful;
-      stopped = h.stopped;
-      down = h.down;
-      ended = λ e. none;
-      counted = λ u p. all_none world.source.urgent_sent (destination_took world.destination epoch Resume).urgent_taken (length world.urgent.frames) (h.fresh up paused) zero_taken (ap length none);
-      told = told;
-      fresh = h.fresh;
-      none_taken = λ r. zero_taken;
-      fits = h.fits;
-    }
-taken_urgent _ epoch rest world kept up comes came told h = stays_on world world.destination rest world.back refl refl refl told h
+taken_urgent frame epoch rest world kept up comes came told h = grind (arith, nat_tests, comes_advise, comes, idle_bare, moved_on, idle_not_paused, came_on, stays_on, comes_unpaused, comes_resume, resumed_on, all_none)
 
 deliver_urgent_kept : (world : World) (sent : Sent) (rest : List Sent) → IsSoundWorld world → world.forward.frames ≡ sent ∷ rest → world.up ≡ true → is_early world.destination sent.frame ≡ false → AreSoundUrgent world → AreSoundUrgent (after_deliver world sent rest)
 deliver_urgent_kept world sent rest kept first up early h =
@@ -234,26 +165,11 @@ UrgentFrames world frames = AreSoundUrgent (record world { urgent = record world
 
 arrived_urgent : (copy : Copy) (sent : Sent) (rest : List Sent) (world : World) → world.destination.has_run ≡ true → UrgentFrames world (sent ∷ rest) →
     AreFaithful (space_of world.source).host.bytes (copies_of rest) → AreSoundUrgent (record world { destination = urgent_came world.destination copy; urgent = wire_behind rest })
-arrived_urgent copy sent rest world ran h faithful =
-    record {
-      copies = and_second (is_copy sent.frame) (are_copies rest) h.copies;
-      of_epoch = h.of_epoch.1;
-      faithful = faithful;
-      stopped = λ s. not_none (sent ∷ rest) sent rest refl (h.stopped s);
-      down = λ d. not_none (sent ∷ rest) sent rest refl (h.down d);
-      ended = λ e. not_none (sent ∷ rest) sent rest refl (h.ended e);
-      counted = λ u p. one_less world.source.urgent_sent world.destination.urgent_taken (length rest) (h.counted u p);
-      told = h.told;
-      fresh = h.fresh;
-      none_taken = λ r. absurd (false≢true (sym r ∙ ran));
-      fits = fits-none rest;
-    }
+arrived_urgent copy sent rest world ran h faithful = grind (arith, nat_tests, and_second, not_none, one_less, fits-none)
 
 urgent_taken_by : (frame : Frame) (epoch : ℕ) (rest : List Sent) (world : World) → world.destination.has_run ≡ true → UrgentFrames world (record { epoch = epoch; frame = frame } ∷ rest) →
     AreSoundUrgent (after_deliver_urgent world (record { epoch = epoch; frame = frame }) rest)
-urgent_taken_by (Page page bytes) epoch rest world ran h = arrived_urgent (record { page = page; bytes = bytes }) (record { epoch = epoch; frame = Page page bytes }) rest world ran h h.faithful.1
-urgent_taken_by (Zero page) epoch rest world ran h = arrived_urgent (record { page = page; bytes = zero_page }) (record { epoch = epoch; frame = Zero page }) rest world ran h h.faithful.1
-urgent_taken_by _ epoch rest world ran h = absurd (false≢true h.copies)
+urgent_taken_by frame epoch rest world ran h = grind (arith, nat_tests, arrived_urgent)
 
 urgent_delivered : (world : World) (sent : Sent) (rest : List Sent) → world.urgent.frames ≡ sent ∷ rest → world.destination.has_run ≡ true → AreSoundUrgent world → AreSoundUrgent (after_deliver_urgent world sent rest)
 urgent_delivered world sent rest first ran h = urgent_taken_by sent.frame sent.epoch rest world ran (subst (UrgentFrames world) first h)
@@ -267,88 +183,38 @@ urgent_moved world n sent rest first short h =
 -- the source goes on where nothing is on the urgent wire
 resumes : (world : World) (node : Source) (frames : List Sent) (back : Wire) → world.urgent.frames ≡ [] → node.phase ≢ SourcePhase.Paused → node.epoch ≡ world.source.epoch → node.end_epoch ≡ world.source.end_epoch → node.urgent_sent ≡ world.source.urgent_sent →
     AreTold node.epoch node.end_epoch node.urgent_sent frames → AreSoundUrgent world → AreSoundUrgent (record world { source = node; forward = record world.forward { frames = frames }; back = back })
-resumes world node frames back none other epoch end_epoch count told h =
-    assumption (
-      none_of_epoch node.epoch world.urgent.frames none,
-      none_faithful (space_of node).host.bytes world.urgent.frames none,
-      λ (u : world.up ≡ true) (p : world.destination.phase ≢ DestPhase.Paused). count ∙ h.counted u p,
-      λ (paused : node.phase ≡ SourcePhase.Paused). absurd {A = node.urgent_sent ≡ 0} (other paused),
-    )
+resumes world node frames back none other epoch end_epoch count told h = grind (arith, nat_tests, none_of_epoch, none_faithful)
 
 -- a destination that sends Done has ended
 done_ended : (from : SourcePhase) (to : DestPhase) (source : Source) (node : Destination) (epoch : ℕ) (forward rest urgent : List Sent) → is_stopped from ≡ true →
     Wires (record source { phase = from }) (record node { phase = to }) forward (record { epoch = epoch; frame = Done } ∷ rest) urgent → to ≡ DestPhase.Ended
-done_ended SourcePhase.Stopped DestPhase.Running source node epoch forward rest urgent stopped w = absurd (false≢true w.1)
-done_ended SourcePhase.Stopped DestPhase.Paused source node epoch forward rest urgent stopped w = absurd w
-done_ended SourcePhase.Stopped DestPhase.Ended source node epoch forward rest urgent stopped w = refl
-done_ended SourcePhase.Stopped _ source node epoch forward rest urgent stopped w = absurd (empty_not (record { epoch = epoch; frame = Done }) rest w.1)
-done_ended _ to source node epoch forward rest urgent stopped w = absurd (false≢true stopped)
+done_ended from to source node epoch forward rest urgent stopped w = grind (arith, nat_tests, empty_not)
 
 rebuilt_urgent : (switched : Bool) (world : World) (back : Wire) → world.urgent.frames ≡ [] → AreSoundUrgent world →
     AreSoundUrgent (source_sends (record world { back = back }) (source_rebuilt Received.NotRun no_pages (record world.source { switched = switched })) (rebuild_frames Received.NotRun (record world.source { switched = switched })))
-rebuilt_urgent true world back none h =
-    resumes world (source_rebuilt Received.NotRun no_pages (record world.source { switched = true })) _ back none (λ h. cc) refl refl refl
-    (told-sending world.source.epoch world.source.end_epoch world.source.urgent_sent world.forward.frames world.source.epoch (package_frames world.source no_pages (present (space_of world.source))) h.told (tt, (tt, tt))) h
-rebuilt_urgent false world back none h = resumes world (source_rebuilt Received.NotRun no_pages (record world.source { switched = false })) world.forward.frames back none (λ h. cc) refl refl refl h.told h
+rebuilt_urgent switched world back none h = grind (arith, nat_tests, resumes, told-sending)
 
 back_urgent : (frame : Frame) (epoch : ℕ) (rest : List Sent) (world : World) → IsSoundWorld world → world.up ≡ true → world.back.frames ≡ record { epoch = epoch; frame = frame } ∷ rest → IsInPlaceBack world.source frame → AreSoundUrgent world →
     AreSoundUrgent (after_deliver_back world (record { epoch = epoch; frame = frame }) rest)
-back_urgent (Recv Received.NotRun owed) epoch rest world kept up first place h = rebuilt_urgent world.source.switched world (wire_behind rest) (h.stopped (paused_unstopped world.source.phase place.0)) h
-back_urgent (Recv Received.Running owed) epoch rest world kept up first place h =
-    resumes world (source_rebuilt Received.Running owed world.source) world.forward.frames (wire_behind rest) (h.stopped (paused_unstopped world.source.phase place.0)) (λ h. cc) refl refl refl h.told h
-back_urgent (Recv Received.Ended owed) epoch rest world kept up first place h =
-    resumes world (released world.source) world.forward.frames (wire_behind rest) (h.stopped (paused_unstopped world.source.phase place.0)) (λ h. cc) refl refl refl h.told h
-back_urgent Done epoch rest world kept up first place h =
-    let w = subst (λ b. Wires world.source world.destination world.forward.frames b world.urgent.frames) first (kept.flight.wires up) in
-    resumes world (released world.source) world.forward.frames (wire_behind rest)
-    (h.ended (done_ended world.source.phase world.destination.phase world.source world.destination epoch world.forward.frames rest world.urgent.frames place.0 w)) (λ h. cc) refl refl refl h.told h
-back_urgent (Request page) epoch rest world kept up first place h = h
-back_urgent _ epoch rest world kept up first place h = absurd place
+back_urgent frame epoch rest world kept up first place h = grind (arith, nat_tests, rebuilt_urgent, paused_unstopped, resumes, done_ended)
 
 -- The channel
 
 break_urgent : (world : World) → AreSoundUrgent world → AreSoundUrgent (after_break world)
-break_urgent world h =
-    record {
-      copies = refl;
-      of_epoch = tt;
-      faithful = tt;
-      stopped = λ s. refl;
-      down = λ d. refl;
-      ended = λ e. refl;
-      counted = λ up. absurd (false≢true up);
-      told = tt;
-      fresh = λ up. absurd (false≢true up);
-      none_taken = h.none_taken;
-      fits = refl;
-    }
+break_urgent world h = grind (arith, nat_tests)
 
 source_notices : (world : World) → world.up ≡ false → AreSoundUrgent world → AreSoundUrgent (after_notice world Side.Source)
-source_notices world down h =
-    assumption (
-      h.down down,
-      λ (up : world.up ≡ true). absurd {A = SourcePhase.Paused ≡ SourcePhase.Paused → world.source.urgent_sent ≡ 0} (false≢true (sym down ∙ up)),
-    )
+source_notices world down h = grind (arith, nat_tests)
 
 destination_notices : (world : World) → world.up ≡ false → AreSoundUrgent world → AreSoundUrgent (after_notice world Side.Destination)
-destination_notices world down h =
-    assumption (
-      h.down down,
-      λ (p : DestPhase.Paused ≢ DestPhase.Paused). absurd {A = world.source.urgent_sent ≡ world.destination.urgent_taken + length world.urgent.frames} (p refl),
-    )
+destination_notices world down h = grind (arith, nat_tests)
 
 dest_paused : (to : DestPhase) → is_dest_paused to ≡ true → to ≡ DestPhase.Paused
 dest_paused DestPhase.Paused h = refl
 dest_paused _ h = absurd (false≢true h)
 
 resume_urgent : (world : World) → IsSoundWorld world → is_dest_paused world.destination.phase ≡ true → world.up ≡ false → AreSoundUrgent world → AreSoundUrgent (after_resume world)
-resume_urgent world kept paused down h =
-    let none = h.down down in
-    assumption (
-      none_of_epoch (world.source.epoch + 1) world.urgent.frames none,
-      λ (p : world.destination.phase ≢ DestPhase.Paused). absurd {A = 0 ≡ world.destination.urgent_taken + length world.urgent.frames} (p (dest_paused world.destination.phase paused)),
-      subst (λ w. AreTold (world.source.epoch + 1) world.source.end_epoch 0 (w ++ record { epoch = world.source.epoch + 1; frame = Resume } ∷ [])) (sym (kept.flight.down down).0) (tt, tt),
-    )
+resume_urgent world kept paused down h = grind (arith, nat_tests, none_of_epoch, dest_paused)
 
 -- Steps
 

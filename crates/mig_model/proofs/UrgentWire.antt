@@ -1,4 +1,5 @@
 -- The urgent wire: what each step keeps of it.
+use Rattle.std.proofs.lemmas.Bool.Decides.{nat_tests}
 use Rattle.std.proofs.Common.{◌≡◌, ◌≢◌, ℕ, ◌+◌, ◌≤◌, ◌&&◌, Bool, true, false, not, List, [], ◌∷◌, ◌++◌, refl, sym, ap, ◌∙◌, subst, arith, length, if◌then◌else◌}
 use Rattle.std.specs.Ordering.{nat_cmp}
 use Rattle.std.specs.FinMap.{FinMap}
@@ -9,7 +10,7 @@ use Rattle.mig_model.specs.Wire.{Frame, Sent, Wire, is_copy, is_zeros, page_fram
 use Rattle.mig_model.specs.Wire.Frame.{Advise, Page, Zero, End, Resume}
 use Rattle.mig_model.specs.Migration.{World, is_early}
 use Rattle.mig_model.specs.Source.{is_stopped, is_precopy, is_source_idle, is_source_paused}
-use Rattle.mig_model.specs.Invariant.{AreFaithful, AreOf, AreTold, IsSoundUrgent, IsSoundWorld, IsTold, SwitchedAt, Wires, are_copies, copies_of, AreSoundUrgent}
+use Rattle.mig_model.specs.Invariant.{AreFaithful, AreOf, AreTold, IsSoundUrgent, IsSoundWorld, IsTold, SwitchedAt, are_copies, copies_of, AreSoundUrgent}
 use Rattle.mig_model.proofs.FirstFrame.{comes, first_in_place}
 
 -- Lists of frames
@@ -122,21 +123,13 @@ stopped_unpaused _ h e = false≢true h
 -- Which phases a first frame tells
 
 pub placed : (world : World) (sent : Sent) (rest : List Sent) → IsSoundWorld world → world.forward.frames ≡ sent ∷ rest → world.up ≡ true → comes world.source.phase world.destination.phase sent.frame ≡ true
-placed world sent rest kept first up =
-    first_in_place world.source world.destination sent rest world.back.frames world.urgent.frames
-    (subst (λ w. Wires world.source world.destination w world.back.frames world.urgent.frames) first (kept.flight.wires up))
+placed world sent rest kept first up = grind (arith, nat_tests, first_in_place)
 
 pub comes_resume : (from : SourcePhase) (to : DestPhase) → comes from to Resume ≡ true → from ≡ SourcePhase.Paused
-comes_resume SourcePhase.Paused to h = refl
-comes_resume SourcePhase.Precopy DestPhase.Idle h = absurd (false≢true h)
-comes_resume SourcePhase.Stopped DestPhase.Idle h = absurd (false≢true h)
-comes_resume _ _ h = absurd (false≢true h)
+comes_resume from to h = grind (arith, nat_tests)
 
 pub comes_advise : (from : SourcePhase) (to : DestPhase) → comes from to Advise ≡ true → to ≡ DestPhase.Idle
-comes_advise SourcePhase.Precopy DestPhase.Idle h = refl
-comes_advise SourcePhase.Stopped DestPhase.Idle h = refl
-comes_advise SourcePhase.Paused DestPhase.Paused h = absurd (false≢true h)
-comes_advise _ _ h = absurd (false≢true h)
+comes_advise from to h = grind (arith, nat_tests)
 
 -- a frame is the one that a paused destination takes
 abbrev pub is_resume : Frame → Bool
@@ -167,14 +160,7 @@ abbrev pub EndTells : Frame → World → Type 0
 EndTells frame world = (count : ℕ) → frame ≡ End count → (world.destination.urgent_taken ≤ count) × (count ≤ world.destination.urgent_taken → world.urgent.frames ≡ [])
 
 pub end_tells : (world : World) (sent : Sent) (rest : List Sent) → IsSoundWorld world → AreSoundUrgent world → world.forward.frames ≡ sent ∷ rest → world.up ≡ true → EndTells sent.frame world
-end_tells world sent rest kept h first up count is =
-    let told : AreTold world.source.epoch world.source.end_epoch world.source.urgent_sent (sent ∷ rest) = subst (AreTold world.source.epoch world.source.end_epoch world.source.urgent_sent) first h.told in
-    let own : IsTold world.source.epoch world.source.end_epoch world.source.urgent_sent (End count) = subst (IsTold world.source.epoch world.source.end_epoch world.source.urgent_sent) is told.0 in
-    let other = comes_unpaused world.source.phase world.destination.phase sent.frame (placed world sent rest kept first up) (ap is_resume is) in
-    let counted : count ≡ world.destination.urgent_taken + length world.urgent.frames = own.1 ∙ h.counted up other in (
-      at_least count world.destination.urgent_taken (length world.urgent.frames) counted,
-      λ late. none_left count world.destination.urgent_taken (length world.urgent.frames) world.urgent.frames counted late refl,
-    )
+end_tells world sent rest kept h first up count is = grind (arith, nat_tests, comes_unpaused, placed, at_least, none_left)
 
 -- End is taken once all urgent frames have come
 pub all_came : (world : World) (sent : Sent) (rest : List Sent) → IsSoundWorld world → AreSoundUrgent world → world.forward.frames ≡ sent ∷ rest → world.up ≡ true → is_early world.destination sent.frame ≡ false →

@@ -1,5 +1,6 @@
 -- The phase of a world is Complete exactly where the migration is complete, and a new world is a first world.
-use Rattle.std.proofs.Common.{◌≡◌, ℕ, ◌||◌, Bool, true, false, eqb, ltb, [], refl, sym, ap, ◌∙◌, if◌then◌else◌}
+use Rattle.std.proofs.lemmas.Bool.Decides.{nat_tests}
+use Rattle.std.proofs.Common.{◌≡◌, ℕ, ◌||◌, Bool, true, false, eqb, ltb, [], refl, sym, ap, ◌∙◌, if◌then◌else◌, arith}
 use Rattle.std.specs.Prelude.{Ok, Err}
 use Rattle.std.specs.Ordering.{nat_cmp}
 use Rattle.std.specs.FinMap.{len, len-empty}
@@ -21,16 +22,7 @@ is_complete _ = false
 
 told_by : (phase : SourcePhase) (switched ran : Bool) → is_complete (phase_by phase switched ran) ≡ is_released phase
 unfolding is_complete
-told_by SourcePhase.Released switched ran = refl
-told_by SourcePhase.Idle true false = refl
-told_by SourcePhase.Idle false false = refl
-told_by SourcePhase.Precopy true false = refl
-told_by SourcePhase.Precopy false false = refl
-told_by SourcePhase.Stopped true false = refl
-told_by SourcePhase.Stopped false false = refl
-told_by SourcePhase.Paused true false = refl
-told_by SourcePhase.Paused false false = refl
-told_by _ switched true = refl
+told_by phase switched ran = grind (arith, nat_tests)
 
 released_is : (phase : SourcePhase) (switched ran : Bool) → is_released phase ≡ true → phase_by phase switched ran ≡ WorldPhase.Complete
 released_is SourcePhase.Released switched ran h = refl

@@ -1,5 +1,6 @@
 -- A command that waits is a load or a store.
-use Rattle.std.proofs.Common.{◌≡◌, ℕ, zero, suc, Bool, true, false, Some, List, [], ◌∷◌, refl, sym, ap, ◌∙◌, subst}
+use Rattle.std.proofs.lemmas.Bool.Decides.{nat_tests}
+use Rattle.std.proofs.Common.{◌≡◌, ℕ, zero, suc, Bool, true, false, Some, List, [], ◌∷◌, refl, sym, ap, ◌∙◌, subst, arith}
 use Rattle.std.specs.Prelude.{map, set, length}
 use Rattle.std.proofs.lemmas.Option.{same_Some, none-some}
 use lib.ListN.{length-map, length-set}
@@ -8,7 +9,6 @@ use Rattle.mig_base.specs.declared.schedule.Step.{Step}
 use Rattle.mig_base.specs.declared.command.Command.{Command}
 use Rattle.mig_base.specs.declared.command.Reply.{Reply}
 use Rattle.mig_base.specs.declared.command.Access.{Access}
-use Rattle.mig_base.specs.declared.command.Access.TheVariants.{Answered, Missing, Protected}
 use Rattle.mig_base.specs.declared.message.Message.{Message}
 use Rattle.mig_base.specs.declared.message.Message.TheVariants.{PageFault}
 use Rattle.mig_base.specs.Flat.{reply_of}
@@ -31,9 +31,7 @@ use Rattle.mig_model.specs.Source.{commands_of}
 -- A command that is tried
 
 answered_waits : (access : Access) (command other : Command) → outstanding (processor_after command (access_took access)) ≡ Some other → command ≡ other
-answered_waits (Answered reply) command other h = absurd (none-some other h)
-answered_waits Missing command other h = same_Some command other h
-answered_waits Protected command other h = same_Some command other h
+answered_waits access command other h = grind (arith, nat_tests, none-some, same_Some)
 
 called_waits : (reply : Reply) (left : ℕ) (command other : Command) → outstanding (processor_after command (call_took reply left)) ≡ Some other → ⊥
 called_waits reply zero command other h = none-some other h

@@ -1,5 +1,5 @@
 -- A command that waits is changed by no step but the Retry that answers it.
-use Rattle.std.proofs.Common.{◌≡◌, ℕ, zero, suc, Bool, true, false, Option, Some, None, List, [], ◌∷◌, refl, sym, ap, ◌∙◌, subst, arith, if◌then◌else◌, IsOk, ◌⊎◌, inl, inr, ⊎_elim, not, ltb, length}
+use Rattle.std.proofs.Common.{◌≡◌, ℕ, zero, suc, Bool, true, false, Option, Some, List, [], ◌∷◌, refl, sym, ap, ◌∙◌, subst, arith, if◌then◌else◌, IsOk, ◌⊎◌, inl, inr, ⊎_elim, not, ltb, length}
 use Rattle.std.specs.Prelude.{map, set}
 use Rattle.std.specs.Ordering.{nat_cmp}
 use Rattle.std.specs.FinMap.{FinMap}
@@ -17,7 +17,7 @@ use Rattle.mig_base.specs.declared.message.Message.{Message}
 use Rattle.mig_base.specs.declared.message.Message.TheVariants.{PageFault}
 use Rattle.mig_base.specs.Commands.{is_access, page_of}
 use Rattle.mig_model.specs.Guest.{Guest, is_left_by, read_guest, took_by, tried}
-use Rattle.mig_model.specs.Cpus.Took.{Sleep, Call}
+use Rattle.mig_model.specs.Cpus.Took.{Sleep}
 use Rattle.mig_model.specs.Wire.{Frame, Sent}
 use Rattle.mig_model.specs.Wire.Frame.{Package}
 use Rattle.mig_model.specs.Migration.{World, next, guest_by, guest_of, with_guest_by, after_command, after_deliver, outcome}
@@ -64,12 +64,7 @@ pub woken_keeps : (test : ℕ → Bool) (ps : List CpuState) (k : ℕ) → outst
 woken_keeps test ps k = ap outstanding (map_at (woken_if test) ps k refl) ∙ woken_outstanding test (processor_at ps k)
 
 pub less_same : (p : CpuState) → outstanding (message_less p) ≡ outstanding p
-less_same CpuState.Idle = refl
-less_same (CpuState.Asleep command) = refl
-less_same (CpuState.Woken command) = refl
-less_same (CpuState.InCall reply zero) = refl
-less_same (CpuState.InCall reply (suc zero)) = refl
-less_same (CpuState.InCall reply (suc (suc left))) = refl
+less_same p = grind (arith, nat_tests)
 
 taken_outstanding : (p : CpuState) → outstanding (taken_over (outstanding p)) ≡ outstanding p
 taken_outstanding CpuState.Idle = refl
@@ -118,10 +113,7 @@ same_ran false world guest = refl
 
 -- the guest once a command was tried
 pub tried_guest : (world : World) (cpu : ℕ) (command : Command) → guest_of (after_command world cpu command) ≡ tried (is_access command) (guest_of world) cpu command
-tried_guest world cpu command =
-    let ran = world.destination.has_run in
-    let guest = tried (is_access command) (guest_of world) cpu command in
-    ap (λ b. guest_by b (with_guest_by ran world guest).source.guest (with_guest_by ran world guest).destination.guest) (same_ran ran world guest) ∙ same_guest ran world guest
+tried_guest world cpu command = grind (arith, nat_tests, same_ran, same_guest)
 
 -- another processor has tried a command
 pub set_other : (processors : List CpuState) (i k : ℕ) (new : CpuState) → (i ≡ k → ⊥) → processor_at (set processors i new) k ≡ processor_at processors k
@@ -132,9 +124,7 @@ set_other (p ∷ ps) (suc i) zero new other = refl
 set_other (p ∷ ps) (suc i) (suc k) new other = set_other ps i k new (λ e. other (ap suc e))
 
 pub tried_other : (world : World) (cpu : ℕ) (tries : Command) (k : ℕ) → (cpu ≡ k → ⊥) → outstanding (processor_at (guest_of (after_command world cpu tries)).cpus k) ≡ outstanding (processor_at (guest_of world).cpus k)
-tried_other world cpu tries k other =
-    ap (λ g. outstanding (processor_at g.cpus k)) (tried_guest world cpu tries)
-    ∙ ap outstanding (set_other (guest_of world).cpus cpu k (processor_after tries (took_by (is_access tries) (guest_of world).space tries)) other)
+tried_other world cpu tries k other = grind (arith, nat_tests, tried_guest, set_other)
 
 idle_none : (p : CpuState) (command : Command) → is_idle p ≡ true → outstanding p ≡ Some command → ⊥
 idle_none CpuState.Idle command h e = none-some command e
@@ -147,28 +137,15 @@ package_told : (from : SourcePhase) (to : DestPhase) (epoch : ℕ) (areas : FinM
     comes from to (Package areas owed commands) ≡ true → world.up ≡ true → IsSoundWorld (with_first from to epoch (Package areas owed commands) rest world) →
     (commands ≡ commands_of world.source.guest.cpus) × (world.destination.has_run ≡ false) × (is_stopped from ≡ true)
 unfolding commands_in
-package_told SourcePhase.Stopped DestPhase.Discarding epoch areas owed commands rest world is up kept =
-    let told = (kept.flight.wires up).2 in
-    (ap (λ o. elim o [ None ↦ commands | Some frame ↦ commands_in frame commands ]) told.plan, kept.phases.destination_phase, refl)
-package_told SourcePhase.Precopy DestPhase.Idle epoch areas owed commands rest world is up kept = absurd (false≢true is)
-package_told SourcePhase.Paused DestPhase.Paused epoch areas owed commands rest world is up kept = absurd (false≢true is)
-package_told _ _ epoch areas owed commands rest world is up kept = absurd (false≢true is)
+package_told from to epoch areas owed commands rest world is up kept = grind (arith, nat_tests, commands_in)
 
 pub package_next : (epoch : ℕ) (areas : FinMap nat_cmp Prot) (owed : FinSet nat_cmp) (commands : List (Option Command)) (rest : List Sent) (world : World) → world.up ≡ true → world.forward.frames ≡ record { epoch = epoch; frame = Package areas owed commands } ∷ rest → IsSoundWorld world →
     (commands ≡ commands_of world.source.guest.cpus) × (world.destination.has_run ≡ false) × (is_stopped world.source.phase ≡ true)
-package_next epoch areas owed commands rest world up first kept =
-    let again = subst (λ w. IsSoundWorld (record world { forward = record world.forward { frames = w } })) first kept in
-    let old = with_first world.source.phase world.destination.phase epoch (Package areas owed commands) rest world in
-    let is = first_in_place old.source old.destination (record { epoch = epoch; frame = Package areas owed commands }) rest old.back.frames old.urgent.frames (again.flight.wires up) in
-    package_told world.source.phase world.destination.phase epoch areas owed commands rest world is up again
+package_next epoch areas owed commands rest world up first kept = grind (arith, nat_tests, with_first, first_in_place, package_told)
 
 package_same : (epoch : ℕ) (areas : FinMap nat_cmp Prot) (owed : FinSet nat_cmp) (commands : List (Option Command)) (rest : List Sent) (world : World) → world.up ≡ true → world.forward.frames ≡ record { epoch = epoch; frame = Package areas owed commands } ∷ rest → IsSoundWorld world →
     SameWaits (guest_of world) (guest_of (delivered world (record { epoch = epoch; frame = Package areas owed commands } ∷ rest)))
-package_same epoch areas owed commands rest world up first kept k =
-    let told = package_next epoch areas owed commands rest world up first kept in
-    ap (λ cs. outstanding (processor_at (map taken_over cs) k)) told.0
-    ∙ taken_keeps world.source.guest.cpus k
-    ∙ ap (λ b. outstanding (processor_at (guest_by b world.source.guest world.destination.guest).cpus k)) (sym told.1)
+package_same epoch areas owed commands rest world up first kept k = grind (arith, nat_tests, package_next, taken_keeps)
 
 -- every step but an Issue and a Retry leaves what each processor has to make
 abbrev pub WaitsAs : World → World → Type 0
@@ -217,9 +194,7 @@ waiting_command world step k command kept other h = same_waits world step kept r
 -- Who comes to wait
 
 sleeps_by : (took : Took) (tries command : Command) → outstanding (processor_after tries took) ≡ Some command → (tries ≡ command) × (took ≡ Sleep)
-sleeps_by (Took.Answer reply) tries command h = absurd (none-some command h)
-sleeps_by Sleep tries command h = (some_command tries command h, refl)
-sleeps_by (Call reply left) tries command h = absurd (none-some command h)
+sleeps_by took tries command h = grind (arith, nat_tests, none-some, some_command)
 
 -- what stands at a place of a list where one was set
 set_at : (processors : List CpuState) (i k : ℕ) (new : CpuState) (command : Command) → outstanding (processor_at (set processors i new) k) ≡ Some command →

@@ -4,7 +4,7 @@ use Rattle.std.specs.Option.{option_and_then}
 use Rattle.std.specs.Ordering.{nat_cmp}
 use Rattle.std.specs.FinMap.{FinMap}
 use Rattle.mig_model.specs.Wire.{Frame, Sent, Copy, kept_after, sending, Wire, page_frame, copies_in}
-use Rattle.mig_model.specs.Wire.Frame.{Request, Page, Zero, Package}
+use Rattle.mig_model.specs.Wire.Frame.{Request, Page, Zero}
 use Rattle.mig_model.specs.Invariant.{Flow, flow_next, flow_after, has_copy, is_package, kept_by, behind, package_in, copies_of, AreOf, AreFaithful, Wires, IsSoundFlight, is_request, is_done, are_requests, are_requests_and_done, HeldFits}
 use Rattle.mig_model.specs.Migration.{World, is_short, next}
 use Rattle.mig_model.specs.Source.{space_of}
@@ -13,7 +13,7 @@ use Rattle.std.proofs.lemmas.Bool.Decides.{nat_tests}
 use Rattle.mig_model.specs.Lengths.{text_len}
 use Rattle.std.specs.List.{list_all}
 use Rattle.mig_base.specs.Bytes.{zero_page}
-use Rattle.mig_model.specs.Invariant.Flow.{BeforeAdvise, Copies, BeforePackage, Pushed, AfterEnd}
+use Rattle.mig_model.specs.Invariant.Flow.{Copies, Pushed}
 use Rattle.mig_model.proofs.FirstFrame.{stays_late}
 
 -- Frames that are sent stand behind those in flight
@@ -128,9 +128,7 @@ first_fits : (held length : ℕ) → held ≡ 0 → 0 < length → held < length
 first_fits held length h l = omega arith
 
 pub fits-append : (frames more : List Sent) (held : ℕ) → HeldFits frames held → HeldFits (frames ++ more) held
-fits-append [] [] held h = h
-fits-append [] (sent ∷ more) held h = first_fits held (text_len sent.frame) h (text_positive sent.frame)
-fits-append (sent ∷ rest) more held h = h
+fits-append frames more held h = grind (arith, nat_tests, first_fits, text_positive)
 
 pub fits-more : (frames : List Sent) (held epoch : ℕ) (more : List Frame) → HeldFits frames held → HeldFits (sending frames epoch more) held
 fits-more frames held epoch [] h = h
@@ -161,23 +159,12 @@ pub record HasPackage (kept : FinMap nat_cmp (List ℕ)) (wire more : List Sent)
   pub behind_more : behind (wire ++ more) ≡ behind wire ++ more
 
 pub has_package : (kept : FinMap nat_cmp (List ℕ)) (wire more : List Sent) (frame : Frame) → package_in wire ≡ Some frame → HasPackage kept wire more
-has_package kept wire more frame h =
-    let some = ap is_some h in
-    record {
-      same = package_in-append wire more ∙ ap (λ b. cond b (package_in wire) (package_in more)) some;
-      kept_same = kept_by-append kept wire more ∙ ap (λ b. cond b (kept_by kept wire) (kept_by (kept_by kept wire) more)) some;
-      behind_more = behind-append wire more ∙ ap (λ b. cond b (behind wire ++ more) (behind more)) some;
-    }
+has_package kept wire more frame h = grind (arith, nat_tests, package_in-append, kept_by-append, behind-append)
 
 -- No Package yet: the wire is before its Discard
 
 plain_head : (flow : Flow) (frame : Frame) (rest : List Sent) → option_and_then (λ next. flow_after next rest) (flow_next flow frame) ≡ Some Copies → is_package frame ≡ false
-plain_head BeforePackage (Package areas owed commands) rest h = absurd (stays_late Pushed rest refl h)
-plain_head BeforeAdvise (Package areas owed commands) rest h = absurd (cc)
-plain_head Copies (Package areas owed commands) rest h = absurd (cc)
-plain_head Pushed (Package areas owed commands) rest h = absurd (cc)
-plain_head AfterEnd (Package areas owed commands) rest h = absurd (cc)
-plain_head flow _ rest h = refl
+plain_head flow frame rest h = grind (arith, nat_tests, stays_late)
 
 step_by : {A : Type 0} (o : Option Flow) (rest : List Sent) → ((next : Flow) → flow_after next rest ≡ Some Copies → A) → option_and_then (λ next. flow_after next rest) o ≡ Some Copies → A
 step_by o rest next h = grind arith
@@ -195,13 +182,7 @@ pub record HasNoPackage (kept : FinMap nat_cmp (List ℕ)) (wire more : List Sen
 
 -- a wire of copies alone, or of Advise and copies, has no Package
 pub has_no_package : (flow : Flow) (kept : FinMap nat_cmp (List ℕ)) (wire more : List Sent) → flow_after flow wire ≡ Some Copies → HasNoPackage kept wire more
-has_no_package flow kept wire more h =
-    let none = no_package flow wire h in
-    record {
-      plan = package_in-append wire more ∙ ap (λ b. cond b (package_in wire) (package_in more)) none;
-      kept_then = kept_by-append kept wire more ∙ ap (λ b. cond b (kept_by kept wire) (kept_by (kept_by kept wire) more)) none;
-      behind_then = behind-append wire more ∙ ap (λ b. cond b (behind wire ++ more) (behind more)) none;
-    }
+has_no_package flow kept wire more h = grind (arith, nat_tests, no_package, package_in-append, kept_by-append, behind-append)
 
 -- The frame of a page
 

@@ -1,6 +1,7 @@
 -- A step that tries no command and reads no message changes no processor, but that it may wake some, and hands over no reply; nor does a
 -- frame that the destination takes, unless it is the Package.
-use Rattle.std.proofs.Common.{◌≡◌, ℕ, ◌*◌, Bool, true, false, eqb, Option, Some, None, List, [], ◌∷◌, refl, sym, ap, ◌∙◌, subst, length, if◌then◌else◌}
+use Rattle.std.proofs.lemmas.Bool.Decides.{nat_tests}
+use Rattle.std.proofs.Common.{◌≡◌, ℕ, ◌*◌, Bool, true, false, eqb, Option, Some, None, List, [], ◌∷◌, refl, ap, ◌∙◌, length, if◌then◌else◌, arith}
 use lib.ListN.{length-map}
 use Rattle.mig_base.specs.declared.TheConstants.{PAGE_SIZE}
 use Rattle.mig_base.specs.declared.cpu_state.CpuState.{CpuState}
@@ -13,10 +14,10 @@ use Rattle.mig_model.specs.Cpus.{all_woken, woken_if}
 use Rattle.mig_model.specs.Guest.{Act, Guest}
 use Rattle.mig_model.specs.Guest.Act.{Unprotected, Requested}
 use Rattle.mig_model.specs.Wire.{Copy, Frame, Sent, is_zeros}
-use Rattle.mig_model.specs.Wire.Frame.{Advise, Page, Zero, Package, Resume, Recv, Done}
+use Rattle.mig_model.specs.Wire.Frame.{Advise, Page}
 use Rattle.mig_model.specs.Owed.{home}
 use Rattle.mig_model.specs.Source.{Source, bytes_of, is_stopped, source_act, source_acted_by, source_took, space_of}
-use Rattle.mig_model.specs.Destination.{Destination, copy_came, destination_act, destination_acted_by, destination_took, install_by, received_of, resumed_by, urgent_took}
+use Rattle.mig_model.specs.Destination.{Destination, copy_came, destination_act, destination_acted_by, destination_took, install_by, resumed_by, urgent_took}
 use Rattle.mig_model.specs.Migration.{Made, World, act_effect, after_deliver, answer, frame_effect, guest_by, guest_of, install_effect, next}
 use Rattle.mig_model.specs.Invariant.{AreFaults, IsSoundWorld, SwitchedAt, is_package}
 use Rattle.mig_model.specs.Promises.{is_last}
@@ -78,9 +79,7 @@ woken_by true from to after_from after_to one other = other
 woken_by false from to after_from after_to one other = one
 
 pub guest_woken : (old new : World) → WakesBoth old new → IsWoken (guest_of old).cpus (guest_of new).cpus
-guest_woken old new w =
-    subst (λ ran. IsWoken (guest_of old).cpus (guest_by ran new.source.guest new.destination.guest).cpus) (sym w.node.ran)
-    (woken_by old.destination.has_run old.source.guest old.destination.guest new.source.guest new.destination.guest w.source.woken w.node.guest.woken)
+guest_woken old new w = grind (arith, nat_tests, woken_by)
 
 -- Nodes
 
@@ -105,11 +104,7 @@ resumes_as Received.NotRun node new w = assumption
 resumes_as _ node new w = assumption
 
 pub takes : (frame : Frame) (node : Destination) (epoch : ℕ) → is_package frame ≡ false → TakesFrame node (destination_took node epoch frame)
-takes (Page page bytes) node epoch h = comes_to node.has_run node _
-takes (Zero page) node epoch h = comes_to node.has_run node _
-takes (Package areas owed commands) node epoch h = none_absurd (sym h)
-takes Resume node epoch h = resumes_as (received_of node) node _ (assumption (still node.guest.cpus))
-takes _ node epoch h = assumption (still node.guest.cpus)
+takes frame node epoch h = grind (arith, nat_tests, comes_to, none_absurd, resumes_as, still)
 
 pub takes_urgent : (frame : Frame) (node : Destination) → TakesFrame node (urgent_took node frame)
 takes_urgent (Page page bytes) node = assumption (still node.guest.cpus)
@@ -121,21 +116,14 @@ rebuilds false one other node a b = b
 
 -- a source that is told that nothing more is needed has no unread event
 takes_back : (frame : Frame) (node : Source) → (is_last frame ≡ true → (space_of node).object.events ≡ []) → Wakes node.guest (source_took node frame).guest
-takes_back (Recv Received.NotRun owed) node quiet = rebuilds node.switched _ _ node (assumption (still node.guest.cpus)) (assumption (still node.guest.cpus))
-takes_back (Recv Received.Ended owed) node quiet = record { woken = still node.guest.cpus; events = sym (quiet refl); faults = λ h. tt }
-takes_back Done node quiet = record { woken = still node.guest.cpus; events = sym (quiet refl); faults = λ h. tt }
-takes_back _ node quiet = assumption (still node.guest.cpus)
+takes_back frame node quiet = grind (arith, nat_tests, rebuilds, still)
 
 pub stopped_switched : (phase : SourcePhase) (switched : Bool) → is_stopped phase ≡ true → SwitchedAt phase switched → switched ≡ true
 stopped_switched SourcePhase.Stopped switched h at = at
 stopped_switched _ switched h at = none_absurd h
 
 last_switched : (frame : Frame) (world : World) → IsSoundWorld world → IsInPlaceBack world.source frame → is_last frame ≡ true → world.source.switched ≡ true
-last_switched Done world kept place h = stopped_switched world.source.phase world.source.switched place.0 kept.phases.source_phase
-last_switched (Recv Received.Ended owed) world kept place h = place.3 (λ h. cc)
-last_switched (Recv Received.NotRun owed) world kept place h = none_absurd h
-last_switched (Recv Received.Running owed) world kept place h = none_absurd h
-last_switched _ world kept place h = none_absurd h
+last_switched frame world kept place h = grind (arith, nat_tests, stopped_switched, none_absurd)
 
 -- Effects that hand no reply over
 
