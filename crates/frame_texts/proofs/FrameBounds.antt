@@ -1,18 +1,19 @@
 -- Every frame that a node sends has a text: what its pages, counts and commands rest on, and the frames themselves.
-use Rattle.std.proofs.Common.{◌≡◌, ℕ, zero, suc, ◌+◌, ◌^◌, ◌<◌, ◌≤◌, ◌||◌, Bool, true, false, not, eqb, ltb, Option, Some, None, is_some, List, [], ◌∷◌, ◌++◌, refl, sym, ap, ◌∙◌, subst, arith, length, if◌then◌else◌}
+use Rattle.std.proofs.lemmas.Bool.Decides.{nat_tests}
+use Rattle.std.proofs.Common.{◌≡◌, ℕ, zero, suc, ◌+◌, ◌^◌, ◌<◌, ◌≤◌, ◌||◌, Bool, true, false, not, eqb, ltb, Option, Some, is_some, List, [], ◌∷◌, ◌++◌, refl, sym, ap, ◌∙◌, subst, arith, length, if◌then◌else◌}
 use Rattle.std.specs.Prelude.{map}
 use Rattle.std.specs.Ordering.{nat_cmp}
 use Rattle.std.specs.FinMap.{contains_key, get}
-use Rattle.std.specs.FinSet.{FinSet, contains, contains-retain, len, len-empty, nat_cmp-IsAntisymmetric}
-use Rattle.std.proofs.lemmas.Bool.{false≢true, and_parts}
+use Rattle.std.specs.FinSet.{FinSet, contains, contains-retain, len-empty, nat_cmp-IsAntisymmetric}
+use Rattle.std.proofs.lemmas.Bool.{and_parts}
 use lib.ListN.{length-map}
-use Rattle.mig_base.specs.declared.TheConstants.{LOW_PAGE, HIGH_PAGE, MAX_PAGES}
+use Rattle.mig_base.specs.declared.TheConstants.{LOW_PAGE, HIGH_PAGE}
 use Rattle.mig_base.specs.declared.phase.Received.{Received}
 use Rattle.mig_base.proofs.PageLemmas.{count_below-contains_key}
 use Rattle.mig_base.proofs.SetLemmas.{member_below}
 use Rattle.mig_model.specs.Host.{Host, IsSound}
 use Rattle.mig_model.specs.Guest.{Act, is_present}
-use Rattle.mig_model.specs.Guest.Act.{Zeroed, Woke, Forgot, Requested}
+use Rattle.mig_model.specs.Guest.Act.{Requested}
 use Rattle.mig_model.specs.Log.{less, no_pages, present}
 use Rattle.mig_model.specs.Owed.{origins, is_requested, requesting, without_request}
 use Rattle.mig_model.specs.Space.{Space}
@@ -85,11 +86,7 @@ frames-requests (request ∷ requests) are = (are.0, frames-requests requests ar
 -- Pages of the source
 
 has_areas : (host : Host) (page : ℕ) → IsSound host → contains_key host.bytes page ≡ true → contains_key host.areas page ≡ true
-has_areas host page sound h =
-    elim (get host.areas page) as (λ o. get host.areas page ≡ o → is_some o ≡ true) [
-      | None ↦ λ e. absurd (false≢true (sym (ap is_some (sound.mapped page e)) ∙ h))
-      | Some prot ↦ λ e. refl
-    ] refl
+has_areas host page sound h = grind (arith, nat_tests)
 
 pub present_page : (host : Host) (page : ℕ) → IsSound host → IsMapping host.areas → contains_key host.bytes page ≡ true → IsPage page
 present_page host page sound mapping h = mapping.pages page (has_areas host page sound h)
@@ -153,9 +150,7 @@ rebuilt_by true source sound mapping right count = package_good source no_pages 
 rebuilt_by false source sound mapping right count = tt
 
 pub rebuilt_good : (state : Received) (source : Source) → IsSound (space_of source).host → IsMapping (space_of source).host.areas → (state ≡ Received.NotRun → AllRight source.guest.cpus) → IsCpuCount (length source.guest.cpus) → AllFrames (rebuild_frames state source)
-rebuilt_good Received.NotRun source sound mapping right count = rebuilt_by source.switched source sound mapping (λ s. right refl) count
-rebuilt_good Received.Running source sound mapping right count = tt
-rebuilt_good Received.Ended source sound mapping right count = tt
+rebuilt_good state source sound mapping right count = grind (arith, nat_tests, rebuilt_by)
 
 -- The answers of the destination
 
@@ -189,10 +184,7 @@ act_listed _ node page h asked = asked
 
 -- what is asked for is owed
 pub requested_owed : (gone here : Bool) (owed : Option ℕ) (origin : ℕ) → destination_act_by gone here owed ≡ Requested origin → owed ≡ Some origin
-requested_owed true here owed origin h = absurd (let other : Forgot ≡ Requested origin = h in cc)
-requested_owed false true owed origin h = absurd (let other : Woke ≡ Requested origin = h in cc)
-requested_owed false false None origin h = absurd (let other : Zeroed ≡ Requested origin = h in cc)
-requested_owed false false (Some other) origin h = let same : Requested other ≡ Requested origin = h in cc
+requested_owed gone here owed origin h = grind (arith, nat_tests)
 
 -- The count that End tells
 
@@ -200,6 +192,4 @@ end_count : (count left all limit : ℕ) → count + left ≤ all → all ≤ li
 end_count count left all limit h k l = omega (arith, h, k, l)
 
 pub end_good : (world : World) → IsSound (space_of world.source).host → IsMapping (space_of world.source).host.areas → world.source.switched ≡ true → is_released world.source.phase ≡ false → AreUrgentFew world → world.source.urgent_sent < 2 ^ 32
-end_good world sound mapping switched unreleased few =
-    end_count world.source.urgent_sent (len world.source.remaining) (len (present (space_of world.source))) MAX_PAGES (few.few switched unreleased)
-    (present_pages (space_of world.source).host (present (space_of world.source)) sound mapping (λ page h. member_present (space_of world.source) page h)).1 (omega arith)
+end_good world sound mapping switched unreleased few = grind (arith, nat_tests, end_count, present_pages, member_present)

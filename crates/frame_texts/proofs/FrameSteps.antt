@@ -8,7 +8,6 @@ use Rattle.std.specs.FinSet.{FinSet, contains}
 use Rattle.std.proofs.lemmas.Bool.{false≢true, eqb-true, not-true}
 use Rattle.std.proofs.lemmas.Bool.Decides.{nat_tests}
 use Rattle.std.proofs.lemmas.Option.{none-some}
-use Rattle.mig_base.specs.declared.TheConstants.{HIGH_PAGE}
 use Rattle.mig_base.specs.declared.phase.DestPhase.{DestPhase}
 use Rattle.mig_base.specs.declared.phase.Received.{Received}
 use Rattle.mig_base.specs.declared.phase.SourcePhase.{SourcePhase}
@@ -21,7 +20,7 @@ use Rattle.mig_base.proofs.SetLemmas.{member_inserted, member_run, member_with_r
 use Rattle.mig_base.specs.Ranges.{in_range}
 use Rattle.mig_base.specs.Sets.{run_length, with_range}
 use Rattle.mig_model.specs.Host.{Host, bare_host}
-use Rattle.mig_model.specs.Guest.{Act, Fault, Guest, is_forgotten, is_present, read_guest, tried}
+use Rattle.mig_model.specs.Guest.{Act, Fault, Guest, is_forgotten, is_present, tried}
 use Rattle.mig_model.specs.Guest.Act.{Zeroed, Requested}
 use Rattle.mig_model.specs.Userfault.{Noted}
 use Rattle.mig_model.specs.Log.{least_of, no_pages}
@@ -29,9 +28,9 @@ use Rattle.mig_model.specs.Owed.{home}
 use Rattle.mig_model.specs.Wire.{Copy, Frame, Sent, page_frame, wire_behind}
 use Rattle.mig_model.specs.Wire.Frame.{Package, Advise, Run, End, Resume, Request, Recv, Done}
 use Rattle.mig_model.specs.Source.{Source, bytes_of, is_precopy, is_released, is_source_idle, is_source_paused, is_stopped, rebuild_frames, run_of, source_act, source_acted_by, source_rebuilt, space_of, switch_frames}
-use Rattle.mig_model.specs.Destination.{Destination, act_frames, destination_act, destination_acted_by, destination_answers, destination_took, install_by, urgent_took}
+use Rattle.mig_model.specs.Destination.{Destination, act_frames, destination_act, destination_acted_by, destination_took, install_by}
 use Rattle.mig_model.specs.Migration.{World, after_break, after_command, after_deliver, after_deliver_back, after_deliver_urgent, after_dest_act, after_end, after_notice, after_push, after_push_urgent, after_resume, after_run, after_send, after_source_read, after_start, after_switch, first_world_with, guest_by, guest_of, has_started, is_changing, is_used, next, run_bound, source_sends, with_guest_by}
-use Rattle.mig_model.specs.Invariant.{IsSoundWorld, PausedWires, Wires, is_unread}
+use Rattle.mig_model.specs.Invariant.{IsSoundWorld, PausedWires}
 use Rattle.mig_model.proofs.Taken.{IsInPlaceBack}
 use Rattle.mig_model.specs.Bounds.{ArePages, IsCpuCount, IsMapping, IsPage}
 use Rattle.frame_texts.proofs.PageBytes.{HasBytes, changed_bytes, zeroed_bytes}
@@ -74,17 +73,7 @@ none_pages : ArePages no_pages
 none_pages page h = no_page page h
 
 pub limited-first : (cpus epoch rounds : ℕ) → AreLimited cpus (first_world_with cpus epoch rounds)
-limited-first cpus epoch rounds =
-    record {
-      areas = IsMapping-empty;
-      bytes = none_bytes;
-      sent_pages = none_pages;
-      started = λ h. absurd (false≢true (sym h));
-      requested = tt;
-      to_destination = λ c. tt;
-      to_source = λ c. tt;
-      on_urgent = λ c. tt;
-    }
+limited-first cpus epoch rounds = grind (arith, nat_tests, IsMapping-empty, none_bytes, none_pages)
 
 -- The source
 
@@ -141,9 +130,7 @@ start_limited {cpus = cpus} world unused h =
 
 -- the page that is sent is present
 sendable : (world : World) (page : ℕ) → IsSoundWorld world → least_of world.source.log.todo ≡ Some page → is_precopy world.source.phase ≡ true → is_changing world.source.guest ≡ false → is_present (space_of world.source) page ≡ true
-sendable world page kept found precopy quiet =
-    (kept.precopy.todo_sendable (precopy_unswitched world.source.phase world.source.switched precopy kept.phases.source_phase) page (least_below_tells (contains world.source.log.todo) HIGH_PAGE page found)
-    (ap (λ events. is_unread events page) (no_event (space_of world.source).object.events quiet))).0
+sendable world page kept found precopy quiet = grind (arith, nat_tests, precopy_unswitched, least_below_tells, no_event)
 
 one_more : (here there : Bool) {A : Type 0} → (here ≡ true → A) → (there ≡ true → A) → (here || there) ≡ true → A
 one_more true there h k is = h refl
@@ -171,17 +158,7 @@ most_bound count = grind (arith, nat_tests)
 
 run_sendable : (world : World) (first number bound : ℕ) → IsSoundWorld world → least_of world.source.log.todo ≡ Some first → number ≡ run_length world.source.log.todo first bound → 0 < bound → bound ≤ 64 → is_precopy world.source.phase ≡ true →
     is_changing world.source.guest ≡ false → IsSendable world first number
-run_sendable world first number bound kept found many some most precopy quiet =
-    let todo = world.source.log.todo in
-    let more = run_length-some todo first bound (least_below_tells (contains todo) HIGH_PAGE first found) some in
-    let less = run_length-most todo first bound in
-    record {
-      some = omega (arith, many, more);
-      few = omega (arith, many, less, most);
-      present = λ q h.
-          (kept.precopy.todo_sendable (precopy_unswitched world.source.phase world.source.switched precopy kept.phases.source_phase) q
-          (member_run todo first bound q (subst (λ n. in_range first n q ≡ true) many h)) (ap (λ events. is_unread events q) (no_event (space_of world.source).object.events quiet))).0;
-    }
+run_sendable world first number bound kept found many some most precopy quiet = grind (arith, nat_tests, run_length-some, least_below_tells, run_length-most, precopy_unswitched, member_run, no_event)
 
 ranged_pages : (set : FinSet nat_cmp) (first number : ℕ) → ArePages set → ((q : ℕ) → in_range first number q ≡ true → IsPage q) → ArePages (with_range set first number)
 ranged_pages set first number are is q h = one_more (in_range first number q) (contains set q) (is q) (are q) (sym (member_with_range set first number q) ∙ h)
@@ -198,9 +175,7 @@ run_limited {cpus = cpus} world first number kept are h =
     )
 
 read_limited : {cpus : ℕ} → (world : World) (noted : Noted) → AreLimited cpus world → AreLimited cpus (after_source_read world noted)
-read_limited world noted h =
-    let same = sym (read_host world.source.guest noted.cpu noted.message) in
-    with_host (read_guest world.source.guest noted.cpu noted.message).space.host (subst (λ host. IsMapping host.areas) same h.areas) (subst (λ host. HasBytes host.bytes) same h.bytes) h
+read_limited world noted h = grind (arith, nat_tests, read_host, with_host, HasBytes)
 
 acted_limited : {cpus : ℕ} → (act : Act) (world : World) (page : ℕ) → AreLimited cpus world → AreLimited cpus (record world { source = source_acted_by act world.source page })
 acted_limited Zeroed world page h = with_host _ h.areas (zeroed_bytes (space_of world.source).host.bytes page h.bytes) h
@@ -242,17 +217,10 @@ took_requests (Package areas owed commands) epoch node = refl
 took_requests frame epoch node = (takes frame node epoch refl).requests
 
 deliver_limited : {cpus : ℕ} → (world : World) (sent : Sent) (rest : List Sent) → IsSoundWorld world → world.forward.frames ≡ sent ∷ rest → AreLimited cpus world → AreLimited cpus (after_deliver world sent rest)
-deliver_limited {cpus = cpus} world sent rest kept first h =
-    let bodies = λ (c : IsCpuCount cpus). subst AreBodies first (h.to_destination c) in
-    let node = destination_took world.destination sent.epoch sent.frame in
-    with_forward rest (λ c. (bodies c).1)
-    (with_requests node.requests _ (subst AreListed (sym (took_requests sent.frame sent.epoch world.destination)) h.requested)
-    (λ c. bodies-sending_if world.up world.back.frames node.epoch (destination_answers world.destination sent.frame) (h.to_source c) (answers_good sent.frame world kept.spaces.source_space.host h.areas kept.owing.origins_present h.requested)) h)
+deliver_limited {cpus = cpus} world sent rest kept first h = grind (arith, nat_tests, AreBodies, with_forward, with_requests, AreListed, took_requests, bodies-sending_if, answers_good)
 
 urgent_limited : {cpus : ℕ} → (world : World) (sent : Sent) (rest : List Sent) → world.urgent.frames ≡ sent ∷ rest → AreLimited cpus world → AreLimited cpus (after_deliver_urgent world sent rest)
-urgent_limited {cpus = cpus} world sent rest first h =
-    let bodies = λ (c : IsCpuCount cpus). subst AreBodies first (h.on_urgent c) in
-    with_urgent rest (λ c. (bodies c).1) (with_requests (urgent_took world.destination sent.frame).requests world.back.frames (subst AreListed (sym (takes_urgent sent.frame world.destination).requests) h.requested) h.to_source h)
+urgent_limited {cpus = cpus} world sent rest first h = grind (arith, nat_tests, AreBodies, with_urgent, with_requests, AreListed, takes_urgent)
 
 -- Its handler, and Install
 
@@ -283,19 +251,11 @@ recv_differs owed other epoch at state rest more differs h = differs (let same :
 
 bare_paused : (to : DestPhase) (source : Source) (node : Destination) (forward rest : List Sent) (epoch : ℕ) (owed : FinSet nat_cmp) →
     PausedWires source (record node { phase = to }) forward (record { epoch = epoch; frame = Recv Received.NotRun owed } ∷ rest) → node.has_run ≡ false
-bare_paused DestPhase.Advised source node forward rest epoch owed w = w.3
-bare_paused DestPhase.Running source node forward rest epoch owed w = absurd (recv_differs owed w.1.owed epoch w.1.epoch Received.Running rest w.1.rest (λ e. cc) w.1.first)
-bare_paused DestPhase.Ended source node forward rest epoch owed w = absurd (recv_differs owed w.1.owed epoch w.1.epoch Received.Ended rest w.1.rest (λ e. cc) w.1.first)
-bare_paused DestPhase.Paused source node forward rest epoch owed w = absurd (empty_not _ rest w.1)
-bare_paused DestPhase.Idle source node forward rest epoch owed w = absurd w
-bare_paused DestPhase.Discarding source node forward rest epoch owed w = absurd w
+bare_paused to source node forward rest epoch owed w = grind (arith, nat_tests, recv_differs, empty_not)
 
 bare_notrun : (world : World) (rest : List Sent) (epoch : ℕ) (owed : FinSet nat_cmp) → IsSoundWorld world → world.up ≡ true → world.back.frames ≡ record { epoch = epoch; frame = Recv Received.NotRun owed } ∷ rest →
     is_source_paused world.source.phase ≡ true → world.destination.has_run ≡ false
-bare_notrun world rest epoch owed kept up first paused =
-    let w = subst (λ b. Wires world.source world.destination world.forward.frames b world.urgent.frames) first (kept.flight.wires up) in
-    bare_paused world.destination.phase (record world.source { phase = SourcePhase.Paused }) world.destination world.forward.frames rest epoch owed
-    (subst (λ p. Wires (record world.source { phase = p }) world.destination world.forward.frames (record { epoch = epoch; frame = Recv Received.NotRun owed } ∷ rest) world.urgent.frames) (is_paused world.source.phase paused) w)
+bare_notrun world rest epoch owed kept up first paused = grind (arith, nat_tests, bare_paused, is_paused)
 
 rebuilt_limited : {cpus : ℕ} → (switched : Bool) (world : World) (rest : List Sent) (owed : FinSet nat_cmp) → IsSoundWorld world → AllRight world.source.guest.cpus → length world.source.guest.cpus ≡ cpus → world.source.epoch < 2 ^ 32 → (IsCpuCount cpus → AreBodies rest) → AreLimited cpus world →
     AreLimited cpus (source_sends (record world { back = wire_behind rest }) (source_rebuilt Received.NotRun owed (record world.source { switched = switched })) (rebuild_frames Received.NotRun (record world.source { switched = switched })))

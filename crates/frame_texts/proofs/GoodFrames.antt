@@ -1,5 +1,6 @@
 -- Every frame in flight has a text, in every world that some list of steps leads to.
-use Rattle.std.proofs.Common.{◌≡◌, ℕ, ◌^◌, ◌<◌, Bool, true, false, List, [], ◌∷◌, refl, sym, subst, length}
+use Rattle.std.proofs.lemmas.Bool.Decides.{nat_tests}
+use Rattle.std.proofs.Common.{◌≡◌, ℕ, ◌^◌, ◌<◌, Bool, List, [], ◌∷◌, refl, sym, subst, length, arith}
 use Rattle.mig_base.specs.declared.schedule.Step.{Step}
 use Rattle.mig_model.specs.Wire.{Sent}
 use Rattle.mig_model.specs.Migration.{World, after_steps, first_world_with, next}
@@ -33,20 +34,7 @@ no_frames frames none = subst AreFrames (sym none) tt
 
 -- a migration that has not begun has nothing in flight, and the epoch of any other has 32 bits
 frames_by : (idle : Bool) (cpus : ℕ) (world : World) → is_source_idle world.source.phase ≡ idle → IsBounded cpus world → AreLimited cpus world → IsCpuCount cpus → HasGoodFrames world
-frames_by true cpus world is all limited count =
-    let kept = all.ready.kept in
-    record {
-      forward = no_frames world.forward.frames (idle_forward world kept is);
-      back = no_frames world.back.frames (idle_back world kept is);
-      urgent = no_frames world.urgent.frames (all.urgent.stopped (idle_unstopped world.source.phase is));
-    }
-frames_by false cpus world is all limited count =
-    let epochs = all.ready.kept.epochs in
-    record {
-      forward = frames_of world.source.epoch world.forward.frames (limited.started is) epochs.forward_epoch (limited.to_destination count);
-      back = frames_of world.source.epoch world.back.frames (limited.started is) epochs.back_epoch (limited.to_source count);
-      urgent = frames_of world.source.epoch world.urgent.frames (limited.started is) all.urgent.of_epoch (limited.on_urgent count);
-    }
+frames_by idle cpus world is all limited count = grind (arith, nat_tests, no_frames, idle_forward, idle_back, idle_unstopped, frames_of)
 
 pub frames_good : (world : World) → IsReached world → IsCpuCount (length world.source.guest.cpus) → HasGoodFrames world
 frames_good world reached count =
