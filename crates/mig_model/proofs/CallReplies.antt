@@ -22,7 +22,7 @@ use Rattle.mig_model.specs.Cpus.Took.{Sleep, Call}
 use Rattle.mig_model.specs.Guest.{Guest, is_left_by, read_guest, took_by}
 use Rattle.mig_model.specs.Wire.{Frame, Sent}
 use Rattle.mig_model.specs.Wire.Frame.{Package}
-use Rattle.mig_model.specs.Migration.{Answer, Made, World, after_command, after_deliver, answer, event_effect, guest_by, guest_of, next, next_by, outcome, outcome_by, read_effect, try_effect}
+use Rattle.mig_model.specs.Migration.{Made, World, after_command, after_deliver, answer, event_effect, guest_by, guest_of, next, outcome, read_effect, try_effect}
 use Rattle.mig_model.specs.Invariant.{CallFits, AreSoundCalls, IsSoundWorld}
 use Rattle.mig_model.specs.Promises.{IsReached}
 use Rattle.mig_model.specs.Replies.{HandsOver, call_reply, last_reply}
@@ -33,7 +33,7 @@ use Rattle.mig_model.proofs.FirstFrame.{delivered}
 use Rattle.mig_model.proofs.StepCases.{Makes, holds-made}
 use Rattle.mig_model.proofs.WokenSteps.{IsQuiet, IsWoken, frame_not_last, guest_woken, is_last_read, quiet, stopped_switched, wakes-taken}
 use Rattle.mig_model.proofs.StepLemmas.{Holds, Leaves, holds-effect, holds-map, leaves-next}
-use Rattle.mig_model.proofs.WaitingCommands.{idle_at, is_try, map_at, package_next, set_other, tried_guest}
+use Rattle.mig_model.proofs.WaitingCommands.{idle_at, is_try, map_at, set_other, tried_guest}
 use Rattle.mig_model.proofs.SourceKept.{has_not_run}
 
 -- The last entry of a processor
@@ -64,7 +64,7 @@ entered_other (Call reply left) entries cpu command k other = other_entry entrie
 
 -- a call has entered the reply that it will give
 entered_call : (took : Took) (entries : List Entry) (cpu : ℕ) (command : Command) (reply : Reply) → call_reply (processor_after command took) ≡ Some reply → last_reply (entries ++ entries_of cpu command took) cpu ≡ Some reply
-entered_call took entries cpu command reply h = grind (arith, nat_tests, none-some, own_entry)
+entered_call took entries cpu command reply h = grind (arith, nat_tests, own_entry)
 
 -- Processors
 
@@ -153,7 +153,7 @@ not_last : {A : Type 0} (effect : Effect) (event : Message) (k : ℕ) (reply : R
 not_last effect event k reply not is = absurd (false≢true (sym not ∙ ap is_last_read is))
 
 all_go_on : (old new : Guest) (effect : Effect) → SameCalls old new → is_last_read effect ≡ false → GoOn old new effect
-all_go_on old new effect same not = grind (arith, nat_tests, not_last)
+all_go_on old new effect same not = grind (arith, nat_tests)
 
 -- Messages
 
@@ -231,7 +231,7 @@ quietly world new effect same not entered = record { calls = all_go_on (guest_of
 -- a Package is taken where no processor is in a call, and none is then
 package_calls : (epoch : ℕ) (areas : FinMap nat_cmp Prot) (owed : FinSet nat_cmp) (commands : List (Option Command)) (rest : List Sent) (world : World) → world.up ≡ true → world.forward.frames ≡ record { epoch = epoch; frame = Package areas owed commands } ∷ rest → IsSoundWorld world →
     AreSoundCalls world → SameCalls (guest_of world) (guest_of (delivered world (record { epoch = epoch; frame = Package areas owed commands } ∷ rest)))
-package_calls epoch areas owed commands rest world up first kept all k = grind (arith, nat_tests, package_next, stopped_switched, taken_reply, quiet_reply)
+package_calls epoch areas owed commands rest world up first kept all k = grind (arith, nat_tests, stopped_switched, taken_reply, quiet_reply)
 
 -- waking leaves calls
 woken_calls : (old new : List CpuState) → IsWoken old new → (k : ℕ) → reply_at new k ≡ reply_at old k
@@ -284,7 +284,7 @@ tried_at : (world : World) (cpu : ℕ) (command : Command) (k : ℕ) →
 tried_at world cpu command k = ap (λ g. processor_at g.cpus k) (tried_guest world cpu command)
 
 tried_keeps : (world : World) (cpu : ℕ) (command : Command) (k : ℕ) (reply : Reply) → reply_at (guest_of world).cpus cpu ≡ None → reply_at (guest_of world).cpus k ≡ Some reply → reply_at (guest_of (after_command world cpu command)).cpus k ≡ Some reply
-tried_keeps world cpu command k reply free h = grind (arith, nat_tests, none-some, tried_at, set_other)
+tried_keeps world cpu command k reply free h = grind (arith, nat_tests, tried_at, set_other)
 
 -- every processor in a call has entered its reply
 abbrev HasReplies : World → Type 0
@@ -332,14 +332,10 @@ call_answer world step k reply kept all h =
     (λ tries. holds-map (Tries world) _ (answer world step) (λ made t. inl (ap (λ w. reply_at (guest_of w).cpus k) t.is ∙ tried_keeps world t.cpu t.command k reply t.free h)) (holds-made _ world step (is_tried world step tries)))
     (λ other. holds-map (GoesOn world) _ (answer world step) (λ made g. g.calls.kept k reply h) (goes_on world step kept all other))
 
-outcome_last : (world : World) (result : Answer) (k : ℕ) (reply : Reply) → reply_at (guest_of world).cpus k ≡ Some reply → Holds (GoesOnOr k reply) result →
-    (reply_at (guest_of (next_by world result)).cpus k ≡ Some reply) ⊎ ((event : Message) × (outcome_by result ≡ Ok (Effect.ReadLast event k reply)))
-outcome_last world result k reply h goes = grind (arith, nat_tests)
-
 pub reply_kept : (world : World) (step : Step) (cpu : ℕ) (reply : Reply) → IsReached world → call_reply (processor_at (guest_of world).cpus cpu) ≡ Some reply →
     (call_reply (processor_at (guest_of (next world step)).cpus cpu) ≡ Some reply) ⊎ HandsOver world step cpu reply
 unfolding next outcome
-reply_kept world step cpu reply reached h = grind (arith, nat_tests, outcome_last, call_answer, kept-reached, are_sound_calls)
+reply_kept world step cpu reply reached h = grind (arith, nat_tests, call_answer, kept-reached, are_sound_calls)
 
 -- what is handed over is that reply
 abbrev LastTold : World → Effect → World → Type 0

@@ -2,7 +2,7 @@
 use Rattle.std.proofs.Common.{◌≡◌, ℕ, zero, suc, ◌+◌, Bool, true, false, not, eqb, ltb, Option, Some, None, List, [], ◌∷◌, ◌++◌, length, refl, sym, ap, ◌∙◌, subst, arith, if◌then◌else◌}
 use Rattle.std.specs.Prelude.{set, map}
 use Rattle.std.proofs.lemmas.Bool.Decides.{nat_tests}
-use Rattle.std.proofs.lemmas.Bool.{false≢true, cases_eq, ne_eqb}
+use Rattle.std.proofs.lemmas.Bool.{false≢true, ne_eqb}
 use Rattle.mig_base.specs.declared.command.Access.{Access}
 use Rattle.mig_base.specs.declared.command.Access.TheVariants.{Answered}
 use Rattle.mig_base.specs.declared.command.Command.{Command}
@@ -23,7 +23,6 @@ use Rattle.mig_model.proofs.SourceMessages.{noted_all, events_queued}
 use Rattle.mig_model.proofs.SettledPromises.{accessed_events}
 use Rattle.mig_model.proofs.FaultLemmas.{AreFaults-tried}
 use Rattle.mig_model.proofs.WaitingCommands.{idle_at, map_at, set_there, set_other}
-use Rattle.mig_model.proofs.DestinationRead.{none_is}
 use Rattle.mig_model.proofs.EveryStep.{by_reached}
 use Rattle.mig_model.specs.Cpus.{access_took, all_woken, call_took, idle_processors, is_idle, is_woken, message_less, processor_after, processor_at, taken_over, woken_if}
 use Rattle.mig_model.specs.Guest.{Guest, read_guest, tried, is_left_by}
@@ -77,7 +76,7 @@ woken_unread _ unread is h = absurd (false≢true is)
 -- a processor that is there changes, and the others stay
 fits_set : (cpus : List CpuState) (i : ℕ) (new : CpuState) (before now : ℕ → ℕ) → not (ltb i (length cpus)) ≡ false → ((k : ℕ) → CallFits (processor_at cpus k) (before k)) → ((k : ℕ) → (i ≡ k → ⊥) → now k ≡ before k) → CallFits new (now i) → (k : ℕ) →
     CallFits (processor_at (set cpus i new) k) (now k)
-fits_set cpus i new before now there fits others here k = grind (arith, nat_tests, set_there, set_other, cases_eq)
+fits_set cpus i new before now there fits others here k = grind (arith, nat_tests, set_there, set_other)
 
 -- Commands
 
@@ -169,7 +168,7 @@ fault_calls (PageFault addr write wp tid) cpu faults events guest calls = record
 fault_calls _ cpu faults events guest calls = absurd calls.faults.0
 
 read_in : (faults events : List Noted) (noted : Noted) (guest : Guest) → next_of faults events ≡ Some noted → AreRight events → HasSoundCalls (with_queues faults events guest) → HasSoundCalls (read_guest (with_queues faults events guest) noted.cpu noted.message)
-read_in faults events noted guest is right calls = grind (arith, nat_tests, none_is, some_is, event_calls, fault_calls)
+read_in faults events noted guest is right calls = grind (arith, nat_tests, some_is, event_calls, fault_calls)
 
 read_calls : (guest : Guest) (noted : Noted) → next_message guest.space.object ≡ Some noted → AreRight guest.space.object.events → HasSoundCalls guest → HasSoundCalls (read_guest guest noted.cpu noted.message)
 read_calls guest noted is right calls = read_in guest.space.object.faults guest.space.object.events noted guest is right calls

@@ -1,6 +1,6 @@
 -- A command changes the pages of a host as it changes the flat memory that they mean.
 use Rattle.std.proofs.lemmas.Bool.Decides.{nat_tests}
-use Rattle.std.proofs.Common.{◌≡◌, ℕ, ◌+◌, ◌-◌, ◌*◌, ◌/◌, ◌%◌, ◌^◌, ◌≤◌, ◌&&◌, Bool, true, cond, ltb, Option, Some, None, List, [], refl, sym, ap, ◌∙◌, arith, length, is_some, unwrap_or}
+use Rattle.std.proofs.Common.{◌≡◌, ℕ, ◌+◌, ◌-◌, ◌/◌, ◌%◌, ◌^◌, ◌≤◌, ◌&&◌, Bool, true, cond, ltb, Option, Some, None, List, [], refl, sym, ap, ◌∙◌, arith, length, is_some, unwrap_or}
 use Rattle.std.specs.FinMap.{get, contains_key}
 use Rattle.std.proofs.lemmas.Bool.{leb-true}
 use Rattle.std.proofs.lemmas.List.{get_or-take, length-take}
@@ -20,7 +20,7 @@ use Rattle.mig_base.proofs.ReplyLemmas.IsWhere.{Shrunk, Grew, Moved, Told}
 use Rattle.mig_base.proofs.ByteLemmas.{get_or-zero_page, length-zero_page, length-overwrite}
 use Rattle.mig_base.proofs.BoundLemmas.{one_prot_some, high_or}
 use Rattle.mig_model.specs.Host.{Host, memory, host_changed, host_moved, host_dropped, IsSound}
-use Rattle.mig_model.proofs.NumberLemmas.{aligned_inside, get_or-bytes_low_first}
+use Rattle.mig_model.proofs.NumberLemmas.{aligned_inside}
 use Rattle.mig_model.proofs.HostLemmas.{AreDigits, ReadsAs, is_mapped-memory, memory-none, memory-write, memory-map, memory-unmap, memory-dropped, memory-moved, IsSound-put, IsSound-map, IsSound-unmap, IsSound-dropped, IsSound-moved}
 use Rattle.mig_model.proofs.Facts.{and_second}
 
@@ -45,7 +45,7 @@ stored_mapped host addr width value h =
     sym (ap (λ f. f addr) (is_mapped-memory host)) ∙ here
 
 pub digits_low_bytes : (value width : ℕ) → width ≤ 8 → AreDigits (low_bytes value width) width value
-digits_low_bytes value width few = grind (arith, nat_tests, length-take, get_or-take, get_or-bytes_low_first)
+digits_low_bytes value width few = grind (arith, nat_tests, length-take, get_or-take)
 
 reads_or_zero : (o : Option (List ℕ)) → ReadsAs (unwrap_or o zero_page) (unwrap_or o [])
 reads_or_zero o = grind (arith, nat_tests, get_or-zero_page)
@@ -62,26 +62,22 @@ memory-stored host addr width value sound form =
     memory-write host addr width value (contents host.bytes (addr / 4096)) (low_bytes value width) (reads_or_zero (get host.bytes (addr / 4096))) (length-contents host (addr / 4096) sound) (digits_low_bytes value width is.few) is.inside
 
 IsSound-stored : (host : Host) (addr width value : ℕ) → IsSound host → contains_key host.areas (addr / 4096) ≡ true → is_aligned addr width ≡ true → IsSound (host_changed host (Store addr width value) Done)
-IsSound-stored host addr width value sound mapped form = grind (arith, nat_tests, aligned_inside, digits_low_bytes, length-contents, IsSound-put, length-overwrite)
+IsSound-stored host addr width value sound mapped form = grind (arith, nat_tests, digits_low_bytes, length-contents, IsSound-put, length-overwrite)
 
 -- Ranges
 
--- an address that is the first of a page
-page_start : (addr : ℕ) → addr % 4096 ≡ 0 → addr / 4096 * 4096 ≡ addr
-page_start addr h = omega arith
-
 memory-mapped : (host : Host) (len start : ℕ) (prot : Prot) (place : Place) → start % 4096 ≡ 0 → memory (host_changed host (Mmap len prot place) (At start)) ≡ fill (memory host) start (rounded len) (zeros_with prot)
-memory-mapped host len start prot place whole = grind (arith, nat_tests, memory-map, page_start)
+memory-mapped host len start prot place whole = grind (arith, nat_tests, memory-map)
 
 memory-unmapped : (host : Host) (addr len : ℕ) → addr % 4096 ≡ 0 → memory (host_changed host (Munmap addr len) Done) ≡ clear (memory host) addr (rounded len)
-memory-unmapped host addr len whole = grind (arith, nat_tests, memory-unmap, page_start)
+memory-unmapped host addr len whole = grind (arith, nat_tests, memory-unmap)
 
 memory-zeroed : (host : Host) (addr len : ℕ) → addr % 4096 ≡ 0 → memory (host_dropped host (addr / 4096) (pages_of len)) ≡ zeroed (memory host) addr (rounded len)
-memory-zeroed host addr len whole = grind (arith, nat_tests, memory-dropped, page_start)
+memory-zeroed host addr len whole = grind (arith, nat_tests, memory-dropped)
 
 memory-remapped : (host : Host) (addr old_len new_len target : ℕ) → addr % 4096 ≡ 0 → target % 4096 ≡ 0 →
     memory (host_moved host (addr / 4096) (pages_of old_len) (target / 4096) (pages_of new_len)) ≡ moved (memory host) addr (rounded old_len) target (rounded new_len)
-memory-remapped host addr old_len new_len target old new = grind (arith, nat_tests, memory-moved, page_start)
+memory-remapped host addr old_len new_len target old new = grind (arith, nat_tests, memory-moved)
 
 -- The place of an mremap
 

@@ -1,7 +1,6 @@
 -- A complete migration, and which parts of a world each step changes.
 use Rattle.std.proofs.lemmas.Bool.Decides.{nat_tests}
-use Rattle.std.proofs.Common.{◌≡◌, ℕ, Bool, true, false, List, [], ◌∷◌, refl, ap, arith}
-use Rattle.std.proofs.lemmas.Bool.{not-false}
+use Rattle.std.proofs.Common.{◌≡◌, ℕ, Bool, List, [], ◌∷◌, refl, ap, arith}
 use Rattle.mig_base.specs.declared.command.Command.{Command}
 use Rattle.mig_base.specs.declared.step.Step.{Step}
 use Rattle.mig_base.specs.declared.step.Step.TheVariants as step
@@ -10,14 +9,13 @@ use Rattle.mig_base.specs.declared.step.SourcePhase.TheVariants as source
 use Rattle.mig_base.specs.declared.step.DestinationPhase.{DestinationPhase}
 use Rattle.mig_base.specs.declared.step.WorldPhase.TheVariants as phase
 use Rattle.mig_base.specs.Flat.{memory_of}
-use Rattle.mig_model.specs.Host.{Host, bare_host, memory}
-use Rattle.mig_model.specs.Frame.{Frame, Sent}
-use Rattle.mig_model.specs.Frame.Frame.{Done}
-use Rattle.mig_model.specs.Node.{Source, has_run, source_took}
-use Rattle.mig_model.specs.World.{World, with_active, refusal_of, started, switched, delivered, delivered_back, end_sent, next, after_steps, phase_by, phase_of}
+use Rattle.mig_model.specs.Host.{bare_host, memory}
+use Rattle.mig_model.specs.Frame.{Sent}
+use Rattle.mig_model.specs.Node.{has_run}
+use Rattle.mig_model.specs.World.{World, refusal_of, started, switched, delivered, delivered_back, end_sent, next, after_steps, phase_by, phase_of}
 use Rattle.mig_model.specs.Kept.{IsKept}
 use Rattle.mig_model.proofs.WorldLemmas.{at_stage}
-use Rattle.mig_model.proofs.Every.{by_refusal, first_test}
+use Rattle.mig_model.proofs.Every.{by_refusal}
 
 complete_released : (from : SourcePhase) (runs : Bool) → phase_by from runs ≡ phase.Complete → from ≡ source.Released
 complete_released from runs h = grind (arith, nat_tests)
@@ -41,25 +39,9 @@ alone world h kept = alone_in world.source.phase world.destination.phase world.s
 abbrev IsReleased : World → Type 0
 IsReleased world = world.source.phase ≡ source.Released
 
-with_active-released : (runs : Bool) (world : World) (host : Host) → IsReleased world → IsReleased (with_active runs world host)
-with_active-released true world host h = h
-with_active-released false world host h = h
-
-source_took-released : (node : Source) (frame : Frame) → node.phase ≡ source.Released → (source_took node frame).phase ≡ source.Released
-source_took-released node Done h = refl
-source_took-released node _ h = h
-
-delivered-released : (world : World) (wire : List Sent) → IsReleased world → IsReleased (delivered world wire)
-delivered-released world [] h = h
-delivered-released world (sent ∷ rest) h = h
-
-delivered_back-released : (world : World) (wire : List Sent) → IsReleased world → IsReleased (delivered_back world wire)
-delivered_back-released world [] h = h
-delivered_back-released world (sent ∷ rest) h = source_took-released world.source sent.frame h
-
 next-released : (world : World) (step : Step) → IsReleased world → IsReleased (next world step)
 unfolding next
-next-released world step h = grind (arith, nat_tests, by_refusal, with_active-released, first_test, not-false, delivered-released, delivered_back-released)
+next-released world step h = grind (arith, nat_tests)
 
 after_steps-released : (world : World) (steps : List Step) → IsReleased world → IsReleased (after_steps world steps)
 after_steps-released world [] h = h
@@ -115,10 +97,6 @@ unfolding next
 deliver_back_changes world =
     by_refusal (AtSourceBack world) (refusal_of world step.DeliverBack) world (delivered_back world world.back) (refl, refl, refl) (λ _. delivered_back-changes world world.back)
 
-with_active-changes : (runs : Bool) (world : World) (host : Host) → OffWires world (with_active runs world host)
-with_active-changes true world host = (refl, refl)
-with_active-changes false world host = (refl, refl)
-
 pub issue_changes : (world : World) (cpu : ℕ) (command : Command) → OffWires world (next world (step.Issue cpu command))
 unfolding next
-issue_changes world cpu command = grind (arith, nat_tests, by_refusal, with_active-changes)
+issue_changes world cpu command = grind (arith, nat_tests)

@@ -49,7 +49,7 @@ is_going SourcePhase.Released = true
 is_going phase = false
 
 going_by : (from : SourcePhase) (world : World) → world.source.phase ≡ from → is_going from ≡ true → world.up ≡ true → IsInOrder world → CanComplete world
-going_by from world is going up order = grind (arith, nat_tests, precopy_by, unread, stopped_completes, complete_now, none_absurd)
+going_by from world is going up order = grind (arith, nat_tests, precopy_by, stopped_completes, complete_now, none_absurd)
 
 rebuilt_going : (state : Received) (owed : FinSet nat_cmp) (node : Source) → is_going (source_rebuilt state owed node).phase ≡ true
 rebuilt_going state owed node = grind (arith, nat_tests)
@@ -62,7 +62,7 @@ recv_step world state owed epoch rest first at =
 
 -- where the destination has noticed too, it takes Resume first
 paused_by : (to : DestPhase) (world : World) → world.destination.phase ≡ to → (to ≡ DestPhase.Paused → CanComplete world) → IsUpAt SourcePhase.Paused world → CanComplete world
-paused_by to world is resumes at = grind (arith, nat_tests, wires_at, recv_step)
+paused_by to world is resumes at = grind (arith, nat_tests, recv_step)
 
 resume_taken : (world : World) → world.destination.phase ≡ DestPhase.Paused → IsUpAt SourcePhase.Paused world → CanComplete world
 resume_taken world is at =
@@ -76,7 +76,7 @@ resume_taken world is at =
 -- The link is up, and the migration has begun
 
 link_up_by : (from : SourcePhase) (world : World) → world.source.phase ≡ from → is_source_idle from ≡ false → world.up ≡ true → IsInOrder world → CanComplete world
-link_up_by from world is started up order = grind (arith, nat_tests, none_absurd, IsUpAt, paused_by, resume_taken, going_by)
+link_up_by from world is started up order = grind (arith, nat_tests, IsUpAt, paused_by, resume_taken, going_by)
 
 -- The link is down: both sides notice it, and the source resumes in its next epoch
 

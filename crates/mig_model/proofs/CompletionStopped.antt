@@ -7,7 +7,7 @@ use Rattle.std.specs.FinSet.{FinSet, contains, contains-empty, empty_of_len, len
 use Rattle.std.proofs.lemmas.Cmp.{nat_cmp_total}
 use Rattle.std.proofs.lemmas.Bool.{false≢true}
 use Rattle.std.proofs.lemmas.Bool.Decides.{nat_tests}
-use Rattle.std.proofs.lemmas.Option.{none-some, same_Some}
+use Rattle.std.proofs.lemmas.Option.{same_Some}
 use Rattle.mig_base.specs.declared.TheConstants.{HIGH_PAGE}
 use Rattle.mig_base.specs.declared.message.Message.{Message}
 use Rattle.mig_base.specs.declared.message.Message.TheVariants.{PageFault}
@@ -28,7 +28,7 @@ use Rattle.mig_model.specs.Invariant.{AreTold, Flow, IsTold, RanAt, Wires, are_r
 use Rattle.mig_model.specs.Invariant.Flow.{BeforeAdvise, Copies, BeforePackage, Pushed, AfterEnd}
 use Rattle.mig_model.specs.Promises.{CanComplete}
 use Rattle.mig_model.proofs.Taken.{IsInPlaceBack}
-use Rattle.mig_model.proofs.Facts.{and_false, eqb-self, none_absurd}
+use Rattle.mig_model.proofs.Facts.{and_false, none_absurd}
 use Rattle.mig_model.proofs.FirstFrame.{comes}
 use Rattle.mig_model.proofs.FramesTaken.{is_taken_back}
 use Rattle.mig_model.proofs.UrgentWire.{placed}
@@ -75,7 +75,7 @@ work world = 2 * (length world.forward.frames + length world.urgent.frames) + (l
 
 read_by-less : (faults events : List Noted) (object : Object) (noted : Noted) → next_of faults events ≡ Some noted → unread (read_by faults (record object { faults = faults; events = events })) + 1 ≡ length faults + length events
 unfolding unread
-read_by-less faults events object noted is = grind (arith, nat_tests, none-some)
+read_by-less faults events object noted is = grind (arith, nat_tests)
 
 -- a message that is read is unread no longer
 pub read-less : (object : Object) (noted : Noted) → next_message object ≡ Some noted → unread (message_read object) + 1 ≡ unread object
@@ -111,10 +111,10 @@ copy_came-next true node copy = record { arrived = one_more node.arrivals copy; 
 copy_came-next false node copy = record { arrived = none_more node.arrivals; guest = refl; phase = inl refl }
 
 pushed-next : (node : Destination) (epoch : ℕ) (frame : Frame) → is_some (flow_next Pushed frame) ≡ true → IsNext node (destination_took node epoch frame)
-pushed-next node epoch frame in_place = grind (arith, nat_tests, copy_came-next, none_more, none_absurd)
+pushed-next node epoch frame in_place = grind (arith, nat_tests, copy_came-next, none_absurd)
 
 urgent_took-next : (node : Destination) (frame : Frame) → IsNext node (urgent_took node frame)
-urgent_took-next node frame = grind (arith, nat_tests, one_more, none_more)
+urgent_took-next node frame = grind (arith, nat_tests, one_more)
 
 -- a copy that is installed or given up waits no longer, and no message is read by it
 record IsInstalled (old new : Destination) (rest : List Copy) : Type 0 where
@@ -197,7 +197,7 @@ not_at_end flow source frames other told h none =
     other (same_Some flow AfterEnd (sym (ap (flow_after flow) none) ∙ h ∙ ap (λ f. Some f) told))
 
 forward_step : (frames : List Sent) (world : World) → world.forward.frames ≡ frames → world.urgent.frames ≡ [] → world.destination.arrivals ≡ [] → IsDraining world → Again world → CanComplete world
-forward_step frames world first none free draining again = grind (arith, nat_tests, not_at_end, wires_at, deliver_step)
+forward_step frames world first none free draining again = grind (arith, nat_tests, wires_at, deliver_step)
 
 quiet_step : (copy : Copy) (rest : List Copy) (events : List Noted) (world : World) → world.destination.arrivals ≡ copy ∷ rest → world.destination.guest.space.object.events ≡ events → IsDraining world → Again world → CanComplete world
 quiet_step copy rest [] world first quiet draining again = install_step world copy rest first (ap (λ events. ltb 0 (length events)) quiet) draining again
@@ -234,10 +234,10 @@ is_waiting phase = false
 
 -- what comes to it is not End
 waiting-not_early : (to : DestPhase) (node : Destination) (frame : Frame) → is_waiting to ≡ true → comes SourcePhase.Stopped to frame ≡ true → is_early node frame ≡ false
-waiting-not_early to node frame waits h = grind (arith, nat_tests, none_absurd)
+waiting-not_early to node frame waits h = grind (arith, nat_tests)
 
 waiting-not_run : (to : DestPhase) (ran ended : Bool) → is_waiting to ≡ true → RanAt to ran ended → ran ≡ false
-waiting-not_run to ran ended waits h = grind (arith, nat_tests, none_absurd)
+waiting-not_run to ran ended waits h = grind (arith, nat_tests)
 
 -- where the wire to it begins
 waiting_flow : DestPhase → Flow
@@ -252,15 +252,15 @@ waiting-not_ended _ h = cc
 
 waiting_wire : (to : DestPhase) (world : World) → is_waiting to ≡ true → world.destination.phase ≡ to → IsUpAt SourcePhase.Stopped world → flow_after (waiting_flow to) world.forward.frames ≡ Some (flow_of world.source)
 unfolding waiting_flow
-waiting_wire to world waits is at = grind (arith, nat_tests, wires_at, none_absurd)
+waiting_wire to world waits is at = grind (arith, nat_tests)
 
 -- a destination that has taken no End waits, runs or has ended
 by_phase : (to : DestPhase) (world : World) → world.destination.phase ≡ to → IsUpAt SourcePhase.Stopped world → flow_of world.source ≡ AfterEnd → (is_waiting to ≡ true → CanComplete world) → CanComplete world
-by_phase to world is at told waiting = grind (arith, nat_tests, running_by, work, wires_at)
+by_phase to world is at told waiting = grind (arith, nat_tests, running_by, wires_at)
 
 waiting_step : (world : World) (sent : Sent) (rest : List Sent) → world.forward.frames ≡ sent ∷ rest → IsUpAt SourcePhase.Stopped world → is_waiting world.destination.phase ≡ true →
     (IsUpAt SourcePhase.Stopped (after_deliver world sent rest) → CanComplete (after_deliver world sent rest)) → CanComplete world
-waiting_step world sent rest first at waits can = grind (arith, nat_tests, comes, placed, waiting-not_run, by_deliver, and_false, waiting-not_early)
+waiting_step world sent rest first at waits can = grind (arith, nat_tests, placed, waiting-not_run, by_deliver, and_false, waiting-not_early)
 
 -- once End is sent, until it is taken
 told_by : (frames : List Sent) (world : World) → world.forward.frames ≡ frames → IsUpAt SourcePhase.Stopped world → flow_of world.source ≡ AfterEnd → CanComplete world
@@ -273,7 +273,7 @@ told_by (first ∷ rest) world is at told =
 -- The source: what remains is pushed, and End is sent
 
 end_by : (ended : Bool) (world : World) → eqb world.source.end_epoch world.source.epoch ≡ ended → least_of world.source.remaining ≡ None → IsUpAt SourcePhase.Stopped world → CanComplete world
-end_by ended world is none at = grind (arith, nat_tests, told_by, by_end, eqb-self)
+end_by ended world is none at = grind (arith, nat_tests, told_by, by_end)
 
 some_member : (pages : FinSet nat_cmp) (page : ℕ) → contains pages page ≡ true → finset.len pages ≢ 0
 some_member pages page there none = false≢true (sym (ap (λ s. contains s page) (empty_of_len pages none) ∙ contains-empty nat_cmp page) ∙ there)

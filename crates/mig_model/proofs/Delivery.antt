@@ -101,13 +101,13 @@ goes_on : (to : DestPhase) (ran : Bool) (epoch : ℕ) (keeps : FinMap nat_cmp (L
     } in
     IsSoundWorld old → to ≢ DestPhase.Idle → RanAt to ran world.destination.ended → (epoch ≡ world.source.epoch → EpochAt to epoch world.source.epoch) → (ran ≡ true → keeps ≡ finmap.empty) →
     ((page : ℕ) (bytes : List ℕ) → get keeps page ≡ Some bytes → length bytes ≡ 4096) → Wires new.source new.destination new.forward.frames new.back.frames new.urgent.frames → IsSoundWorld new
-goes_on to ran epoch keeps frames rest world kept advised phase at kept_none kept_whole on_wires = grind (arith, nat_tests, at_state, flight_up, AreOf-sending, fits-none, fits-more)
+goes_on to ran epoch keeps frames rest world kept advised phase at kept_none kept_whole on_wires = grind (arith, nat_tests, flight_up, AreOf-sending, fits-none, fits-more)
 
 -- it has not run: what it kept is given up
 resume_waiting : (epoch : ℕ) (rest : List Sent) (world : World) →
     let old : World = at_state SourcePhase.Paused DestPhase.Paused false true (record { epoch = epoch; frame = Resume } ∷ rest) world in
     IsSoundWorld old → IsSoundWorld (delivered old old.forward.frames)
-resume_waiting epoch rest world kept = grind (arith, nat_tests, answer_first, goes_on, none-some, resume_alone)
+resume_waiting epoch rest world kept = grind (arith, nat_tests)
 
 -- it runs: it still needs what it is owed, and asks again for what it has asked
 resume_running : (epoch : ℕ) (rest : List Sent) (world : World) →
@@ -177,14 +177,14 @@ taken_before : (from : SourcePhase) (to next : DestPhase) (ran : Bool) (epoch ow
     let new : World = record old { destination = record old.destination { phase = next; epoch = own; kept = keeps; urgent_taken = count }; forward = wire_behind rest } in
     IsSoundWorld old → ran ≡ false → next ≢ DestPhase.Idle → RanAt next ran world.destination.ended → own ≡ world.source.epoch → EpochAt next own world.source.epoch →
     ((page : ℕ) (bytes : List ℕ) → get keeps page ≡ Some bytes → length bytes ≡ 4096) → AreWhole (copies_of rest) → Wires new.source new.destination new.forward.frames new.back.frames new.urgent.frames → IsSoundWorld new
-taken_before from to next ran epoch own count frame keeps rest world kept bare advised phase same at whole copies on_wires = grind (arith, nat_tests, at_state, flight_up, fits-none)
+taken_before from to next ran epoch own count frame keeps rest world kept bare advised phase same at whole copies on_wires = grind (arith, nat_tests)
 
 -- Advise: the wires are what they were
 advise_taken : (from : SourcePhase) (ran : Bool) (epoch : ℕ) (rest : List Sent) (world : World) →
     let old : World = at_state from DestPhase.Idle ran true (record { epoch = epoch; frame = Advise } ∷ rest) world in
     let new : World = delivered old old.forward.frames in
     IsSoundWorld old → Wires new.source new.destination new.forward.frames new.back.frames new.urgent.frames → IsSoundWorld new
-advise_taken from ran epoch rest world kept on_wires = grind (arith, nat_tests, taken_before)
+advise_taken from ran epoch rest world kept on_wires = grind (arith, nat_tests)
 
 -- Copies while the destination does not run
 
@@ -204,7 +204,7 @@ copies_kept : (from : SourcePhase) (epoch : ℕ) (frame : Frame) (rest : List Se
     let old : World = at_state from DestPhase.Advised false true (record { epoch = epoch; frame = frame } ∷ rest) world in
     let new : World = record old { destination = record old.destination { kept = kept_with world.destination.kept (copies_in frame) }; forward = wire_behind rest } in
     IsSoundWorld old → Wires new.source new.destination new.forward.frames new.back.frames new.urgent.frames → IsSoundWorld new
-copies_kept from epoch frame rest world kept on_wires = grind (arith, nat_tests, whole_parts, taken_before, whole_with)
+copies_kept from epoch frame rest world kept on_wires = grind (arith, nat_tests, whole_parts, whole_with)
 
 -- A Discard
 
@@ -236,14 +236,14 @@ copy_arrives : (epoch : ℕ) (frame : Frame) (copy : Copy) (rest : List Sent) (w
     ((page origin : ℕ) → get world.destination.owed page ≡ Some origin →
     (is_urgent_or_left world.source.remaining world.urgent.frames origin || has_copy (copy ∷ copies_of rest) origin || has_copy world.destination.arrivals origin) ≡ true) →
     IsSoundWorld (record old { destination = record old.destination { arrivals = world.destination.arrivals ++ copy ∷ [] }; forward = wire_behind rest })
-copy_arrives epoch frame copy rest world kept faithful whole flow requests whereabouts = grind (arith, nat_tests, at_state, not_up, AreFaithful-append, has_copy-append, flight_up, fits-none)
+copy_arrives epoch frame copy rest world kept faithful whole flow requests whereabouts = grind (arith, nat_tests, not_up, AreFaithful-append, has_copy-append, flight_up, fits-none)
 
 -- The frames in their phases
 
 precopy_unadvised : (ran : Bool) (epoch : ℕ) (frame : Frame) (rest : List Sent) (world : World) →
     let old : World = at_state SourcePhase.Precopy DestPhase.Idle ran true (record { epoch = epoch; frame = frame } ∷ rest) world in
     IsSoundWorld old → IsSoundWorld (delivered old old.forward.frames)
-precopy_unadvised ran epoch frame rest world kept = grind (arith, nat_tests, advise_taken, none-some)
+precopy_unadvised ran epoch frame rest world kept = grind (arith, nat_tests)
 
 stopped_unadvised : (ran : Bool) (epoch : ℕ) (frame : Frame) (rest : List Sent) (world : World) →
     let old : World = at_state SourcePhase.Stopped DestPhase.Idle ran true (record { epoch = epoch; frame = frame } ∷ rest) world in
@@ -257,7 +257,7 @@ stopped_unadvised ran epoch _ rest world kept = absurd (none-some (flow_of (reco
 precopy_advised : (epoch : ℕ) (frame : Frame) (rest : List Sent) (world : World) →
     let old : World = at_state SourcePhase.Precopy DestPhase.Advised false true (record { epoch = epoch; frame = frame } ∷ rest) world in
     IsSoundWorld old → IsSoundWorld (delivered old old.forward.frames)
-precopy_advised epoch frame rest world kept = grind (arith, nat_tests, copies_kept, ends_late, none-some)
+precopy_advised epoch frame rest world kept = grind (arith, nat_tests, copies_kept, ends_late)
 
 -- the Package and the pages behind it are the same
 switching_on : (source : Source) (kept keeps : FinMap nat_cmp (List ℕ)) (wire rest urgent : List Sent) → package_in wire ≡ package_in rest → kept_by kept wire ≡ kept_by keeps rest → behind wire ≡ behind rest →

@@ -19,9 +19,9 @@ use Rattle.mig_model.specs.Userfault.{Noted}
 use Rattle.mig_model.specs.Space.{fresh_space}
 use Rattle.mig_model.specs.Guest.{is_present}
 use Rattle.mig_model.specs.Wire.{Frame, Sent, kept_after, wire_behind}
-use Rattle.mig_model.specs.Wire.Frame.{Discard, Request, Recv}
+use Rattle.mig_model.specs.Wire.Frame.{Discard, Recv}
 use Rattle.mig_model.specs.Migration.{World, after_deliver_back}
-use Rattle.mig_model.specs.Invariant.{Wires, IsSoundWorld, IsSoundPushing, IsSoundLog, IsSwitching, AreOf, AreFaithful, copies_of, has_copy, are_requests, seen_host, current_host}
+use Rattle.mig_model.specs.Invariant.{IsSoundWorld, IsSoundPushing, IsSoundLog, IsSwitching, AreOf, AreFaithful, copies_of, has_copy, seen_host, current_host}
 use Rattle.mig_model.proofs.FrameLemmas.{discard_none}
 use Rattle.mig_model.proofs.SpaceLemmas.{IsSoundSpace-fresh}
 use Rattle.mig_model.proofs.FirstFrame.{empty_not, delivered_back}
@@ -39,22 +39,10 @@ abbrev at_back : SourcePhase → DestPhase → (ran switched : Bool) → (forwar
 at_back from to ran switched forward back world =
     record world { source = record world.source { phase = from; switched = switched }; destination = record world.destination { phase = to; has_run = ran }; forward = record world.forward { frames = forward }; back = record world.back { frames = back }; up = true }
 
--- A request
-
-request_taken : (to : DestPhase) (ran switched : Bool) (epoch page : ℕ) (rest : List Sent) (world : World) →
-    let old : World = at_back SourcePhase.Stopped to ran switched world.forward.frames (record { epoch = epoch; frame = Request page } ∷ rest) world in
-    let new : World = delivered_back old old.back.frames in
-    IsSoundWorld old → Wires new.source new.destination new.forward.frames new.back.frames new.urgent.frames → IsSoundWorld new
-request_taken to ran switched epoch page rest world kept on_wires = grind (arith, nat_tests, delivered_back, flight_up, fits-none)
-
 -- A source that is released
 
--- where nothing is owed, nothing is owed once the events are read
-cond_same : (b c : Bool) (x : Option ℕ) → cond b x (cond c x x) ≡ x
-cond_same b c x = grind arith
-
 nothing_after : (message : Message) → owed_after message (λ _. None) ≡ (λ _. None)
-nothing_after message = grind (arith, nat_tests, cond_same)
+nothing_after message = grind (arith, nat_tests)
 
 pub settled_by-none : (events : List Noted) → settled_by events (λ _. None) ≡ (λ _. None)
 settled_by-none [] = refl
@@ -106,7 +94,7 @@ no_copy page kept h = ap (λ k. contains_key k page) h ∙ ap is_some (get-empty
 recv_precopy : (owed : FinSet nat_cmp) (epoch : ℕ) (rest : List Sent) (world : World) →
     let old : World = at_back SourcePhase.Paused DestPhase.Advised false false [] (record { epoch = epoch; frame = Recv Received.NotRun owed } ∷ rest) world in
     IsSoundWorld old → rest ≡ [] → IsSoundWorld (delivered_back old old.back.frames)
-recv_precopy owed epoch rest world kept last = grind (arith, nat_tests, delivered_back, no_page, no_copy, flight_up, fits-none)
+recv_precopy owed epoch rest world kept last = grind (arith, nat_tests, no_page, no_copy, flight_up, fits-none)
 
 -- where End was not sent in this epoch
 all_owed : (low : Bool) (o : Option (List ℕ)) → (low ≡ false → o ≡ None) → None ≡ cond (low && is_some o) None o
@@ -147,13 +135,6 @@ recv_switched owed epoch rest world kept last =
     let forward_held = fits-more [] world.forward.held world.source.epoch (rebuild_frames Received.NotRun old.source) kept.held.forward_held in
     assumption (log_stopped new.source refl, fits-none rest)
 
--- it runs: what it still needs is to be pushed
-recv_running : (owed : FinSet nat_cmp) (epoch : ℕ) (rest : List Sent) (world : World) →
-    let old : World = at_back SourcePhase.Paused DestPhase.Running true true [] (record { epoch = epoch; frame = Recv Received.Running owed } ∷ rest) world in
-    IsSoundWorld old → are_requests rest ≡ true → ((page origin : ℕ) → get world.destination.owed page ≡ Some origin → contains owed origin ≡ true) →
-    ((page : ℕ) → contains owed page ≡ true → is_present world.source.guest.space page ≡ true) → IsSoundWorld (delivered_back old old.back.frames)
-recv_running owed epoch rest world kept requests needed owed_present = grind (arith, nat_tests, delivered_back, pushing_stopped, flight_up, flow_open, log_stopped, fits-none)
-
 -- The frames in their phases
 
 recv_not_run : (switched : Bool) (owed : FinSet nat_cmp) (epoch : ℕ) (rest : List Sent) (world : World) → rest ≡ [] →
@@ -170,13 +151,13 @@ paused_takes : (to : DestPhase) (ran switched : Bool) (world : World) (forward b
 paused_takes to ran switched world forward back wire none is takes = subst (λ f. Takes to ran switched world f back) (sym none) (subst (λ b. Takes to ran switched world [] b) (sym is) takes)
 
 at_advised : (ran switched : Bool) (forward back : List Sent) (world : World) → Takes DestPhase.Advised ran switched world forward back
-at_advised ran switched forward back world kept = grind (arith, nat_tests, not_up, paused_takes, recv_not_run)
+at_advised ran switched forward back world kept = grind (arith, nat_tests, paused_takes, recv_not_run)
 
 at_runs : (ran switched : Bool) (forward back : List Sent) (world : World) → Takes DestPhase.Running ran switched world forward back
-at_runs ran switched forward back world kept = grind (arith, nat_tests, paused_takes, recv_running)
+at_runs ran switched forward back world kept = grind (arith, nat_tests)
 
 at_ended : (ran switched : Bool) (forward back : List Sent) (world : World) → Takes DestPhase.Ended ran switched world forward back
-at_ended ran switched forward back world kept = grind (arith, nat_tests, paused_takes, released_kept)
+at_ended ran switched forward back world kept = grind (arith, nat_tests, released_kept)
 
 or_none : (b : Bool) → (b || false) ≡ true → b ≡ true
 or_none b h = grind arith
@@ -189,13 +170,13 @@ is_last (sent ∷ rest) h = absurd (false≢true h)
 stopped_runs : (ran switched : Bool) (epoch : ℕ) (frame : Frame) (rest : List Sent) (world : World) →
     let old : World = at_back SourcePhase.Stopped DestPhase.Running ran switched world.forward.frames (record { epoch = epoch; frame = frame } ∷ rest) world in
     IsSoundWorld old → IsSoundWorld (delivered_back old old.back.frames)
-stopped_runs ran switched epoch frame rest world kept = grind (arith, nat_tests, request_taken)
+stopped_runs ran switched epoch frame rest world kept = grind (arith, nat_tests)
 
 -- a request or Done, once it has ended
 stopped_ended : (ran switched : Bool) (epoch : ℕ) (frame : Frame) (rest : List Sent) (world : World) →
     let old : World = at_back SourcePhase.Stopped DestPhase.Ended ran switched world.forward.frames (record { epoch = epoch; frame = frame } ∷ rest) world in
     IsSoundWorld old → IsSoundWorld (delivered_back old old.back.frames)
-stopped_ended ran switched epoch frame rest world kept = grind (arith, nat_tests, request_taken, or_none, released_kept, is_last)
+stopped_ended ran switched epoch frame rest world kept = grind (arith, nat_tests, or_none, released_kept, is_last)
 
 back_in : (from : SourcePhase) (to : DestPhase) (ran switched : Bool) (sent : Sent) (rest : List Sent) (world : World) →
     let old : World = at_back from to ran switched world.forward.frames (sent ∷ rest) world in

@@ -20,7 +20,7 @@ use Rattle.mig_model.specs.Ioctls.{put_pages, installed as pages_installed}
 use Rattle.mig_model.specs.Guest.{Guest, is_present, Fault, is_forgotten, zero_installed, resolved}
 use Rattle.mig_model.specs.Wire.{Copy, Sent, wire_if}
 use Rattle.mig_model.specs.Migration.{World, outcome, next, after_install, install_effect, is_changing, runs, destination_sends, after_dest_act}
-use Rattle.mig_model.specs.Invariant.{IsSoundWorld, AreFaithful, has_copy, seen_host, seen_bytes, Wires, AreOf, EpochAt, are_requests, is_request, HeldFits}
+use Rattle.mig_model.specs.Invariant.{IsSoundWorld, AreFaithful, has_copy, seen_host, seen_bytes, Wires, EpochAt, are_requests, is_request}
 use Rattle.mig_model.specs.Promises.{IsPut}
 use Rattle.mig_model.proofs.IoctlLemmas.{IsSoundSpace-installed, get-put_pages}
 use Rattle.mig_model.proofs.SettledLemmas.{home_tells, home-none}
@@ -41,9 +41,9 @@ use Rattle.mig_base.proofs.ByteLemmas.{length-zero_page, get_or-zero_page}
 use Rattle.mig_base.proofs.PageLemmas.{get-map_below}
 use Rattle.mig_model.specs.Wire.Frame.{Request}
 use Rattle.mig_model.specs.Guest.Act.{Zeroed, Woke, Forgot, Requested}
-use Rattle.mig_model.proofs.HostLemmas.{memory-at, same_memory}
+use Rattle.mig_model.proofs.HostLemmas.{memory-at}
 use Rattle.mig_model.specs.Log.{present}
-use Rattle.mig_model.proofs.WireLemmas.{fits-append, AreOf-append, are_requests-append, flight_up}
+use Rattle.mig_model.proofs.WireLemmas.{fits-append, AreOf-append, are_requests-append}
 
 -- One page put
 
@@ -75,14 +75,10 @@ put-missing space page q bytes other h = ap is_some (get-put_one space.host.byte
 abbrev pub seen_by : Option (List ℕ) → Option (List ℕ) → Option (List ℕ)
 seen_by own other = elim own [ Some bytes ↦ Some bytes | None ↦ other ]
 
-seen_there : (here : Bool) (bytes : List ℕ) (own : Option (List ℕ)) (owed : Option ℕ) (there : ℕ → Option (List ℕ)) → (here ≡ true → own ≡ None) → (here ≡ true → option_and_then there owed ≡ Some bytes) →
-    seen_by (cond here (Some bytes) own) (option_and_then there (cond here None owed)) ≡ seen_by own (option_and_then there owed)
-seen_there here bytes own owed there none same = grind arith
-
 -- the page that is put there is the one that was read through to the source
 seen-put : (here there : Host) (owed : FinMap nat_cmp ℕ) (page origin q : ℕ) (bytes : List ℕ) → get here.bytes page ≡ None → get owed page ≡ Some origin → get there.bytes origin ≡ Some bytes →
     seen_bytes (record here { bytes = put_pages here.bytes page 1 (λ i. bytes) }) there (get (finmap.remove owed page)) q ≡ seen_bytes here there (get owed) q
-seen-put here there owed page origin q bytes none pair same = grind (arith, nat_tests, get-put_one, get-without, seen_there, eqb-true)
+seen-put here there owed page origin q bytes none pair same = grind (arith, nat_tests, get-put_one, get-without, eqb-true)
 
 memory-put : (here there : Host) (owed : FinMap nat_cmp ℕ) (page origin : ℕ) (bytes : List ℕ) → get here.bytes page ≡ None → get owed page ≡ Some origin → get there.bytes origin ≡ Some bytes →
     memory (seen_host (record here { bytes = put_pages here.bytes page 1 (λ i. bytes) }) there (get (finmap.remove owed page))) ≡ memory (seen_host here there (get owed))
@@ -242,7 +238,7 @@ byte_of o i = get_or (unwrap_or o []) i 0
 -- pages that read alike mean one memory: it does not tell a page of zeros from a missing one
 pub memory-reads : (areas : FinMap nat_cmp Prot) (old new : FinMap nat_cmp (List ℕ)) → ((page i : ℕ) → byte_of (get new page) i ≡ byte_of (get old page) i) →
     memory (record { areas = areas; bytes = new }) ≡ memory (record { areas = areas; bytes = old })
-memory-reads areas old new same = grind (arith, nat_tests, same_memory, memory-at)
+memory-reads areas old new same = grind (arith, nat_tests, memory-at)
 
 zero_reads : (here : Bool) (own other : Option (List ℕ)) (i : ℕ) → (here ≡ true → own ≡ None) → (here ≡ true → other ≡ None) → byte_of (seen_by (cond here (Some zero_page) own) other) i ≡ byte_of (seen_by own other) i
 zero_reads true own other i none nothing = get_or-zero_page i ∙ sym (ap (λ o. byte_of (seen_by o other) i) (none refl) ∙ ap (λ o. byte_of o i) (nothing refl))
@@ -296,14 +292,10 @@ running_epoch : (to : DestPhase) (epoch source_epoch : ℕ) → is_running to �
 running_epoch DestPhase.Running epoch source_epoch runs at = at
 running_epoch _ epoch source_epoch runs at = none_absurd runs
 
--- only the wire back has changed
-pub kept-back : (world : World) (back : List Sent) → world.up ≡ true → AreOf world.source.epoch back → Wires world.source world.destination world.forward.frames back world.urgent.frames → HeldFits back world.back.held → IsSoundWorld world → IsSoundWorld (record world { back = record world.back { frames = back } })
-kept-back world back up epoch wires fits kept = grind (arith, nat_tests, flight_up)
-
 -- a request is sent where the destination runs and the page was not asked for yet, and is lost where the link is down
 sent_back : (up asked runs : Bool) (world : World) (source : ℕ) → world.up ≡ up → is_running world.destination.phase ≡ runs → IsSoundWorld world →
     IsSoundWorld (record world { back = wire_if up world.back world.destination.epoch (if asked || not runs then [] else Request source ∷ []) })
-sent_back up asked runs world source up_ running kept = grind (arith, nat_tests, kept-back, AreOf-append, running_epoch, request_wires, fits-append)
+sent_back up asked runs world source up_ running kept = grind (arith, nat_tests, AreOf-append, running_epoch, request_wires, fits-append)
 
 -- nothing is sent
 nothing_sent : (up : Bool) (world : World) → world.up ≡ up → IsSoundWorld world → IsSoundWorld (record world { back = wire_if up world.back world.destination.epoch [] })
@@ -325,7 +317,7 @@ at_held events held world =
 -- only the processors, the held faults and the requests have changed
 only_woken : (world : World) (processors : List CpuState) (held : List Fault) (requests : List ℕ) → IsSoundWorld world → world.destination.has_run ≡ true →
     IsSoundWorld (record world { destination = record world.destination { guest = record world.destination.guest { cpus = processors }; held = held; requests = requests } })
-only_woken world processors held requests kept runs = grind (arith, nat_tests, kept-handled, same_pairs)
+only_woken world processors held requests kept runs = grind (arith, nat_tests, kept-handled)
 
 other_page : (here : Bool) (o : Option ℕ) (origin : ℕ) → (here ≡ true → o ≡ None) → o ≡ Some origin → here ≡ false
 other_page here o origin none h = grind arith

@@ -24,7 +24,7 @@ use Rattle.mig_model.specs.Wire.{Sent, Copy}
 use Rattle.mig_model.specs.Migration.{World, after_dest_read, runs, guest_by, with_guest_by, after_command}
 use Rattle.mig_model.specs.Invariant.{IsSoundWorld, Wires, IsReceiving, IsFlowing, AreRight, AreFaults, AreFaithful, has_copy, seen_host, current_host, current_by}
 use Rattle.mig_model.proofs.IoctlLemmas.{IsSoundSpace-read}
-use Rattle.mig_model.proofs.SettledLemmas.{get-owed_table_after, settled_by-applied, values-after, none-after, IsOneToOne-after, owed_below-after}
+use Rattle.mig_model.proofs.SettledLemmas.{get-owed_table_after, settled_by-applied, values-after, IsOneToOne-after, owed_below-after}
 use Rattle.mig_model.specs.Cpus.{Took, entries_of}
 use Rattle.mig_model.specs.Owed.{owed_table_after, settled_by}
 use Rattle.mig_model.specs.Source.{Source, space_of}
@@ -35,7 +35,7 @@ use Rattle.mig_base.specs.declared.command.Entry.{Entry}
 use Rattle.mig_base.specs.Commands.{is_access}
 use Rattle.mig_model.proofs.FaultLemmas.{AreFaults-tried}
 use Rattle.mig_model.proofs.WorldLemmas.{holds_after, flat_after}
-use Rattle.mig_model.proofs.SeenLemmas.{IsSound-seen, watched_mapped}
+use Rattle.mig_model.proofs.SeenLemmas.{IsSound-seen}
 use Rattle.mig_model.proofs.PairLemmas.{pairs_watched}
 use Rattle.mig_model.proofs.TriedLemmas.{IsReady, IsEntered, command_tries}
 use Rattle.mig_model.proofs.TriedLemmas.IsEntered.{Silent, Entered}
@@ -107,13 +107,9 @@ wires_handled _ _ source node forward back urgent guest held owed requests arriv
 
 -- The invariant
 
-runs_memory : (runs : Bool) (world : World) → runs ≡ true → memory (current_host (record world { destination = record world.destination { has_run = runs } })) ≡ memory (seen_host world.destination.guest.space.host (space_of world.source).host (settled_by world.destination.guest.space.object.events (get world.destination.owed)))
-runs_memory true world h = refl
-runs_memory false world h = absurd (false≢true h)
-
 pub kept-handled : (world : World) (guest : Guest) (held : List Fault) (owed : FinMap nat_cmp ℕ) (requests : List ℕ) (arrivals : List Copy) (installed dropped faults : ℕ) → IsSoundWorld world → world.destination.has_run ≡ true → IsHandled world guest owed arrivals →
     IsSoundWorld (record world { destination = handled world.destination guest held owed requests arrivals installed dropped faults })
-kept-handled world guest held owed requests arrivals installed dropped faults kept runs new = grind (arith, nat_tests, runs_memory, up_not_down, wires_handled)
+kept-handled world guest held owed requests arrivals installed dropped faults kept runs new = grind (arith, nat_tests, up_not_down, wires_handled)
 
 -- A message is read
 
@@ -130,7 +126,7 @@ nothing_owed : (owed : FinMap nat_cmp ℕ) → owed ≡ finmap.empty → (page :
 nothing_owed owed h page = ap (λ m. get m page) h ∙ get-empty nat_cmp page
 
 empty-after : (message : Message) (owed : FinMap nat_cmp ℕ) → owed ≡ finmap.empty → owed_table_after message owed ≡ finmap.empty
-empty-after message owed h = grind (arith, nat_tests, same_pages, get-owed_table_after, none-after, nothing_owed)
+empty-after message owed h = grind (arith, nat_tests, same_pages, get-owed_table_after, nothing_owed)
 
 -- an event is read: the settled relation is as it was, and the owed table is what the event makes of it
 event_read : (message : Message) (cpu : ℕ) (events : List Noted) (world : World) (processors : List CpuState) (faults : ℕ) →
@@ -215,7 +211,7 @@ pub current_seen : (world : World) → world.destination.has_run ≡ true → cu
 current_seen world ran = ap (λ b. current_by b world.destination.guest.space.host (space_of world.source).host (settled world.destination)) ran
 
 pub sound_seen : (world : World) → IsSoundWorld world → IsSound (seen_host world.destination.guest.space.host (space_of world.source).host (settled world.destination))
-sound_seen world kept = grind (arith, nat_tests, IsSound-seen, watched_mapped, pairs_watched)
+sound_seen world kept = grind (arith, nat_tests, IsSound-seen, pairs_watched)
 
 -- the world once a command is tried where `runs` tells
 abbrev tried_at : Bool → World → ℕ → Command → World

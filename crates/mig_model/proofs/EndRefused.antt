@@ -13,12 +13,11 @@ use Rattle.mig_model.specs.Source.{is_stopped, space_of}
 use Rattle.mig_model.specs.Migration.{World, Answer, after_end, made, outcome, outcome_by, unless}
 use Rattle.mig_model.specs.Invariant.{IsSoundWorld}
 use Rattle.mig_model.proofs.FrameFaults.{sound_below}
-use Rattle.mig_model.proofs.Facts.{none_absurd}
 
 -- a number below the bound that passes is found, or a lesser one
 by_tests : (stopped unended up left : Bool) (answer : Answer) → stopped ≡ true → unended ≡ false → up ≡ true → unless ((not stopped || unended, Refusal.Phase) ∷ (not up, Refusal.Broken) ∷ (left, Refusal.PagesLeft) ∷ []) answer ≡ (if left then Err Refusal.PagesLeft else answer)
 unfolding unless
-by_tests stopped unended up left answer s o u = grind (arith, nat_tests, none_absurd)
+by_tests stopped unended up left answer s o u = grind (arith, nat_tests)
 
 end_by : (world : World) (left : Bool) → is_stopped world.source.phase ≡ true → eqb world.source.end_epoch world.source.epoch ≡ false → world.up ≡ true → is_some (least_of world.source.remaining) ≡ left →
     outcome world Step.End ≡ outcome_by (if left then Err Refusal.PagesLeft else made Effect.EndSent (after_end world))

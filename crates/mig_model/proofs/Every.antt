@@ -38,7 +38,7 @@ IsKept-issued world cpu command may kept = issued_in world.source.phase world.de
 -- Start
 
 started_in : (from : SourcePhase) (to : DestinationPhase) (ends : Bool) (world : World) → is_idle from ≡ true → IsKept (at_stage from to ends world) → IsKept (started (at_stage from to ends world))
-started_in from to ends world now kept = grind (arith, nat_tests, rewired)
+started_in from to ends world now kept = grind (arith, nat_tests)
 
 pub IsKept-started : (world : World) → is_idle world.source.phase ≡ true → IsKept world → IsKept (started world)
 IsKept-started world now kept = started_in world.source.phase world.destination.phase world.source.end_sent world now kept
@@ -51,7 +51,7 @@ on_the_way host kept ends sound nothing unsent = grind (arith, nat_tests, AreCop
 
 switched_in : (from : SourcePhase) (to : DestinationPhase) (ends : Bool) (world : World) → is_precopy from ≡ true → IsKept (at_stage from to ends world) →
     IsKept (switched (at_stage from to ends world))
-switched_in from to ends world now kept = grind (arith, nat_tests, on_the_way, rewired)
+switched_in from to ends world now kept = grind (arith, nat_tests, on_the_way)
 
 pub IsKept-switched : (world : World) → is_precopy world.source.phase ≡ true → IsKept world → IsKept (switched world)
 IsKept-switched world now kept = switched_in world.source.phase world.destination.phase world.source.end_sent world now kept
@@ -65,7 +65,7 @@ sent_end : (epoch : ℕ) (forward : List Frame) → sent_in epoch forward ++ sen
 sent_end epoch forward = sym (sent_in-append epoch forward (End ∷ []))
 
 ended_in : (from : SourcePhase) (to : DestinationPhase) (world : World) → is_stopped from ≡ true → IsKept (at_stage from to false world) → IsKept (end_sent (at_stage from to false world))
-ended_in from to world now kept = grind (arith, nat_tests, sent_end, rewired, then_end)
+ended_in from to world now kept = grind (arith, nat_tests, sent_end, then_end)
 
 ended_if : (ends : Bool) (world : World) → is_stopped world.source.phase ≡ true → ends ≡ false → IsKept (at_stage world.source.phase world.destination.phase ends world) →
     IsKept (end_sent (at_stage world.source.phase world.destination.phase ends world))
@@ -102,18 +102,15 @@ copy_taken ends world (Zero page ∷ copies) are all wire back epoch kept =
 copy_taken ends world (_ ∷ copies) are all wire back epoch kept = absurd are
 
 delivered_in : (from : SourcePhase) (to : DestinationPhase) (ends : Bool) (world : World) → IsKept (at_stage from to ends world) → IsKept (delivered (at_stage from to ends world) world.forward)
-delivered_in from to ends world kept = grind (arith, nat_tests, taken, at_stage, rewired, unanswered, copy_taken)
+delivered_in from to ends world kept = grind (arith, nat_tests, at_stage, rewired, unanswered, copy_taken)
 
 pub IsKept-delivered : (world : World) → IsKept world → IsKept (delivered world world.forward)
 IsKept-delivered world kept = delivered_in world.source.phase world.destination.phase world.source.end_sent world kept
 
 -- The wire back
 
-taken_back : (world : World) (wire : List Sent) → world.back ≡ wire → IsKept (delivered_back world wire) → IsKept (delivered_back world world.back)
-taken_back world wire is kept = subst (λ l. IsKept (delivered_back world l)) (sym is) kept
-
 delivered_back_in : (from : SourcePhase) (to : DestinationPhase) (ends : Bool) (world : World) → IsKept (at_stage from to ends world) → IsKept (delivered_back (at_stage from to ends world) world.back)
-delivered_back_in from to ends world kept = grind (arith, nat_tests, taken_back, at_stage, IsSound-empty)
+delivered_back_in from to ends world kept = grind (arith, nat_tests, at_stage, IsSound-empty)
 
 pub IsKept-delivered_back : (world : World) → IsKept world → IsKept (delivered_back world world.back)
 IsKept-delivered_back world kept = delivered_back_in world.source.phase world.destination.phase world.source.end_sent world kept

@@ -1,33 +1,28 @@
 -- The pages of faults, unread and held, are pages that may be mapped.
 use Rattle.std.proofs.lemmas.Bool.Decides.{nat_tests}
 use Rattle.std.proofs.Common.{◌≡◌, ℕ, ◌*◌, ◌/◌, Bool, true, false, Option, Some, None, List, [], ◌∷◌, ◌++◌, refl, sym, ap, ◌∙◌, subst, if◌then◌else◌, arith}
-use Rattle.std.specs.Ordering.{nat_cmp}
-use Rattle.std.specs.FinSet.{FinSet}
-use Rattle.std.proofs.lemmas.Option.{none-some, same_Some}
 use Rattle.mig_base.specs.declared.TheConstants.{PAGE_SIZE}
 use Rattle.mig_base.specs.declared.command.Access.{Access}
 use Rattle.mig_base.specs.declared.command.Access.TheVariants.{Answered, Missing, Protected}
 use Rattle.mig_base.specs.declared.command.Command.{Command}
 use Rattle.mig_base.specs.declared.message.Message.{Message}
 use Rattle.mig_base.specs.declared.message.Message.TheVariants.{PageFault}
-use Rattle.mig_base.specs.declared.phase.Received.{Received}
 use Rattle.mig_base.specs.declared.schedule.Side.{Side}
 use Rattle.mig_base.specs.declared.schedule.Step.{Step}
 use Rattle.mig_base.specs.Commands.{is_access, page_of}
-use Rattle.mig_model.specs.Userfault.{Noted, Object, fault_queued, next_message, next_of, read_by, thread_id, waits_fault}
+use Rattle.mig_model.specs.Userfault.{Noted, Object, fault_queued, next_message, next_of, thread_id, waits_fault}
 use Rattle.mig_model.specs.Space.{Space, access_of, accessed_by}
 use Rattle.mig_model.specs.Cpus.{access_took}
-use Rattle.mig_model.specs.Guest.{Act, Fault, Guest, held_after, read_guest, rest_held, space_by, tried}
+use Rattle.mig_model.specs.Guest.{Act, Fault, Guest, held_after, read_guest, space_by, tried}
 use Rattle.mig_model.specs.Owed.{home}
 use Rattle.mig_model.specs.Wire.{Copy, Frame}
-use Rattle.mig_model.specs.Source.{source_act, source_acted_by, source_rebuilt, source_took, space_of}
-use Rattle.mig_model.specs.Destination.{copy_came, destination_act, destination_acted_by, destination_took, install_by, resumed_by, urgent_took}
+use Rattle.mig_model.specs.Source.{source_act, source_acted_by, source_took, space_of}
+use Rattle.mig_model.specs.Destination.{destination_act, destination_acted_by, destination_took, install_by, urgent_took}
 use Rattle.mig_model.specs.Migration.{World, after_dest_read, after_source_read, after_steps, answer, guest_by, next, with_guest_by}
-use Rattle.mig_model.specs.Invariant.{AreRight, IsRight, IsSoundWorld}
+use Rattle.mig_model.specs.Invariant.{AreRight, IsSoundWorld}
 use Rattle.mig_model.specs.Promises.{IsReached}
 use Rattle.mig_model.specs.Bounds.{IsMapping, IsPage}
 use Rattle.mig_model.proofs.Bounded.{IsBounded, bounded-first, bounded-next, has_memory}
-use Rattle.mig_model.proofs.FaultLemmas.{called_faults}
 use Rattle.mig_model.proofs.Registering.{pages_again}
 use Rattle.mig_model.proofs.RightCommands.{right_slept, IsInside}
 use Rattle.mig_model.proofs.StepCases.{holds-made}
@@ -74,7 +69,7 @@ accessed_pages Missing space cpu command is accesses mapping are = fault_pages s
 accessed_pages Protected space cpu command is accesses mapping are = fault_pages space.object (page_of command) _ _ cpu (slept_page space command Protected is refl accesses mapping) are
 
 tried_pages : (access : Bool) (space : Space) (cpu : ℕ) (command : Command) → is_access command ≡ access → IsMapping space.host.areas → AreFaultPages space.object.faults → AreFaultPages (space_by access space cpu command).object.faults
-tried_pages access space cpu command is mapping are = grind (arith, nat_tests, accessed_pages, called_faults)
+tried_pages access space cpu command is mapping are = grind (arith, nat_tests, accessed_pages)
 
 -- Messages that are read
 
@@ -85,23 +80,12 @@ held-push (first ∷ held) fault are is = (are.0, held-push held fault are.1 is)
 held_pages : (message : Message) (held : List Fault) → IsFaultPage message → AreHeldPages held → AreHeldPages (held_after held message)
 held_pages message held is are = grind (arith, nat_tests, held-push)
 
-event_page : (message : Message) → IsRight message → IsFaultPage message
-event_page message right = grind (arith, nat_tests)
-
 -- the message that is read next is of a page that may be mapped, if it is of a fault
 next_page : (faults events : List Noted) (noted : Noted) → next_of faults events ≡ Some noted → AreFaultPages faults → AreRight events → IsFaultPage noted.message
-next_page faults events noted is are right = grind (arith, nat_tests, same_Some, event_page, none-some)
-
-left_pages : (faults : List Noted) (object : Object) → AreFaultPages faults → AreFaultPages object.faults → AreFaultPages (read_by faults object).faults
-left_pages [] object are all = all
-left_pages (fault ∷ faults) object are all = are.1
+next_page faults events noted is are right = grind (arith, nat_tests)
 
 read_pages : (guest : Guest) (cpu : ℕ) (message : Message) → AreFaultPages guest.space.object.faults → AreFaultPages (read_guest guest cpu message).space.object.faults
-read_pages guest cpu message are = grind (arith, nat_tests, left_pages)
-
-rest_pages : (held : List Fault) → AreHeldPages held → AreHeldPages (rest_held held)
-rest_pages [] are = tt
-rest_pages (fault ∷ rest) are = are.1
+read_pages guest cpu message are = grind (arith, nat_tests)
 
 -- Both nodes
 
@@ -128,40 +112,29 @@ guest_inside true world cpu command from to h = with_destination _ world.destina
 guest_inside false world cpu command from to h = with_source _ world.source.log.held (tried_pages (is_access command) (space_of world.source) cpu command refl from h.source) h.source_held h
 
 acted_inside : (act : Act) (world : World) (page : ℕ) → HasFaultsInside world → HasFaultsInside (record world { source = source_acted_by act world.source page })
-acted_inside act world page h = grind (arith, nat_tests, with_source, rest_pages)
+acted_inside act world page h = grind (arith, nat_tests)
 
 handled_inside : (act : Act) (world : World) (page : ℕ) → HasFaultsInside world → HasFaultsInside (record world { destination = destination_acted_by act world.destination page })
-handled_inside act world page h = grind (arith, nat_tests, with_destination, rest_pages)
+handled_inside act world page h = grind (arith, nat_tests)
 
 installed_inside : (o : Option ℕ) (world : World) (copy : Copy) (rest : List Copy) → HasFaultsInside world → HasFaultsInside (record world { destination = install_by o world.destination copy rest })
 installed_inside None world copy rest h = h
 installed_inside (Some page) world copy rest h = h
 
-came_inside : (ran : Bool) (world : World) (copy : Copy) → HasFaultsInside world → HasFaultsInside (record world { destination = copy_came ran world.destination copy })
-came_inside true world copy h = h
-came_inside false world copy h = h
-
-resumed_inside : (state : Received) (world : World) (epoch : ℕ) → HasFaultsInside world → HasFaultsInside (record world { destination = resumed_by state (record world.destination { epoch = epoch; urgent_taken = 0 }) })
-resumed_inside state world epoch h = grind (arith, nat_tests)
-
 took_inside : (frame : Frame) (epoch : ℕ) (world : World) → HasFaultsInside world → HasFaultsInside (record world { destination = destination_took world.destination epoch frame })
-took_inside frame epoch world h = grind (arith, nat_tests, with_destination, came_inside, resumed_inside)
+took_inside frame epoch world h = grind (arith, nat_tests)
 
 urgent_inside : (frame : Frame) (world : World) → HasFaultsInside world → HasFaultsInside (record world { destination = urgent_took world.destination frame })
 urgent_inside frame world h = grind (arith, nat_tests)
 
-rebuilt_inside : (switched : Bool) (world : World) (owed : FinSet nat_cmp) → HasFaultsInside world → HasFaultsInside (record world { source = source_rebuilt Received.NotRun owed (record world.source { switched = switched }) })
-rebuilt_inside true world owed h = h
-rebuilt_inside false world owed h = h
-
 back_inside : (frame : Frame) (world : World) → HasFaultsInside world → HasFaultsInside (record world { source = source_took world.source frame })
-back_inside frame world h = grind (arith, nat_tests, rebuilt_inside, with_source)
+back_inside frame world h = grind (arith, nat_tests)
 
 source_read_inside : (world : World) (noted : Noted) → IsSoundWorld world → next_message (space_of world.source).object ≡ Some noted → HasFaultsInside world → HasFaultsInside (after_source_read world noted)
-source_read_inside world noted kept is h = grind (arith, nat_tests, with_source, read_pages, held_pages, next_page)
+source_read_inside world noted kept is h = grind (arith, nat_tests, read_pages, held_pages, next_page)
 
 dest_read_inside : (world : World) (noted : Noted) → IsSoundWorld world → next_message world.destination.guest.space.object ≡ Some noted → HasFaultsInside world → HasFaultsInside (after_dest_read world noted)
-dest_read_inside world noted kept is h = grind (arith, nat_tests, with_destination, read_pages, held_pages, next_page)
+dest_read_inside world noted kept is h = grind (arith, nat_tests, read_pages, held_pages, next_page)
 
 -- Steps
 

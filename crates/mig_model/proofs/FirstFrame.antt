@@ -48,7 +48,7 @@ is_late Copies = false
 is_late flow = true
 
 late_next : (flow next : Flow) (frame : Frame) → is_late flow ≡ true → flow_next flow frame ≡ Some next → is_late next ≡ true
-late_next flow next frame late h = grind (arith, nat_tests, none-some)
+late_next flow next frame late h = grind (arith, nat_tests)
 
 -- behind a Discard the wire does not come back to copies that are kept
 pub stays_late : (flow : Flow) (wire : List Sent) → is_late flow ≡ true → flow_after flow wire ≡ Some Copies → ⊥
@@ -88,7 +88,7 @@ comes SourcePhase.Paused DestPhase.Paused Resume = true
 comes from to frame = false
 
 copy_first : (frame : Frame) (rest : List Sent) → option_and_then (λ next. flow_after next rest) (flow_next Copies frame) ≡ Some Copies → has_copies frame ≡ true
-copy_first frame rest h = grind (arith, nat_tests, ends_late, none-some)
+copy_first frame rest h = grind (arith, nat_tests, ends_late)
 
 resume_first : (sent : Sent) (rest : List Sent) (epoch : ℕ) → sent ∷ rest ≡ record { epoch = epoch; frame = Resume } ∷ [] → comes SourcePhase.Paused DestPhase.Paused sent.frame ≡ true
 resume_first sent rest epoch h = ap (λ (wire : List Sent). elim wire [ [] ↦ false | s ∷ _ ↦ comes SourcePhase.Paused DestPhase.Paused s.frame ]) h

@@ -1,5 +1,5 @@
 -- What a Package or a Recv that is in flight tells, whatever the phases are; and what a Switch owes.
-use Rattle.std.proofs.Common.{◌≡◌, ℕ, ◌&&◌, Bool, true, false, not, ltb, Option, Some, None, is_some, List, [], ◌∷◌, refl, sym, ap, ◌∙◌, subst, arith, IsOk, ◌⊎◌, ◌≤◌, if◌then◌else◌}
+use Rattle.std.proofs.Common.{◌≡◌, ℕ, ◌&&◌, Bool, true, false, not, ltb, Option, Some, None, is_some, List, [], ◌∷◌, refl, sym, ap, ◌∙◌, subst, arith, IsOk, if◌then◌else◌}
 use Rattle.std.specs.Option.{option_and_then}
 use Rattle.std.specs.FinSet.{contains}
 use Rattle.std.proofs.lemmas.Bool.Decides.{nat_tests}
@@ -11,7 +11,6 @@ use Rattle.mig_base.specs.declared.phase.Received.{Received}
 use Rattle.mig_base.specs.declared.phase.SourcePhase.{SourcePhase}
 use Rattle.mig_base.specs.declared.schedule.Step.{Step}
 use Rattle.mig_base.specs.Tests.{is_empty}
-use Rattle.mig_base.proofs.TestLemmas.{none_is_some}
 use Rattle.mig_model.specs.Wire.{Frame, Sent, wire_with}
 use Rattle.mig_model.specs.Wire.Frame.{Request, Done}
 use Rattle.mig_model.specs.Guest.{is_present}
@@ -23,7 +22,7 @@ use Rattle.mig_model.specs.Promises.{has_recv, is_running_recv}
 use Rattle.mig_model.proofs.FirstFrame.{stays_late}
 use Rattle.mig_model.proofs.Stopping.{in_phases, member_not_clean}
 use Rattle.mig_model.proofs.StepCases.{made-ok}
-use Rattle.mig_model.proofs.Facts.{either, and_false}
+use Rattle.mig_model.proofs.Facts.{either}
 
 -- A Package in flight
 
@@ -34,7 +33,7 @@ is_past AfterEnd = true
 is_past flow = false
 
 past_next : (flow next : Flow) (frame : Frame) → is_past flow ≡ true → flow_next flow frame ≡ Some next → (is_past next ≡ true) × (is_package frame ≡ false)
-past_next flow next frame past h = grind (arith, nat_tests, none-some)
+past_next flow next frame past h = grind (arith, nat_tests)
 
 not_here : (here : Bool) (frame : Frame) (rest : Option Frame) → here ≡ false → is_some (if here then Some frame else rest) ≡ true → is_some rest ≡ true
 not_here true frame rest h there = absurd (false≢true (sym h))
@@ -53,7 +52,7 @@ none_past flow end (sent ∷ rest) past h there =
 
 -- a Package goes to a later place, from which the wire does not come back
 package_next : (flow next : Flow) (frame : Frame) → is_package frame ≡ true → flow_next flow frame ≡ Some next → next ≡ Pushed
-package_next flow next frame is h = grind (arith, nat_tests, none-some)
+package_next flow next frame is h = grind (arith, nat_tests)
 
 here_or_later : {A : Type 0} (here : Bool) (frame : Frame) (rest : Option Frame) → is_some (if here then Some frame else rest) ≡ true → (here ≡ true → A) → (is_some rest ≡ true → A) → A
 here_or_later true frame rest there now later = now refl
@@ -132,7 +131,7 @@ no_recv wire none there = absurd (false≢true (sym none ∙ there))
 
 recv_in_phases : (from : SourcePhase) (to : DestPhase) (world : World) → world.up ≡ true → IsSoundWorld (in_phases from to world) → has_recv world.back.frames ≡ true →
     IsReceiving (in_phases from to world).source (in_phases from to world).destination Received.Running world.back.frames
-recv_in_phases from to world up kept there = grind (arith, nat_tests, no_recv, requests_no_recv, ended_no_recv)
+recv_in_phases from to world up kept there = grind (arith, nat_tests, requests_no_recv, ended_no_recv)
 
 pub recv_tells : (world : World) → IsSoundWorld world → has_recv world.back.frames ≡ true → IsReceiving world.source world.destination Received.Running world.back.frames
 recv_tells world kept there =
@@ -140,11 +139,8 @@ recv_tells world kept there =
 
 -- Switch
 
-below_or_not : (page : ℕ) → (ltb page HIGH_PAGE ≡ true) ⊎ (HIGH_PAGE ≤ page)
-below_or_not page = grind (arith, nat_tests)
-
 present_low : (world : World) (page : ℕ) → IsSoundWorld world → (ltb page HIGH_PAGE && is_present (space_of world.source) page) ≡ is_present (space_of world.source) page
-present_low world page kept = grind (arith, nat_tests, none_is_some, below_or_not, and_false)
+present_low world page kept = grind (arith, nat_tests)
 
 pub owed_at : (world : World) (page : ℕ) → IsSoundWorld world → contains (not_clean world.source) page ≡ (is_present (space_of world.source) page && not (contains world.source.log.clean page))
 owed_at world page kept = member_not_clean world.source page ∙ ap (λ b. b && not (contains world.source.log.clean page)) (present_low world page kept)

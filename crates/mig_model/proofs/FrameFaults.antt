@@ -6,7 +6,7 @@ use Rattle.std.specs.FinMap as finmap
 use Rattle.std.specs.FinMap.{FinMap, contains_key, retain_keys, get, get-empty, get-retain_keys}
 use Rattle.std.specs.FinSet as finset
 use Rattle.std.specs.FinSet.{FinSet, contains, contains-empty, contains-retain, len-empty, nat_cmp-IsAntisymmetric}
-use Rattle.std.proofs.lemmas.Bool.{false≢true, and_from, eq-eqb, leb-true, lt-ltb, not_from_true, or_from}
+use Rattle.std.proofs.lemmas.Bool.{false≢true, and_from, eq-eqb, leb-true, not_from_true, or_from}
 use Rattle.std.proofs.lemmas.Bool.Decides.{nat_tests}
 use Rattle.mig_base.specs.declared.Prot.{Prot}
 use Rattle.mig_base.specs.declared.fault.BackFault.{BackFault}
@@ -39,9 +39,6 @@ none_first : {A : Type 0} (test : Bool) (value : A) (rest : Option A) → test �
 none_first true value rest h none = none_absurd (sym h)
 none_first false value rest h none = none
 
-three_none : {A : Type 0} (a b c : Bool) (x y z : A) → a ≡ false → b ≡ false → c ≡ false → first_holding ((a, x) ∷ (b, y) ∷ (c, z) ∷ []) ≡ None
-three_none a b c x y z h k l = none_first a x _ h (none_first b y _ k (none_first c z None l refl))
-
 two_none : {A : Type 0} (a b : Bool) (x y : A) → a ≡ false → b ≡ false → first_holding ((a, x) ∷ (b, y) ∷ []) ≡ None
 two_none a b x y h k = none_first a x _ h (none_first b y None k refl)
 
@@ -59,7 +56,7 @@ no_member set test h q =
     contains-retain set test q (λ x e. ap test (sym (nat_cmp-IsAntisymmetric q x e))) ∙ and_none (contains set q) (test q) (h q)
 
 gone : {X : Type 0} (keep : Bool) (o : Option X) → (is_some o ≡ true → keep ≡ false) → cond keep o None ≡ None
-gone keep o h = grind (arith, nat_tests, none_absurd)
+gone keep o h = grind (arith, nat_tests)
 
 none_kept : {X : Type 0} (map : FinMap nat_cmp X) (keep : ℕ → Bool) → ((q : ℕ) → contains_key map q ≡ true → keep q ≡ false) → not (eqb (finmap.len (retain_keys map keep)) 0) ≡ false
 none_kept {X} map keep h =
@@ -84,32 +81,32 @@ not_too_soon node Advise good = refl
 not_too_soon node _ good = refl
 
 of_epoch : (own epoch : ℕ) (node : Destination) (frame : Frame) → own ≡ node.epoch → IsOwnEpoch node epoch frame → is_of_epoch own epoch frame ≡ true
-of_epoch own epoch node frame is h = grind (arith, nat_tests, lt-ltb, eq-eqb)
+of_epoch own epoch node frame is h = grind (arith, nat_tests)
 
 torn_by : (kept mapped : Bool) → kept ≡ false → mapped ≡ true → (kept || not mapped) ≡ false
 torn_by kept mapped h k = or_from kept (not mapped) h (not_from_true mapped k)
 
 not_torn : (kept : FinMap nat_cmp (List ℕ)) (areas : FinMap nat_cmp Prot) (owed : FinSet nat_cmp) → ((page : ℕ) → contains owed page ≡ true → contains_key kept page ≡ false) →
     ((page : ℕ) → contains owed page ≡ true → contains_key areas page ≡ true) → ((page : ℕ) → contains_key kept page ≡ true → contains_key areas page ≡ true) → is_torn kept areas owed ≡ false
-not_torn kept areas owed apart mapped kept_mapped = grind (arith, nat_tests, or_from, none_empty, no_member, torn_by, none_kept, not_from_true)
+not_torn kept areas owed apart mapped kept_mapped = grind (arith, nat_tests, none_empty, no_member, torn_by, none_kept, not_from_true)
 
 pub no_fewer : (came told : ℕ) → came ≤ told → ltb told came ≡ false
 no_fewer came told h = grind (arith, nat_tests)
 
 not_bad : (node : Destination) (frame : Frame) → IsGood node frame → is_bad node frame ≡ false
-not_bad node frame good = grind (arith, nat_tests, or_from, not_torn, not_from_true, eq-eqb, no_fewer)
+not_bad node frame good = grind (arith, nat_tests, not_torn, not_from_true, eq-eqb, no_fewer)
 
 -- a frame that is taken is not wrong
 pub no_frame_fault : (node : Destination) (sent : Sent) → IsTaken node sent → frame_fault node sent.epoch sent.frame ≡ None
-no_frame_fault node sent taken = grind (arith, nat_tests, three_none, or_from, not_from_true, not_too_soon, of_epoch, not_bad)
+no_frame_fault node sent taken = grind (arith, nat_tests, or_from, not_from_true, not_too_soon, of_epoch, not_bad)
 
 pub no_urgent_fault : (node : Destination) (sent : Sent) → IsTakenUrgent node sent → urgent_fault node sent.epoch sent.frame ≡ None
-no_urgent_fault node sent taken = grind (arith, nat_tests, two_none, not_from_true, and_from, eq-eqb)
+no_urgent_fault node sent taken = grind (arith, nat_tests)
 
 -- The source
 
 in_place_back : (node : Source) (frame : Frame) → IsInPlaceBack node frame → is_in_place_back node frame ≡ true
-in_place_back node frame place = grind (arith, nat_tests, and_from, eq-eqb)
+in_place_back node frame place = grind (arith, nat_tests)
 
 pub no_back_fault : (node : Source) (sent : Sent) → IsInPlaceBack node sent.frame → sent.epoch ≡ node.epoch → back_fault node sent.epoch sent.frame ≡ None
 no_back_fault node sent place own =
@@ -121,13 +118,13 @@ none_listed owed none = ap (λ s. not (eqb (finset.len s) 0)) none ∙ ap (λ n.
 -- a Recv that is taken lists what the source has
 pub no_rebuild_fault : (node : Source) (state : Received) (owed : FinSet nat_cmp) → ((page : ℕ) → is_present (space_of node) page ≡ true → contains (present (space_of node)) page ≡ true) → IsInPlaceBack node (Recv state owed) →
     rebuild_fault node state owed ≡ None
-no_rebuild_fault node state owed below place = grind (arith, nat_tests, none_first, none_listed, or_from, not_from_true, none_empty, no_member)
+no_rebuild_fault node state owed below place = grind (arith, nat_tests, none_listed, or_from, not_from_true, none_empty, no_member)
 
 -- A Deliver that completes a frame
 
 passes : (started up : Bool) (answer : Answer) → started ≡ true → up ≡ true → unless ((not started, Refusal.Phase) ∷ (not up, Refusal.Broken) ∷ []) answer ≡ answer
 unfolding unless
-passes started up answer s u = grind (arith, nat_tests, none_absurd)
+passes started up answer s u = grind (arith, nat_tests)
 
 -- the two reasons for which it may be refused
 abbrev waits : World → Sent → List (Bool × Refusal)
@@ -174,13 +171,8 @@ full_by world n sent rest fault is h =
     ∙ told_by (is_end sent.frame && not (is_empty world.destination.arrivals)) (is_early world.destination sent.frame) new
     ∙ ap (λ f. answer_to f new) (only_waits world.destination sent fault is.right h)
 
--- nothing is in flight before Start
-unstarted : (idle : Bool) (frames : List Sent) (sent : Sent) (rest : List Sent) → (idle ≡ true → frames ≡ []) → frames ≡ sent ∷ rest → not idle ≡ true
-unstarted false frames sent rest none first = refl
-unstarted true frames sent rest none first = absurd (let e : sent ∷ rest ≡ [] = sym first ∙ none refl in cc)
-
 pub is_full : (world : World) (n : ℕ) (sent : Sent) (rest : List Sent) → IsSoundWorld world → world.up ≡ true → world.forward.frames ≡ sent ∷ rest → is_short world.forward sent.frame n ≡ false → IsTaken world.destination sent → IsFull world n sent rest
-is_full world n sent rest kept up first full taken = grind (arith, nat_tests, unstarted, idle_forward, no_frame_fault)
+is_full world n sent rest kept up first full taken = grind (arith, nat_tests, idle_forward, no_frame_fault)
 
 pub sound_below : (space : Space) → IsSoundSpace space → (page : ℕ) → is_present space page ≡ true → page < HIGH_PAGE
 sound_below space sound page h = low_or (λ high. false≢true (sym (ap is_some (sound.host.mapped page (sound.host.bound page high))) ∙ h))

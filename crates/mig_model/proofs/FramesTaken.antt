@@ -1,12 +1,11 @@
 -- No frame is refused: the first frame of each wire is in place, of the right epoch, and right.
 use Rattle.std.proofs.lemmas.Bool.Decides.{nat_tests}
-use Rattle.std.proofs.Common.{◌≡◌, ◌≢◌, ℕ, ◌&&◌, ◌||◌, Bool, true, false, cond, Option, None, List, [], ◌∷◌, refl, sym, ap, ◌∙◌, subst, arith, is_some}
+use Rattle.std.proofs.Common.{◌≡◌, ℕ, Bool, true, false, cond, Option, None, List, [], ◌∷◌, refl, sym, ap, ◌∙◌, subst, arith, is_some}
 use Rattle.std.specs.Ordering.{nat_cmp}
 use Rattle.std.specs.FinMap as finmap
 use Rattle.std.specs.FinMap.{FinMap, get, contains_key, get-empty}
 use Rattle.std.specs.FinSet.{FinSet, contains}
 use Rattle.mig_base.specs.declared.phase.DestPhase.{DestPhase}
-use Rattle.mig_base.specs.declared.phase.Received.{Received}
 use Rattle.mig_base.specs.declared.phase.SourcePhase.{SourcePhase}
 use Rattle.mig_base.specs.declared.Prot.{Prot}
 use Rattle.mig_base.specs.declared.command.Command.{Command}
@@ -21,28 +20,27 @@ use Rattle.mig_model.specs.Space.{Space}
 use Rattle.mig_model.specs.Wire.{Frame, Sent}
 use Rattle.mig_model.specs.Wire.Frame.{Advise, Page, Zero, Run, Discard, Package, End, Resume, Request, Recv, Done}
 use Rattle.mig_model.specs.Migration.{World}
-use Rattle.mig_model.specs.Invariant.{IsSoundWorld, IsSwitching, IsFlowing, EpochAt, AreOf, flow_of, is_request, is_done, AreSoundUrgent}
+use Rattle.mig_model.specs.Invariant.{IsSoundWorld, IsSwitching, IsFlowing, EpochAt, AreOf, flow_of, AreSoundUrgent}
 use Rattle.mig_model.proofs.Taken.{IsOwnEpoch, IsGood, IsTaken, IsInPlaceBack}
 use Rattle.mig_model.specs.Faults.{is_in_place}
-use Rattle.mig_model.proofs.FirstFrame.{comes, first_in_place, nothing_behind, empty_not}
+use Rattle.mig_model.proofs.FirstFrame.{comes, nothing_behind}
 use Rattle.mig_model.specs.Cpus.{outstanding}
-use Rattle.mig_model.specs.Log.{no_pages, present}
-use Rattle.mig_model.specs.Source.{Source, commands_of, is_source_paused, is_stopped, space_of}
+use Rattle.mig_model.specs.Log.{present}
+use Rattle.mig_model.specs.Source.{Source, commands_of, space_of}
 use Rattle.mig_model.specs.Destination.{Destination}
-use Rattle.mig_model.proofs.Facts.{none_absurd, and_left}
+use Rattle.mig_model.proofs.Facts.{none_absurd}
 use Rattle.mig_model.proofs.UrgentWire.{EndTells, end_tells}
-use Rattle.mig_model.proofs.SpaceLemmas.{no_member}
 use Rattle.mig_model.proofs.Delivery.{ended_now, nowhere}
 
 -- In place
 
 place_of : (from : SourcePhase) (to : DestPhase) (frame : Frame) → comes from to frame ≡ true → is_in_place to frame ≡ true
-place_of from to frame h = grind (arith, nat_tests, none_absurd)
+place_of from to frame h = grind (arith, nat_tests)
 
 -- Of the right epoch
 
 epoch_of : (to : DestPhase) (node : Destination) (epoch source_epoch : ℕ) (frame : Frame) → is_in_place to frame ≡ true → epoch ≡ source_epoch → EpochAt to node.epoch source_epoch → IsOwnEpoch node epoch frame
-epoch_of to node epoch source_epoch frame h e at = grind (arith, nat_tests, none_absurd)
+epoch_of to node epoch source_epoch frame h e at = grind (arith, nat_tests)
 
 -- Right
 
@@ -119,7 +117,7 @@ good_of from to epoch Done rest world h up kept many tells = tt
 good_of _ _ epoch _ rest world h up kept many tells = none_absurd h
 
 taken_in : (from : SourcePhase) (to : DestPhase) (epoch : ℕ) (frame : Frame) (rest : List Sent) (world : World) → world.up ≡ true → IsSoundWorld (with_first from to epoch frame rest world) → AreAsMany world → EndTells frame world → IsTaken (with_first from to epoch frame rest world).destination (record { epoch = epoch; frame = frame })
-taken_in from to epoch frame rest world up kept many tells = grind (arith, nat_tests, first_in_place, place_of, epoch_of, good_of)
+taken_in from to epoch frame rest world up kept many tells = grind (arith, nat_tests, place_of, epoch_of, good_of)
 
 -- the first frame on the wire to the destination
 pub is_taken : (world : World) (sent : Sent) (rest : List Sent) → IsSoundWorld world → AreSoundUrgent world → AreAsMany world → world.up ≡ true → world.forward.frames ≡ sent ∷ rest → IsTaken world.destination sent
@@ -128,26 +126,12 @@ is_taken world sent rest kept urgent many up first =
 
 -- The wire back
 
-first_is : (sent other : Sent) (rest more : List Sent) → sent ∷ rest ≡ other ∷ more → sent.frame ≡ other.frame
-first_is sent other rest more h = ap (λ (wire : List Sent). elim wire [ [] ↦ sent.frame | s ∷ _ ↦ s.frame ]) h
-
-request_place : (frame : Frame) (node : Source) → is_stopped node.phase ≡ true → is_request frame ≡ true → IsInPlaceBack node frame
-request_place (Request page) node stopped h = stopped
-request_place _ node stopped h = none_absurd h
-
-done_place : (frame : Frame) (node : Source) (more last : Bool) → is_stopped node.phase ≡ true → node.end_epoch ≡ node.epoch → (is_request frame && more || is_done frame && last) ≡ true → IsInPlaceBack node frame
-done_place frame node more last stopped ended h = grind (arith, nat_tests, none_absurd)
-
-recv_place : (frame : Frame) (state : Received) (owed : FinSet nat_cmp) (node : Source) → is_source_paused node.phase ≡ true → ((page : ℕ) → contains owed page ≡ true → is_present (space_of node) page ≡ true) → (state ≢ Received.Running → owed ≡ no_pages) →
-    (state ≢ Received.NotRun → node.switched ≡ true) → frame ≡ Recv state owed → IsInPlaceBack node frame
-recv_place frame state owed node paused present listed switched is = subst (IsInPlaceBack node) (sym is) (paused, present, listed, switched)
-
 -- a world in these phases, with this first frame on the wire back
 abbrev with_back : SourcePhase → DestPhase → Sent → List Sent → World → World
 with_back from to sent rest world = record world { source = record world.source { phase = from }; destination = record world.destination { phase = to }; back = record world.back { frames = sent ∷ rest } }
 
 back_in : (from : SourcePhase) (to : DestPhase) (sent : Sent) (rest : List Sent) (world : World) → world.up ≡ true → IsSoundWorld (with_back from to sent rest world) → IsInPlaceBack (with_back from to sent rest world).source sent.frame
-back_in from to sent rest world up kept = grind (arith, nat_tests, request_place, and_left, done_place, empty_not, recv_place, none_absurd, no_member, first_is)
+back_in from to sent rest world up kept = grind (arith, nat_tests)
 
 -- the first frame on the wire back, and its epoch
 pub is_taken_back : (world : World) (sent : Sent) (rest : List Sent) → IsSoundWorld world → world.up ≡ true → world.back.frames ≡ sent ∷ rest → IsInPlaceBack world.source sent.frame

@@ -154,10 +154,10 @@ pub some_bound : (count : ℕ) → 0 < run_bound count
 some_bound count = grind (arith, nat_tests)
 
 pub last_in : (first number : ℕ) → 0 < number → in_range first number (first + (number - 1)) ≡ true
-last_in first number h = grind (arith, nat_tests, h)
+last_in first number h = grind (arith, nat_tests)
 
 pub first_in : (first number : ℕ) → 0 < number → in_range first number first ≡ true
-first_in first number h = grind (arith, nat_tests, h)
+first_in first number h = grind (arith, nat_tests)
 
 pub end_below : (first number : ℕ) → 0 < number → first + (number - 1) < HIGH_PAGE → first + number ≤ HIGH_PAGE
 end_below first number h l = omega (arith, h, l)
@@ -201,7 +201,7 @@ zero_protected cpus world addr all answered =
 -- the pages of a run are protected together, as they are found
 run_watched : (world : World) (first bound : ℕ) → IsSoundWorld world → is_precopy world.source.phase ≡ true → ltb 0 (length (space_of world.source).object.events) ≡ false → (q : ℕ) → in_range first (run_length world.source.log.todo first bound) q ≡ true →
     contains (space_of world.source).object.protect q ≡ true
-run_watched world first bound kept precopy quiet q h = grind (arith, nat_tests, precopy_unswitched, member_run, no_event)
+run_watched world first bound kept precopy quiet q h = grind (arith, nat_tests, member_run, no_event)
 
 abbrev run_guest : World → ℕ → ℕ → Guest
 run_guest world first number = record world.source.guest { space = protected_in (space_of world.source) first number true }

@@ -24,18 +24,18 @@ use Rattle.mig_model.proofs.Facts.{none_absurd, and_second, and_left, in_range_f
 -- Registered pages
 
 low_or : {page : ℕ} → (HIGH_PAGE ≤ page → ⊥) → ltb page HIGH_PAGE ≡ true
-low_or h = grind (arith, nat_tests, h)
+low_or h = grind (arith, nat_tests)
 
 pub below_high : (space : Space) (page : ℕ) → IsSoundSpace space → contains_key space.host.areas page ≡ true → ltb page HIGH_PAGE ≡ true
 below_high space page sound mapped = low_or (λ h. false≢true (sym (ap is_some (sound.host.bound page h)) ∙ mapped))
 
 pub IsSoundSpace-registered : (space : Space) (first count : ℕ) (mode : Mode) → IsSoundSpace space → IsSoundSpace (registered_in space first count mode)
-IsSoundSpace-registered space first count mode sound = grind (arith, nat_tests, and_second, or_left, member_below, or_right, or_cases, and_left, below_high)
+IsSoundSpace-registered space first count mode sound = grind (arith, nat_tests, or_left, member_below, or_right, or_cases, and_left, below_high)
 
 -- A range that is registered no longer
 
 pub IsSoundSpace-unregistered : (space : Space) (first count : ℕ) → IsSoundSpace space → IsSoundSpace (unregistered_in space first count)
-IsSoundSpace-unregistered space first count sound = grind (arith, nat_tests, or_left, and_left, member_without, or_right, or_cases, and_second)
+IsSoundSpace-unregistered space first count sound = grind (arith, nat_tests, and_left, member_without, or_right, or_cases, and_second)
 
 -- Pages put
 
@@ -54,7 +54,7 @@ pub record CanPut (space : Space) (first count : ℕ) (bytes : ℕ → List ℕ)
   pub watched : protect ≡ true → (page : ℕ) → in_range first count page ≡ true → contains space.object.protect page ≡ true
 
 pub IsSoundSpace-installed : (space : Space) (first count : ℕ) (bytes : ℕ → List ℕ) (protect : Bool) → CanPut space first count bytes protect → IsSoundSpace space → IsSoundSpace (installed space first count bytes protect)
-IsSoundSpace-installed space first count bytes protect can sound = grind (arith, nat_tests, or_cases, and_second, member_below, get-put_pages, false≢true, in_range_first, some_either, and_left)
+IsSoundSpace-installed space first count bytes protect can sound = grind (arith, nat_tests, and_second, member_below, get-put_pages, false≢true, in_range_first, some_either, and_left)
 
 -- Write protection
 

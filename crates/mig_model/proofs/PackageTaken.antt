@@ -30,7 +30,6 @@ use Rattle.mig_model.specs.Owed.{own_places}
 use Rattle.mig_model.specs.Source.{Source, space_of}
 use Rattle.mig_model.specs.Destination.{assembled, settled}
 use Rattle.mig_model.proofs.WireLemmas.{fits-none, flight_up}
-use Rattle.mig_model.proofs.Facts.{none_or}
 use Rattle.mig_model.proofs.SourceRounds.{present_mapped}
 
 -- Owed pages at their own places
@@ -49,12 +48,9 @@ get-own_places owed (suc bound) q =
     ∙ ap (λ o. cond (eqb q bound) (cond (contains owed bound) (Some bound) None) o) (get-own_places owed bound q)
     ∙ placed owed bound q
 
-own_tells : (low owed : Bool) (q origin : ℕ) → cond (low && owed) (Some q) None ≡ Some origin → (low ≡ true) × (owed ≡ true) × (origin ≡ q)
-own_tells low owed q origin h = grind arith
-
 -- what a pair of the table tells
 pub own_place : (owed : FinSet nat_cmp) (page origin : ℕ) → get (own_places owed HIGH_PAGE) page ≡ Some origin → (page < HIGH_PAGE) × (contains owed page ≡ true) × (origin ≡ page)
-own_place owed page origin h = grind (arith, nat_tests, own_tells, get-own_places, ltb-true)
+own_place owed page origin h = grind (arith, nat_tests, get-own_places, ltb-true)
 
 -- The space that is put together
 
@@ -92,7 +88,7 @@ IsRest host owed kept = (page : ℕ) → get kept page ≡ (if contains owed pag
 -- a host of the source's areas with these pages is sound
 sound_rest : (host : Host) (owed : FinSet nat_cmp) (areas : FinMap nat_cmp Prot) (kept : FinMap nat_cmp (List ℕ)) → areas ≡ host.areas → IsRest host owed kept → IsSound host →
     ((page : ℕ) (bytes : List ℕ) → get kept page ≡ Some bytes → length bytes ≡ 4096) → IsSound (record { areas = areas; bytes = kept })
-sound_rest host owed areas kept same rest sound whole = grind (arith, nat_tests, none_or)
+sound_rest host owed areas kept same rest sound whole = grind (arith, nat_tests)
 
 seen_rest : (low owed : Bool) (q : ℕ) (pages : FinMap nat_cmp (List ℕ)) (here : Option (List ℕ)) (own : Option ℕ) → here ≡ cond owed None (get pages q) → own ≡ cond (low && owed) (Some q) None → (low ≡ false → get pages q ≡ None) →
     cond low (elim here [ Some bytes ↦ Some bytes | None ↦ option_and_then (get pages) own ]) None ≡ get pages q

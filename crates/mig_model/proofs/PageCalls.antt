@@ -6,7 +6,7 @@ use Rattle.std.specs.Prelude.{Ok}
 use Rattle.std.specs.Ordering.{nat_cmp}
 use Rattle.std.specs.FinMap.{FinMap, contains_key, insert}
 use Rattle.std.specs.FinSet.{contains}
-use Rattle.std.proofs.lemmas.Bool.{and_from, not_from_true}
+use Rattle.std.proofs.lemmas.Bool.{not_from_true}
 use Rattle.std.proofs.lemmas.Bool.Decides.{nat_tests}
 use Rattle.mig_base.specs.declared.TheConstants.{LOW_PAGE, HIGH_PAGE}
 use Rattle.std.proofs.lemmas.List.{take_all}
@@ -28,7 +28,6 @@ use Rattle.mig_model.specs.Ioctls.{Put, answered_by, copy_error, copy_errors, ha
 use Rattle.mig_model.specs.Bounds.{IsPage}
 use Rattle.mig_model.specs.Handlers.{IsCopy, IsWake, IsWriteProtect, IsZeroPage, page_put, woken_by}
 use Rattle.mig_model.specs.Cpus.{all_woken}
-use Rattle.mig_model.proofs.Facts.{only_one}
 use Rattle.mig_model.proofs.Registering.{left_new, nothing_holds, pages_again, range_good}
 
 -- a page for which a call is made: the object is enabled, no event is unread, and the page may be mapped
@@ -58,7 +57,7 @@ and_three a b c ha hb hc = grind (arith, nat_tests)
 
 -- a mapped page that is registered is one area
 one_area : (space : Space) (page : ℕ) → contains_key space.host.areas page ≡ true → is_registered space.object page ≡ true → is_one_area space page 1 ≡ true
-one_area space page mapped registered = grind (arith, nat_tests, every_one, and_from, and_three, same_prot_self, same_bool_self)
+one_area space page mapped registered = grind (arith, nat_tests, every_one, and_three, same_prot_self, same_bool_self)
 
 -- a missing page is put whole
 missing_one : (space : Space) (page : ℕ) → is_present space page ≡ false → missing_run space page 1 ≡ 1
@@ -72,7 +71,7 @@ one_put addr = ap (λ b. record { bytes = 4096; fault = None; wake = if b then N
 
 -- the range of a page is that page
 page_bytes : (page q : ℕ) → eqb q page ≡ in_bytes (4096 * page) (4096 * page + 4096) q
-page_bytes page q = grind (arith, nat_tests, only_one, pages_again)
+page_bytes page q = grind (arith, nat_tests)
 
 pub page_woken : (guest : Guest) (page : ℕ) (space : Space) → (resolved guest page space).cpus ≡ woken_by (Range (4096 * page) 4096) guest.cpus
 page_woken guest page space = let same : (λ q. eqb q page) ≡ in_bytes (4096 * page) (4096 * page + 4096) = λ i q. page_bytes page q i in ap (λ test. all_woken test guest.cpus) same
@@ -80,7 +79,7 @@ page_woken guest page space = let same : (λ q. eqb q page) ≡ in_bytes (4096 *
 -- UFFDIO_ZEROPAGE
 
 zeropage_accepted : (space : Space) (page : ℕ) → IsCalled space page → contains_key space.host.areas page ≡ true → is_registered space.object page ≡ true → zeropage_error space (4096 * page) 4096 0 ≡ None
-zeropage_accepted space page is mapped registered = grind (arith, nat_tests, nothing_holds, not_from_true, page_range, pages_again, one_area)
+zeropage_accepted space page is mapped registered = grind (arith, nat_tests, not_from_true, page_range, pages_again, one_area)
 
 pub zero_page_made : (guest : Guest) (page : ℕ) → IsCalled guest.space page → contains_key guest.space.host.areas page ≡ true → is_registered guest.space.object page ≡ true → is_present guest.space page ≡ false →
     IsZeroPage guest (resolved guest page (zero_installed guest.space page)) (4096 * page)
@@ -103,7 +102,7 @@ abbrev copy_errors_of : Space → ℕ → ℕ → List (Bool × Errno)
 copy_errors_of space page len = copy_errors space (4096 * page) len 0
 
 copy_accepted : (space : Space) (page : ℕ) → IsCalled space page → contains_key space.host.areas page ≡ true → is_registered space.object page ≡ true → copy_error space (4096 * page) 4096 0 ≡ None
-copy_accepted space page is mapped registered = grind (arith, nat_tests, nothing_holds, copy_errors_of, not_from_true, page_range, pages_again, one_area, zero_is_no_one)
+copy_accepted space page is mapped registered = grind (arith, nat_tests, copy_errors_of, not_from_true, page_range, pages_again, one_area, zero_is_no_one)
 
 put_one : (pages : FinMap nat_cmp (List ℕ)) (page : ℕ) (one other : ℕ → List ℕ) → one 0 ≡ other 0 → put_pages pages page 1 one ≡ put_pages pages page 1 other
 unfolding put_pages
@@ -142,16 +141,16 @@ answered_new : {A : Type 0} (error : Option Errno) (answer : A) → error ≡ No
 answered_new error answer h = grind (arith, nat_tests)
 
 in_run : (first count i : ℕ) → i < count → in_range first count (first + i) ≡ true
-in_run first count i l = grind (arith, nat_tests, l)
+in_run first count i l = grind (arith, nat_tests)
 
 pub range_protect_made : (guest new : Guest) (first count bits : ℕ) (protect : Bool) → guest.space.object.enabled ≡ true → ltb 0 (changing guest.space.object) ≡ false → 0 < count → LOW_PAGE ≤ first → first + count ≤ HIGH_PAGE →
     ((q : ℕ) → in_range first count q ≡ true → contains guest.space.object.protect q ≡ true) → ltb 2 bits ≡ false → is_one bits 0 ≡ protect → new.space ≡ protected_in guest.space first count protect →
     new.cpus ≡ woken_by (if eqb bits 0 then Range (4096 * first) (4096 * count) else Nobody) guest.cpus →
     IsWriteProtect guest new (4096 * first) (4096 * count) bits (if eqb bits 0 then Range (4096 * first) (4096 * count) else Nobody)
-range_protect_made guest new first count bits protect enabled quiet some low high watched few mode leaves wakes = grind (arith, nat_tests, pages_again, none_below-from, not_from_true, in_run, nothing_holds, range_good, answered_new, left_new)
+range_protect_made guest new first count bits protect enabled quiet some low high watched few mode leaves wakes = grind (arith, nat_tests, none_below-from, not_from_true, in_run, nothing_holds, range_good, answered_new, left_new)
 
 only_itself : (page q : ℕ) → in_range page 1 q ≡ true → page ≡ q
-only_itself page q h = grind (arith, nat_tests, h)
+only_itself page q h = grind (arith, nat_tests)
 
 pub write_protect_made : (guest new : Guest) (page bits : ℕ) (protect : Bool) → IsCalled guest.space page → contains guest.space.object.protect page ≡ true → ltb 2 bits ≡ false → is_one bits 0 ≡ protect → new.space ≡ protected_in guest.space page 1 protect →
     new.cpus ≡ woken_by (if eqb bits 0 then Range (4096 * page) 4096 else Nobody) guest.cpus → IsWriteProtect guest new (4096 * page) 4096 bits (if eqb bits 0 then Range (4096 * page) 4096 else Nobody)
@@ -161,4 +160,4 @@ write_protect_made guest new page bits protect is watched few mode leaves wakes 
 -- UFFDIO_WAKE
 
 pub wake_made : (guest : Guest) (page : ℕ) → guest.space.object.enabled ≡ true → IsPage page → IsWake guest (resolved guest page guest.space) (4096 * page)
-wake_made guest page enabled is = grind (arith, nat_tests, answered_new, nothing_holds, not_from_true, page_range, page_woken)
+wake_made guest page enabled is = grind (arith, nat_tests)

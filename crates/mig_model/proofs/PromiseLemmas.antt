@@ -1,10 +1,10 @@
 -- The promises of the whole migration from what every world of it keeps.
-use Rattle.std.proofs.Common.{◌≡◌, ℕ, ◌≤◌, ◌||◌, Bool, true, false, cond, ltb, Option, Some, None, List, refl, sym, ap, ◌∙◌, subst, arith}
+use Rattle.std.proofs.Common.{◌≡◌, ℕ, ◌≤◌, ◌||◌, Bool, true, false, cond, ltb, Option, Some, None, List, refl, sym, ap, ◌∙◌, arith}
 use Rattle.std.specs.Option.{option_and_then}
 use Rattle.std.specs.Ordering.{nat_cmp}
 use Rattle.std.specs.FinMap.{FinMap, get, get-empty}
 use Rattle.std.proofs.lemmas.Bool.Decides.{nat_tests}
-use Rattle.std.proofs.lemmas.Bool.{false≢true, or_left, true_from_ne_false}
+use Rattle.std.proofs.lemmas.Bool.{false≢true}
 use Rattle.std.proofs.lemmas.Option.{none-some}
 use Rattle.mig_base.specs.declared.phase.DestPhase.{DestPhase}
 use Rattle.mig_base.specs.declared.phase.Received.{Received}
@@ -16,7 +16,7 @@ use Rattle.mig_model.specs.Host.{Host, memory, IsSound}
 use Rattle.mig_model.specs.Guest.{Fault, is_present}
 use Rattle.mig_model.specs.Guest.Act.{Zeroed}
 use Rattle.mig_model.specs.Migration.{World, runs}
-use Rattle.mig_model.specs.Invariant.{IsSoundWorld, IsPrecopying, IsSwitching, IsReceiving, RanAt, seen_bytes, seen_host, current_by, copies_of, has_copy, is_urgent_or_left, AreSoundUrgent}
+use Rattle.mig_model.specs.Invariant.{IsSoundWorld, IsPrecopying, IsSwitching, IsReceiving, seen_bytes, seen_host, current_by, copies_of, has_copy, is_urgent_or_left, AreSoundUrgent}
 use Rattle.mig_model.specs.Promises.{IsComplete, IsAlone, ArePaired, AreUnderWay}
 use Rattle.mig_model.proofs.Stopping.{in_phases}
 use Rattle.mig_model.proofs.SettledLemmas.{IsOneToOne-settled, values-settled, none-settled}
@@ -48,11 +48,8 @@ seen_own here there owed sound none =
 
 -- Completion
 
-ended_told : (phase : DestPhase) (ran ended : Bool) → phase ≡ DestPhase.Ended → RanAt phase ran ended → ended ≡ true
-ended_told phase ran ended is told = subst (λ p. RanAt p ran ended) is told
-
 ran_in : (from : SourcePhase) (world : World) → is_released from ≡ true → IsSoundWorld (in_phases from world.destination.phase world) → (world.destination.ended ≡ true) × (world.destination.has_run ≡ true)
-ran_in from world released kept = grind (arith, nat_tests, true_from_ne_false, ended_told, none_absurd)
+ran_in from world released kept = grind (arith, nat_tests)
 
 -- the destination of a migration that is complete has run
 pub complete_ran : (world : World) → IsSoundWorld world → IsComplete world → world.destination.has_run ≡ true
@@ -86,7 +83,7 @@ is_alone world kept complete = complete_in world.source.phase world complete kep
 -- Pairs
 
 pub are_paired : (world : World) → IsSoundWorld world → ArePaired world
-are_paired world kept = grind (arith, nat_tests, IsOneToOne-settled, values-settled, or_left)
+are_paired world kept = grind (arith, nat_tests, IsOneToOne-settled, values-settled)
 
 -- Whereabouts
 
@@ -104,7 +101,7 @@ are_under_way world kept urgent ran = grind (arith, nat_tests, whereabouts_in)
 -- What is in flight
 
 precopying_in : (from : SourcePhase) (to : DestPhase) (world : World) → is_precopy from ≡ true → world.up ≡ true → IsSoundWorld (in_phases from to world) → IsPrecopying (in_phases from to world).source world.destination.kept world.forward.frames
-precopying_in from to world precopy up kept = grind (arith, nat_tests, none_absurd)
+precopying_in from to world precopy up kept = grind (arith, nat_tests)
 
 pub is_precopying : (world : World) → IsSoundWorld world → world.up ≡ true → is_precopy world.source.phase ≡ true → IsPrecopying world.source world.destination.kept world.forward.frames
 is_precopying world kept up precopy = precopying_in world.source.phase world.destination.phase world precopy up kept
@@ -121,7 +118,7 @@ is_switching world kept up stopped ran = switching_in world.source.phase world.d
 
 receiving_in : (from : SourcePhase) (to : DestPhase) (world : World) → is_source_paused from ≡ true → is_running to ≡ true → world.up ≡ true → IsSoundWorld (in_phases from to world) →
     IsReceiving (in_phases from to world).source (in_phases from to world).destination Received.Running world.back.frames
-receiving_in from to world paused runs up kept = grind (arith, nat_tests, none_absurd)
+receiving_in from to world paused runs up kept = grind (arith, nat_tests)
 
 pub is_receiving : (world : World) → IsSoundWorld world → world.up ≡ true → is_source_paused world.source.phase ≡ true → is_running world.destination.phase ≡ true → IsReceiving world.source world.destination Received.Running world.back.frames
 is_receiving world kept up paused runs = receiving_in world.source.phase world.destination.phase world paused runs up kept

@@ -1,21 +1,19 @@
 -- After a Push no Switch of its epoch is made, and no Recv of its epoch is taken.
 use Rattle.std.proofs.lemmas.Bool.Decides.{nat_tests}
-use Rattle.std.proofs.Common.{◌≡◌, ℕ, ◌+◌, ◌<◌, Bool, true, false, not, List, ◌∷◌, refl, sym, ◌∙◌, subst, ◌⊎◌, inl, inr, ⊎_elim, arith, IsOk, if◌then◌else◌}
+use Rattle.std.proofs.Common.{◌≡◌, ℕ, ◌<◌, Bool, true, false, not, List, ◌∷◌, refl, sym, ◌∙◌, ◌⊎◌, inr, ⊎_elim, arith, IsOk}
 use Rattle.std.proofs.lemmas.Bool.{false≢true}
 use Rattle.mig_base.specs.declared.phase.SourcePhase.{SourcePhase}
 use Rattle.mig_base.specs.declared.schedule.Step.{Step}
 use Rattle.mig_base.specs.declared.schedule.Ticket.{Ticket}
 use Rattle.mig_model.specs.Wire.{Frame, Sent}
 use Rattle.mig_model.specs.Wire.Frame.{Recv}
-use Rattle.mig_model.specs.Guest.{Act, Guest}
-use Rattle.mig_model.specs.Guest.Act.{Unprotected}
 use Rattle.mig_model.specs.Invariant.{IsSoundWorld, SwitchedAt, AreSoundUrgent}
 use Rattle.mig_model.proofs.EveryStep.{by_steps, kept-next}
 use Rattle.mig_model.proofs.FramesTaken.{is_taken_back}
 use Rattle.mig_model.proofs.SourceRounds.{precopy_unswitched}
 use Rattle.mig_model.proofs.WokenSteps.{stopped_switched}
-use Rattle.mig_model.specs.Source.{Source, is_source_idle, is_source_paused, is_stopped, source_acted_by, source_took}
-use Rattle.mig_model.specs.Migration.{World, after_steps, next, outcome, with_guest_by}
+use Rattle.mig_model.specs.Source.{Source, is_source_idle, is_source_paused, is_stopped}
+use Rattle.mig_model.specs.Migration.{World, after_steps, next, outcome}
 use Rattle.mig_model.specs.Promises.{is_recv}
 use Rattle.mig_model.proofs.Taken.{IsInPlaceBack}
 use Rattle.mig_model.proofs.StepCases.{MakesWorld, made-next, made-ok}
@@ -35,19 +33,6 @@ record IsAlike (old new : Source) : Type 0 where
   switched : new.switched ≡ old.switched
   phase : new.phase ≡ old.phase
 
-alike : (pushed : ℕ) (old new : Source) (up : Bool) → IsAlike old new → HasPushed pushed old.epoch old.switched old.phase up → HasPushed pushed new.epoch new.switched new.phase up
-alike pushed old new up same h =
-    subst (λ e. HasPushed pushed e new.switched new.phase up) (sym same.epoch) (subst (λ s. HasPushed pushed old.epoch s new.phase up) (sym same.switched) (subst (λ p. HasPushed pushed old.epoch old.switched p up) (sym same.phase) h))
-
--- the same while a link that is up stays so
-guest_alike : (ran : Bool) (pushed : ℕ) (world : World) (guest : Guest) → PushedIn pushed world → PushedIn pushed (with_guest_by ran world guest)
-guest_alike true pushed world guest h = h
-guest_alike false pushed world guest h = h
-
-act_alike : (act : Act) (node : Source) (page : ℕ) → IsAlike node (source_acted_by act node page)
-act_alike Unprotected node page = record { epoch = refl; switched = refl; phase = refl }
-act_alike _ node page = record { epoch = refl; switched = refl; phase = refl }
-
 pub idle_unswitched : (phase : SourcePhase) (switched : Bool) → is_source_idle phase ≡ true → SwitchedAt phase switched → switched ≡ false
 idle_unswitched SourcePhase.Idle switched h at = at
 idle_unswitched _ switched h at = absurd (false≢true h)
@@ -62,31 +47,12 @@ resumed_later : {A : Type 0} (pushed epoch : ℕ) (switched : Bool) (phase : Sou
 resumed_later pushed epoch switched phase up linked paused h more =
     ⊎_elim more (λ (one : (epoch ≡ pushed) × (switched ≡ true) × (up ≡ true → is_source_paused phase ≡ false)). absurd (false≢true (sym (one.2 linked) ∙ paused))) h
 
-one_later : (pushed epoch : ℕ) → pushed < epoch → pushed < epoch + 1
-one_later pushed epoch h = omega (arith, h)
-
-next_later : (pushed epoch : ℕ) → epoch ≡ pushed → pushed < epoch + 1
-next_later pushed epoch h = omega (arith, h)
-
-rebuilt_epoch : (switched : Bool) (one other : Source) (epoch : ℕ) → one.epoch ≡ epoch → other.epoch ≡ epoch → (if switched then one else other).epoch ≡ epoch
-rebuilt_epoch true one other epoch a b = a
-rebuilt_epoch false one other epoch a b = b
-
-taken_pushed : (frame : Frame) (pushed : ℕ) (node : Source) (up : Bool) → up ≡ true → (is_recv frame ≡ true → is_source_paused node.phase ≡ true) → HasPushed pushed node.epoch node.switched node.phase up →
-    HasPushed pushed (source_took node frame).epoch (source_took node frame).switched (source_took node frame).phase up
-taken_pushed frame pushed node up linked paused h = grind (arith, nat_tests, resumed_later, rebuilt_epoch)
-
 recv_paused : (frame : Frame) (node : Source) → IsInPlaceBack node frame → is_recv frame ≡ true → is_source_paused node.phase ≡ true
 recv_paused (Recv state owed) node place is = place.0
 recv_paused _ node place is = absurd (false≢true is)
 
--- with the link down the phase tells nothing
-down_pushed : (pushed epoch : ℕ) (switched : Bool) (old new : SourcePhase) (before : Bool) → HasPushed pushed epoch switched old before → HasPushed pushed epoch switched new false
-down_pushed pushed epoch switched old new before h =
-    ⊎_elim (λ (more : pushed < epoch). inl more) (λ (one : (epoch ≡ pushed) × (switched ≡ true) × (before ≡ true → is_source_paused old ≡ false)). inr (one.0, one.1, λ u. absurd (false≢true u))) h
-
 pushed_answer : (pushed : ℕ) (world : World) (step : Step) → IsSoundWorld world → PushedIn pushed world → MakesWorld (PushedIn pushed) world step
-pushed_answer pushed world step kept h = grind (arith, nat_tests, guest_alike, later, idle_unswitched, one_later, alike, act_alike, precopy_unswitched, taken_pushed, recv_paused, is_taken_back, down_pushed, next_later)
+pushed_answer pushed world step kept h = grind (arith, nat_tests)
 
 pushed_steps : (pushed : ℕ) (world : World) (steps : List Step) → IsSoundWorld world → AreSoundUrgent world → PushedIn pushed world → PushedIn pushed (after_steps world steps)
 pushed_steps pushed world steps = by_steps (PushedIn pushed) (λ old step kept urgent h. made-next (PushedIn pushed) old step h (pushed_answer pushed old step kept h)) world steps

@@ -1,7 +1,7 @@
 -- A command that waits is a load or store whose form is right, of a page that may be mapped.
 use Rattle.std.proofs.lemmas.Bool.Decides.{nat_tests}
 use Rattle.std.proofs.Common.{◌≡◌, ℕ, zero, suc, ◌/◌, ◌^◌, Bool, true, false, not, Option, Some, None, is_some, List, [], ◌∷◌, refl, sym, ap, ◌∙◌, ⊎_elim, if◌then◌else◌, ◌<◌, arith}
-use Rattle.std.proofs.lemmas.Bool.{false≢true, and_parts, ltb-true}
+use Rattle.std.proofs.lemmas.Bool.{false≢true, ltb-true}
 use Rattle.std.proofs.lemmas.Option.{none-some}
 use Rattle.mig_base.specs.declared.Prot.{Prot}
 use Rattle.mig_base.specs.declared.cpu_state.CpuState.{CpuState}
@@ -50,14 +50,11 @@ IsInside (Load addr width) = (is_aligned addr width ≡ true) × IsPage (addr / 
 IsInside (Store addr width value) = (is_aligned addr width ≡ true) × (value < 256 ^ width) × IsPage (addr / 4096)
 IsInside command = ⊥
 
-low_address : (addr : ℕ) → IsPage (addr / 4096) → addr < 2 ^ 64
-low_address addr is = let low = is.1 in omega (arith, low)
-
 right_form : (command : Command) → IsInside command → IsRightAccess command
-right_form command is = grind (arith, nat_tests, low_address)
+right_form command is = grind (arith, nat_tests)
 
 right_by : (space : Space) (command : Command) → IsMapping space.host.areas → is_access command ≡ true → is_made (reply_of (memory space.host) command) ≡ true → IsInside command
-right_by space command mapping is h = grind (arith, nat_tests, access_form, page_of_access, and_parts, ltb-true)
+right_by space command mapping is h = grind (arith, nat_tests, access_form, page_of_access, ltb-true)
 
 pub right_slept : (access : Bool) (space : Space) (command : Command) → access ≡ is_access command → IsMapping space.host.areas → took_by access space command ≡ Sleep → IsInside command
 right_slept true space command is mapping h = right_by space command mapping (sym is) (slept_made (is_made (reply_of (memory space.host) command)) _ _ h)

@@ -1,6 +1,6 @@
 -- A run that may be short of memory is a run of those of its steps that were not.
 use Rattle.std.proofs.lemmas.Bool.Decides.{nat_tests}
-use Rattle.std.proofs.Common.{◌≡◌, ◌≢◌, Bool, true, false, not, Option, Some, None, List, [], ◌∷◌, refl, sym, ap, ◌∙◌, subst, inl, if◌then◌else◌, arith}
+use Rattle.std.proofs.Common.{◌≡◌, ◌≢◌, Bool, true, false, not, List, [], ◌∷◌, refl, sym, ap, ◌∙◌, subst, inl, if◌then◌else◌, arith}
 use Rattle.std.specs.Prelude.{Err}
 use Rattle.std.specs.List.{list_all}
 use Rattle.std.proofs.lemmas.Bool.{false≢true, and_parts}
@@ -8,20 +8,16 @@ use Rattle.mig_base.specs.declared.refusal.Refusal.{Refusal}
 use Rattle.mig_base.specs.declared.schedule.Step.{Step}
 use Rattle.mig_model.specs.Migration.{Answer, World, after_steps, answer, next, outcome, outcome_by, unless}
 use Rattle.mig_model.specs.Promises.{IsReached}
-use Rattle.mig_model.specs.Runs.{Happens, IsRun, Outcome, is_lacking, may_lack, needs_memory, outcomes, results_of, steps_made}
+use Rattle.mig_model.specs.Runs.{Happens, IsRun, Outcome, is_lacking, needs_memory, outcomes, results_of, steps_made}
 use Rattle.mig_model.proofs.Facts.{by_test}
 use Rattle.mig_model.proofs.ReachedLemmas.{reached-after_steps}
 use Rattle.mig_model.proofs.StepLemmas.{next-refused}
 
 -- Answers
 
-lacking_is : (result : Outcome) → is_lacking result ≡ true → result ≡ Err Refusal.NoMemory
-lacking_is (Err Refusal.NoMemory) h = refl
-lacking_is _ h = absurd (false≢true h)
-
 -- a step that answers NoMemory has changed nothing
 lacking_stays : (old : World) (step : Step) (result : Outcome) (new : World) → is_lacking result ≡ true → Happens old step result new → new ≡ old
-lacking_stays old step result new lacks happens = grind (arith, nat_tests, next-refused, lacking_is)
+lacking_stays old step result new lacks happens = grind (arith, nat_tests, next-refused)
 
 -- any other does as the machine does
 other_made : (old : World) (step : Step) (result : Outcome) (new : World) → is_lacking result ≡ false → Happens old step result new → (result ≡ outcome old step) × (new ≡ next old step)
@@ -70,11 +66,8 @@ run_enough world (step ∷ steps) = (next world step, inl (refl, refl), run_enou
 
 -- Steps that need no memory
 
-lacks_not : (step : Step) (result : Outcome) → needs_memory step ≡ false → may_lack step result ≡ false
-lacks_not step result h = grind (arith, nat_tests)
-
 pub needs_none : (world : World) (step : Step) (result : Outcome) (new : World) → needs_memory step ≡ false → Happens world step result new → (result ≡ outcome world step) × (new ≡ next world step)
-needs_none world step result new none happens = grind (arith, nat_tests, lacks_not)
+needs_none world step result new none happens = grind (arith, nat_tests)
 
 -- The machine itself is never short
 
@@ -101,16 +94,12 @@ other_either : (test : Bool) (one two : Answer) → is_other one ≡ true → is
 other_either true one two a b = a
 other_either false one two a b = b
 
-other_some : {A : Type 0} (f : Option A → Answer) (o : Option A) → is_other (f None) ≡ true → ((x : A) → is_other (f (Some x)) ≡ true) → is_other (f o) ≡ true
-other_some f None none some = none
-other_some f (Some x) none some = some x
-
 other_first : {A : Type 0} (f : List A → Answer) (l : List A) → is_other (f []) ≡ true → ((x : A) (xs : List A) → is_other (f (x ∷ xs)) ≡ true) → is_other (f l) ≡ true
 other_first f [] none some = none
 other_first f (x ∷ xs) none some = some x xs
 
 other_answer : (world : World) (step : Step) → is_other (answer world step) ≡ true
-other_answer world step = grind (arith, nat_tests, other-unless, other_some, other_first, other_either)
+other_answer world step = grind (arith, nat_tests, other-unless, other_first, other_either)
 
 pub never_lacking : (world : World) (step : Step) → outcome world step ≢ Err Refusal.NoMemory
 unfolding outcome

@@ -5,7 +5,7 @@ use Rattle.std.specs.Ordering.{nat_cmp}
 use Rattle.std.specs.FinMap.{FinMap, get, contains_key}
 use Rattle.std.specs.FinSet.{contains}
 use Rattle.std.proofs.lemmas.Bool.Decides.{nat_tests}
-use Rattle.std.proofs.lemmas.Bool.{or_left, le-ltb}
+use Rattle.std.proofs.lemmas.Bool.{or_left}
 use Rattle.mig_base.specs.declared.Prot.{Prot}
 use Rattle.mig_base.specs.declared.command.Command.{Command}
 use Rattle.mig_base.specs.declared.command.Reply.{Reply}
@@ -48,10 +48,10 @@ unmapped_none here there owed page sound mapped h = grind (arith, nat_tests)
 
 -- what the seen host has at each page
 pub get-seen : (here there : Host) (owed : ℕ → Option ℕ) (page : ℕ) → IsSound here → AreMapped here owed → get (seen_host here there owed).bytes page ≡ seen_bytes here there owed page
-get-seen here there owed page sound mapped = grind (arith, nat_tests, get-map_below, le-ltb, unmapped_none, below_or_not)
+get-seen here there owed page sound mapped = grind (arith, nat_tests, get-map_below, unmapped_none, below_or_not)
 
 pub IsSound-seen : (here there : Host) (owed : ℕ → Option ℕ) → IsSound here → IsSound there → AreMapped here owed → IsSound (seen_host here there owed)
-IsSound-seen here there owed sound far mapped = grind (arith, nat_tests, get-seen, unmapped_none)
+IsSound-seen here there owed sound far mapped = grind (arith, nat_tests, get-seen)
 
 -- Replies
 

@@ -91,10 +91,6 @@ told_shifted true false object owed from to count message is inside free right =
 
 -- What each message does
 
--- a range of whole pages
-range_of : (start n m : ℕ) → (start + 4096 * m) / 4096 - (start + 4096 * n) / 4096 ≡ m - n
-range_of start n m = omega arith
-
 pub unmap_right : (owed : ℕ → Option ℕ) (start n page : ℕ) → owed_after (Unmap start (start + 4096 * n)) owed page ≡ gone owed (start / 4096) n page
 unmap_right owed start n page = ap (λ k. cond (in_range (start / 4096) k page) None (owed page)) (let k : (start + 4096 * n) / 4096 - start / 4096 ≡ n = omega arith in k)
 
@@ -102,7 +98,7 @@ pub remove_right : (owed : ℕ → Option ℕ) (start n page : ℕ) → owed_aft
 remove_right owed start n page = ap (λ k. cond (in_range (start / 4096) k page) None (owed page)) (let k : (start + 4096 * n) / 4096 - start / 4096 ≡ n = omega arith in k)
 
 pub cut_right : (owed : ℕ → Option ℕ) (addr n m page : ℕ) → owed_after (Unmap (addr + 4096 * n) (addr + 4096 * m)) owed page ≡ gone owed (addr / 4096 + n) (m - n) page
-cut_right owed addr n m page = grind (arith, nat_tests, range_of)
+cut_right owed addr n m page = grind (arith, nat_tests)
 
 pub remap_right : (owed : ℕ → Option ℕ) (addr target n page : ℕ) → owed_after (Remap addr target (4096 * n)) owed page ≡ shifted owed (addr / 4096) (target / 4096) n page
 remap_right owed addr target n page = ap (λ k. shifted owed (addr / 4096) (target / 4096) k page) (let k : 4096 * n / 4096 ≡ n = omega arith in k)

@@ -18,7 +18,7 @@ use Rattle.mig_base.specs.declared.message.Message.TheVariants.{PageFault, Remap
 use Rattle.mig_base.specs.Flat.{reply_of}
 use Rattle.mig_base.specs.Commands.{is_access}
 use Rattle.mig_model.specs.Host.{memory}
-use Rattle.mig_model.specs.Userfault.{Noted, Object, next_of}
+use Rattle.mig_model.specs.Userfault.{Noted, next_of}
 use Rattle.mig_model.specs.Space.{Space, accessed_by}
 use Rattle.mig_model.specs.Guest.{tried, Act}
 use Rattle.mig_model.specs.Wire.{Frame, Sent, Copy}
@@ -28,8 +28,7 @@ use Rattle.mig_model.specs.Invariant.{IsSoundWorld, AreFaults, AreRight}
 use Rattle.mig_model.specs.Promises.{owed_changed, leaves_settled, AreAccesses}
 use Rattle.mig_model.proofs.SettledLemmas.{settled_by-applied}
 use Rattle.mig_model.proofs.TriedLemmas.{settled_then}
-use Rattle.mig_model.proofs.WaitingCommands.{package_next}
-use Rattle.mig_model.proofs.WokenSteps.{TakesFrame, takes, takes_urgent}
+use Rattle.mig_model.proofs.WokenSteps.{TakesFrame, takes_urgent}
 use Rattle.mig_model.proofs.StepCases.{MakesWorld, made-next, made-ok, made-effect}
 use Rattle.mig_model.proofs.DestinationRead.{none_is, ready_of}
 use Rattle.mig_model.specs.Cpus.{outstanding, processor_at}
@@ -84,12 +83,8 @@ read_settled (first ∷ faults) events noted world is are right page =
 
 -- A load or store
 
-queued_events : (waits : Bool) (object other : Object) → other.events ≡ object.events → (if waits then object else other).events ≡ object.events
-queued_events true object other h = refl
-queued_events false object other h = h
-
 pub accessed_events : (access : Access) (space : Space) (cpu : ℕ) (command : Command) → (accessed_by access space cpu command).object.events ≡ space.object.events
-accessed_events access space cpu command = grind (arith, nat_tests, queued_events)
+accessed_events access space cpu command = grind (arith, nat_tests)
 
 accessed_by_node : (ran access : Bool) (world : World) (cpu : ℕ) (command : Command) → ran ≡ true → access ≡ true → (page : ℕ) →
     settled (with_guest_by ran world (tried access (guest_by ran world.source.guest world.destination.guest) cpu command)).destination page ≡ settled world.destination page
@@ -150,7 +145,7 @@ taken_settled old new page is = ap (λ events. settled_by events (get new.owed) 
 -- a destination that has run takes no Package
 frame_settled : (frame : Frame) (epoch : ℕ) (rest : List Sent) (world : World) → IsSoundWorld world → world.up ≡ true → world.destination.has_run ≡ true → world.forward.frames ≡ record { epoch = epoch; frame = frame } ∷ rest → (page : ℕ) →
     settled (destination_took world.destination epoch frame) page ≡ settled world.destination page
-frame_settled frame epoch rest world kept up ran first page = grind (arith, nat_tests, package_next, taken_settled, takes)
+frame_settled frame epoch rest world kept up ran first page = grind (arith, nat_tests)
 
 settled_answer : (world : World) (step : Step) → IsSoundWorld world → AreAccesses world → world.destination.has_run ≡ true → leaves_settled step ≡ true → (page : ℕ) → MakesWorld (SettledAs world page) world step
 settled_answer world (Step.Issue cpu command) kept waits ran leaves page = λ there idle may. settled_try world cpu command ran leaves page

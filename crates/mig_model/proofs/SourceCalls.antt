@@ -4,7 +4,7 @@ use Rattle.std.specs.Ordering.{nat_cmp}
 use Rattle.std.specs.FinMap.{FinMap, get, contains_key}
 use Rattle.std.specs.FinSet.{FinSet, contains}
 use Rattle.std.proofs.lemmas.Bool.Decides.{nat_tests}
-use Rattle.std.proofs.lemmas.Bool.{false≢true, or_left, and_parts, false_from_ne_true, cases_lt, lt-ltb, or_parts, and_right}
+use Rattle.std.proofs.lemmas.Bool.{false≢true, or_left, and_parts, false_from_ne_true, cases_lt, lt-ltb, and_right}
 use Rattle.mig_base.specs.declared.TheConstants.{LOW, HIGH, HIGH_PAGE}
 use Rattle.mig_base.specs.declared.command.Errno.TheVariants.{Enomem}
 use Rattle.mig_base.specs.declared.command.Command.{Command}
@@ -24,12 +24,11 @@ use Rattle.mig_base.proofs.ReplyLemmas.IsWhere.{Shrunk, Grew, Moved, Told}
 use Rattle.mig_base.proofs.BoundLemmas.{one_prot_some, apart_of}
 use Rattle.mig_model.specs.Host.{Host, memory, host_changed, IsSound}
 use Rattle.mig_base.specs.Commands.{is_access}
-use Rattle.mig_model.specs.Guest.{in_bytes}
 use Rattle.mig_model.specs.Userfault.{Object, is_registered, is_watched}
 use Rattle.mig_model.specs.Space.{Space, IsSoundSpace, told, remap_messages, call_messages, modes_after, protected_after}
 use Rattle.mig_model.proofs.HostLemmas.{is_mapped-memory, memory-none}
 use Rattle.mig_model.proofs.CommandLemmas.{remapped_place}
-use Rattle.mig_model.proofs.SourceMessages.{tells, tells-append, unmapped_outside, removed_outside, dropped_outside, outside_told, in_bytes-pages, Stays, stays_there, moved_away, lesser_is, AllRight, AllRight-append, told_right}
+use Rattle.mig_model.proofs.SourceMessages.{tells, unmapped_outside, removed_outside, dropped_outside, outside_told, in_bytes-pages, Stays, stays_there, moved_away, lesser_is, AllRight, AllRight-append, told_right}
 use Rattle.mig_model.proofs.Facts.{none_absurd, in_range_first, same_or_other, low_or, and_true, lesser_right, whole_page, lesser_left}
 use Rattle.mig_base.specs.declared.message.Message.{Message}
 
@@ -166,13 +165,10 @@ record AreSilent (object : Object) (addr count target new_count page : ℕ) : Ty
   moved : tells (told (not (eqb (target / 4096) (addr / 4096)) && is_watched object (addr / 4096) (lesser count new_count)) (Remap addr target (4096 * lesser count new_count))) page ≡ false
 
 are_silent : (object : Object) (addr count target new_count page : ℕ) → tells (remap_messages object addr count target new_count) page ≡ false → AreSilent object addr count target new_count page
-are_silent object addr count target new_count page h = grind (arith, nat_tests, or_parts, tells, tells-append)
-
-tail_bytes : (addr count new_count page : ℕ) → new_count < count → in_range (addr / 4096 + new_count) (count - new_count) page ≡ true → in_bytes (addr + 4096 * new_count) (addr + 4096 * count) page ≡ true
-tail_bytes addr count new_count page shorter inside = grind (arith, nat_tests)
+are_silent object addr count target new_count page h = grind (arith, nat_tests)
 
 tail_outside : (object : Object) (addr count target new_count page : ℕ) → AreSilent object addr count target new_count page → is_registered object page ≡ true → new_count < count → in_range (addr / 4096 + new_count) (count - new_count) page ≡ false
-tail_outside object addr count target new_count page silent registered shorter = grind (arith, nat_tests, outside_told, tail_bytes, lt-ltb)
+tail_outside object addr count target new_count page silent registered shorter = grind (arith, nat_tests, outside_told, lt-ltb)
 
 remap_stays : (space : Space) (addr old_len new_len target page : ℕ) → IsSoundSpace space → IsRemapped (memory space.host) addr old_len new_len target → is_registered space.object page ≡ true →
     AreSilent space.object addr (pages_of old_len) target (pages_of new_len) page → Stays (addr / 4096) (pages_of old_len) (target / 4096) (pages_of new_len) page
@@ -258,7 +254,7 @@ right_remap host object addr old_len new_len target may_move fixed sound is =
     )))
 
 pub right_messages : (host : Host) (object : Object) (command : Command) (reply : Reply) → IsSound host → reply ≡ reply_of (memory host) command → AllRight (call_messages object command reply)
-right_messages host object command reply sound is = grind (arith, nat_tests, told_right, mmap_inside, whole_page, munmap_whole, right_remap, dontneed_done, dontneed_hole, whole_lesser)
+right_messages host object command reply sound is = grind (arith, nat_tests, mmap_inside, whole_page, munmap_whole, right_remap, dontneed_done, dontneed_hole, whole_lesser)
 
 -- Nothing is told where nothing is registered
 
@@ -276,7 +272,7 @@ joined_none : (a b : List Message) → a ≡ [] → b ≡ [] → a ++ b ≡ []
 joined_none a b x y = rw (x, y) refl
 
 pub no_messages : (object : Object) (command : Command) (reply : Reply) → IsUnregistered object → call_messages object command reply ≡ []
-no_messages object command reply none = grind (arith, nat_tests, untold, unwatched, joined_none, and_right)
+no_messages object command reply none = grind (arith, nat_tests, unwatched, joined_none, and_right)
 
 -- Modes
 
@@ -295,5 +291,3 @@ none_moved s from count to new_count page growth none not_grown =
 
 pub none_missing : (object : Object) (command : Command) (reply : Reply) → ((page : ℕ) → contains object.missing page ≡ false) → (page : ℕ) → contains (modes_after object command reply).missing page ≡ false
 none_missing object command reply none page = grind (arith, nat_tests, none_without, none_moved)
-
--- A call changes modes and queues messages, and neither changes the other

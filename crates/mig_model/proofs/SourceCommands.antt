@@ -1,10 +1,10 @@
 -- A command that is tried at the source, before it has stopped, keeps what every world keeps.
 use Rattle.std.proofs.lemmas.Bool.Decides.{nat_tests}
-use Rattle.std.proofs.Common.{◌≡◌, append-nil, ℕ, ◌&&◌, ◌||◌, Bool, true, false, cond, not, eqb, if◌then◌else◌, Some, List, [], ◌∷◌, ◌++◌, refl, sym, ap, ◌∙◌, subst, is_some, arith}
+use Rattle.std.proofs.Common.{◌≡◌, append-nil, ℕ, ◌||◌, Bool, true, false, cond, eqb, if◌then◌else◌, Some, List, [], ◌∷◌, ◌++◌, refl, sym, ap, ◌∙◌, subst, is_some, arith}
 use Rattle.std.specs.Ordering.{nat_cmp}
 use Rattle.std.specs.FinMap.{FinMap, get, insert, contains_key}
 use Rattle.std.specs.FinSet.{contains}
-use Rattle.std.proofs.lemmas.Bool.{eqb-true, false_from_ne_true, and_from, or_right, or_parts}
+use Rattle.std.proofs.lemmas.Bool.{eqb-true, and_from, or_right, or_parts}
 use Rattle.mig_base.specs.declared.cpu_state.CpuState.{CpuState}
 use Rattle.mig_base.specs.declared.command.Command.{Command}
 use Rattle.mig_base.specs.declared.command.Command.TheVariants.{Store}
@@ -16,7 +16,7 @@ use Rattle.mig_base.proofs.SetLemmas.{same_members}
 use Rattle.mig_model.specs.Host.{Host, memory, host_changed, host_after}
 use Rattle.mig_base.specs.Commands.{is_access}
 use Rattle.mig_model.specs.Userfault.{Object, fault_queued, waits_fault}
-use Rattle.mig_model.specs.Space.{Space, IsSoundSpace, is_made, access_of, accessed_by, called, queued_by, call_messages, modes_after}
+use Rattle.mig_model.specs.Space.{Space, IsSoundSpace, access_of, accessed_by, called, queued_by, call_messages, modes_after}
 use Rattle.mig_model.specs.Guest.{took_by, tried}
 use Rattle.mig_model.specs.Migration.{World, after_command}
 use Rattle.mig_model.specs.Invariant.{IsSoundWorld, AreRight, is_unread}
@@ -27,13 +27,13 @@ use Rattle.mig_model.proofs.SourceMessages.{noted_all, events_queued, tells, is_
 use Rattle.mig_model.proofs.SourceCalls.{untouched, IsUnregistered, right_messages, no_messages, modes_same, none_missing}
 use Rattle.mig_model.specs.Cpus.{access_took, call_took, entries_of}
 use Rattle.mig_model.specs.Source.{space_of}
-use Rattle.mig_model.proofs.Facts.{none_absurd, queued_missing, queued_protect, entered_once, modes_events, some_either}
+use Rattle.mig_model.proofs.Facts.{none_absurd, queued_missing, queued_protect, entered_once, modes_events}
 use Rattle.mig_model.proofs.WorldLemmas.{entry_of, flat_after, holds_after}
 
 -- Loads and stores that are answered
 
 present_after : (host : Host) (command : Command) (reply : Reply) (page : ℕ) → is_access command ≡ true → contains_key host.bytes page ≡ true → contains_key (host_changed host command reply).bytes page ≡ true
-present_after host command reply page access h = grind (arith, nat_tests, get-put, some_either, none_absurd)
+present_after host command reply page access h = grind (arith, nat_tests, get-put, none_absurd)
 
 never_answered : (missing protect : Bool) (reply other : Reply) → protect ≡ true → cond missing Missing (cond protect Protected (Answered reply)) ≡ Answered other → ⊥
 never_answered missing protect reply other p h = grind arith
@@ -41,21 +41,14 @@ never_answered missing protect reply other p h = grind arith
 other_page : (bytes : FinMap nat_cmp (List ℕ)) (page q : ℕ) (held : List ℕ) → eqb q page ≡ false → get (insert bytes page held) q ≡ get bytes q
 other_page bytes page q held other = get-put bytes page q held ∙ ap (λ b. cond b (Some held) (get bytes q)) other
 
-abbrev answer_by : Space → ℕ → Reply → Access
-answer_by space page reply =
-    if not (is_made reply) then Answered reply
-    else if not (contains_key space.host.bytes page) && contains space.object.missing page then Missing
-    else if contains space.object.protect page && contains space.protected page then Protected
-    else Answered reply
-
 -- a store that is made is of another page than a protected one
 stored_elsewhere : (space : Space) (addr width value page : ℕ) (made other : Reply) → made ≡ reply_of (memory space.host) (Store addr width value) → access_of space (Store addr width value) ≡ Answered other →
     contains space.object.protect page ≡ true → contains space.protected page ≡ true → get (host_changed space.host (Store addr width value) made).bytes page ≡ get space.host.bytes page
-stored_elsewhere space addr width value page made other is answered watched protected = grind (arith, nat_tests, false_from_ne_true, eqb-true, never_answered, and_from, other_page)
+stored_elsewhere space addr width value page made other is answered watched protected = grind (arith, nat_tests, eqb-true, never_answered, and_from, other_page)
 
 elsewhere : (space : Space) (command : Command) (page : ℕ) (other : Reply) → is_access command ≡ true → access_of space command ≡ Answered other → contains space.object.protect page ≡ true → contains space.protected page ≡ true →
     get (host_after space.host command).bytes page ≡ get space.host.bytes page
-elsewhere space command page other access answered watched protected = grind (arith, nat_tests, stored_elsewhere, none_absurd)
+elsewhere space command page other access answered watched protected = grind (arith, nat_tests, stored_elsewhere)
 
 answered_changed : (world : World) (cpu : ℕ) (command : Command) (reply : Reply) (processors : List CpuState) → IsSoundWorld world → world.destination.has_run ≡ false → world.source.switched ≡ false → is_access command ≡ true →
     access_of (space_of world.source) command ≡ Answered reply →

@@ -1,5 +1,5 @@
 -- What a step of a source that has not stopped has to keep, and that its handler keeps it: a message is read, a fault is worked.
-use Rattle.std.proofs.Common.{◌≡◌, ◌≢◌, ℕ, ◌≤◌, Bool, true, false, Option, Some, None, List, [], refl, sym, ap, ◌∙◌, ◌⊎◌, arith, cond, get_or, unwrap_or, is_some, ◌&&◌, ◌||◌, not, eqb, ltb}
+use Rattle.std.proofs.Common.{◌≡◌, ◌≢◌, ℕ, ◌≤◌, Bool, true, false, Option, Some, None, List, [], refl, sym, ap, ◌∙◌, ◌⊎◌, arith, cond, get_or, unwrap_or, is_some, ◌&&◌, not, eqb, ltb}
 use Rattle.std.specs.Ordering.{nat_cmp}
 use Rattle.std.specs.FinMap as finmap
 use Rattle.std.specs.FinMap.{FinMap, get, get-empty, contains_key}
@@ -13,13 +13,13 @@ use Rattle.mig_model.specs.Space.{Space, IsSoundSpace, fresh_space}
 use Rattle.mig_model.specs.Guest.{Guest, is_present, Fault, is_changed_by, read_guest, zero_installed, is_forgotten, Act}
 use Rattle.mig_model.specs.Wire.{Sent}
 use Rattle.mig_model.specs.Migration.{World, next, after_source_act, after_source_read}
-use Rattle.mig_model.specs.Invariant.{IsSoundWorld, IsSoundFlight, AreSoundEpochs, AreFaithful, IsPrecopying, Wires, AreRight, AreWhole, RanAt, SwitchedAt, is_unread, copies_of, current_by, current_host, HeldFits}
+use Rattle.mig_model.specs.Invariant.{IsSoundWorld, IsSoundFlight, AreSoundEpochs, AreFaithful, Wires, AreRight, AreWhole, RanAt, SwitchedAt, is_unread, copies_of, current_by, current_host, HeldFits}
 use Rattle.mig_model.specs.Log.{no_pages, present, unchanged}
 use Rattle.mig_model.specs.Source.{Source, is_source_idle, space_of, source_act, source_act_by, source_acted_by}
 use Rattle.mig_model.specs.Destination.{Destination, settled}
-use Rattle.mig_model.proofs.Facts.{none_absurd, some_is, missing_none, only_one, some_either}
+use Rattle.mig_model.proofs.Facts.{none_absurd, missing_none, only_one, some_either}
 use Rattle.std.proofs.lemmas.Bool.Decides.{nat_tests}
-use Rattle.std.proofs.lemmas.Bool.{false≢true, not-false, or_left, and_parts, false_from_ne_true, lt-ltb, or_from, or_right, or_parts, not-true, eqb-true}
+use Rattle.std.proofs.lemmas.Bool.{false≢true, or_left, and_parts, false_from_ne_true, lt-ltb, or_right, not-true, eqb-true}
 use Rattle.mig_base.specs.declared.cpu_state.CpuState.{CpuState}
 use Rattle.mig_base.specs.declared.TheConstants.{HIGH_PAGE}
 use Rattle.mig_base.specs.declared.message.Message.{Message}
@@ -28,7 +28,7 @@ use Rattle.mig_base.specs.Bytes.{zero_page}
 use Rattle.mig_base.specs.Ranges.{in_range}
 use Rattle.mig_base.proofs.ByteLemmas.{length-zero_page, get_or-zero_page}
 use Rattle.mig_base.proofs.SetLemmas.{member_below, member_removed}
-use Rattle.mig_model.specs.Userfault.{Noted, Object, next_of, next_message, read_by, message_read}
+use Rattle.mig_model.specs.Userfault.{Noted, Object, next_message, message_read}
 use Rattle.mig_model.specs.Ioctls.{protected_in, put_pages}
 use Rattle.mig_model.specs.Guest.Act.{Unprotected, Zeroed}
 use Rattle.mig_model.proofs.IoctlLemmas.{IsSoundSpace-read, IsSoundSpace-protected, IsSoundSpace-installed, CanPut, get-put_pages}
@@ -118,16 +118,12 @@ pub record IsChanged (source : Source) (guest : Guest) (clean todo : FinSet nat_
   pub sendable : (page : ℕ) → contains todo page ≡ true → is_unread guest.space.object.events page ≡ false → (is_present guest.space page ≡ true) × (contains guest.space.object.protect page ≡ true)
   pub copies : CopiesStay source guest clean
 
-precopying : (source : Source) (guest : Guest) (clean todo : FinSet nat_cmp) (held : List Fault) (rounds faults : ℕ) (kept : FinMap nat_cmp (List ℕ)) (forward : List Sent) → CopiesStay source guest clean → IsPrecopying source kept forward →
-    IsPrecopying (with_parts source guest clean todo held rounds faults) kept forward
-precopying source guest clean todo held rounds faults kept forward stay old = grind (arith, nat_tests)
-
 -- before the switch the destination has not run: while the source is paused, it is paused too, or has answered Resume
 wires_changed : (from : SourcePhase) (to : DestPhase) (source : Source) (guest : Guest) (clean todo : FinSet nat_cmp) (held : List Fault) (rounds faults : ℕ) (destination : Destination) (forward back urgent : List Sent) →
     RanAt to destination.has_run destination.ended → destination.has_run ≡ false → (destination.ended ≡ true → destination.has_run ≡ true) → SwitchedAt from source.switched → source.switched ≡ false →
     CopiesStay source guest clean → Wires (record source { phase = from }) (record destination { phase = to }) forward back urgent →
     Wires (with_parts (record source { phase = from }) guest clean todo held rounds faults) (record destination { phase = to }) forward back urgent
-wires_changed from to source guest clean todo held rounds faults destination forward back urgent ran bare after at unswitched stay wires = grind (arith, nat_tests, precopying, none_absurd)
+wires_changed from to source guest clean todo held rounds faults destination forward back urgent ran bare after at unswitched stay wires = grind (arith, nat_tests)
 
 pub changed : (world : World) (guest : Guest) (clean todo : FinSet nat_cmp) (held : List Fault) (rounds faults : ℕ) (transcript : List Entry) → IsSoundWorld world → world.destination.has_run ≡ false → world.source.switched ≡ false →
     IsChanged world.source guest clean todo transcript →
@@ -166,7 +162,7 @@ more_present : (space : Space) (page q : ℕ) → is_present space q ≡ true �
 more_present space page q h = ap is_some (get-put_pages space.host.bytes page 1 q (λ i. zero_page)) ∙ some_either (in_range page 1 q) zero_page (get space.host.bytes q) h
 
 same_elsewhere : (space : Space) (page q : ℕ) → is_present space page ≡ false → is_present space q ≡ true → get (zero_installed space page).host.bytes q ≡ get space.host.bytes q
-same_elsewhere space page q missing present = grind (arith, nat_tests, get-put_pages, false_from_ne_true, in_one_is)
+same_elsewhere space page q missing present = grind (arith, nat_tests, get-put_pages, in_one_is)
 
 -- A message is read
 
@@ -175,10 +171,6 @@ record IsRead (object new : Object) (message : Message) : Type 0 where
   protect : new.protect ≡ object.protect
   right : AreRight object.events → AreRight new.events
   unread : (page : ℕ) → is_changed_by message page ≡ false → is_unread new.events page ≡ false → is_unread object.events page ≡ false
-
-is_read : (faults events : List Noted) (object : Object) (noted : Noted) → next_of faults events ≡ Some noted →
-    IsRead (record object { faults = faults; events = events }) (read_by faults (record object { faults = faults; events = events })) noted.message
-is_read faults events object noted h = grind (arith, nat_tests, or_from, some_is)
 
 member_unchanged : (s : FinSet nat_cmp) (message : Message) (page : ℕ) → contains (unchanged s message) page ≡ true → (contains s page ≡ true) × (is_changed_by message page ≡ false)
 member_unchanged s message page h =
@@ -190,7 +182,7 @@ read_changed : (world : World) (noted : Noted) (processors : List CpuState) → 
     next_message (space_of world.source).object ≡ Some noted →
     IsChanged world.source (record { space = record (space_of world.source) { object = message_read (space_of world.source).object }; cpus = processors })
     (unchanged world.source.log.clean noted.message) (unchanged world.source.log.todo noted.message) world.transcript
-read_changed world noted processors kept unswitched started next = grind (arith, nat_tests, is_read, source_holds, has_not_run, IsSoundSpace-read, never_idle, member_unchanged)
+read_changed world noted processors kept unswitched started next = grind (arith, nat_tests, source_holds, has_not_run, IsSoundSpace-read, never_idle, member_unchanged)
 
 -- whatever the message is
 read_by_message : (world : World) (noted : Noted) (message : Message) → IsSoundWorld world → world.source.switched ≡ false → is_source_idle world.source.phase ≡ false → next_message (space_of world.source).object ≡ Some noted →
@@ -210,11 +202,8 @@ record IsWatched (space : Space) (page : ℕ) : Type 0 where
   mapped : contains_key space.host.areas page ≡ true
   protect : contains space.object.protect page ≡ true
 
-either_same : (a b : Bool) → a ≡ b → (a || b) ≡ true → b ≡ true
-either_same a b e h = grind arith
-
 is_watched : (space : Space) (page : ℕ) → contains space.object.missing page ≡ contains space.object.protect page → is_forgotten space page ≡ false → IsWatched space page
-is_watched space page both h = grind (arith, nat_tests, or_parts, not-false, either_same)
+is_watched space page both h = grind (arith, nat_tests)
 
 unprotected_is : (forgotten present protected : Bool) → source_act_by forgotten present protected ≡ Unprotected → forgotten ≡ false
 unprotected_is true present protected h = absurd (cc)
@@ -229,7 +218,7 @@ not_in_one page q h = grind (arith, nat_tests)
 -- nothing but processors and held faults has changed
 same_changed : (world : World) (processors : List CpuState) → IsSoundWorld world → world.source.switched ≡ false →
     IsChanged world.source (record { space = space_of world.source; cpus = processors }) world.source.log.clean world.source.log.todo world.transcript
-same_changed world processors kept unswitched = grind (arith, nat_tests, source_holds, has_not_run)
+same_changed world processors kept unswitched = grind (arith, nat_tests)
 
 protected_below : (space : Space) (page : ℕ) → IsSoundSpace space → contains space.protected page ≡ true → ltb page HIGH_PAGE ≡ true
 protected_below space page sound h =
@@ -237,7 +226,7 @@ protected_below space page sound h =
 
 unprotected_changed : (world : World) (page : ℕ) (processors : List CpuState) → IsSoundWorld world → world.source.switched ≡ false → is_source_idle world.source.phase ≡ false → IsWatched (space_of world.source) page →
     IsChanged world.source (record { space = protected_in (space_of world.source) page 1 false; cpus = processors }) (remove world.source.log.clean page) world.source.log.todo world.transcript
-unprotected_changed world page processors kept unswitched started watched = grind (arith, nat_tests, and_parts, member_removed, source_holds, has_not_run, IsSoundSpace-protected, in_one_is, never_idle, member_below, protected_below, not_in_one, not-true)
+unprotected_changed world page processors kept unswitched started watched = grind (arith, nat_tests, member_removed, source_holds, has_not_run, IsSoundSpace-protected, in_one_is, never_idle, member_below, protected_below, not_in_one, not-true)
 
 zeroed_changed : (world : World) (page : ℕ) (processors : List CpuState) → IsSoundWorld world → world.source.switched ≡ false → is_source_idle world.source.phase ≡ false → IsWatched (space_of world.source) page →
     is_present (space_of world.source) page ≡ false →

@@ -1,7 +1,7 @@
 -- The messages of a map call: each is right, and together they tell of every registered page that the call changes.
 use Rattle.std.proofs.Common.{◌≡◌, append-nil, ℕ, ◌+◌, ◌-◌, ◌*◌, ◌/◌, ◌<◌, ◌≤◌, ◌&&◌, ◌||◌, Bool, true, false, not, ltb, List, [], ◌∷◌, ◌++◌, refl, sym, ap, ◌∙◌, ◌⊎◌, arith, append_assoc}
 use Rattle.std.proofs.lemmas.Bool.Decides.{nat_tests}
-use Rattle.std.proofs.lemmas.Bool.{false≢true, false_from_ne_true, cases_lt, and_from, or_parts}
+use Rattle.std.proofs.lemmas.Bool.{false≢true, and_from, or_parts}
 use Rattle.mig_base.specs.declared.TheConstants.{HIGH, HIGH_PAGE}
 use Rattle.mig_base.specs.declared.message.Message.{Message}
 use Rattle.mig_base.specs.declared.message.Message.TheVariants.{Remove, Unmap}
@@ -35,10 +35,6 @@ is_unread-append [] (message ∷ messages) cpu page = ap (λ b. is_changed_by me
 is_unread-append (noted ∷ events) messages cpu page =
     ap (λ b. is_changed_by noted.message page || b) (is_unread-append events messages cpu page)
     ∙ or_assoc (is_changed_by noted.message page) (is_unread events page) (tells messages page)
-
-pub tells-append : (a b : List Message) (page : ℕ) → tells (a ++ b) page ≡ (tells a page || tells b page)
-tells-append [] b page = refl
-tells-append (message ∷ a) b page = ap (λ t. is_changed_by message page || t) (tells-append a b page) ∙ or_assoc (is_changed_by message page) (tells a page) (tells b page)
 
 abbrev pub AllRight : List Message → Type 0
 AllRight [] = Unit {0}
@@ -79,7 +75,7 @@ in_bytes-pages start count page = let n : (start + 4096 * count) / 4096 - start 
 -- a registered page of which nothing is told lies outside of a range of which it would be told
 pub outside_told : (reason : Bool) (message : Message) (object : Object) (first count page : ℕ) → (in_range first count page ≡ true → is_changed_by message page ≡ true) → reason ≡ true → is_registered object page ≡ true →
     tells (told (reason && is_watched object first count) message) page ≡ false → in_range first count page ≡ false
-outside_told reason message object first count page covers reasoned registered h = grind (arith, nat_tests, false_from_ne_true, untold, and_from, watched_page)
+outside_told reason message object first count page covers reasoned registered h = grind (arith, nat_tests, untold, and_from, watched_page)
 
 pub unmapped_outside : (object : Object) (start count page : ℕ) → is_registered object page ≡ true → tells (told (is_watched object (start / 4096) count) (Unmap start (start + 4096 * count))) page ≡ false → in_range (start / 4096) count page ≡ false
 unmapped_outside object start count page registered h =
@@ -93,7 +89,7 @@ pub lesser_is : (a b : ℕ) → (lesser a b ≡ a) ⊎ (lesser a b ≡ b)
 lesser_is a b = grind (arith, nat_tests)
 
 below_end : (start count page end : ℕ) → page < HIGH_PAGE → start / 4096 ≤ page → page < start / 4096 + count → (end ≡ start + 4096 * count) ⊎ (end ≡ HIGH) → in_bytes start end page ≡ true
-below_end start count page end below low high h7 = grind (arith, nat_tests, in_bytes-pages)
+below_end start count page end below low high h7 = grind (arith, nat_tests)
 
 -- the same where the range is told to its end, or to the end of the address space
 pub dropped_outside : (object : Object) (start count page : ℕ) → page < HIGH_PAGE → is_registered object page ≡ true → tells (told (is_watched object (start / 4096) count) (Remove start (lesser (start + 4096 * count) HIGH))) page ≡ false →
@@ -111,8 +107,8 @@ Stays from count to new_count page =
     ((in_range to new_count page ≡ true) × (ltb (page - to) count ≡ true) × (from + (page - to) ≡ page)) ⊎ ((in_range to new_count page ≡ false) × (in_range from count page ≡ false))
 
 pub stays_there : (from count new_count page : ℕ) → (new_count < count → in_range (from + new_count) (count - new_count) page ≡ false) → in_range (from + count) (new_count - count) page ≡ false → Stays from count from new_count page
-stays_there from count new_count page tail growth = grind (arith, nat_tests, cases_lt)
+stays_there from count new_count page tail growth = grind (arith, nat_tests)
 
 pub moved_away : (from count to new_count page : ℕ) → in_range to new_count page ≡ false → (new_count < count → in_range (from + new_count) (count - new_count) page ≡ false) → in_range from (lesser count new_count) page ≡ false →
     in_range from count page ≡ false
-moved_away from count to new_count page out tail head = grind (arith, nat_tests, cases_lt)
+moved_away from count to new_count page out tail head = grind (arith, nat_tests)

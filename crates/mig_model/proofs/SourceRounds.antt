@@ -29,7 +29,7 @@ use Rattle.mig_model.specs.Log.{no_pages}
 use Rattle.mig_model.specs.Source.{Source, all_registered, for_both, is_precopy, is_source_idle, not_clean, source_started, space_of}
 use Rattle.mig_model.specs.Destination.{Destination}
 use Rattle.mig_model.proofs.WireLemmas.{fits-more, flight_up}
-use Rattle.mig_model.proofs.Facts.{none_absurd, low_or, and_true, owed_is_present}
+use Rattle.mig_model.proofs.Facts.{none_absurd, and_true, owed_is_present}
 
 -- The source makes rounds of pre-copy
 
@@ -57,10 +57,10 @@ whole_range : (page : ℕ) → page < HIGH_PAGE → in_range 0 HIGH_PAGE page �
 whole_range page h = grind (arith, nat_tests)
 
 mapped_registered : (space : Space) (page : ℕ) → IsSoundSpace space → contains_key space.host.areas page ≡ true → contains (all_registered space).object.protect page ≡ true
-mapped_registered space page sound mapped = grind (arith, nat_tests, low_or, member_below, registered_now, lt-ltb, and_from, whole_range)
+mapped_registered space page sound mapped = grind (arith, nat_tests, member_below, registered_now, lt-ltb, and_from, whole_range)
 
 pub present_mapped : (space : Space) (page : ℕ) → IsSoundSpace space → is_present space page ≡ true → contains_key space.host.areas page ≡ true
-present_mapped space page sound h = grind (arith, nat_tests, none_absurd)
+present_mapped space page sound h = grind (arith, nat_tests)
 
 still_protected : (space : Space) (page : ℕ) → IsSoundSpace space → contains space.protected page ≡ true → contains (all_registered space).protected page ≡ true
 still_protected space page sound h = member_below _ HIGH_PAGE page ∙ rw (watched_below space page sound (sound.watched page h)) (and_true (contains space.protected page) ∙ h)
@@ -86,13 +86,9 @@ round_changed world kept precopy unswitched =
     assumption
 
 pub kept-round : (world : World) → IsSoundWorld world → is_precopy world.source.phase ≡ true → IsSoundWorld (after_round world)
-kept-round world kept precopy = grind (arith, nat_tests, precopy_unswitched, changed, has_not_run, round_changed)
+kept-round world kept precopy = grind (arith, nat_tests, changed, has_not_run, round_changed)
 
 -- Start
-
-idle_is : (phase : SourcePhase) → is_source_idle phase ≡ true → phase ≡ SourcePhase.Idle
-idle_is SourcePhase.Idle h = refl
-idle_is _ h = none_absurd h
 
 idle_unswitched : (phase : SourcePhase) (switched : Bool) → phase ≡ SourcePhase.Idle → SwitchedAt phase switched → switched ≡ false
 idle_unswitched phase switched idle at = subst (λ p. SwitchedAt p switched) idle at
@@ -161,10 +157,10 @@ started_next world kept idle unswitched up quiet =
 
 -- nothing is in flight before Start
 pub idle_forward : (world : World) → IsSoundWorld world → is_source_idle world.source.phase ≡ true → world.forward.frames ≡ []
-idle_forward world kept is_idle = grind (arith, nat_tests, idle_is, true_from_ne_false, idle_wires)
+idle_forward world kept is_idle = grind (arith, nat_tests)
 
 pub idle_back : (world : World) → IsSoundWorld world → is_source_idle world.source.phase ≡ true → world.back.frames ≡ []
-idle_back world kept is_idle = grind (arith, nat_tests, idle_is, true_from_ne_false, idle_wires)
+idle_back world kept is_idle = grind (arith, nat_tests)
 
 pub kept-start : (world : World) → IsSoundWorld world → is_source_idle world.source.phase ≡ true → IsSoundWorld (after_start world)
-kept-start world kept is_idle = grind (arith, nat_tests, idle_is, idle_unswitched, true_from_ne_false, renewed, has_not_run, started_next, idle_wires)
+kept-start world kept is_idle = grind (arith, nat_tests, idle_unswitched, true_from_ne_false, renewed, has_not_run, started_next, idle_wires)

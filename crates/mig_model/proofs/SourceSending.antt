@@ -1,13 +1,13 @@
 -- The source sends the next page of a round, or a run of neighbouring pages in one frame, and keeps what every world keeps.
-use Rattle.std.proofs.Common.{◌≡◌, ℕ, zero, suc, ◌+◌, Bool, true, false, cond, eqb, if◌then◌else◌, Option, Some, List, [], ◌∷◌, ◌++◌, sym, ap, ◌∙◌, length, subst, arith, ◌&&◌, ◌||◌, ltb, ◌⊎◌, is_some, unwrap_or}
+use Rattle.std.proofs.Common.{◌≡◌, ℕ, zero, suc, ◌+◌, Bool, true, false, cond, eqb, Option, Some, List, [], ◌∷◌, ◌++◌, sym, ap, ◌∙◌, length, subst, arith, ◌&&◌, ◌||◌, ltb, is_some, unwrap_or}
 use Rattle.std.proofs.lemmas.Bool.Decides.{nat_tests}
 use Rattle.mig_base.specs.Ranges.{in_range}
 use Rattle.std.specs.List.{list_all}
 use Rattle.std.specs.Ordering.{nat_cmp}
 use Rattle.std.specs.FinMap.{FinMap, get, insert}
 use Rattle.mig_model.specs.Wire.{Frame, Sent, page_frame, copies_in, kept_after, kept_with, run_copies}
-use Rattle.mig_model.specs.Wire.Frame.{Page, Zero, Run}
-use Rattle.mig_model.specs.Invariant.{Flow, flow_next, flow_after, copies_of, AreWhole, is_package, kept_by, IsSoundWorld, IsPrecopying, Wires, is_unread}
+use Rattle.mig_model.specs.Wire.Frame.{Run}
+use Rattle.mig_model.specs.Invariant.{Flow, flow_next, flow_after, copies_of, AreWhole, kept_by, IsSoundWorld, IsPrecopying, Wires, is_unread}
 use Rattle.mig_model.specs.Invariant.Flow.{BeforeAdvise, Copies}
 use Rattle.mig_model.specs.Source.{Source, bytes_of, run_of, in_space, is_precopy, space_of}
 use Rattle.mig_model.proofs.HostLemmas.{get-put}
@@ -16,7 +16,7 @@ use Rattle.mig_model.proofs.Facts.{none_absurd, zero_bytes, kept_page, copies_of
 use Rattle.mig_model.proofs.WireLemmas.{has_no_package, copies_in-page, page_flow, flow_sent, fits-append, flight_up}
 use Rattle.std.specs.FinSet as finset
 use Rattle.std.specs.FinSet.{FinSet, contains}
-use Rattle.std.proofs.lemmas.Bool.{and_parts, or_right}
+use Rattle.std.proofs.lemmas.Bool.{or_right}
 use Rattle.mig_base.specs.declared.phase.DestPhase.{DestPhase}
 use Rattle.mig_base.specs.declared.phase.SourcePhase.{SourcePhase}
 use Rattle.mig_base.specs.declared.TheConstants.{HIGH_PAGE}
@@ -38,9 +38,6 @@ use Rattle.mig_model.proofs.SourceRounds.{precopy_unswitched, precopy_started, w
 pub kept_after-page_frame : (kept : FinMap nat_cmp (List ℕ)) (page : ℕ) (bytes : List ℕ) → length bytes ≡ 4096 → kept_after kept (page_frame page bytes) ≡ insert kept page bytes
 kept_after-page_frame kept page bytes n = kept_page (list_all (λ byte. eqb byte 0) bytes) kept page bytes (zero_bytes bytes n)
 
-no_package_by : (b : Bool) (page : ℕ) (bytes : List ℕ) → is_package (if b then Zero page else Page page bytes) ≡ false
-no_package_by b page bytes = grind arith
-
 -- One more frame
 
 pub copies_whole-push : (wire : List Sent) (sent : Sent) → AreWhole (copies_in sent.frame) → AreWhole (copies_of wire) → AreWhole (copies_of (wire ++ sent ∷ []))
@@ -54,7 +51,7 @@ kept_by-push wire flow sent kept h = (has_no_package flow kept wire (sent ∷ []
 -- the page's own bytes are the newest then
 pub kept_by-page : (wire : List Sent) (flow : Flow) (kept : FinMap nat_cmp (List ℕ)) (epoch page : ℕ) (bytes : List ℕ) → flow_after flow wire ≡ Some Copies → length bytes ≡ 4096 → (q : ℕ) →
     get (kept_by kept (wire ++ record { epoch = epoch; frame = page_frame page bytes } ∷ [])) q ≡ cond (eqb q page) (Some bytes) (get (kept_by kept wire) q)
-kept_by-page wire flow kept epoch page bytes h n q = grind (arith, nat_tests, kept_by-push, no_package_by, kept_after-page_frame, get-put)
+kept_by-page wire flow kept epoch page bytes h n q = grind (arith, nat_tests, kept_by-push, kept_after-page_frame, get-put)
 
 -- A run of pages
 
@@ -106,7 +103,7 @@ whole_bytes space page o sound e h = grind arith
 
 are_sent : (world : World) (first count : ℕ) → IsSoundWorld world → world.source.switched ≡ false → (space_of world.source).object.events ≡ [] → ((q : ℕ) → in_range first count q ≡ true → contains world.source.log.todo q ≡ true) →
     AreSent (space_of world.source) first count
-are_sent world first count kept unswitched quiet todo = grind (arith, nat_tests, whole_bytes, watched_below)
+are_sent world first count kept unswitched quiet todo = grind (arith, nat_tests)
 
 -- the frame carries the pages, and the log has them as clean and sent
 record IsCarried (space : Space) (old : Log) (first count : ℕ) (frame : Frame) (log : Log) : Type 0 where
@@ -128,22 +125,13 @@ carried_wire world frame = world.forward.frames ++ record { epoch = world.source
 still_after : (world : World) (first count : ℕ) (clean : FinSet nat_cmp) → IsSoundWorld world → world.source.switched ≡ false → AreSent (space_of world.source) first count →
     ((q : ℕ) → contains clean q ≡ (in_range first count q || contains world.source.log.clean q)) →
     (q : ℕ) → contains clean q ≡ true → is_unread (space_of world.source).object.events q ≡ false → contains (protected_in (space_of world.source) first count true).protected q ≡ true
-still_after world first count clean kept unswitched are clean_is q h u = grind (arith, nat_tests, protected_now, member_below, either, watched_below, or_right)
-
-here_or_before : (here : Bool) (bytes : List ℕ) (kept own : Option (List ℕ)) → (here ≡ true → Some bytes ≡ own) → (here ≡ false → kept ≡ own) → cond here (Some bytes) kept ≡ own
-here_or_before here bytes kept own first second = grind arith
-
-copied_or_before : (here : Bool) (bytes : List ℕ) (kept : Option (List ℕ)) → is_some (cond here (Some bytes) kept) ≡ true → (here ≡ true) ⊎ (is_some kept ≡ true)
-copied_or_before here bytes kept h = grind arith
-
-was_clean : (here clean : Bool) → (here || clean) ≡ true → here ≡ false → clean ≡ true
-was_clean here clean h e = grind arith
+still_after world first count clean kept unswitched are clean_is q h u = grind (arith, nat_tests, member_below, either, watched_below, or_right)
 
 -- the copies of the clean pages are right once those of these pages are behind them
 carried_copies : (source : Source) (first count : ℕ) (frame : Frame) (log : Log) (pages epoch : ℕ) (flow : Flow) (kept : FinMap nat_cmp (List ℕ)) (wire : List Sent) → AreSent (space_of source) first count →
     IsCarried (space_of source) source.log first count frame log → flow_after flow wire ≡ Some Copies → IsPrecopying source kept wire →
     IsPrecopying (carried source first count log pages) kept (wire ++ record { epoch = epoch; frame = frame } ∷ [])
-carried_copies source first count frame log pages epoch flow kept wire are is right old = grind (arith, nat_tests, here_or_before, present_bytes, was_clean, or_right, copied_or_before)
+carried_copies source first count frame log pages epoch flow kept wire are is right old = grind (arith, nat_tests)
 
 wires_carried : (from : SourcePhase) (to : DestPhase) (world : World) (first count : ℕ) (frame : Frame) (log : Log) (pages : ℕ) → is_precopy from ≡ true → AreSent (space_of world.source) first count →
     IsCarried (space_of world.source) world.source.log first count frame log →
@@ -193,7 +181,7 @@ inserted_is : (set : FinSet nat_cmp) (page q : ℕ) → contains (finset.insert 
 inserted_is set page q = member_inserted set page q ∙ ap (λ b. b || contains set q) (sym (only_one page q))
 
 page_carried : (source : Source) (page : ℕ) → length (bytes_of source page) ≡ 4096 → IsCarried (space_of source) source.log page 1 (page_frame page (bytes_of source page)) (log_sent source.log page)
-page_carried source page whole = grind (arith, nat_tests, inserted_is, and_parts, member_removed, copies_in-page, page_flow, kept_by-page, one_page)
+page_carried source page whole = grind (arith, nat_tests, inserted_is, member_removed, copies_in-page, page_flow, kept_by-page, one_page)
 
 pub kept-send : (world : World) (page : ℕ) → IsSoundWorld world → least_of world.source.log.todo ≡ Some page → is_precopy world.source.phase ≡ true → world.up ≡ true → is_changing world.source.guest ≡ false → IsSoundWorld (after_send world page)
 kept-send world page kept found precopy up quiet =
@@ -205,7 +193,7 @@ kept-send world page kept found precopy up quiet =
 -- A run
 
 run_carried : (source : Source) (first count : ℕ) → AreSent (space_of source) first count → IsCarried (space_of source) source.log first count (Run first (run_of source first count)) (log_run_sent source.log first count)
-run_carried source first count are = grind (arith, nat_tests, member_with_range, and_parts, member_without, run_whole, kept_by-run)
+run_carried source first count are = grind (arith, nat_tests, member_with_range, member_without, run_whole, kept_by-run)
 
 pub kept-run : (world : World) (first number count : ℕ) → IsSoundWorld world → number ≡ run_length world.source.log.todo first (run_bound count) → is_precopy world.source.phase ≡ true → world.up ≡ true → is_changing world.source.guest ≡ false →
     IsSoundWorld (after_run world first number)

@@ -49,9 +49,6 @@ sound_of space host parts = record { host = host; mapped = parts.mapped; present
 
 -- Ranges taken out
 
-both_left : (a b gone : Bool) → ((a && not gone) || (b && not gone)) ≡ true → (gone ≡ false) × ((a || b) ≡ true)
-both_left a b gone h = grind (arith, nat_tests)
-
 one_left : (a gone : Bool) → (a && not gone) ≡ true → (gone ≡ false) × (a ≡ true)
 one_left a gone h = grind (arith, nat_tests)
 
@@ -65,7 +62,7 @@ stays pages first count page out h = ap is_some (get-remove_range pages first co
 taken_out : (areas new_areas : PageMap Prot) (bytes : PageMap (List ℕ)) (missing protect protected : Set) (first count : ℕ) → IsWatched areas bytes missing protect protected →
     ((page : ℕ) → in_range first count page ≡ false → contains_key areas page ≡ true → contains_key new_areas page ≡ true) →
     IsWatched new_areas (remove_range bytes first count) (without missing first count) (without protect first count) (without protected first count)
-taken_out areas new_areas bytes missing protect protected first count old areas_stay = grind (arith, nat_tests, both_left, member_without, left_of, stays)
+taken_out areas new_areas bytes missing protect protected first count old areas_stay = grind (arith, nat_tests, member_without, left_of, stays)
 
 given : (areas : PageMap Prot) (first count page : ℕ) (prot : Prot) → in_range first count page ≡ false → contains_key areas page ≡ true → contains_key (set_range areas first count prot) page ≡ true
 given areas first count page prot out h = ap is_some (get-set_range areas first count prot page ∙ ap (λ b. cond b (Some prot) (get areas page)) out) ∙ h
@@ -84,10 +81,6 @@ in_moved test from count to new_count growth page =
 member_moved : (s : Set) (from count to new_count page : ℕ) (growth : Bool) → contains (moved_set s from count to new_count growth) page ≡ in_moved (contains s) from count to new_count growth page
 member_moved s from count to new_count page growth = member_below _ HIGH_PAGE page
 
-moved_mapped : (low new old from : Bool) (m1 m2 p1 p2 mg pg : Bool) (a1 ag a2 : Option Prot) → ((m1 || p1) ≡ true → is_some a1 ≡ true) → is_some ag ≡ true → ((m2 || p2) ≡ true → is_some a2 ≡ true) →
-    ((low && cond new (cond old m1 mg) (not from && m2)) || (low && cond new (cond old p1 pg) (not from && p2))) ≡ true → is_some (cond new (cond old a1 ag) (cond from None a2)) ≡ true
-moved_mapped low new old from m1 m2 p1 p2 mg pg a1 ag a2 one growth two h = grind (arith, nat_tests)
-
 moved_present : {X : Type 0} (low new old from p1 p2 : Bool) (b1 b2 : Option X) → (p1 ≡ true → is_some b1 ≡ true) → (p2 ≡ true → is_some b2 ≡ true) →
     (low && cond new (cond old p1 false) (not from && p2)) ≡ true → is_some (cond new (cond old b1 None) (cond from None b2)) ≡ true
 moved_present low new old from p1 p2 b1 b2 one two h = grind (arith, nat_tests)
@@ -98,7 +91,7 @@ moved_watched low new old from p1 p2 w1 w2 wg one two h = grind (arith, nat_test
 
 moved_parts : (areas : PageMap Prot) (bytes : PageMap (List ℕ)) (missing protect protected : Set) (from count to new_count : ℕ) (mode : Mode) → contains_key areas from ≡ true → IsWatched areas bytes missing protect protected →
     IsWatched (moved_range areas from count to new_count (get areas from)) (moved_range bytes from count to new_count None) (moved_set missing from count to new_count mode.missing) (moved_set protect from count to new_count mode.protect) (moved_set protected from count to new_count false)
-moved_parts areas bytes missing protect protected from count to new_count mode some old = grind (arith, nat_tests, get-moved_range, moved_mapped, member_moved, moved_present, moved_watched)
+moved_parts areas bytes missing protect protected from count to new_count mode some old = grind (arith, nat_tests, get-moved_range, member_moved, moved_present, moved_watched)
 
 -- Map calls
 
@@ -145,11 +138,8 @@ pub record Keeps (old new : Host) : Type 0 where
   areas : new.areas ≡ old.areas
   present : (page : ℕ) → contains_key old.bytes page ≡ true → contains_key new.bytes page ≡ true
 
-keeps_itself : (host : Host) → Keeps host host
-keeps_itself host = record { areas = refl; present = λ page h. h }
-
 accessed_host : (host : Host) (command : Command) (reply : Reply) → is_access command ≡ true → Keeps host (host_changed host command reply)
-accessed_host host command reply access = grind (arith, nat_tests, keeps_itself, more_present, none_absurd)
+accessed_host host command reply access = grind (arith, nat_tests, more_present, none_absurd)
 
 answered_sound : (space : Space) (command : Command) → is_access command ≡ true → IsSoundSpace space → IsSoundSpace (record space { host = host_after space.host command })
 answered_sound space command access sound = grind (arith, nat_tests, accessed_host, IsSound-changed)
@@ -168,11 +158,8 @@ IsSoundSpace-accessed space cpu command is sound = accessed_sound (access_of spa
 pub no_member : (page : ℕ) → contains {R = nat_cmp} empty page ≡ false
 no_member page = contains-empty nat_cmp page
 
-none_registered : (a b : Bool) → a ≡ false → b ≡ false → (a || b) ≡ true → ⊥
-none_registered a b ha hb h = grind (arith, nat_tests)
-
 pub IsSoundSpace-fresh : IsSoundSpace fresh_space
-IsSoundSpace-fresh = grind (arith, nat_tests, IsSound-empty, none_registered, no_member, none_absurd)
+IsSoundSpace-fresh = grind (arith, nat_tests, IsSound-empty, no_member, none_absurd)
 
 -- What an access answers
 

@@ -1,5 +1,5 @@
 -- What single steps enter in the transcript, put at missing pages, and do to the pages that remain.
-use Rattle.std.proofs.Common.{◌≡◌, ℕ, ◌*◌, ◌/◌, ◌&&◌, Bool, true, false, not, eqb, Some, ◌++◌, refl, sym, ap, ◌∙◌, subst, arith, if◌then◌else◌, IsOk}
+use Rattle.std.proofs.Common.{◌≡◌, ℕ, ◌*◌, ◌/◌, ◌&&◌, true, not, eqb, Some, ◌++◌, refl, sym, ap, ◌∙◌, subst, arith, if◌then◌else◌, IsOk}
 use Rattle.std.specs.Prelude.{Ok}
 use Rattle.std.specs.FinMap.{get}
 use Rattle.std.specs.FinSet.{contains}
@@ -13,9 +13,9 @@ use Rattle.mig_base.specs.Ranges.{in_range}
 use Rattle.mig_base.proofs.SetLemmas.{member_removed}
 use Rattle.mig_base.specs.Commands.{is_access}
 use Rattle.mig_model.specs.Space.{Space}
-use Rattle.mig_model.specs.Guest.{Guest, took_by, tried, zero_installed, Act}
+use Rattle.mig_model.specs.Guest.{took_by, zero_installed, Act}
 use Rattle.mig_model.specs.Guest.Act.{Unprotected, Zeroed}
-use Rattle.mig_model.specs.Migration.{World, next, outcome, act_effect, act_effect, guest_of, with_guest_by, after_command, after_dest_act, after_source_act}
+use Rattle.mig_model.specs.Migration.{World, next, outcome, act_effect, act_effect, guest_of, after_dest_act, after_source_act}
 use Rattle.mig_model.specs.Promises.{IsZeroed, keeps_remaining}
 use Rattle.mig_model.proofs.IoctlLemmas.{get-put_pages}
 use Rattle.mig_model.proofs.PromiseLemmas.{source_zero, destination_zero}
@@ -84,13 +84,6 @@ remaining_push_urgent world ticket q ok =
     made-ok (λ new. contains new.source.remaining q ≡ (not (eqb q ticket.page) && contains world.source.remaining q)) world (Step.PushUrgent ticket)
     (λ stopped up own present remains. member_removed world.source.remaining ticket.page q) ok
 
-guest_remaining : (ran : Bool) (world : World) (guest : Guest) (q : ℕ) → contains (with_guest_by ran world guest).source.remaining q ≡ contains world.source.remaining q
-guest_remaining true world guest q = refl
-guest_remaining false world guest q = refl
-
-tried_remaining : (world : World) (cpu : ℕ) (command : Command) (q : ℕ) → contains (after_command world cpu command).source.remaining q ≡ contains world.source.remaining q
-tried_remaining world cpu command q = guest_remaining world.destination.has_run world (tried (is_access command) (guest_of world) cpu command) q
-
 worked_remaining : (act : Act) (node : Source) (page q : ℕ) → contains (source_acted_by act node page).remaining q ≡ contains node.remaining q
 worked_remaining Unprotected node page q = refl
 worked_remaining _ node page q = refl
@@ -100,7 +93,7 @@ abbrev RemainedIn : World → ℕ → World → Type 0
 RemainedIn world q new = contains new.source.remaining q ≡ true → contains world.source.remaining q ≡ true
 
 remaining_answer : (world : World) (step : Step) (q : ℕ) → keeps_remaining step ≡ true → MakesWorld (RemainedIn world q) world step
-remaining_answer world step q keeps = grind (arith, nat_tests, tried_remaining, worked_remaining, and_second, member_removed)
+remaining_answer world step q keeps = grind (arith, nat_tests, worked_remaining, and_second, member_removed)
 
 pub remaining_shrinks : (world : World) (step : Step) (q : ℕ) → keeps_remaining step ≡ true → contains (next world step).source.remaining q ≡ true → contains world.source.remaining q ≡ true
 remaining_shrinks world step q keeps = made-next (RemainedIn world q) world step (λ h. h) (remaining_answer world step q keeps)

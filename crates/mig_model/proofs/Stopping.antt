@@ -22,7 +22,7 @@ use Rattle.mig_model.specs.Invariant.Flow.{BeforeAdvise, Copies, BeforePackage, 
 use Rattle.mig_model.proofs.WireLemmas.{flow_sent, has_package, copies_of-page, page_flow, fits-more, has_copy-append, flight_up, has_no_package}
 use Rattle.mig_model.specs.Log.{least_of, no_pages, present, less}
 use Rattle.mig_model.specs.Source.{Source, bytes_of, is_stopped, page_pushed, request_served, space_of, commands_of, is_precopy, not_clean, switch_made, switch_frames}
-use Rattle.mig_model.proofs.Facts.{none_absurd, eqb-self, eqb_other, low_or, copies_of-append, AreWhole-append, AreFaithful-append, AreOf-one, and_second, and_false, no_event, and_true, owed_is_present}
+use Rattle.mig_model.proofs.Facts.{none_absurd, eqb-self, eqb_other, low_or, copies_of-append, AreWhole-append, AreFaithful-append, AreOf-one, and_second, no_event, owed_is_present}
 use Rattle.mig_base.proofs.RangeLemmas.{least_below-some}
 use Rattle.std.proofs.lemmas.Bool.Decides.{nat_tests}
 use Rattle.std.proofs.lemmas.List.{append_assoc}
@@ -113,20 +113,14 @@ pushed_wires DestPhase.Ended world page held whole other flows old = absurd (oth
 pub stopped_not_released : SourcePhase.Stopped ≢ SourcePhase.Released
 stopped_not_released h = cc
 
-pub stopped_not_paused : SourcePhase.Stopped ≢ SourcePhase.Paused
-stopped_not_paused h = cc
-
 -- once Switch was made, and the source is stopped
 pub pushing_stopped : (source : Source) (up : Bool) → source.switched ≡ true → (source.end_epoch ≡ source.epoch → source.remaining ≡ no_pages) →
     ((page : ℕ) → contains source.remaining page ≡ true → is_present (space_of source) page ≡ true) → source.end_epoch ≤ source.epoch →
     IsSoundPushing SourcePhase.Stopped source.switched up source.epoch source.end_epoch (space_of source) source.remaining
-pushing_stopped source up switched end_sent present before = grind (arith, nat_tests, stopped_not_paused, stopped_not_released)
-
-stopped_not_idle : SourcePhase.Stopped ≢ SourcePhase.Idle
-stopped_not_idle h = cc
+pushing_stopped source up switched end_sent present before = grind (arith, nat_tests)
 
 pub log_stopped : (source : Source) → source.switched ≡ true → IsSoundLog SourcePhase.Stopped source.switched (space_of source) source.log.clean source.log.todo source.log.sent
-log_stopped source switched = grind (arith, nat_tests, stopped_not_idle)
+log_stopped source switched = grind (arith, nat_tests)
 
 pub was_there : (remaining : FinSet nat_cmp) (page q : ℕ) → contains (finset.remove remaining page) q ≡ true → contains remaining q ≡ true
 was_there remaining page q h = and_second (not (eqb q page)) (contains remaining q) (sym (member_removed remaining page q) ∙ h)
@@ -168,7 +162,7 @@ served_wires DestPhase.Ended world pages old = old
 served_wires _ world pages old = (old.0, old.1, record { owed = old.2.owed; plan = old.2.plan; owed_present = old.2.owed_present; kept_rest = old.2.kept_rest; whereabouts = old.2.whereabouts; faithful = old.2.faithful })
 
 served_in : (from : SourcePhase) (to : DestPhase) (world : World) (pages : List ℕ) → is_stopped from ≡ true → IsSoundWorld (in_phases from to world) → IsSoundWorld (after_serve (in_phases from to world) pages)
-served_in from to world pages stopped kept = grind (arith, nat_tests, served_wires, none_absurd)
+served_in from to world pages stopped kept = grind (arith, nat_tests, served_wires)
 
 pub kept-serve : (world : World) (pages : List ℕ) → IsSoundWorld world → is_stopped world.source.phase ≡ true → IsSoundWorld (after_serve world pages)
 kept-serve world pages kept stopped = served_in world.source.phase world.destination.phase world pages stopped kept
@@ -255,16 +249,10 @@ get-discarded kept pages q =
     get-retain_keys kept (λ page. not (contains pages page)) q (λ x e. ap (λ k. not (contains pages k)) (sym (nat_cmp-IsAntisymmetric q x e)))
     ∙ cond_not (contains pages q) (get kept q) None
 
-gone_or_none : (sent : Bool) (k : Option (List ℕ)) → (is_some k ≡ true → sent ≡ true) → cond sent None k ≡ None
-gone_or_none sent k h = grind arith
-
-owed_or_none : (low present : Bool) (bytes : Option (List ℕ)) → present ≡ is_some bytes → (present ≡ true → low ≡ true) → None ≡ cond (low && present) None bytes
-owed_or_none low present bytes is low_ = grind arith
-
 -- one page: what is kept of it once it was discarded or not is its bytes, unless it is owed
 rest_of : (clean sent low present : Bool) (k bytes : Option (List ℕ)) → (clean ≡ true → k ≡ bytes) → (is_some k ≡ true → sent ≡ true) → present ≡ is_some bytes → (present ≡ true → low ≡ true) →
     cond (sent && not clean) None k ≡ cond ((low && present) && not clean) None bytes
-rest_of clean sent low present k bytes same was is below = grind (arith, nat_tests, and_false, and_true, gone_or_none, owed_or_none)
+rest_of clean sent low present k bytes same was is below = grind (arith, nat_tests)
 
 -- the two frames of a switch
 abbrev discard_frame : Source → Sent

@@ -84,12 +84,9 @@ kept_takes world sent rest kept here = takes_in world.source.phase world.destina
 abbrev pub IsTakenBack : Source → Sent → Type 0
 IsTakenBack node sent = (is_in_place_back node sent.frame ≡ true) × (sent.epoch ≡ node.epoch)
 
-first_taken_back : (node : Source) (wire : List Sent) (first sent : Sent) (others rest : List Sent) → wire ≡ first ∷ others → wire ≡ sent ∷ rest → IsTakenBack node first → IsTakenBack node sent
-first_taken_back node wire first sent others rest is here taken = subst (IsTakenBack node) (same_first wire first sent others rest is here) taken
-
 takes_back_in : (from : SourcePhase) (to : DestinationPhase) (ends : Bool) (world : World) (sent : Sent) (rest : List Sent) → IsKept (at_stage from to ends world) →
     world.back ≡ sent ∷ rest → IsTakenBack (record world.source { phase = from; end_sent = ends }) sent
-takes_back_in from to ends world sent rest kept here = grind (arith, nat_tests, first_taken_back, none_is_first)
+takes_back_in from to ends world sent rest kept here = grind (arith, nat_tests)
 
 -- the source takes the first frame of the wire back
 pub kept_takes_back : (world : World) (sent : Sent) (rest : List Sent) → IsKept world → world.back ≡ sent ∷ rest → IsTakenBack world.source sent

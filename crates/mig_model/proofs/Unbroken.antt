@@ -1,12 +1,10 @@
 -- Without a break the Package that is taken is that of the Switch, and what is kept then is what was clean at the source.
 use Rattle.std.proofs.lemmas.Bool.Decides.{nat_tests}
-use Rattle.std.proofs.Common.{◌≡◌, ◌&&◌, Bool, true, false, cond, not, ℕ, Option, Some, None, is_some, List, [], ◌∷◌, ◌++◌, refl, sym, ap, ◌∙◌, IsOk, if◌then◌else◌, arith}
+use Rattle.std.proofs.Common.{◌≡◌, true, false, cond, not, ℕ, Option, Some, None, is_some, List, [], ◌∷◌, ◌++◌, refl, sym, ap, ◌∙◌, IsOk, if◌then◌else◌, arith}
 use Rattle.std.specs.Prelude.{Ok}
-use Rattle.std.specs.Ordering.{nat_cmp}
-use Rattle.std.specs.FinMap.{FinMap, get}
-use Rattle.std.specs.FinSet.{FinSet, contains}
+use Rattle.std.specs.FinMap.{get}
+use Rattle.std.specs.FinSet.{contains}
 use Rattle.std.proofs.lemmas.Bool.{false≢true}
-use Rattle.mig_base.specs.declared.Prot.{Prot}
 use Rattle.mig_base.specs.declared.command.Command.{Command}
 use Rattle.mig_base.specs.declared.effect.Effect.{Effect}
 use Rattle.mig_base.specs.declared.phase.DestPhase.{DestPhase}
@@ -14,30 +12,25 @@ use Rattle.mig_base.specs.declared.phase.SourcePhase.{SourcePhase}
 use Rattle.mig_base.specs.declared.schedule.Side.{Side}
 use Rattle.mig_base.specs.declared.schedule.Step.{Step}
 use Rattle.mig_model.specs.Host.{Host}
-use Rattle.mig_model.specs.Wire.{Frame, Sent, kept_after}
+use Rattle.mig_model.specs.Wire.{Frame, Sent}
 use Rattle.mig_model.specs.Wire.Frame.{Package}
 use Rattle.mig_model.specs.Guest.{is_present}
 use Rattle.mig_model.specs.Source.{Source, commands_of, is_precopy, is_stopped, not_clean, space_of}
-use Rattle.mig_model.specs.Destination.{Destination, destination_act, destination_took}
+use Rattle.mig_model.specs.Destination.{destination_act}
 use Rattle.mig_model.specs.Owed.{home}
 use Rattle.mig_model.specs.Migration.{World, after_command, after_deliver, after_steps, frame_effect, is_changing, next, outcome, runs}
-use Rattle.mig_model.specs.Invariant.{IsSoundWorld, is_package, kept_by, package_in}
+use Rattle.mig_model.specs.Invariant.{IsSoundWorld, is_package, package_in}
 use Rattle.mig_model.specs.Promises.{IsReached}
 use Rattle.mig_model.specs.Unbroken.{StaysUp, KeepsClean}
 use Rattle.mig_model.proofs.EveryStep.{kept-reached}
-use Rattle.mig_model.proofs.Facts.{by_test, no_event, none_absurd}
+use Rattle.mig_model.proofs.Facts.{no_event}
 use Rattle.mig_model.proofs.FirstFrame.{empty_not}
 use Rattle.mig_model.proofs.FlightPromises.{none_precopy, owed_at}
-use Rattle.mig_model.proofs.FramesTaken.{owed_in}
-use Rattle.mig_model.proofs.PromiseLemmas.{is_switching}
 use Rattle.mig_model.proofs.ReachedLemmas.{reached-after_steps, reached-next}
-use Rattle.mig_model.proofs.SourceRounds.{precopy_unswitched}
 use Rattle.mig_model.proofs.StepCases.{MakesWorld, made-next, made-ok, made-effect}
 use Rattle.mig_model.proofs.Stopping.{in_phases}
-use Rattle.mig_model.proofs.UrgentSteps.{runs_unstopped}
 use Rattle.mig_model.proofs.UrgentWire.{idle_unstopped, not_stopped, precopy_unstopped}
-use Rattle.mig_model.proofs.WaitingCommands.{package_next, same_ran}
-use Rattle.mig_model.proofs.WokenSteps.{handles, installs, takes, takes_urgent}
+use Rattle.mig_model.proofs.WokenSteps.{handles, installs, takes_urgent}
 use Rattle.mig_model.proofs.WireLemmas.{package_in-append, has_package}
 
 -- From the Switch until the destination runs
@@ -60,20 +53,16 @@ unstopped host frame_sent world now not = absurd (false≢true (sym not ∙ now.
 
 -- no command is tried
 no_command : (host : Host) (frame_sent : Frame) (world : World) (cpu : ℕ) (command : Command) → IsSoundWorld world → runs world ≡ true → Awaits host frame_sent world → Awaits host frame_sent (after_command world cpu command)
-no_command host frame_sent world cpu command kept may h ran = grind (arith, nat_tests, same_ran, unstopped, runs_unstopped)
-
-package_runs : (frame : Frame) (node : Destination) (epoch : ℕ) → is_package frame ≡ true → (destination_took node epoch frame).has_run ≡ true
-package_runs (Package areas owed commands) node epoch is = refl
-package_runs _ node epoch is = absurd (false≢true is)
+no_command host frame_sent world cpu command kept may h ran = grind (arith, nat_tests)
 
 -- a frame is taken: with the Package the destination runs
 taken_awaits : (host : Host) (frame_sent : Frame) (epoch : ℕ) (frame : Frame) (rest : List Sent) (world : World) → world.forward.frames ≡ record { epoch = epoch; frame = frame } ∷ rest → Awaits host frame_sent world →
     Awaits host frame_sent (after_deliver world (record { epoch = epoch; frame = frame }) rest)
-taken_awaits host frame_sent epoch frame rest world first h ran = grind (arith, nat_tests, by_test, package_runs, takes)
+taken_awaits host frame_sent epoch frame rest world first h ran = grind (arith, nat_tests)
 
 -- nothing comes back
 no_back : (from : SourcePhase) (to : DestPhase) (world : World) → is_stopped from ≡ true → world.up ≡ true → world.destination.has_run ≡ false → IsSoundWorld (in_phases from to world) → world.back.frames ≡ []
-no_back from to world stopped up ran kept = grind (arith, nat_tests, none_absurd)
+no_back from to world stopped up ran kept = grind (arith, nat_tests)
 
 -- more frames behind the Package
 sent_more : (host : Host) (frame_sent : Frame) (world : World) (more : List Sent) → HasSwitched host frame_sent world → package_in (world.forward.frames ++ more) ≡ Some frame_sent
@@ -129,7 +118,7 @@ no_package_by None not = refl
 no_package_by (Some frame) not = absurd (not refl)
 
 none_before : (from : SourcePhase) (to : DestPhase) (world : World) → is_precopy from ≡ true → world.up ≡ true → IsSoundWorld (in_phases from to world) → is_some (package_in world.forward.frames) ≡ true → ⊥
-none_before from to world precopy up kept there = grind (arith, nat_tests, none_precopy, none_absurd)
+none_before from to world precopy up kept there = grind (arith, nat_tests, none_precopy)
 
 -- a frame behind a wire with no Package
 sent_first : (wire : List Sent) (sent : Sent) → package_in wire ≡ None → package_in (wire ++ sent ∷ []) ≡ package_in (sent ∷ [])
@@ -171,33 +160,18 @@ package_first world n owed answered =
     made-effect (λ effect new. effect ≡ Effect.TookPackage owed → IsPackageFirst world) world (Step.Deliver n) (Effect.TookPackage owed)
     ((λ sent rest is short h. absurd (cc)), (λ sent rest is full started up free early h. record { sent = sent; rest = rest; first = is; is = takes_package sent.frame owed h })) answered refl
 
-not_run_yet : (epoch : ℕ) (frame : Frame) (rest : List Sent) (world : World) → world.up ≡ true → world.forward.frames ≡ record { epoch = epoch; frame = frame } ∷ rest → IsSoundWorld world → is_package frame ≡ true → world.destination.has_run ≡ false
-not_run_yet epoch (Package areas owed commands) rest world up first kept is = (package_next epoch areas owed commands rest world up first kept).1
-not_run_yet epoch _ rest world up first kept is = absurd (false≢true is)
-
--- one page: it is kept exactly where it was clean
-page_kept : (clean present : Bool) (bytes kept : Option (List ℕ)) → present ≡ is_some bytes → (clean ≡ true → present ≡ true) → kept ≡ cond (present && not clean) None bytes → (is_some kept ≡ clean) × (clean ≡ true → kept ≡ bytes)
-page_kept clean present bytes kept is all h = grind (arith, nat_tests, none_absurd)
-
-owed_same : (source : Source) (areas : FinMap nat_cmp Prot) (owed : FinSet nat_cmp) (commands : List (Option Command)) → Some (Package areas owed commands) ≡ Some (package_of source) → owed ≡ not_clean source
-unfolding owed_in
-owed_same source areas owed commands h = ap (λ o. elim o [ None ↦ owed | Some frame ↦ owed_in frame owed ]) h
-
-package_keeps : (kept : FinMap nat_cmp (List ℕ)) (wire : List Sent) (sent : Sent) (rest : List Sent) → wire ≡ sent ∷ rest → is_package sent.frame ≡ true → kept_by kept wire ≡ kept
-package_keeps kept wire sent rest first is = ap (λ w. kept_by kept w) first ∙ ap (λ b. cond b kept (kept_by (kept_after kept sent.frame) rest)) is
-
 -- what is kept where the Package of a source comes next
 kept_then : (source : Source) (now : World) → IsSoundWorld now → now.up ≡ true → IsPackageFirst now → Awaits (space_of source).host (package_of source) now → (page : ℕ) →
     get now.destination.kept page ≡ cond (contains (not_clean source) page) None (get (space_of source).host.bytes page)
-kept_then source now sound up first awaits page = grind (arith, nat_tests, not_run_yet, is_switching, package_keeps, owed_same)
+kept_then source now sound up first awaits page = grind (arith, nat_tests)
 
 -- a clean page of a source that may switch is present
 clean_present : (world : World) (page : ℕ) → IsSoundWorld world → is_precopy world.source.phase ≡ true → is_changing world.source.guest ≡ false → contains world.source.log.clean page ≡ true → is_present (space_of world.source) page ≡ true
-clean_present world page kept precopy quiet clean = grind (arith, nat_tests, precopy_unswitched, no_event)
+clean_present world page kept precopy quiet clean = grind (arith, nat_tests, no_event)
 
 keeps_by : (world now : World) → IsSoundWorld world → is_precopy world.source.phase ≡ true → is_changing world.source.guest ≡ false →
     ((page : ℕ) → get now.destination.kept page ≡ cond (contains (not_clean world.source) page) None (get (space_of world.source).host.bytes page)) → KeepsClean world now
-keeps_by world now kept precopy quiet all = grind (arith, nat_tests, page_kept, clean_present, owed_at)
+keeps_by world now kept precopy quiet all = grind (arith, nat_tests, clean_present, owed_at)
 
 pub keeps_clean : (world : World) (steps : List Step) (n owed : ℕ) → IsReached world → IsOk (outcome world Step.Switch) → StaysUp (next world Step.Switch) steps →
     outcome (after_steps (next world Step.Switch) steps) (Step.Deliver n) ≡ Ok (Effect.TookPackage owed) → KeepsClean world (after_steps (next world Step.Switch) steps)

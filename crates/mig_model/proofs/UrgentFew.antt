@@ -1,12 +1,11 @@
 -- The frames that were put on the urgent wire in an epoch and the pages that remain are, together, no more than the pages of the source.
-use Rattle.std.proofs.Common.{◌≡◌, ℕ, ◌+◌, ◌-◌, ◌<◌, ◌≤◌, ◌&&◌, not, Bool, true, false, List, refl, sym, ◌∙◌, arith, ltb}
+use Rattle.std.proofs.Common.{◌≡◌, ℕ, ◌+◌, ◌-◌, ◌≤◌, ◌&&◌, not, Bool, true, false, List, refl, sym, ◌∙◌, arith, ltb}
 use Rattle.std.specs.Ordering.{nat_cmp}
 use Rattle.std.specs.FinSet as finset
 use Rattle.std.specs.FinSet.{FinSet, contains, len}
 use Rattle.std.proofs.lemmas.Bool.{false≢true}
 use Rattle.std.proofs.lemmas.Bool.Decides.{nat_tests}
 use Rattle.mig_base.specs.declared.TheConstants.{HIGH_PAGE}
-use Rattle.mig_base.specs.declared.phase.Received.{Received}
 use Rattle.mig_base.specs.declared.phase.SourcePhase.{SourcePhase}
 use Rattle.mig_base.specs.declared.schedule.Side.{Side}
 use Rattle.mig_base.specs.declared.schedule.Step.{Step}
@@ -20,14 +19,13 @@ use Rattle.mig_model.specs.Guest.Act.{Unprotected}
 use Rattle.mig_model.specs.Log.{present}
 use Rattle.mig_model.specs.Wire.{Frame, Sent}
 use Rattle.mig_model.specs.Migration.{World, after_command, after_deliver_back, after_switch, first_world_with, guest_of, next, runs, with_guest_by}
-use Rattle.mig_model.specs.Source.{Source, is_precopy, is_released, is_stopped, source_act, source_acted_by, source_rebuilt, space_of}
+use Rattle.mig_model.specs.Source.{is_precopy, is_released, is_stopped, source_act, source_acted_by, space_of}
 use Rattle.mig_model.specs.Invariant.{AreSoundUrgent, IsSoundWorld}
 use Rattle.mig_model.specs.Promises.{IsReached}
 use Rattle.mig_model.proofs.Taken.{IsInPlaceBack}
 use Rattle.mig_model.specs.Bounds.{AreUrgentFew, IsUrgentFew}
 use Rattle.mig_model.proofs.EveryStep.{runs_source, by_reached}
 use Rattle.mig_model.proofs.Facts.{owed_is_present}
-use Rattle.mig_model.proofs.WokenSteps.{stopped_switched}
 use Rattle.mig_model.proofs.FramesTaken.{is_taken_back}
 use Rattle.mig_model.proofs.PushOrder.{idle_unswitched}
 use Rattle.mig_model.proofs.SetSizes.{len-part, len-removed, len-some}
@@ -41,15 +39,12 @@ use Rattle.mig_model.proofs.UrgentWire.{is_paused}
 past : (q bound : ℕ) (here : Bool) → bound ≤ q → (ltb q bound && here) ≡ false
 past q bound here l = grind (arith, nat_tests)
 
-inside : (q bound : ℕ) (here : Bool) → q < bound → here ≡ true → (ltb q bound && here) ≡ true
-inside q bound here l h = grind (arith, nat_tests)
-
 no_page_past : (space : Space) (q : ℕ) → HIGH_PAGE ≤ q → contains (present space) q ≡ false
 no_page_past space q l = member_below (λ page. is_present space page) HIGH_PAGE q ∙ past q HIGH_PAGE (is_present space q) l
 
 -- a set of present pages has no more than there are
 pub few_present : (space : Space) (set : FinSet nat_cmp) → IsSound space.host → ((page : ℕ) → contains set page ≡ true → is_present space page ≡ true) → len set ≤ len (present space)
-few_present space set sound h = grind (arith, nat_tests, len-part, member_below, inside, present_below, no_page_past)
+few_present space set sound h = grind (arith, nat_tests, len-part, member_below, present_below, no_page_past)
 
 -- Sums
 
@@ -85,7 +80,7 @@ acted_few Unprotected world page not h = before _ _ _ not h
 acted_few _ world page not h = before _ _ _ not h
 
 switch_few : (world : World) → IsSoundWorld world → is_precopy world.source.phase ≡ true → AreUrgentFew world → AreUrgentFew (after_switch world)
-switch_few world kept precopy h = grind (arith, nat_tests, precopy_unswitched, sum_fresh, few_present, owed_is_present)
+switch_few world kept precopy h = grind (arith, nat_tests, sum_fresh, few_present, owed_is_present)
 
 push_few : (world : World) (page : ℕ) → contains world.source.remaining page ≡ true → AreUrgentFew world →
     IsUrgentFew world.source.phase world.source.switched world.source.urgent_sent (space_of world.source) (finset.remove world.source.remaining page)
@@ -94,24 +89,18 @@ push_few world page remains h =
 
 push_urgent_few : (world : World) (page : ℕ) → IsSoundWorld world → is_stopped world.source.phase ≡ true → contains world.source.remaining page ≡ true → AreUrgentFew world →
     IsUrgentFew world.source.phase world.source.switched (world.source.urgent_sent + 1) (space_of world.source) (finset.remove world.source.remaining page)
-push_urgent_few world page kept stopped remains h = grind (arith, nat_tests, stopped_switched, sum_moved, len-removed, len-some)
+push_urgent_few world page kept stopped remains h = grind (arith, nat_tests, sum_moved, len-removed, len-some)
 
 -- Frames that the source takes
 
-rebuilt_few : (switched : Bool) (owed : FinSet nat_cmp) (source : Source) → source.urgent_sent ≡ 0 →
-    let node = source_rebuilt Received.NotRun owed (record source { switched = switched }) in
-    IsUrgentFew node.phase node.switched node.urgent_sent (space_of node) node.remaining
-rebuilt_few true owed source none = record { before_switch = λ s. none; few = λ s p. sum_fresh source.urgent_sent _ _ none (omega arith) }
-rebuilt_few false owed source none = record { before_switch = λ s. none; few = λ s. absurd (false≢true s) }
-
 back_few : (frame : Frame) (epoch : ℕ) (rest : List Sent) (world : World) → IsSoundWorld world → AreSoundUrgent world → world.up ≡ true → IsInPlaceBack world.source frame → AreUrgentFew world →
     AreUrgentFew (after_deliver_back world (record { epoch = epoch; frame = frame }) rest)
-back_few frame epoch rest world kept urgent up place h = grind (arith, nat_tests, rebuilt_few, is_paused, sum_fresh, few_present)
+back_few frame epoch rest world kept urgent up place h = grind (arith, nat_tests, is_paused, sum_fresh, few_present)
 
 -- The channel
 
 resume_few : (world : World) → IsSoundWorld world → AreUrgentFew world → IsUrgentFew world.source.phase world.source.switched 0 (space_of world.source) world.source.remaining
-resume_few world kept h = grind (arith, nat_tests, sum_fresh, few_present)
+resume_few world kept h = grind (arith, nat_tests)
 
 notices_few : (world : World) → is_released world.source.phase ≡ false → AreUrgentFew world → IsUrgentFew SourcePhase.Paused world.source.switched world.source.urgent_sent (space_of world.source) world.source.remaining
 notices_few world unreleased h = record { before_switch = h.before_switch; few = λ s p. h.few s unreleased }

@@ -15,25 +15,24 @@ use Rattle.mig_model.specs.Wire.{Frame, Sent, Copy, page_frame, wire_behind}
 use Rattle.mig_model.specs.Wire.Frame.{Page, Zero}
 use Rattle.mig_model.specs.Migration.{World, after_deliver_urgent, after_push_urgent}
 use Rattle.mig_model.specs.Source.{Source, is_stopped, bytes_of, space_of, urgent_pushed}
-use Rattle.mig_model.specs.Invariant.{AreFaithful, Wires, AreSoundUrgent, IsSoundWorld, IsSwitching, StoppedWires, are_copies, behind, copies_of, has_copy, is_urgent_or_left, EpochAt}
+use Rattle.mig_model.specs.Invariant.{AreFaithful, Wires, AreSoundUrgent, IsSoundWorld, IsSwitching, StoppedWires, are_copies, behind, copies_of, has_copy, is_urgent_or_left}
 use Rattle.mig_model.specs.Destination.{urgent_came}
 use Rattle.mig_model.specs.Log.{present, no_pages}
 use Rattle.mig_model.specs.Guest.{is_present}
 use Rattle.mig_model.specs.Space.{fresh_space}
-use Rattle.mig_model.proofs.Facts.{by_test, AreFaithful-append, copies_of-append, eqb-self, none_absurd, not_up, same_or_other, and_left}
+use Rattle.mig_model.proofs.Facts.{AreFaithful-append, copies_of-append, none_absurd, not_up, same_or_other}
 use Rattle.mig_model.proofs.Stopping.{in_phases, not_ended, or_true, present_bytes, stopped_at, stopped_not_released, was_there}
 use Rattle.mig_model.proofs.Taken.{IsTakenUrgent}
-use Rattle.mig_model.proofs.UrgentWire.{not_none}
 use Rattle.mig_model.proofs.WireLemmas.{copies_of-page, has_copy-append}
 
 -- PushUrgent
 
 moved_page : (left urgent more : Bool) → (left || urgent) ≡ true → (left || (urgent || more)) ≡ true
-moved_page left urgent more h = grind (arith, nat_tests, none_absurd)
+moved_page left urgent more h = grind (arith, nat_tests)
 
 still_urgent : (remaining : FinSet nat_cmp) (urgent : List Sent) (sent : Sent) (page q : ℕ) (bytes : List ℕ) → copies_of (urgent ++ sent ∷ []) ≡ copies_of urgent ++ record { page = page; bytes = bytes } ∷ [] →
     is_urgent_or_left remaining urgent q ≡ true → is_urgent_or_left (finset.remove remaining page) (urgent ++ sent ∷ []) q ≡ true
-still_urgent remaining urgent sent page q bytes copies h = grind (arith, nat_tests, member_removed, has_copy-append, eqb-self, or_true, moved_page, same_or_other)
+still_urgent remaining urgent sent page q bytes copies h = grind (arith, nat_tests, member_removed, has_copy-append, or_true, moved_page, same_or_other)
 
 first_by : (a new b : Bool) → (a ≡ true → new ≡ true) → (a || b) ≡ true → (new || b) ≡ true
 first_by a new b h k = grind (arith, nat_tests)
@@ -106,11 +105,7 @@ kept-push_urgent world page kept stopped up present remains = urgent_in world.so
 
 -- it is no longer on the urgent wire, and has arrived
 came_urgent : (remains here urgent flies waits : Bool) → ((remains || (here || urgent)) || flies || waits) ≡ true → ((remains || urgent) || flies || (waits || (here || false))) ≡ true
-came_urgent remains here urgent flies waits h = grind (arith, nat_tests, none_absurd)
-
--- where a frame of the urgent wire is taken the source is stopped and the destination runs
-pub both_run : (from : SourcePhase) (to : DestPhase) (world : World) → is_stopped from ≡ true → world.destination.has_run ≡ true → world.up ≡ true → (to ≢ DestPhase.Ended) → IsSoundWorld (in_phases from to world) → (from ≡ SourcePhase.Stopped) × (to ≡ DestPhase.Running)
-both_run from to world stopped ran up other kept = grind (arith, nat_tests, none_absurd)
+came_urgent remains here urgent flies waits h = grind (arith, nat_tests)
 
 abbrev at_urgent : World → List Sent → World
 at_urgent world frames =
@@ -123,7 +118,7 @@ at_urgent world frames =
 
 urgent_arrives : (copy : Copy) (sent : Sent) (rest : List Sent) (world : World) → copies_of (sent ∷ rest) ≡ copy ∷ copies_of rest → get (space_of world.source).host.bytes copy.page ≡ Some copy.bytes →
     IsSoundWorld (at_urgent world (sent ∷ rest)) → IsSoundWorld (record (at_urgent world (sent ∷ rest)) { destination = urgent_came (at_urgent world (sent ∷ rest)).destination copy; urgent = wire_behind rest })
-urgent_arrives copy sent rest world copies faithful kept = grind (arith, nat_tests, none_absurd, AreFaithful-append, not_up, has_copy-append, came_urgent)
+urgent_arrives copy sent rest world copies faithful kept = grind (arith, nat_tests, AreFaithful-append, not_up, has_copy-append, came_urgent)
 
 arrives_by : (frame : Frame) (epoch : ℕ) (rest : List Sent) (world : World) → are_copies (record { epoch = epoch; frame = frame } ∷ rest) ≡ true → AreFaithful (space_of world.source).host.bytes (copies_of (record { epoch = epoch; frame = frame } ∷ rest)) →
     IsSoundWorld (at_urgent world (record { epoch = epoch; frame = frame } ∷ rest)) → IsSoundWorld (after_deliver_urgent (at_urgent world (record { epoch = epoch; frame = frame } ∷ rest)) (record { epoch = epoch; frame = frame }) rest)
@@ -136,7 +131,7 @@ urgent_at world sent rest from to ran up first = grind (arith, nat_tests)
 
 pub running_urgent : (world : World) (sent : Sent) (rest : List Sent) → IsSoundWorld world → AreSoundUrgent world → world.urgent.frames ≡ sent ∷ rest → world.destination.has_run ≡ true → world.up ≡ true →
     (world.source.phase ≡ SourcePhase.Stopped) × (world.destination.phase ≡ DestPhase.Running)
-running_urgent world sent rest kept h first ran up = grind (arith, nat_tests, by_test, both_run, not_none)
+running_urgent world sent rest kept h first ran up = grind (arith, nat_tests)
 
 pub kept-deliver_urgent : (world : World) (sent : Sent) (rest : List Sent) → IsSoundWorld world → AreSoundUrgent world → world.urgent.frames ≡ sent ∷ rest → world.destination.has_run ≡ true → world.up ≡ true → IsSoundWorld (after_deliver_urgent world sent rest)
 kept-deliver_urgent world sent rest kept h first ran up =
@@ -146,9 +141,6 @@ kept-deliver_urgent world sent rest kept h first ran up =
     (arrives_by sent.frame sent.epoch rest world (subst (λ f. are_copies f ≡ true) first h.copies)
     (subst (λ f. AreFaithful (space_of world.source).host.bytes (copies_of f)) first h.faithful) (subst IsSoundWorld same kept))
 
-running_epoch : (to : DestPhase) (epoch source_epoch : ℕ) → to ≡ DestPhase.Running → EpochAt to epoch source_epoch → epoch ≡ source_epoch
-running_epoch to epoch source_epoch is at = subst (λ p. EpochAt p epoch source_epoch) is at
-
 -- the destination takes the first frame of the urgent wire
 pub is_taken_urgent : (world : World) (sent : Sent) (rest : List Sent) → IsSoundWorld world → AreSoundUrgent world → world.destination.has_run ≡ true → world.up ≡ true → world.urgent.frames ≡ sent ∷ rest → IsTakenUrgent world.destination sent
-is_taken_urgent world sent rest kept h ran up first = grind (arith, nat_tests, running_urgent, running_epoch, and_left)
+is_taken_urgent world sent rest kept h ran up first = grind (arith, nat_tests)

@@ -1,51 +1,42 @@
 -- What every world keeps of the urgent wire is kept by every step.
 use Rattle.std.proofs.lemmas.Bool.Decides.{nat_tests}
-use Rattle.std.proofs.Common.{◌≡◌, ◌≢◌, ℕ, suc, ◌+◌, ◌||◌, Bool, true, false, not, Option, Some, None, List, [], ◌∷◌, ◌++◌, refl, sym, ap, ◌∙◌, subst, arith, length}
+use Rattle.std.proofs.Common.{◌≡◌, ℕ, ◌+◌, true, false, not, Option, Some, None, List, [], ◌∷◌, ◌++◌, refl, sym, ap, ◌∙◌, subst, arith, length}
 use Rattle.std.specs.FinMap.{get}
 use Rattle.std.specs.FinSet.{contains}
 use Rattle.std.proofs.lemmas.Bool.{false≢true}
 use Rattle.std.proofs.lemmas.List.{length_push}
 use Rattle.mig_base.specs.declared.phase.DestPhase.{DestPhase}
 use Rattle.mig_base.specs.declared.phase.SourcePhase.{SourcePhase}
-use Rattle.mig_base.specs.declared.phase.Received.{Received}
 use Rattle.mig_base.specs.declared.schedule.Side.{Side}
 use Rattle.mig_base.specs.declared.schedule.Step.{Step}
 use Rattle.mig_base.specs.declared.command.Command.{Command}
-use Rattle.mig_model.specs.Wire.{Frame, Sent, Wire, Copy, page_frame, sending, wire_behind}
-use Rattle.mig_model.specs.Wire.Frame.{Run, End, Done}
-use Rattle.mig_model.specs.Migration.{World, after_break, after_command, after_deliver, after_deliver_back, after_deliver_urgent, after_end, after_move_urgent, after_notice, after_push_urgent, after_resume, after_start, after_switch, first_world_with, is_early, is_short, next, runs, source_sends, with_guest_by}
-use Rattle.mig_model.specs.Guest.{Guest, Act, is_present}
+use Rattle.mig_model.specs.Wire.{Frame, Sent, Wire, Copy, page_frame, sending}
+use Rattle.mig_model.specs.Wire.Frame.{Run, End}
+use Rattle.mig_model.specs.Migration.{World, after_break, after_command, after_deliver, after_deliver_back, after_deliver_urgent, after_end, after_move_urgent, after_notice, after_push_urgent, after_resume, after_start, after_switch, first_world_with, is_early, is_short, next, runs}
+use Rattle.mig_model.specs.Guest.{Act, is_present}
 use Rattle.mig_model.specs.Guest.Act.{Unprotected}
-use Rattle.mig_model.specs.Source.{Source, is_stopped, bytes_of, is_precopy, is_source_idle, rebuild_frames, source_act, source_acted_by, source_rebuilt, space_of, switch_frames, run_of}
-use Rattle.mig_model.specs.Destination.{Destination, copy_came, destination_act, destination_acted_by, install_by, is_dest_paused, resumed_by, urgent_came}
-use Rattle.mig_model.specs.Invariant.{AreFaithful, AreSoundUrgent, AreTold, IsSoundWorld, RanAt, SwitchedAt, Wires, copies_of}
+use Rattle.mig_model.specs.Source.{Source, is_stopped, bytes_of, is_precopy, is_source_idle, source_act, source_acted_by, space_of, switch_frames, run_of}
+use Rattle.mig_model.specs.Destination.{Destination, destination_act, destination_acted_by, install_by, is_dest_paused}
+use Rattle.mig_model.specs.Invariant.{AreFaithful, AreSoundUrgent, AreTold, IsSoundWorld, Wires, copies_of}
 use Rattle.mig_model.proofs.Taken.{IsInPlaceBack}
-use Rattle.mig_model.specs.Log.{no_pages, present}
+use Rattle.mig_model.specs.Log.{present}
 use Rattle.mig_model.specs.Owed.{home}
-use Rattle.mig_model.proofs.Facts.{AreFaithful-append, AreOf-one, and_second, copies_of-append}
+use Rattle.mig_model.proofs.Facts.{AreFaithful-append, AreOf-one, copies_of-append}
 use Rattle.mig_model.proofs.StepCases.{MakesWorld, made-next}
 use Rattle.mig_model.proofs.Stopping.{not_ended, present_bytes}
-use Rattle.mig_model.proofs.FirstFrame.{comes, empty_not}
+use Rattle.mig_model.proofs.FirstFrame.{comes}
 use Rattle.mig_model.proofs.Delivery.{AllCame}
-use Rattle.mig_model.proofs.SourceRounds.{idle_forward}
-use Rattle.mig_model.proofs.UrgentWire.{are_copies-push, comes_advise, comes_resume, comes_unpaused, idle_not_paused, idle_unstopped, is_copy_page, none_faithful, none_of_epoch, not_stopped, other_bytes, other_forward, paused_unstopped, placed, precopy_unstopped, stopped_unpaused, told-push, told-sending, told_ended, told_open, told_page, all_came, not_none}
+use Rattle.mig_model.proofs.UrgentWire.{are_copies-push, is_copy_page, not_stopped, other_bytes, other_forward, placed, precopy_unstopped, stopped_unpaused, told-push, told-sending, told_ended, told_open, told_page, all_came}
 use Rattle.mig_model.proofs.FramesTaken.{is_taken_back}
-use Rattle.mig_model.proofs.WireLemmas.{fits-more, fits-moved, fits-none, copies_of-page}
+use Rattle.mig_model.proofs.WireLemmas.{fits-more, fits-moved, copies_of-page}
 
 pub urgent-first : (cpus epoch rounds : ℕ) → AreSoundUrgent (first_world_with cpus epoch rounds)
 urgent-first cpus epoch rounds = grind (arith, nat_tests)
 
 -- Processors and handlers
 
-guest_urgent : (ran : Bool) (world : World) (guest : Guest) → (ran ≡ false → is_stopped world.source.phase ≡ false) → AreSoundUrgent world → AreSoundUrgent (with_guest_by ran world guest)
-guest_urgent true world guest not h = h
-guest_urgent false world guest not h = other_bytes guest.space.host.bytes (not refl) h
-
-pub runs_unstopped : (switched ran : Bool) (phase : SourcePhase) → (not switched || ran) ≡ true → SwitchedAt phase switched → ran ≡ false → is_stopped phase ≡ false
-runs_unstopped switched ran phase may at bare = grind (arith, nat_tests, not_stopped)
-
 command_urgent : (world : World) (cpu : ℕ) (command : Command) → IsSoundWorld world → runs world ≡ true → AreSoundUrgent world → AreSoundUrgent (after_command world cpu command)
-command_urgent world cpu command kept may h = grind (arith, nat_tests, guest_urgent, runs_unstopped)
+command_urgent world cpu command kept may h = grind (arith, nat_tests)
 
 acted_urgent : (act : Act) (world : World) (page : ℕ) → is_stopped world.source.phase ≡ false → AreSoundUrgent world → AreSoundUrgent (record world { source = source_acted_by act world.source page })
 acted_urgent Unprotected world page not h = other_bytes _ not h
@@ -62,7 +53,7 @@ installed_urgent (Some page) world copy rest h = h
 -- The source
 
 start_urgent : (world : World) → IsSoundWorld world → is_source_idle world.source.phase ≡ true → AreSoundUrgent world → AreSoundUrgent (after_start world)
-start_urgent world kept idle h = grind (arith, nat_tests, idle_unstopped, none_of_epoch, idle_forward)
+start_urgent world kept idle h = grind (arith, nat_tests)
 
 switch_urgent : (world : World) → is_precopy world.source.phase ≡ true → AreSoundUrgent world → AreSoundUrgent (after_switch world)
 switch_urgent world precopy h =
@@ -121,55 +112,21 @@ push_urgent_kept world page kept stopped up present remains h =
 abbrev Taken : World → ℕ → Frame → List Sent → Type 0
 Taken world epoch frame rest = AreSoundUrgent (after_deliver world (record { epoch = epoch; frame = frame }) rest)
 
--- a frame that leaves the destination in a phase, its count as it was
-moved_on : (world : World) (node : Destination) (rest : List Sent) (back : Wire) → world.destination.phase ≢ DestPhase.Paused → node.urgent_taken ≡ world.destination.urgent_taken → (node.has_run ≡ false → world.destination.has_run ≡ false) →
-    (node.phase ≡ DestPhase.Ended → world.urgent.frames ≡ []) → AreTold world.source.epoch world.source.end_epoch world.source.urgent_sent rest → AreSoundUrgent world →
-    AreSoundUrgent (record world { destination = node; forward = wire_behind rest; back = back })
-moved_on world node rest back other same bare ended told h = grind (arith, nat_tests)
-
--- a frame that leaves the destination's phase and counts
-stays_on : (world : World) (node : Destination) (rest : List Sent) (back : Wire) → node.phase ≡ world.destination.phase → node.urgent_taken ≡ world.destination.urgent_taken → node.has_run ≡ world.destination.has_run →
-    AreTold world.source.epoch world.source.end_epoch world.source.urgent_sent rest → AreSoundUrgent world → AreSoundUrgent (record world { destination = node; forward = wire_behind rest; back = back })
-stays_on world node rest back phase same ran told h = grind (arith, nat_tests)
-
-came_on : (ran : Bool) (node : Destination) (copy : Copy) → ((copy_came ran node copy).phase ≡ node.phase) × ((copy_came ran node copy).urgent_taken ≡ node.urgent_taken) × ((copy_came ran node copy).has_run ≡ node.has_run)
-came_on true node copy = (refl, refl, refl)
-came_on false node copy = (refl, refl, refl)
-
-resumed_on : (state : Received) (node : Destination) → ((resumed_by state node).urgent_taken ≡ node.urgent_taken)
-resumed_on Received.NotRun node = refl
-resumed_on _ node = refl
-
--- an idle destination has not run
-idle_bare : (to : DestPhase) (ran ended : Bool) → to ≡ DestPhase.Idle → RanAt to ran ended → ran ≡ false
-idle_bare to ran ended is at = subst (λ p. RanAt p ran ended) is at
-
-all_none : (count taken left : ℕ) → count ≡ 0 → taken ≡ 0 → left ≡ 0 → count ≡ taken + left
-all_none count taken left c t l = omega (arith, c, t, l)
-
 taken_urgent : (frame : Frame) (epoch : ℕ) (rest : List Sent) (world : World) → IsSoundWorld world → world.up ≡ true → comes world.source.phase world.destination.phase frame ≡ true → AllCame frame world →
     AreTold world.source.epoch world.source.end_epoch world.source.urgent_sent rest → AreSoundUrgent world → Taken world epoch frame rest
-taken_urgent frame epoch rest world kept up comes came told h = grind (arith, nat_tests, comes_advise, comes, idle_bare, moved_on, idle_not_paused, came_on, stays_on, comes_unpaused, comes_resume, resumed_on, all_none)
+taken_urgent frame epoch rest world kept up comes came told h = grind (arith, nat_tests)
 
 deliver_urgent_kept : (world : World) (sent : Sent) (rest : List Sent) → IsSoundWorld world → world.forward.frames ≡ sent ∷ rest → world.up ≡ true → is_early world.destination sent.frame ≡ false → AreSoundUrgent world → AreSoundUrgent (after_deliver world sent rest)
 deliver_urgent_kept world sent rest kept first up early h =
     let told : AreTold world.source.epoch world.source.end_epoch world.source.urgent_sent (sent ∷ rest) = subst (AreTold world.source.epoch world.source.end_epoch world.source.urgent_sent) first h.told in
     taken_urgent sent.frame sent.epoch rest world kept up (placed world sent rest kept first up) (all_came world sent rest kept h first up early) told.1 h
 
--- a frame of the urgent wire
-one_less : (count taken left : ℕ) → count ≡ taken + suc left → count ≡ (taken + 1) + left
-one_less count taken left h = omega (arith, h)
-
 abbrev UrgentFrames : World → List Sent → Type 0
 UrgentFrames world frames = AreSoundUrgent (record world { urgent = record world.urgent { frames = frames } })
 
-arrived_urgent : (copy : Copy) (sent : Sent) (rest : List Sent) (world : World) → world.destination.has_run ≡ true → UrgentFrames world (sent ∷ rest) →
-    AreFaithful (space_of world.source).host.bytes (copies_of rest) → AreSoundUrgent (record world { destination = urgent_came world.destination copy; urgent = wire_behind rest })
-arrived_urgent copy sent rest world ran h faithful = grind (arith, nat_tests, and_second, not_none, one_less, fits-none)
-
 urgent_taken_by : (frame : Frame) (epoch : ℕ) (rest : List Sent) (world : World) → world.destination.has_run ≡ true → UrgentFrames world (record { epoch = epoch; frame = frame } ∷ rest) →
     AreSoundUrgent (after_deliver_urgent world (record { epoch = epoch; frame = frame }) rest)
-urgent_taken_by frame epoch rest world ran h = grind (arith, nat_tests, arrived_urgent)
+urgent_taken_by frame epoch rest world ran h = grind (arith, nat_tests)
 
 urgent_delivered : (world : World) (sent : Sent) (rest : List Sent) → world.urgent.frames ≡ sent ∷ rest → world.destination.has_run ≡ true → AreSoundUrgent world → AreSoundUrgent (after_deliver_urgent world sent rest)
 urgent_delivered world sent rest first ran h = urgent_taken_by sent.frame sent.epoch rest world ran (subst (UrgentFrames world) first h)
@@ -180,23 +137,9 @@ urgent_moved world n sent rest first short h =
 
 -- Frames that the source takes
 
--- the source goes on where nothing is on the urgent wire
-resumes : (world : World) (node : Source) (frames : List Sent) (back : Wire) → world.urgent.frames ≡ [] → node.phase ≢ SourcePhase.Paused → node.epoch ≡ world.source.epoch → node.end_epoch ≡ world.source.end_epoch → node.urgent_sent ≡ world.source.urgent_sent →
-    AreTold node.epoch node.end_epoch node.urgent_sent frames → AreSoundUrgent world → AreSoundUrgent (record world { source = node; forward = record world.forward { frames = frames }; back = back })
-resumes world node frames back none other epoch end_epoch count told h = grind (arith, nat_tests, none_of_epoch, none_faithful)
-
--- a destination that sends Done has ended
-done_ended : (from : SourcePhase) (to : DestPhase) (source : Source) (node : Destination) (epoch : ℕ) (forward rest urgent : List Sent) → is_stopped from ≡ true →
-    Wires (record source { phase = from }) (record node { phase = to }) forward (record { epoch = epoch; frame = Done } ∷ rest) urgent → to ≡ DestPhase.Ended
-done_ended from to source node epoch forward rest urgent stopped w = grind (arith, nat_tests, empty_not)
-
-rebuilt_urgent : (switched : Bool) (world : World) (back : Wire) → world.urgent.frames ≡ [] → AreSoundUrgent world →
-    AreSoundUrgent (source_sends (record world { back = back }) (source_rebuilt Received.NotRun no_pages (record world.source { switched = switched })) (rebuild_frames Received.NotRun (record world.source { switched = switched })))
-rebuilt_urgent switched world back none h = grind (arith, nat_tests, resumes, told-sending)
-
 back_urgent : (frame : Frame) (epoch : ℕ) (rest : List Sent) (world : World) → IsSoundWorld world → world.up ≡ true → world.back.frames ≡ record { epoch = epoch; frame = frame } ∷ rest → IsInPlaceBack world.source frame → AreSoundUrgent world →
     AreSoundUrgent (after_deliver_back world (record { epoch = epoch; frame = frame }) rest)
-back_urgent frame epoch rest world kept up first place h = grind (arith, nat_tests, rebuilt_urgent, paused_unstopped, resumes, done_ended)
+back_urgent frame epoch rest world kept up first place h = grind (arith, nat_tests)
 
 -- The channel
 
@@ -209,12 +152,8 @@ source_notices world down h = grind (arith, nat_tests)
 destination_notices : (world : World) → world.up ≡ false → AreSoundUrgent world → AreSoundUrgent (after_notice world Side.Destination)
 destination_notices world down h = grind (arith, nat_tests)
 
-dest_paused : (to : DestPhase) → is_dest_paused to ≡ true → to ≡ DestPhase.Paused
-dest_paused DestPhase.Paused h = refl
-dest_paused _ h = absurd (false≢true h)
-
 resume_urgent : (world : World) → IsSoundWorld world → is_dest_paused world.destination.phase ≡ true → world.up ≡ false → AreSoundUrgent world → AreSoundUrgent (after_resume world)
-resume_urgent world kept paused down h = grind (arith, nat_tests, none_of_epoch, dest_paused)
+resume_urgent world kept paused down h = grind (arith, nat_tests)
 
 -- Steps
 

@@ -1,22 +1,19 @@
 -- The urgent wire: what each step keeps of it.
 use Rattle.std.proofs.lemmas.Bool.Decides.{nat_tests}
-use Rattle.std.proofs.Common.{◌≡◌, ◌≢◌, ℕ, ◌+◌, ◌≤◌, ◌&&◌, Bool, true, false, not, List, [], ◌∷◌, ◌++◌, refl, sym, ap, ◌∙◌, subst, arith, length, if◌then◌else◌}
+use Rattle.std.proofs.Common.{◌≡◌, ◌≢◌, ℕ, ◌≤◌, ◌&&◌, Bool, true, false, not, List, [], ◌∷◌, ◌++◌, refl, sym, ap, ◌∙◌, subst, arith, if◌then◌else◌}
 use Rattle.std.specs.Ordering.{nat_cmp}
 use Rattle.std.specs.FinMap.{FinMap}
 use Rattle.std.proofs.lemmas.Bool.{false≢true, ltb-false}
 use Rattle.mig_base.specs.declared.phase.DestPhase.{DestPhase}
 use Rattle.mig_base.specs.declared.phase.SourcePhase.{SourcePhase}
 use Rattle.mig_model.specs.Wire.{Frame, Sent, Wire, is_copy, is_zeros, page_frame, sending}
-use Rattle.mig_model.specs.Wire.Frame.{Advise, Page, Zero, End, Resume}
+use Rattle.mig_model.specs.Wire.Frame.{Page, Zero, End}
 use Rattle.mig_model.specs.Migration.{World, is_early}
 use Rattle.mig_model.specs.Source.{is_stopped, is_precopy, is_source_idle, is_source_paused}
-use Rattle.mig_model.specs.Invariant.{AreFaithful, AreOf, AreTold, IsSoundUrgent, IsSoundWorld, IsTold, SwitchedAt, are_copies, copies_of, AreSoundUrgent}
+use Rattle.mig_model.specs.Invariant.{AreFaithful, AreTold, IsSoundUrgent, IsSoundWorld, IsTold, SwitchedAt, are_copies, copies_of, AreSoundUrgent}
 use Rattle.mig_model.proofs.FirstFrame.{comes, first_in_place}
 
 -- Lists of frames
-
-pub none_of_epoch : (epoch : ℕ) (frames : List Sent) → frames ≡ [] → AreOf epoch frames
-none_of_epoch epoch frames none = subst (AreOf epoch) (sym none) tt
 
 pub none_faithful : (bytes : FinMap nat_cmp (List ℕ)) (frames : List Sent) → frames ≡ [] → AreFaithful bytes (copies_of frames)
 none_faithful bytes frames none = subst (λ f. AreFaithful bytes (copies_of f)) (sym none) tt
@@ -28,13 +25,6 @@ are_copies_by false more all h k = h
 pub are_copies-push : (frames : List Sent) (sent : Sent) → is_copy sent.frame ≡ true → are_copies frames ≡ true → are_copies (frames ++ sent ∷ []) ≡ true
 are_copies-push [] sent is are = ap (λ b. b && true) is
 are_copies-push (first ∷ frames) sent is are = are_copies_by (is_copy first.frame) (are_copies (frames ++ sent ∷ [])) (are_copies frames) are (are_copies-push frames sent is)
-
-pub not_none : {A : Type 0} (frames : List Sent) (sent : Sent) (rest : List Sent) → frames ≡ sent ∷ rest → frames ≡ [] → A
-not_none frames sent rest first none = absurd (let e : sent ∷ rest ≡ [] = sym first ∙ none in cc)
-
-pub length-push : (frames : List Sent) (sent : Sent) → length (frames ++ sent ∷ []) ≡ length frames + 1
-length-push [] sent = refl
-length-push (first ∷ frames) sent = let rest = length-push frames sent in omega (arith, rest)
 
 copy_page_by : (zeros : Bool) (page : ℕ) (bytes : List ℕ) → is_copy (if zeros then Zero page else Page page bytes) ≡ true
 copy_page_by true page bytes = refl
@@ -100,10 +90,6 @@ pub not_stopped : (phase : SourcePhase) (switched : Bool) → SwitchedAt phase s
 not_stopped SourcePhase.Stopped switched at not = absurd (false≢true (sym not ∙ at))
 not_stopped _ switched at not = refl
 
-pub paused_unstopped : (phase : SourcePhase) → is_source_paused phase ≡ true → is_stopped phase ≡ false
-paused_unstopped SourcePhase.Stopped h = absurd (false≢true h)
-paused_unstopped _ h = refl
-
 pub is_paused : (phase : SourcePhase) → is_source_paused phase ≡ true → phase ≡ SourcePhase.Paused
 is_paused SourcePhase.Paused h = refl
 is_paused _ h = absurd (false≢true h)
@@ -125,42 +111,14 @@ stopped_unpaused _ h e = false≢true h
 pub placed : (world : World) (sent : Sent) (rest : List Sent) → IsSoundWorld world → world.forward.frames ≡ sent ∷ rest → world.up ≡ true → comes world.source.phase world.destination.phase sent.frame ≡ true
 placed world sent rest kept first up = grind (arith, nat_tests, first_in_place)
 
-pub comes_resume : (from : SourcePhase) (to : DestPhase) → comes from to Resume ≡ true → from ≡ SourcePhase.Paused
-comes_resume from to h = grind (arith, nat_tests)
-
-pub comes_advise : (from : SourcePhase) (to : DestPhase) → comes from to Advise ≡ true → to ≡ DestPhase.Idle
-comes_advise from to h = grind (arith, nat_tests)
-
--- a frame is the one that a paused destination takes
-abbrev pub is_resume : Frame → Bool
-is_resume Resume = true
-is_resume frame = false
-
-paused_takes : (from : SourcePhase) (frame : Frame) → comes from DestPhase.Paused frame ≡ true → is_resume frame ≡ true
-paused_takes SourcePhase.Paused Resume h = refl
-paused_takes _ frame h = absurd (false≢true h)
-
-pub comes_unpaused : (from : SourcePhase) (to : DestPhase) (frame : Frame) → comes from to frame ≡ true → is_resume frame ≡ false → to ≢ DestPhase.Paused
-comes_unpaused from to frame h other is = false≢true (sym other ∙ paused_takes from frame (sym (ap (λ p. comes from p frame) is) ∙ h))
-
-pub idle_not_paused : DestPhase.Idle ≢ DestPhase.Paused
-idle_not_paused h = cc
-
 -- What an End that comes first tells
-
-at_least : (count taken left : ℕ) → count ≡ taken + left → taken ≤ count
-at_least count taken left h = omega (arith, h)
-
-none_left : (count taken left : ℕ) (frames : List Sent) → count ≡ taken + left → count ≤ taken → left ≡ length frames → frames ≡ []
-none_left count taken left [] h late is = refl
-none_left count taken left (sent ∷ frames) h late is = absurd (omega (arith, h, late, is))
 
 -- it counts no fewer urgent frames than came, and where it counts no more none is on its way
 abbrev pub EndTells : Frame → World → Type 0
 EndTells frame world = (count : ℕ) → frame ≡ End count → (world.destination.urgent_taken ≤ count) × (count ≤ world.destination.urgent_taken → world.urgent.frames ≡ [])
 
 pub end_tells : (world : World) (sent : Sent) (rest : List Sent) → IsSoundWorld world → AreSoundUrgent world → world.forward.frames ≡ sent ∷ rest → world.up ≡ true → EndTells sent.frame world
-end_tells world sent rest kept h first up count is = grind (arith, nat_tests, comes_unpaused, placed, at_least, none_left)
+end_tells world sent rest kept h first up count is = grind (arith, nat_tests)
 
 -- End is taken once all urgent frames have come
 pub all_came : (world : World) (sent : Sent) (rest : List Sent) → IsSoundWorld world → AreSoundUrgent world → world.forward.frames ≡ sent ∷ rest → world.up ≡ true → is_early world.destination sent.frame ≡ false →

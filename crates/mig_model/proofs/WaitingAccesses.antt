@@ -2,7 +2,7 @@
 use Rattle.std.proofs.lemmas.Bool.Decides.{nat_tests}
 use Rattle.std.proofs.Common.{◌≡◌, ℕ, zero, suc, Bool, true, false, Some, List, [], ◌∷◌, refl, sym, ap, ◌∙◌, subst, arith}
 use Rattle.std.specs.Prelude.{map, set, length}
-use Rattle.std.proofs.lemmas.Option.{same_Some, none-some}
+use Rattle.std.proofs.lemmas.Option.{none-some}
 use lib.ListN.{length-map, length-set}
 use Rattle.mig_base.specs.declared.cpu_state.CpuState.{CpuState}
 use Rattle.mig_base.specs.declared.schedule.Step.{Step}
@@ -31,7 +31,7 @@ use Rattle.mig_model.specs.Source.{commands_of}
 -- A command that is tried
 
 answered_waits : (access : Access) (command other : Command) → outstanding (processor_after command (access_took access)) ≡ Some other → command ≡ other
-answered_waits access command other h = grind (arith, nat_tests, none-some, same_Some)
+answered_waits access command other h = grind (arith, nat_tests)
 
 called_waits : (reply : Reply) (left : ℕ) (command other : Command) → outstanding (processor_after command (call_took reply left)) ≡ Some other → ⊥
 called_waits reply zero command other h = none-some other h

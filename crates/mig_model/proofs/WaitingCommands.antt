@@ -8,8 +8,6 @@ use Rattle.std.proofs.lemmas.Bool.Decides.{nat_tests}
 use Rattle.std.proofs.lemmas.Bool.{false≢true, eq-eqb}
 use Rattle.std.proofs.lemmas.Option.{none-some}
 use Rattle.mig_base.specs.declared.cpu_state.CpuState.{CpuState}
-use Rattle.mig_base.specs.declared.phase.DestPhase.{DestPhase}
-use Rattle.mig_base.specs.declared.phase.SourcePhase.{SourcePhase}
 use Rattle.mig_base.specs.declared.schedule.Step.{Step}
 use Rattle.mig_base.specs.declared.Prot.{Prot}
 use Rattle.mig_base.specs.declared.command.Command.{Command}
@@ -20,11 +18,10 @@ use Rattle.mig_model.specs.Guest.{Guest, is_left_by, read_guest, took_by, tried}
 use Rattle.mig_model.specs.Cpus.Took.{Sleep}
 use Rattle.mig_model.specs.Wire.{Frame, Sent}
 use Rattle.mig_model.specs.Wire.Frame.{Package}
-use Rattle.mig_model.specs.Migration.{World, next, guest_by, guest_of, with_guest_by, after_command, after_deliver, outcome}
+use Rattle.mig_model.specs.Migration.{World, next, guest_by, guest_of, after_command, after_deliver, outcome}
 use Rattle.mig_model.specs.Invariant.{IsSoundWorld}
 use Rattle.mig_model.specs.Promises.{is_retry_of, Slept}
-use Rattle.mig_model.proofs.FirstFrame.{comes, first_in_place, delivered}
-use Rattle.mig_model.proofs.FramesTaken.{with_first, commands_in}
+use Rattle.mig_model.proofs.FirstFrame.{delivered}
 use Rattle.mig_model.proofs.StepCases.{made-next, made-ok}
 use Rattle.mig_model.proofs.WokenSteps.{IsWoken, guest_woken, wakes-next, wakes-taken}
 use Rattle.mig_model.specs.Cpus.{idle_processors, all_woken, is_idle, message_less, outstanding, processor_after, processor_at, taken_over, woken_if, Took}
@@ -103,17 +100,9 @@ waits_destination false from old new same k = refl
 
 -- Steps
 
-pub same_guest : (ran : Bool) (world : World) (guest : Guest) → guest_by ran (with_guest_by ran world guest).source.guest (with_guest_by ran world guest).destination.guest ≡ guest
-same_guest true world guest = refl
-same_guest false world guest = refl
-
-pub same_ran : (ran : Bool) (world : World) (guest : Guest) → (with_guest_by ran world guest).destination.has_run ≡ world.destination.has_run
-same_ran true world guest = refl
-same_ran false world guest = refl
-
 -- the guest once a command was tried
 pub tried_guest : (world : World) (cpu : ℕ) (command : Command) → guest_of (after_command world cpu command) ≡ tried (is_access command) (guest_of world) cpu command
-tried_guest world cpu command = grind (arith, nat_tests, same_ran, same_guest)
+tried_guest world cpu command = grind (arith, nat_tests)
 
 -- another processor has tried a command
 pub set_other : (processors : List CpuState) (i k : ℕ) (new : CpuState) → (i ≡ k → ⊥) → processor_at (set processors i new) k ≡ processor_at processors k
@@ -124,7 +113,7 @@ set_other (p ∷ ps) (suc i) zero new other = refl
 set_other (p ∷ ps) (suc i) (suc k) new other = set_other ps i k new (λ e. other (ap suc e))
 
 pub tried_other : (world : World) (cpu : ℕ) (tries : Command) (k : ℕ) → (cpu ≡ k → ⊥) → outstanding (processor_at (guest_of (after_command world cpu tries)).cpus k) ≡ outstanding (processor_at (guest_of world).cpus k)
-tried_other world cpu tries k other = grind (arith, nat_tests, tried_guest, set_other)
+tried_other world cpu tries k other = grind (arith, nat_tests, set_other)
 
 idle_none : (p : CpuState) (command : Command) → is_idle p ≡ true → outstanding p ≡ Some command → ⊥
 idle_none CpuState.Idle command h e = none-some command e
@@ -132,20 +121,13 @@ idle_none _ command h e = false≢true h
 
 -- Deliveries
 
--- a Package that comes next has the outstanding commands of the source, which has stopped, and the destination has not run
-package_told : (from : SourcePhase) (to : DestPhase) (epoch : ℕ) (areas : FinMap nat_cmp Prot) (owed : FinSet nat_cmp) (commands : List (Option Command)) (rest : List Sent) (world : World) →
-    comes from to (Package areas owed commands) ≡ true → world.up ≡ true → IsSoundWorld (with_first from to epoch (Package areas owed commands) rest world) →
-    (commands ≡ commands_of world.source.guest.cpus) × (world.destination.has_run ≡ false) × (is_stopped from ≡ true)
-unfolding commands_in
-package_told from to epoch areas owed commands rest world is up kept = grind (arith, nat_tests, commands_in)
-
 pub package_next : (epoch : ℕ) (areas : FinMap nat_cmp Prot) (owed : FinSet nat_cmp) (commands : List (Option Command)) (rest : List Sent) (world : World) → world.up ≡ true → world.forward.frames ≡ record { epoch = epoch; frame = Package areas owed commands } ∷ rest → IsSoundWorld world →
     (commands ≡ commands_of world.source.guest.cpus) × (world.destination.has_run ≡ false) × (is_stopped world.source.phase ≡ true)
-package_next epoch areas owed commands rest world up first kept = grind (arith, nat_tests, with_first, first_in_place, package_told)
+package_next epoch areas owed commands rest world up first kept = grind (arith, nat_tests)
 
 package_same : (epoch : ℕ) (areas : FinMap nat_cmp Prot) (owed : FinSet nat_cmp) (commands : List (Option Command)) (rest : List Sent) (world : World) → world.up ≡ true → world.forward.frames ≡ record { epoch = epoch; frame = Package areas owed commands } ∷ rest → IsSoundWorld world →
     SameWaits (guest_of world) (guest_of (delivered world (record { epoch = epoch; frame = Package areas owed commands } ∷ rest)))
-package_same epoch areas owed commands rest world up first kept k = grind (arith, nat_tests, package_next, taken_keeps)
+package_same epoch areas owed commands rest world up first kept k = grind (arith, nat_tests, taken_keeps)
 
 -- every step but an Issue and a Retry leaves what each processor has to make
 abbrev pub WaitsAs : World → World → Type 0
@@ -194,7 +176,7 @@ waiting_command world step k command kept other h = same_waits world step kept r
 -- Who comes to wait
 
 sleeps_by : (took : Took) (tries command : Command) → outstanding (processor_after tries took) ≡ Some command → (tries ≡ command) × (took ≡ Sleep)
-sleeps_by took tries command h = grind (arith, nat_tests, none-some, some_command)
+sleeps_by took tries command h = grind (arith, nat_tests)
 
 -- what stands at a place of a list where one was set
 set_at : (processors : List CpuState) (i k : ℕ) (new : CpuState) (command : Command) → outstanding (processor_at (set processors i new) k) ≡ Some command →

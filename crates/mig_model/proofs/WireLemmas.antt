@@ -124,11 +124,8 @@ pub fits-none : (frames : List Sent) → HeldFits frames 0
 fits-none [] = refl
 fits-none (sent ∷ rest) = text_positive sent.frame
 
-first_fits : (held length : ℕ) → held ≡ 0 → 0 < length → held < length
-first_fits held length h l = omega arith
-
 pub fits-append : (frames more : List Sent) (held : ℕ) → HeldFits frames held → HeldFits (frames ++ more) held
-fits-append frames more held h = grind (arith, nat_tests, first_fits, text_positive)
+fits-append frames more held h = grind (arith, nat_tests)
 
 pub fits-more : (frames : List Sent) (held epoch : ℕ) (more : List Frame) → HeldFits frames held → HeldFits (sending frames epoch more) held
 fits-more frames held epoch [] h = h

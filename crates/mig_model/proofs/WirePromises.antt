@@ -1,12 +1,11 @@
 -- What deliveries, installs and breaks take from the wires and the arrivals, and by which frames a migration completes.
 use Rattle.std.proofs.lemmas.Bool.Decides.{nat_tests}
-use Rattle.std.proofs.Common.{◌≡◌, ◌≢◌, ℕ, ◌*◌, Bool, true, false, Option, Some, None, List, ◌∷◌, refl, sym, ap, ◌∙◌, subst, if◌then◌else◌, IsOk, arith}
+use Rattle.std.proofs.Common.{◌≡◌, ◌≢◌, ℕ, ◌*◌, true, false, Option, Some, None, List, ◌∷◌, refl, sym, ap, ◌∙◌, subst, IsOk, arith}
 use Rattle.std.specs.Prelude.{Ok}
 use Rattle.std.specs.FinMap.{get}
 use Rattle.std.specs.FinSet.{contains}
 use Rattle.std.proofs.lemmas.Bool.{false≢true}
 use Rattle.mig_base.specs.declared.effect.Effect.{Effect}
-use Rattle.mig_base.specs.declared.phase.SourcePhase.{SourcePhase}
 use Rattle.mig_base.specs.declared.schedule.Side.{Side}
 use Rattle.mig_base.specs.declared.schedule.Step.{Step}
 use Rattle.mig_model.specs.Wire.{Frame, Sent, Copy, Wire, empty_wire, wire_if}
@@ -20,9 +19,8 @@ use Rattle.mig_model.specs.Parts.{Grows}
 use Rattle.mig_model.specs.Promises.{IsComplete, IsDelivered, IsDeliveredBack, Completes, takes_forward, takes_back, is_break, is_recv, is_last, IsDeliveredUrgent, takes_urgent}
 use Rattle.mig_model.proofs.SettledLemmas.{home-is, home_tells}
 use Rattle.mig_model.proofs.StepCases.{MakesWorld, made-next, made-ok, made-outcome}
-use Rattle.mig_model.proofs.StaysComplete.{worked_phase, command_phase}
 use Rattle.mig_model.proofs.PartsChanged.{changes_parts}
-use Rattle.mig_model.proofs.Facts.{no_page, as_it_was, tried_up}
+use Rattle.mig_model.proofs.Facts.{no_page, as_it_was}
 
 -- Deliveries
 
@@ -125,7 +123,7 @@ abbrev IsUp : World → Type 0
 IsUp world = world.up ≡ true
 
 up_answer : (world : World) (step : Step) → is_break step ≡ false → IsUp world → MakesWorld IsUp world step
-up_answer world step h up = grind (arith, nat_tests, tried_up)
+up_answer world step h up = grind (arith, nat_tests)
 
 pub stays_up : (world : World) (step : Step) → is_break step ≡ false → world.up ≡ true → (next world step).up ≡ true
 stays_up world step h up = made-next IsUp world step up (up_answer world step h up)
@@ -187,22 +185,12 @@ completes_by world n sent rest ok first full last =
     made-ok IsComplete world (Step.DeliverBack n)
     ((λ other more is short. short_not world.back n (the_first is first).0 short full), (λ other more is whole started up. last_releases other.frame world.source (ap (λ (s : Sent). is_last s.frame) (the_first is first).0 ∙ last))) ok
 
-rebuilt_phase : (switched : Bool) (a b : Source) → is_released a.phase ≡ false → is_released b.phase ≡ false → is_released (if switched then a else b).phase ≡ true → false ≡ true
-rebuilt_phase true a b one two h = sym one ∙ h
-rebuilt_phase false a b one two h = sym two ∙ h
-
-released_by : (frame : Frame) (node : Source) → is_released node.phase ≡ false → is_released (source_took node frame).phase ≡ true → is_last frame ≡ true
-released_by frame node not h = grind (arith, nat_tests, rebuilt_phase)
-
 -- if the new world is complete, the step has taken such a frame
 abbrev CompletesTo : World → Step → World → Type 0
 CompletesTo world step new = IsComplete new → Completes world step
 
-still_not : {A : Type 0} (old new : SourcePhase) → new ≡ old → is_released old ≡ false → is_released new ≡ true → A
-still_not old new same not h = absurd (false≢true (sym not ∙ sym (ap is_released same) ∙ h))
-
 completes_answer : (world : World) (step : Step) → is_released world.source.phase ≡ false → MakesWorld (CompletesTo world step) world step
-completes_answer world step not = grind (arith, nat_tests, still_not, command_phase, worked_phase, released_by)
+completes_answer world step not = grind (arith, nat_tests)
 
 pub completes_only : (world : World) (step : Step) → is_released world.source.phase ≡ false → IsComplete (next world step) → Completes world step
 completes_only world step not = made-next (CompletesTo world step) world step (λ h. absurd (false≢true (sym not ∙ h))) (completes_answer world step not)

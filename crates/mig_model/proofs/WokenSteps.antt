@@ -17,8 +17,8 @@ use Rattle.mig_model.specs.Wire.{Copy, Frame, Sent, is_zeros}
 use Rattle.mig_model.specs.Wire.Frame.{Advise, Page}
 use Rattle.mig_model.specs.Owed.{home}
 use Rattle.mig_model.specs.Source.{Source, bytes_of, is_stopped, source_act, source_acted_by, source_took, space_of}
-use Rattle.mig_model.specs.Destination.{Destination, copy_came, destination_act, destination_acted_by, destination_took, install_by, resumed_by, urgent_took}
-use Rattle.mig_model.specs.Migration.{Made, World, act_effect, after_deliver, answer, frame_effect, guest_by, guest_of, install_effect, next}
+use Rattle.mig_model.specs.Destination.{Destination, destination_act, destination_acted_by, destination_took, install_by, resumed_by, urgent_took}
+use Rattle.mig_model.specs.Migration.{Made, World, act_effect, after_deliver, answer, frame_effect, guest_of, install_effect, next}
 use Rattle.mig_model.specs.Invariant.{AreFaults, IsSoundWorld, SwitchedAt, is_package}
 use Rattle.mig_model.specs.Promises.{is_last}
 use Rattle.mig_model.proofs.Facts.{none_absurd}
@@ -73,13 +73,8 @@ some_woken test ps = record { test = test; is = refl }
 pub woken_many : (old new : List CpuState) → IsWoken old new → length new ≡ length old
 woken_many old new w = ap length w.is ∙ length-map old (woken_if w.test)
 
--- where the guest runs
-woken_by : (ran : Bool) (from to after_from after_to : Guest) → IsWoken from.cpus after_from.cpus → IsWoken to.cpus after_to.cpus → IsWoken (guest_by ran from to).cpus (guest_by ran after_from after_to).cpus
-woken_by true from to after_from after_to one other = other
-woken_by false from to after_from after_to one other = one
-
 pub guest_woken : (old new : World) → WakesBoth old new → IsWoken (guest_of old).cpus (guest_of new).cpus
-guest_woken old new w = grind (arith, nat_tests, woken_by)
+guest_woken old new w = grind (arith, nat_tests)
 
 -- Nodes
 
@@ -95,35 +90,27 @@ pub installs : (o : Option ℕ) (node : Destination) (copy : Copy) (rest : List 
 installs None node copy rest = assumption (still node.guest.cpus)
 installs (Some page) node copy rest = assumption (some_woken (λ q. eqb q page) node.guest.cpus)
 
-comes_to : (ran : Bool) (node : Destination) (copy : Copy) → TakesFrame node (copy_came ran node copy)
-comes_to true node copy = assumption (still node.guest.cpus)
-comes_to false node copy = assumption (still node.guest.cpus)
-
 resumes_as : (state : Received) (node new : Destination) → TakesFrame node new → TakesFrame node (resumed_by state new)
 resumes_as Received.NotRun node new w = assumption
 resumes_as _ node new w = assumption
 
 pub takes : (frame : Frame) (node : Destination) (epoch : ℕ) → is_package frame ≡ false → TakesFrame node (destination_took node epoch frame)
-takes frame node epoch h = grind (arith, nat_tests, comes_to, none_absurd, resumes_as, still)
+takes frame node epoch h = grind (arith, nat_tests, none_absurd, resumes_as, still)
 
 pub takes_urgent : (frame : Frame) (node : Destination) → TakesFrame node (urgent_took node frame)
 takes_urgent (Page page bytes) node = assumption (still node.guest.cpus)
 takes_urgent _ node = assumption (still node.guest.cpus)
 
-rebuilds : (switched : Bool) (one other node : Source) → Wakes node.guest one.guest → Wakes node.guest other.guest → Wakes node.guest (if switched then one else other).guest
-rebuilds true one other node a b = a
-rebuilds false one other node a b = b
-
 -- a source that is told that nothing more is needed has no unread event
 takes_back : (frame : Frame) (node : Source) → (is_last frame ≡ true → (space_of node).object.events ≡ []) → Wakes node.guest (source_took node frame).guest
-takes_back frame node quiet = grind (arith, nat_tests, rebuilds, still)
+takes_back frame node quiet = grind (arith, nat_tests, still)
 
 pub stopped_switched : (phase : SourcePhase) (switched : Bool) → is_stopped phase ≡ true → SwitchedAt phase switched → switched ≡ true
 stopped_switched SourcePhase.Stopped switched h at = at
 stopped_switched _ switched h at = none_absurd h
 
 last_switched : (frame : Frame) (world : World) → IsSoundWorld world → IsInPlaceBack world.source frame → is_last frame ≡ true → world.source.switched ≡ true
-last_switched frame world kept place h = grind (arith, nat_tests, stopped_switched, none_absurd)
+last_switched frame world kept place h = grind (arith, nat_tests)
 
 -- Effects that hand no reply over
 

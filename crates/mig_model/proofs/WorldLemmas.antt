@@ -1,6 +1,6 @@
 -- A world at a stage, and what its transcript holds after a command.
 use Rattle.std.proofs.lemmas.Bool.Decides.{nat_tests}
-use Rattle.std.proofs.Common.{◌≡◌, ℕ, Bool, true, false, List, [], ◌∷◌, ◌++◌, refl, ap, if◌then◌else◌, arith}
+use Rattle.std.proofs.Common.{◌≡◌, ℕ, Bool, List, [], ◌∷◌, ◌++◌, refl, ap, arith}
 use Rattle.mig_base.specs.declared.command.Command.{Command}
 use Rattle.mig_base.specs.declared.command.Entry.{Entry}
 use Rattle.mig_base.specs.declared.step.SourcePhase.{SourcePhase}
@@ -8,8 +8,8 @@ use Rattle.mig_base.specs.declared.step.DestinationPhase.{DestinationPhase}
 use Rattle.mig_base.specs.Flat.{no_memory, reply_of, memory_of, IsFlatRun}
 use Rattle.mig_base.proofs.FlatLemmas.{memory_from-push, IsRunFrom-push}
 use Rattle.mig_model.specs.Host.{Host, memory, host_after, IsSound}
-use Rattle.mig_model.specs.Node.{Source, Destination, has_run}
-use Rattle.mig_model.specs.World.{World, first_world_with, running_host}
+use Rattle.mig_model.specs.Node.{has_run}
+use Rattle.mig_model.specs.World.{World, first_world_with}
 use Rattle.mig_model.specs.Kept.{IsKept, Wires}
 use Rattle.mig_model.proofs.HostLemmas.{memory-empty, IsSound-empty}
 use Rattle.mig_model.proofs.CommandLemmas.{memory-changed, IsSound-changed}
@@ -26,16 +26,9 @@ abbrev pub SameHosts : World → World → Type 0
 SameHosts old new =
     (new.source.host ≡ old.source.host) × (new.destination.host ≡ old.destination.host) × (has_run new.destination.phase ≡ has_run old.destination.phase) × (new.transcript ≡ old.transcript)
 
-same_active : (runs were : Bool) (from to from_before to_before : Host) → from ≡ from_before → to ≡ to_before → runs ≡ were → (if runs then to else from) ≡ (if were then to_before else from_before)
-same_active runs were from to from_before to_before a b c = cc
-
-running : (runs : Bool) (from : Source) (to : Destination) → running_host runs from to ≡ (if runs then to.host else from.host)
-running true from to = refl
-running false from to = refl
-
 -- only the wires, the phases and the counts have changed
 pub rewired : {old new : World} → IsKept old → SameHosts old new → Wires new.source.phase new.destination.phase new → IsKept new
-rewired {old} {new} kept same wires = grind (arith, nat_tests, running, same_active)
+rewired {old} {new} kept same wires = grind (arith, nat_tests)
 
 -- A command that a host answers, and its entry
 
