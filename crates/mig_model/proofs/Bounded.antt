@@ -1,5 +1,6 @@
 -- Every world that some list of steps leads to is within its bounds.
-use Rattle.std.proofs.Common.{◌≡◌, ℕ, Bool, true, false, List, [], ◌∷◌, refl, sym, ◌∙◌, subst, length}
+use Rattle.std.proofs.lemmas.Bool.Decides.{nat_tests}
+use Rattle.std.proofs.Common.{◌≡◌, ℕ, Bool, false, List, [], ◌∷◌, sym, ◌∙◌, subst, length, arith}
 use Rattle.std.proofs.lemmas.List.{length-replicate}
 use Rattle.mig_base.specs.declared.cpu_state.CpuState.{CpuState}
 use Rattle.mig_base.specs.declared.schedule.Step.{Step}
@@ -75,8 +76,7 @@ bounded-reached world reached =
 
 -- the destination has nothing mapped until it has run, and runs the guest from then on
 destination_by : (ran : Bool) (from to : Guest) → (ran ≡ false → IsMapping to.space.host.areas) → IsMapping (guest_by ran from to).space.host.areas → IsMapping to.space.host.areas
-destination_by true from to bare runs = runs
-destination_by false from to bare runs = bare refl
+destination_by ran from to bare runs = grind (arith, nat_tests)
 
 pub has_memory : (cpus : ℕ) (world : World) → IsBounded cpus world → HasBoundedMemory world
 has_memory cpus world all =

@@ -16,14 +16,14 @@ use Rattle.mig_base.specs.declared.effect.Effect.{Effect}
 use Rattle.mig_base.specs.declared.message.Message.{Message}
 use Rattle.mig_base.specs.declared.message.Message.TheVariants.{PageFault}
 use Rattle.mig_base.specs.declared.schedule.Step.{Step}
-use Rattle.mig_base.specs.Commands.{is_access, page_of}
+use Rattle.mig_base.specs.Commands.{is_access}
 use Rattle.mig_model.specs.Cpus.{Took, all_woken, entries_of, handed_over, is_idle, is_woken, message_less, processor_after, processor_at, taken_over, woken_if}
 use Rattle.mig_model.specs.Cpus.Took.{Sleep, Call}
 use Rattle.mig_model.specs.Guest.{Guest, is_left_by, read_guest, took_by}
 use Rattle.mig_model.specs.Wire.{Frame, Sent}
 use Rattle.mig_model.specs.Wire.Frame.{Package}
 use Rattle.mig_model.specs.Migration.{Made, World, after_command, after_deliver, answer, event_effect, guest_by, guest_of, next, outcome, read_effect, try_effect}
-use Rattle.mig_model.specs.Invariant.{CallFits, AreSoundCalls, IsSoundWorld}
+use Rattle.mig_model.specs.Invariant.{AreSoundCalls, IsSoundWorld}
 use Rattle.mig_model.specs.Promises.{IsReached}
 use Rattle.mig_model.specs.Replies.{HandsOver, call_reply, last_reply}
 use Rattle.mig_model.proofs.Calls.{are_sound_calls, calls-first, calls_next}
@@ -40,21 +40,14 @@ use Rattle.mig_model.proofs.SourceKept.{has_not_run}
 
 behind_first : (here : Bool) (reply : Reply) (old first : Option Reply) →
     elim (if here then Some reply else old) [ Some r ↦ Some r | None ↦ first ] ≡ (if here then Some reply else elim old [ Some r ↦ Some r | None ↦ first ])
-behind_first true reply old first = refl
-behind_first false reply old first = refl
+behind_first here reply old first = grind (arith, nat_tests)
 
 last_reply-push : (entries : List Entry) (entry : Entry) (k : ℕ) → last_reply (entries ++ entry ∷ []) k ≡ (if eqb entry.cpu k then Some entry.reply else last_reply entries k)
 last_reply-push [] entry k = refl
-last_reply-push (first ∷ entries) entry k =
-    ap (λ o. elim o [ Some r ↦ Some r | None ↦ if eqb first.cpu k then Some first.reply else None ]) (last_reply-push entries entry k)
-    ∙ behind_first (eqb entry.cpu k) entry.reply (last_reply entries k) (if eqb first.cpu k then Some first.reply else None)
-
-own_entry : (entries : List Entry) (cpu : ℕ) (command : Command) (reply : Reply) → last_reply (entries ++ record { cpu = cpu; command = command; reply = reply } ∷ []) cpu ≡ Some reply
-own_entry entries cpu command reply = last_reply-push entries (record { cpu = cpu; command = command; reply = reply }) cpu ∙ ap (λ b. if b then Some reply else last_reply entries cpu) (eqb-self cpu)
+last_reply-push (first ∷ entries) entry k = grind (arith, nat_tests, behind_first, last_reply-push entries entry k)
 
 other_entry : (entries : List Entry) (cpu : ℕ) (command : Command) (reply : Reply) (k : ℕ) → (cpu ≡ k → ⊥) → last_reply (entries ++ record { cpu = cpu; command = command; reply = reply } ∷ []) k ≡ last_reply entries k
-other_entry entries cpu command reply k other =
-    last_reply-push entries (record { cpu = cpu; command = command; reply = reply }) k ∙ ap (λ b. if b then Some reply else last_reply entries k) (ne_eqb cpu k other)
+other_entry entries cpu command reply k other = grind (arith, nat_tests, last_reply-push, ne_eqb)
 
 -- what a command enters is not of another processor
 entered_other : (took : Took) (entries : List Entry) (cpu : ℕ) (command : Command) (k : ℕ) → (cpu ≡ k → ⊥) → last_reply (entries ++ entries_of cpu command took) k ≡ last_reply entries k
@@ -64,7 +57,7 @@ entered_other (Call reply left) entries cpu command k other = other_entry entrie
 
 -- a call has entered the reply that it will give
 entered_call : (took : Took) (entries : List Entry) (cpu : ℕ) (command : Command) (reply : Reply) → call_reply (processor_after command took) ≡ Some reply → last_reply (entries ++ entries_of cpu command took) cpu ≡ Some reply
-entered_call took entries cpu command reply h = grind (arith, nat_tests, own_entry)
+entered_call took entries cpu command reply h = grind (arith, nat_tests, last_reply-push, eqb-self)
 
 -- Processors
 
@@ -72,32 +65,18 @@ entered_call took entries cpu command reply h = grind (arith, nat_tests, own_ent
 abbrev reply_at : List CpuState → ℕ → Option Reply
 reply_at processors k = call_reply (processor_at processors k)
 
-woken_call : (here : Bool) (command : Command) → call_reply (if here then CpuState.Woken command else CpuState.Asleep command) ≡ None
-woken_call true command = refl
-woken_call false command = refl
-
-woken_reply : (test : ℕ → Bool) (p : CpuState) → call_reply (woken_if test p) ≡ call_reply p
-woken_reply test (CpuState.Asleep command) = woken_call (test (page_of command)) command
-woken_reply test _ = refl
-
 -- waking leaves calls
 woken_replies : (test : ℕ → Bool) (ps : List CpuState) (k : ℕ) → reply_at (all_woken test ps) k ≡ reply_at ps k
-woken_replies test ps k = ap call_reply (map_at (woken_if test) ps k refl) ∙ woken_reply test (processor_at ps k)
+woken_replies test ps k = grind (arith, nat_tests, map_at)
 
 woken_idle : (test : ℕ → Bool) (ps : List CpuState) (k : ℕ) → processor_at ps k ≡ CpuState.Idle → processor_at (all_woken test ps) k ≡ CpuState.Idle
 woken_idle test ps k idle = map_at (woken_if test) ps k refl ∙ ap (woken_if test) idle
 
 idle_reply : (p : CpuState) → is_idle p ≡ true → call_reply p ≡ None
-idle_reply CpuState.Idle h = refl
-idle_reply _ h = absurd (false≢true h)
+idle_reply p h = grind (arith, nat_tests)
 
 woken_none : (p : CpuState) → is_woken p ≡ true → call_reply p ≡ None
-woken_none (CpuState.InCall reply left) h = absurd (false≢true h)
-woken_none _ h = refl
-
--- a processor with no unread event is in no call
-quiet_reply : (p : CpuState) → CallFits p 0 → call_reply p ≡ None
-quiet_reply p h = grind (arith, nat_tests)
+woken_none p h = grind (arith, nat_tests)
 
 taken_reply : (commands : List (Option Command)) (k : ℕ) → reply_at (map taken_over commands) k ≡ None
 taken_reply [] k = refl
@@ -108,16 +87,13 @@ taken_reply (command ∷ commands) (suc k) = taken_reply commands k
 -- one message less
 
 less_goes_on : (p : CpuState) (reply : Reply) → call_reply p ≡ Some reply → (call_reply (message_less p) ≡ Some reply) ⊎ (handed_over p ≡ Some reply)
-less_goes_on (CpuState.InCall other (suc zero)) reply h = inr h
-less_goes_on _ reply h = inl h
+less_goes_on p reply h = grind (arith, nat_tests)
 
 less_was : (p : CpuState) (reply : Reply) → call_reply (message_less p) ≡ Some reply → call_reply p ≡ Some reply
-less_was (CpuState.InCall other (suc zero)) reply h = absurd (none-some reply h)
-less_was _ reply h = h
+less_was p reply h = grind (arith, nat_tests, none-some)
 
 last_message : (p : CpuState) (reply : Reply) → handed_over p ≡ Some reply → p ≡ CpuState.InCall reply 1
-last_message (CpuState.InCall other (suc zero)) reply h = ap (λ o. elim o [ None ↦ CpuState.InCall other 1 | Some r ↦ CpuState.InCall r 1 ]) h
-last_message _ reply h = absurd (none-some reply h)
+last_message p reply h = grind (arith, nat_tests, none-some)
 
 set_reply : (processors : List CpuState) (i k : ℕ) (new : CpuState) (reply : Reply) → (call_reply new ≡ Some reply → reply_at processors i ≡ Some reply) → reply_at (set processors i new) k ≡ Some reply → reply_at processors k ≡ Some reply
 set_reply [] i k new reply was h = h
@@ -157,16 +133,9 @@ all_go_on old new effect same not = grind (arith, nat_tests)
 
 -- Messages
 
-other_event : {A : Type 0} (message event : Message) (cpu k : ℕ) (reply : Reply) → Effect.ReadEvent message ≡ Effect.ReadLast event k reply → A
-other_event message event cpu k reply h = absurd (cc)
-
-same_event : (message event : Message) (cpu k : ℕ) (one reply : Reply) → Effect.ReadLast message cpu one ≡ Effect.ReadLast event k reply → (cpu ≡ k) × (one ≡ reply)
-same_event message event cpu k one reply h = (cc, cc)
-
 -- the processor whose last message it is
 told_last : (o : Option Reply) (message event : Message) (cpu k : ℕ) (reply : Reply) → event_effect message cpu o ≡ Effect.ReadLast event k reply → (cpu ≡ k) × (o ≡ Some reply)
-told_last None message event cpu k reply h = other_event message event cpu k reply h
-told_last (Some one) message event cpu k reply h = let same = same_event message event cpu k one reply h in (same.0, ap (λ r. Some r) same.1)
+told_last o message event cpu k reply h = grind (arith, nat_tests)
 
 -- the processors once an event of one of them is read
 abbrev event_read : List CpuState → ℕ → (ℕ → Bool) → List CpuState
@@ -207,16 +176,13 @@ read_goes_on guest cpu message = event_goes_on guest _ message cpu (is_left_by m
 
 -- where the guest runs, by the node that changes
 source_goes_on : (ran : Bool) (old new to : Guest) (effect : Effect) → ran ≡ false → GoOn old new effect → GoOn (guest_by ran old to) (guest_by ran new to) effect
-source_goes_on true old new to effect is on = absurd (false≢true (sym is))
-source_goes_on false old new to effect is on = on
+source_goes_on ran old new to effect is on = grind (arith, nat_tests)
 
 destination_goes_on : (ran : Bool) (from old new : Guest) (effect : Effect) → ran ≡ true → GoOn old new effect → GoOn (guest_by ran from old) (guest_by ran from new) effect
-destination_goes_on true from old new effect is on = on
-destination_goes_on false from old new effect is on = absurd (false≢true is)
+destination_goes_on ran from old new effect is on = grind (arith, nat_tests)
 
 try_not_last : (took : Took) (cpu : ℕ) → is_last_read (try_effect cpu took) ≡ false
-try_not_last (Took.Answer reply) cpu = refl
-try_not_last _ cpu = refl
+try_not_last took cpu = grind (arith, nat_tests)
 
 -- Steps that try no command
 
@@ -231,7 +197,7 @@ quietly world new effect same not entered = record { calls = all_go_on (guest_of
 -- a Package is taken where no processor is in a call, and none is then
 package_calls : (epoch : ℕ) (areas : FinMap nat_cmp Prot) (owed : FinSet nat_cmp) (commands : List (Option Command)) (rest : List Sent) (world : World) → world.up ≡ true → world.forward.frames ≡ record { epoch = epoch; frame = Package areas owed commands } ∷ rest → IsSoundWorld world →
     AreSoundCalls world → SameCalls (guest_of world) (guest_of (delivered world (record { epoch = epoch; frame = Package areas owed commands } ∷ rest)))
-package_calls epoch areas owed commands rest world up first kept all k = grind (arith, nat_tests, stopped_switched, taken_reply, quiet_reply)
+package_calls epoch areas owed commands rest world up first kept all k = grind (arith, nat_tests, stopped_switched, taken_reply)
 
 -- waking leaves calls
 woken_calls : (old new : List CpuState) → IsWoken old new → (k : ℕ) → reply_at new k ≡ reply_at old k
@@ -239,8 +205,7 @@ woken_calls old new w k = ap (λ ps. reply_at ps k) w.is ∙ woken_replies w.tes
 
 taken_calls : (frame : Frame) (epoch : ℕ) (rest : List Sent) (world : World) → world.up ≡ true → world.forward.frames ≡ record { epoch = epoch; frame = frame } ∷ rest → IsSoundWorld world → AreSoundCalls world →
     SameCalls (guest_of world) (guest_of (after_deliver world (record { epoch = epoch; frame = frame }) rest))
-taken_calls (Package areas owed commands) epoch rest world up first kept all k = package_calls epoch areas owed commands rest world up first kept all k
-taken_calls frame epoch rest world up first kept all k = woken_calls _ _ (guest_woken world _ (wakes-taken world (record { epoch = epoch; frame = frame }) rest refl)) k
+taken_calls frame epoch rest world up first kept all k = grind (arith, nat_tests, package_calls, woken_calls, guest_woken, wakes-taken)
 
 goes_on : (world : World) (step : Step) → IsSoundWorld world → AreSoundCalls world → is_try step ≡ false → Holds (GoesOn world) (answer world step)
 goes_on world (Step.Issue cpu command) kept all other = absurd (false≢true (sym other))
@@ -272,10 +237,8 @@ record Tries (world : World) (made : Made) : Type 0 where
   is : made.world ≡ after_command world cpu command
 
 is_tried : (world : World) (step : Step) → is_try step ≡ true → Makes (Tries world) world step
-is_tried world (Step.Issue cpu command) h =
-    λ there idle may. record { cpu = cpu; command = command; free = idle_reply (processor_at (guest_of world).cpus cpu) idle; effect = refl; is = refl }
-is_tried world (Step.Retry cpu) h =
-    λ command is woken may. record { cpu = cpu; command = command; free = woken_none (processor_at (guest_of world).cpus cpu) woken; effect = refl; is = refl }
+is_tried world (Step.Issue cpu command) h = grind (arith, nat_tests, idle_reply)
+is_tried world (Step.Retry cpu) h = grind (arith, nat_tests, woken_none)
 is_tried world _ h = absurd (false≢true h)
 
 -- the processors once one has tried a command
@@ -297,9 +260,7 @@ set_either [] i k new reply free h = absurd (none-some reply h)
 set_either (p ∷ ps) zero zero new reply free h = inl (refl, h)
 set_either (p ∷ ps) zero (suc k) new reply free h = inr (λ e. absurd (omega (arith, e)), h)
 set_either (p ∷ ps) (suc i) zero new reply free h = inr (λ e. absurd (omega (arith, e)), h)
-set_either (p ∷ ps) (suc i) (suc k) new reply free h =
-    ⊎_elim (λ (one : (i ≡ k) × (call_reply new ≡ Some reply)). inl (ap suc one.0, one.1))
-    (λ (two : (i ≡ k → ⊥) × (reply_at ps k ≡ Some reply)). inr (λ e. two.0 (omega (arith, e)), two.1)) (set_either ps i k new reply free h)
+set_either (p ∷ ps) (suc i) (suc k) new reply free h = grind (arith, nat_tests, set_either ps i k new reply free h)
 
 tried_replies : (world : World) (cpu : ℕ) (command : Command) → reply_at (guest_of world).cpus cpu ≡ None → HasReplies world → HasReplies (after_command world cpu command)
 tried_replies world cpu command free has k reply h =

@@ -1,6 +1,6 @@
 -- A command changes the pages of a host as it changes the flat memory that they mean.
 use Rattle.std.proofs.lemmas.Bool.Decides.{nat_tests}
-use Rattle.std.proofs.Common.{◌≡◌, ℕ, ◌+◌, ◌-◌, ◌/◌, ◌%◌, ◌^◌, ◌≤◌, ◌&&◌, Bool, true, cond, ltb, Option, Some, None, List, [], refl, sym, ap, ◌∙◌, arith, length, is_some, unwrap_or}
+use Rattle.std.proofs.Common.{◌≡◌, ℕ, ◌+◌, ◌-◌, ◌/◌, ◌%◌, ◌^◌, ◌≤◌, ◌&&◌, Bool, true, cond, ltb, Option, None, List, [], refl, sym, ap, ◌∙◌, arith, length, is_some, unwrap_or}
 use Rattle.std.specs.FinMap.{get, contains_key}
 use Rattle.std.proofs.lemmas.Bool.{leb-true}
 use Rattle.std.proofs.lemmas.List.{get_or-take, length-take}
@@ -50,11 +50,8 @@ digits_low_bytes value width few = grind (arith, nat_tests, length-take, get_or-
 reads_or_zero : (o : Option (List ℕ)) → ReadsAs (unwrap_or o zero_page) (unwrap_or o [])
 reads_or_zero o = grind (arith, nat_tests, get_or-zero_page)
 
-length_or_zero : (o : Option (List ℕ)) → ((bytes : List ℕ) → o ≡ Some bytes → length bytes ≡ 4096) → length (unwrap_or o zero_page) ≡ 4096
-length_or_zero o h = grind (arith, nat_tests, length-zero_page)
-
 pub length-contents : (host : Host) (page : ℕ) → IsSound host → length (contents host.bytes page) ≡ 4096
-length-contents host page sound = length_or_zero (get host.bytes page) (sound.whole page)
+length-contents host page sound = grind (arith, nat_tests, length-zero_page)
 
 memory-stored : (host : Host) (addr width value : ℕ) → IsSound host → is_aligned addr width ≡ true → memory (host_changed host (Store addr width value) Done) ≡ write (memory host) addr width value
 memory-stored host addr width value sound form =
@@ -120,9 +117,7 @@ pub IsSound-changed : (host : Host) (command : Command) (reply : Reply) → IsSo
 IsSound-changed host (Store addr width value) Done sound h = IsSound-stored host addr width value sound (stored_mapped host addr width value h) (stored_form (memory host) addr width value h)
 IsSound-changed host (Mmap len prot place) (At start) sound h = IsSound-map host (start / 4096) (pages_of len) prot sound (high_pages start len (mmap_inside (memory host) len prot place start h).high)
 IsSound-changed host (Munmap addr len) Done sound h = IsSound-unmap host (addr / 4096) (pages_of len) sound
-IsSound-changed host (Mremap addr old_len new_len may_move fixed) (At target) sound h =
-    let told = mremap_told (memory host) addr old_len new_len may_move fixed target h in
-    IsSound-moved host (addr / 4096) (pages_of old_len) (target / 4096) (pages_of new_len) sound (high_pages target new_len (remapped_place host addr old_len new_len target sound told).high)
+IsSound-changed host (Mremap addr old_len new_len may_move fixed) (At target) sound h = grind (arith, nat_tests, mremap_told, IsSound-moved, high_pages, remapped_place)
 IsSound-changed host (DontNeed addr len) Done sound h = IsSound-dropped host (addr / 4096) (pages_of len) sound
 IsSound-changed host (DontNeed addr len) (Refused Enomem) sound h = IsSound-dropped host (addr / 4096) (pages_of len) sound
 IsSound-changed host _ _ sound h = sound

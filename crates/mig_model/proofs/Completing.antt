@@ -1,38 +1,22 @@
 -- A complete migration, and which parts of a world each step changes.
 use Rattle.std.proofs.lemmas.Bool.Decides.{nat_tests}
-use Rattle.std.proofs.Common.{◌≡◌, ℕ, Bool, List, [], ◌∷◌, refl, ap, arith}
+use Rattle.std.proofs.Common.{◌≡◌, ℕ, List, [], ◌∷◌, refl, arith}
 use Rattle.mig_base.specs.declared.command.Command.{Command}
 use Rattle.mig_base.specs.declared.step.Step.{Step}
 use Rattle.mig_base.specs.declared.step.Step.TheVariants as step
-use Rattle.mig_base.specs.declared.step.SourcePhase.{SourcePhase}
 use Rattle.mig_base.specs.declared.step.SourcePhase.TheVariants as source
-use Rattle.mig_base.specs.declared.step.DestinationPhase.{DestinationPhase}
 use Rattle.mig_base.specs.declared.step.WorldPhase.TheVariants as phase
 use Rattle.mig_base.specs.Flat.{memory_of}
 use Rattle.mig_model.specs.Host.{bare_host, memory}
-use Rattle.mig_model.specs.Frame.{Sent}
-use Rattle.mig_model.specs.Node.{has_run}
-use Rattle.mig_model.specs.World.{World, refusal_of, started, switched, delivered, delivered_back, end_sent, next, after_steps, phase_by, phase_of}
+use Rattle.mig_model.specs.World.{World, refusal_of, started, switched, end_sent, next, after_steps, phase_of}
 use Rattle.mig_model.specs.Kept.{IsKept}
-use Rattle.mig_model.proofs.WorldLemmas.{at_stage}
 use Rattle.mig_model.proofs.Every.{by_refusal}
 
-complete_released : (from : SourcePhase) (runs : Bool) → phase_by from runs ≡ phase.Complete → from ≡ source.Released
-complete_released from runs h = grind (arith, nat_tests)
-
 pub released : (world : World) → phase_of world ≡ phase.Complete → world.source.phase ≡ source.Released
-released world h = complete_released world.source.phase (has_run world.destination.phase) h
-
-pub complete : (world : World) → world.source.phase ≡ source.Released → phase_of world ≡ phase.Complete
-complete world h = ap (λ from. phase_by from (has_run world.destination.phase)) h
-
--- the destination holds the memory of the transcript, and the source has no page
-alone_in : (from : SourcePhase) (to : DestinationPhase) (ends : Bool) (world : World) → from ≡ source.Released → IsKept (at_stage from to ends world) →
-    (memory world.destination.host ≡ memory_of world.transcript) × (world.source.host ≡ bare_host)
-alone_in from to ends world is kept = grind (arith, nat_tests)
+released world h = grind (arith, nat_tests)
 
 pub alone : (world : World) → phase_of world ≡ phase.Complete → IsKept world → (memory world.destination.host ≡ memory_of world.transcript) × (world.source.host ≡ bare_host)
-alone world h kept = alone_in world.source.phase world.destination.phase world.source.end_sent world (released world h) kept
+alone world h kept = grind (arith, nat_tests, released)
 
 -- It stays complete
 
@@ -48,7 +32,7 @@ after_steps-released world [] h = h
 after_steps-released world (step ∷ steps) h = after_steps-released (next world step) steps (next-released world step h)
 
 pub stays_complete : (world : World) (steps : List Step) → phase_of world ≡ phase.Complete → phase_of (after_steps world steps) ≡ phase.Complete
-stays_complete world steps h = complete (after_steps world steps) (after_steps-released world steps (released world h))
+stays_complete world steps h = grind (arith, nat_tests, after_steps-released, released)
 
 -- Which parts each step changes
 
@@ -80,22 +64,13 @@ pub end_changes : (world : World) → AtSource world (next world step.End)
 unfolding next
 end_changes world = by_refusal (AtSource world) (refusal_of world step.End) world (end_sent world) (refl, refl, refl) (λ _. (refl, refl, refl))
 
-delivered-changes : (world : World) (wire : List Sent) → AtDestination world (delivered world wire)
-delivered-changes world [] = (refl, refl)
-delivered-changes world (sent ∷ rest) = (refl, refl)
-
 pub deliver_changes : (world : World) → AtDestination world (next world step.Deliver)
 unfolding next
-deliver_changes world = by_refusal (AtDestination world) (refusal_of world step.Deliver) world (delivered world world.forward) (refl, refl) (λ _. delivered-changes world world.forward)
-
-delivered_back-changes : (world : World) (wire : List Sent) → AtSourceBack world (delivered_back world wire)
-delivered_back-changes world [] = (refl, refl, refl)
-delivered_back-changes world (sent ∷ rest) = (refl, refl, refl)
+deliver_changes world = grind (arith, nat_tests, by_refusal)
 
 pub deliver_back_changes : (world : World) → AtSourceBack world (next world step.DeliverBack)
 unfolding next
-deliver_back_changes world =
-    by_refusal (AtSourceBack world) (refusal_of world step.DeliverBack) world (delivered_back world world.back) (refl, refl, refl) (λ _. delivered_back-changes world world.back)
+deliver_back_changes world = grind (arith, nat_tests, by_refusal)
 
 pub issue_changes : (world : World) (cpu : ℕ) (command : Command) → OffWires world (next world (step.Issue cpu command))
 unfolding next

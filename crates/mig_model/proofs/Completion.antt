@@ -1,6 +1,6 @@
 -- A migration can be completed from every world in which it can go on: each phase of the source leads to a later one.
 use Rattle.std.proofs.lemmas.Bool.Decides.{nat_tests}
-use Rattle.std.proofs.Common.{◌≡◌, ℕ, zero, suc, ◌<◌, Bool, true, false, ltb, List, [], ◌∷◌, length, refl, sym, ap, subst, arith}
+use Rattle.std.proofs.Common.{◌≡◌, ℕ, zero, suc, ◌<◌, Bool, true, false, List, [], ◌∷◌, refl, sym, ap, subst, arith}
 use Rattle.std.specs.Ordering.{nat_cmp}
 use Rattle.std.specs.FinSet.{FinSet}
 use Rattle.std.proofs.lemmas.Bool.{not-true}
@@ -9,11 +9,11 @@ use Rattle.mig_base.specs.declared.phase.Received.{Received}
 use Rattle.mig_base.specs.declared.phase.SourcePhase.{SourcePhase}
 use Rattle.mig_base.specs.declared.schedule.Side.{Side}
 use Rattle.mig_model.specs.Userfault.{Noted}
-use Rattle.mig_model.specs.Source.{Source, is_precopy, is_released, is_source_idle, is_source_paused, source_rebuilt, space_of}
+use Rattle.mig_model.specs.Source.{Source, is_released, is_source_idle, is_source_paused, source_rebuilt, space_of}
 use Rattle.mig_model.specs.Destination.{is_dest_paused}
 use Rattle.mig_model.specs.Wire.{Sent}
 use Rattle.mig_model.specs.Wire.Frame.{Recv, Resume}
-use Rattle.mig_model.specs.Migration.{World, has_started, is_used, after_deliver, after_deliver_back, after_notice, after_resume, after_source_read, after_start, after_switch}
+use Rattle.mig_model.specs.Migration.{World, has_started, is_used, after_deliver, after_deliver_back, after_notice, after_source_read, after_start}
 use Rattle.mig_model.specs.Invariant.{SwitchedAt}
 use Rattle.mig_model.specs.Promises.{CanComplete, IsReached}
 use Rattle.mig_model.proofs.Facts.{none_absurd}
@@ -25,8 +25,7 @@ use Rattle.mig_model.proofs.CompletionStopped.{IsUpAt, next_some, read-less, rea
 -- Pre-copy: the messages are read, until no event is unread, and the source switches
 
 switch_step : (world : World) → (space_of world.source).object.events ≡ [] → IsUpAt SourcePhase.Precopy world → CanComplete world
-switch_step world quiet at =
-    by_switch world (ap is_precopy at.phase) at.up (ap (λ events. ltb 0 (length events)) quiet) at.order (λ order. stopped_completes (after_switch world) (record { order = order; up = at.up; phase = refl }))
+switch_step world quiet at = grind (arith, nat_tests, by_switch, stopped_completes)
 
 precopy_by : (n : ℕ) (events : List Noted) (world : World) → (space_of world.source).object.events ≡ events → unread (space_of world.source).object < n → IsUpAt SourcePhase.Precopy world → CanComplete world
 precopy_by n [] world quiet few at = switch_step world quiet at
@@ -86,8 +85,7 @@ record IsDown (world : World) : Type 0 where
   free : is_used world.source.epoch ≡ false
 
 resume_step : (world : World) → world.source.phase ≡ SourcePhase.Paused → is_dest_paused world.destination.phase ≡ true → IsDown world → CanComplete world
-resume_step world from to at =
-    by_resume world (ap is_source_paused from) to at.down at.free at.order (λ order. link_up_by SourcePhase.Paused (after_resume world) from refl refl order)
+resume_step world from to at = grind (arith, nat_tests, by_resume, link_up_by)
 
 notice_destination : (paused : Bool) (world : World) → is_dest_paused world.destination.phase ≡ paused → world.source.phase ≡ SourcePhase.Paused → IsDown world → CanComplete world
 notice_destination true world is from at = resume_step world from is at
@@ -108,15 +106,12 @@ link_down_by from world is at =
 start_step : (world : World) → is_source_idle world.source.phase ≡ true → is_used world.source.epoch ≡ false → world.up ≡ true → IsInOrder world → CanComplete world
 start_step world idle free up order = by_start world idle free order (λ new. link_up_by SourcePhase.Precopy (after_start world) refl refl up new)
 
-epoch_left_by : (idle up : Bool) (world : World) → is_source_idle world.source.phase ≡ idle → world.up ≡ up → is_used world.source.epoch ≡ false → IsInOrder world → CanComplete world
-epoch_left_by idle up world begun down free order = grind (arith, nat_tests, link_down_by, start_step, link_up_by)
-
 in_order : (world : World) → IsReached world → IsInOrder world
 in_order world reached = record { kept = kept-reached world reached; urgent = urgent-reached world reached }
 
 -- while the epoch of the source is not its last
 pub epoch_left-completes : (world : World) → IsReached world → is_used world.source.epoch ≡ false → CanComplete world
-epoch_left-completes world reached free = epoch_left_by (is_source_idle world.source.phase) world.up world refl refl free (in_order world reached)
+epoch_left-completes world reached free = grind (arith, nat_tests, in_order, link_down_by, start_step, link_up_by)
 
 -- while the link is up and the migration has begun
 pub link_up-completes : (world : World) → IsReached world → has_started world ≡ true → world.up ≡ true → CanComplete world

@@ -10,7 +10,7 @@ use Rattle.mig_base.specs.declared.phase.DestPhase.{DestPhase}
 use Rattle.mig_base.specs.declared.phase.SourcePhase.{SourcePhase}
 use Rattle.mig_base.proofs.PageLemmas.{same_pages}
 use Rattle.mig_model.specs.Wire.{Sent, Copy, Frame, sending, wire_behind, copies_in, kept_after, kept_with}
-use Rattle.mig_model.specs.Wire.Frame.{End, Done, Resume, Request, Recv, Advise, Page, Zero, Run, Discard, Package}
+use Rattle.mig_model.specs.Wire.Frame.{End, Done, Resume, Request, Recv, Advise, Page, Zero, Run, Discard}
 use Rattle.mig_model.specs.Migration.{World, is_end, after_deliver}
 use Rattle.mig_model.specs.Invariant.{Wires, IsSoundWorld, IsFlowing, AreOf, copies_of, has_copy, flow_of, RanAt, is_urgent_or_left, EpochAt, IsSwitching, flow_after, are_requests, behind, kept_by, package_in, AreWhole, AreFaithful}
 use Rattle.mig_model.specs.Invariant.Flow.{Pushed, AfterEnd}
@@ -32,12 +32,9 @@ use Rattle.mig_model.proofs.HostLemmas.{get-put}
 use Rattle.mig_model.proofs.PackageTaken.{package_taken}
 use Rattle.mig_base.proofs.TestLemmas.{never_some}
 
-ends_by : (test : Bool) → cond test AfterEnd Pushed ≡ AfterEnd → test ≡ true
-ends_by test h = grind arith
-
 -- a wire that gets past End is that of a source that has sent it in this epoch
 pub ended_now : (source : Source) → flow_of source ≡ AfterEnd → source.end_epoch ≡ source.epoch
-ended_now source h = eqb-true source.end_epoch source.epoch (ends_by (eqb source.end_epoch source.epoch) h)
+ended_now source h = grind (arith, nat_tests, eqb-true)
 
 -- no page remains, none is in flight and none waits
 pub nowhere : (remaining : FinSet nat_cmp) (rest urgent : List Sent) (arrivals : List Copy) (origin : ℕ) → remaining ≡ no_pages → rest ≡ [] → urgent ≡ [] → arrivals ≡ [] →
@@ -71,8 +68,7 @@ end_taken epoch count rest world free came kept =
 
 -- each origin of the table is among them
 pub origins-pair : (owed : FinMap nat_cmp ℕ) (page origin : ℕ) → get owed page ≡ Some origin → page < HIGH_PAGE → ltb origin HIGH_PAGE ≡ true → contains (origins owed) origin ≡ true
-origins-pair owed page origin h low high =
-    member_below _ HIGH_PAGE origin ∙ and_from (ltb origin HIGH_PAGE) (is_some (home owed origin)) high (home-some owed origin page low h)
+origins-pair owed page origin h low high = grind (arith, nat_tests, member_below, and_from, home-some)
 
 -- and each of them is an origin of the table
 pub pair-origins : (owed : FinMap nat_cmp ℕ) (origin : ℕ) → contains (origins owed) origin ≡ true → (page : ℕ) × (get owed page ≡ Some origin)
@@ -196,8 +192,7 @@ whole_parts (copy ∷ a) b h = let rest = whole_parts a b h.1 in ((h.0, rest.0),
 whole_with : (copies : List Copy) (kept : FinMap nat_cmp (List ℕ)) → AreWhole copies → ((q : ℕ) (held : List ℕ) → get kept q ≡ Some held → length held ≡ 4096) →
     (q : ℕ) (held : List ℕ) → get (kept_with kept copies) q ≡ Some held → length held ≡ 4096
 whole_with [] kept are whole = whole
-whole_with (copy ∷ copies) kept are whole =
-    whole_with copies (insert kept copy.page copy.bytes) are.1 (λ q held h. put_whole (eqb q copy.page) copy.bytes held (get kept q) are.0 (whole q held) (sym (get-put kept copy.page q copy.bytes) ∙ h))
+whole_with (copy ∷ copies) kept are whole = grind (arith, nat_tests, put_whole, get-put, whole_with copies (insert kept copy.page copy.bytes) are.1 (λ q held h. put_whole (eqb q copy.page) copy.bytes held (get kept q) are.0 (whole q held) (sym (get-put kept copy.page q copy.bytes) ∙ h)))
 
 -- the kept table is folded over the wire as before
 copies_kept : (from : SourcePhase) (epoch : ℕ) (frame : Frame) (rest : List Sent) (world : World) →
@@ -284,8 +279,7 @@ stopped_advised epoch _ rest world kept = absurd (none-some (flow_of (record wor
 stopped_discarding : (epoch : ℕ) (frame : Frame) (rest : List Sent) (world : World) →
     let old : World = at_state SourcePhase.Stopped DestPhase.Discarding false true (record { epoch = epoch; frame = frame } ∷ rest) world in
     IsSoundWorld old → IsSoundWorld (delivered old old.forward.frames)
-stopped_discarding epoch (Package areas owed commands) rest world kept = package_taken epoch areas owed commands rest world kept
-stopped_discarding epoch _ rest world kept = absurd (none-some (flow_of (record world.source { phase = SourcePhase.Stopped })) (kept.flight.wires refl).0)
+stopped_discarding epoch frame rest world kept = grind (arith, nat_tests, package_taken, none-some)
 
 -- whether the frame is one before which all that came has to be installed
 abbrev IsFree : Frame → World → Type 0
@@ -296,8 +290,7 @@ abbrev pub AllCame : Frame → World → Type 0
 AllCame frame world = (count : ℕ) → frame ≡ End count → world.urgent.frames ≡ []
 
 none_waits : (arrivals : List Copy) → not (is_empty arrivals) ≡ false → arrivals ≡ []
-none_waits [] h = refl
-none_waits (copy ∷ arrivals) h = absurd (not_up h)
+none_waits arrivals h = grind (arith, nat_tests, not_up)
 
 stopped_running : (epoch : ℕ) (frame : Frame) (rest : List Sent) (world : World) → IsFree frame world → AllCame frame world →
     let old : World = at_state SourcePhase.Stopped DestPhase.Running true true (record { epoch = epoch; frame = frame } ∷ rest) world in

@@ -32,7 +32,6 @@ use Rattle.mig_model.specs.Destination.{settled}
 use Rattle.mig_model.proofs.WireLemmas.{fits-more, fits-none, flight_up}
 use Rattle.mig_model.proofs.Facts.{and_second, not_up, no_page}
 use Rattle.mig_model.proofs.Stopping.{flow_open, log_stopped, pushing_stopped}
-use Rattle.mig_base.specs.Tests.{is_empty}
 
 -- a world with these phases and this wire back, whose link is up
 abbrev at_back : SourcePhase → DestPhase → (ran switched : Bool) → (forward back : List Sent) → World → World
@@ -137,34 +136,18 @@ recv_switched owed epoch rest world kept last =
 
 -- The frames in their phases
 
-recv_not_run : (switched : Bool) (owed : FinSet nat_cmp) (epoch : ℕ) (rest : List Sent) (world : World) → rest ≡ [] →
-    let old : World = at_back SourcePhase.Paused DestPhase.Advised false switched [] (record { epoch = epoch; frame = Recv Received.NotRun owed } ∷ rest) world in
-    IsSoundWorld old → IsSoundWorld (delivered_back old old.back.frames)
-recv_not_run false owed epoch rest world last kept = recv_precopy owed epoch rest world kept last
-recv_not_run true owed epoch rest world last kept = recv_switched owed epoch rest world kept last
-
 -- with what is known of the wires put in their place
 abbrev Takes : DestPhase → (ran switched : Bool) → World → List Sent → List Sent → Type 0
 Takes to ran switched world forward back = IsSoundWorld (at_back SourcePhase.Paused to ran switched forward back world) → IsSoundWorld (delivered_back (at_back SourcePhase.Paused to ran switched forward back world) back)
 
-paused_takes : (to : DestPhase) (ran switched : Bool) (world : World) (forward back wire : List Sent) → forward ≡ [] → back ≡ wire → Takes to ran switched world [] wire → Takes to ran switched world forward back
-paused_takes to ran switched world forward back wire none is takes = subst (λ f. Takes to ran switched world f back) (sym none) (subst (λ b. Takes to ran switched world [] b) (sym is) takes)
-
 at_advised : (ran switched : Bool) (forward back : List Sent) (world : World) → Takes DestPhase.Advised ran switched world forward back
-at_advised ran switched forward back world kept = grind (arith, nat_tests, paused_takes, recv_not_run)
+at_advised ran switched forward back world kept = grind (arith, nat_tests, recv_precopy, recv_switched)
 
 at_runs : (ran switched : Bool) (forward back : List Sent) (world : World) → Takes DestPhase.Running ran switched world forward back
 at_runs ran switched forward back world kept = grind (arith, nat_tests)
 
 at_ended : (ran switched : Bool) (forward back : List Sent) (world : World) → Takes DestPhase.Ended ran switched world forward back
 at_ended ran switched forward back world kept = grind (arith, nat_tests, released_kept)
-
-or_none : (b : Bool) → (b || false) ≡ true → b ≡ true
-or_none b h = grind arith
-
-is_last : (rest : List Sent) → is_empty rest ≡ true → rest ≡ []
-is_last [] h = refl
-is_last (sent ∷ rest) h = absurd (false≢true h)
 
 -- a request, while the destination runs
 stopped_runs : (ran switched : Bool) (epoch : ℕ) (frame : Frame) (rest : List Sent) (world : World) →
@@ -176,7 +159,7 @@ stopped_runs ran switched epoch frame rest world kept = grind (arith, nat_tests)
 stopped_ended : (ran switched : Bool) (epoch : ℕ) (frame : Frame) (rest : List Sent) (world : World) →
     let old : World = at_back SourcePhase.Stopped DestPhase.Ended ran switched world.forward.frames (record { epoch = epoch; frame = frame } ∷ rest) world in
     IsSoundWorld old → IsSoundWorld (delivered_back old old.back.frames)
-stopped_ended ran switched epoch frame rest world kept = grind (arith, nat_tests, or_none, released_kept, is_last)
+stopped_ended ran switched epoch frame rest world kept = grind (arith, nat_tests, released_kept)
 
 back_in : (from : SourcePhase) (to : DestPhase) (ran switched : Bool) (sent : Sent) (rest : List Sent) (world : World) →
     let old : World = at_back from to ran switched world.forward.frames (sent ∷ rest) world in

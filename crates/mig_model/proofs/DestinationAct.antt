@@ -14,13 +14,13 @@ use Rattle.mig_base.specs.declared.TheConstants.{HIGH_PAGE}
 use Rattle.mig_base.specs.Pages.{map_below}
 use Rattle.mig_base.proofs.SetLemmas.{member_below}
 use Rattle.mig_model.specs.Host.{Host, memory}
-use Rattle.mig_model.specs.Userfault.{Noted, is_registered}
+use Rattle.mig_model.specs.Userfault.{Noted}
 use Rattle.mig_model.specs.Space.{Space, IsSoundSpace}
 use Rattle.mig_model.specs.Ioctls.{put_pages, installed as pages_installed}
 use Rattle.mig_model.specs.Guest.{Guest, is_present, Fault, is_forgotten, zero_installed, resolved}
 use Rattle.mig_model.specs.Wire.{Copy, Sent, wire_if}
 use Rattle.mig_model.specs.Migration.{World, outcome, next, after_install, install_effect, is_changing, runs, destination_sends, after_dest_act}
-use Rattle.mig_model.specs.Invariant.{IsSoundWorld, AreFaithful, has_copy, seen_host, seen_bytes, Wires, EpochAt, are_requests, is_request}
+use Rattle.mig_model.specs.Invariant.{IsSoundWorld, AreFaithful, has_copy, seen_host, seen_bytes, Wires, are_requests, is_request}
 use Rattle.mig_model.specs.Promises.{IsPut}
 use Rattle.mig_model.proofs.IoctlLemmas.{IsSoundSpace-installed, get-put_pages}
 use Rattle.mig_model.proofs.SettledLemmas.{home_tells, home-none}
@@ -75,14 +75,9 @@ put-missing space page q bytes other h = ap is_some (get-put_one space.host.byte
 abbrev pub seen_by : Option (List ℕ) → Option (List ℕ) → Option (List ℕ)
 seen_by own other = elim own [ Some bytes ↦ Some bytes | None ↦ other ]
 
--- the page that is put there is the one that was read through to the source
-seen-put : (here there : Host) (owed : FinMap nat_cmp ℕ) (page origin q : ℕ) (bytes : List ℕ) → get here.bytes page ≡ None → get owed page ≡ Some origin → get there.bytes origin ≡ Some bytes →
-    seen_bytes (record here { bytes = put_pages here.bytes page 1 (λ i. bytes) }) there (get (finmap.remove owed page)) q ≡ seen_bytes here there (get owed) q
-seen-put here there owed page origin q bytes none pair same = grind (arith, nat_tests, get-put_one, get-without, eqb-true)
-
 memory-put : (here there : Host) (owed : FinMap nat_cmp ℕ) (page origin : ℕ) (bytes : List ℕ) → get here.bytes page ≡ None → get owed page ≡ Some origin → get there.bytes origin ≡ Some bytes →
     memory (seen_host (record here { bytes = put_pages here.bytes page 1 (λ i. bytes) }) there (get (finmap.remove owed page))) ≡ memory (seen_host here there (get owed))
-memory-put here there owed page origin bytes none pair same = grind (arith, nat_tests, seen-put)
+memory-put here there owed page origin bytes none pair same = grind (arith, nat_tests, get-put_one, get-without, eqb-true)
 
 -- The pairs that are left
 
@@ -241,8 +236,7 @@ pub memory-reads : (areas : FinMap nat_cmp Prot) (old new : FinMap nat_cmp (List
 memory-reads areas old new same = grind (arith, nat_tests, memory-at)
 
 zero_reads : (here : Bool) (own other : Option (List ℕ)) (i : ℕ) → (here ≡ true → own ≡ None) → (here ≡ true → other ≡ None) → byte_of (seen_by (cond here (Some zero_page) own) other) i ≡ byte_of (seen_by own other) i
-zero_reads true own other i none nothing = get_or-zero_page i ∙ sym (ap (λ o. byte_of (seen_by o other) i) (none refl) ∙ ap (λ o. byte_of o i) (nothing refl))
-zero_reads false own other i none nothing = refl
+zero_reads here own other i none nothing = grind (arith, nat_tests, get_or-zero_page)
 
 below_reads : (low : Bool) (a b : Option (List ℕ)) (i : ℕ) → byte_of a i ≡ byte_of b i → byte_of (cond low a None) i ≡ byte_of (cond low b None) i
 below_reads low a b i h = grind arith
@@ -288,19 +282,14 @@ request_wires SourcePhase.Precopy DestPhase.Running source node forward back urg
 request_wires SourcePhase.Released DestPhase.Running source node forward back urgent sent is runs w = absurd (let e : DestPhase.Running ≡ DestPhase.Ended = w.0 in cc)
 request_wires from _ source node forward back urgent sent is runs w = none_absurd runs
 
-running_epoch : (to : DestPhase) (epoch source_epoch : ℕ) → is_running to ≡ true → EpochAt to epoch source_epoch → epoch ≡ source_epoch
-running_epoch DestPhase.Running epoch source_epoch runs at = at
-running_epoch _ epoch source_epoch runs at = none_absurd runs
-
 -- a request is sent where the destination runs and the page was not asked for yet, and is lost where the link is down
 sent_back : (up asked runs : Bool) (world : World) (source : ℕ) → world.up ≡ up → is_running world.destination.phase ≡ runs → IsSoundWorld world →
     IsSoundWorld (record world { back = wire_if up world.back world.destination.epoch (if asked || not runs then [] else Request source ∷ []) })
-sent_back up asked runs world source up_ running kept = grind (arith, nat_tests, AreOf-append, running_epoch, request_wires, fits-append)
+sent_back up asked runs world source up_ running kept = grind (arith, nat_tests, AreOf-append, request_wires, fits-append)
 
 -- nothing is sent
 nothing_sent : (up : Bool) (world : World) → world.up ≡ up → IsSoundWorld world → IsSoundWorld (record world { back = wire_if up world.back world.destination.epoch [] })
-nothing_sent false world up kept = kept
-nothing_sent true world up kept = kept
+nothing_sent up world up_ kept = grind (arith, nat_tests)
 
 -- The step
 
@@ -359,10 +348,7 @@ act_in false false (Some source) fault rest world kept runs f p h =
     let new : World = record old { destination = destination_acted_by (Requested source) old.destination fault.page } in
     sent_back world.up (is_requested world.destination.requests source) (is_running world.destination.phase) new source refl refl
     (only_woken old world.destination.guest.cpus rest (requesting world.destination.requests source) kept runs)
-act_in false false None fault rest world kept runs f p h =
-    let old : World = at_held [] (fault ∷ rest) world in
-    let new : World = record old { destination = destination_acted_by Zeroed old.destination fault.page } in
-    nothing_sent world.up new refl (zeros_put fault rest world kept runs (not_or (contains_key world.destination.guest.space.host.areas fault.page) (is_registered world.destination.guest.space.object fault.page) f) p h)
+act_in false false None fault rest world kept runs f p h = grind (arith, nat_tests, nothing_sent, zeros_put, not_or)
 
 acted_in : (events : List Noted) (fault : Fault) (rest : List Fault) (world : World) → IsSoundWorld (at_held events (fault ∷ rest) world) → world.destination.has_run ≡ true → ltb 0 (length events) ≡ false →
     IsSoundWorld (after_dest_act (at_held events (fault ∷ rest) world) fault)

@@ -94,15 +94,9 @@ pub wires_handled : (from : SourcePhase) (to : DestPhase) (source : Source) (nod
     ((page origin : ℕ) → get owed page ≡ Some origin → has_copy node.arrivals origin ≡ true → has_copy arrivals origin ≡ true) →
     Wires (record source { phase = from }) (record node { phase = to }) forward back urgent →
     Wires (record source { phase = from }) (handled (record node { phase = to }) guest held owed requests arrivals installed dropped faults) forward back urgent
-wires_handled SourcePhase.Stopped DestPhase.Running source node forward back urgent guest held owed requests arrivals installed dropped faults values copies w =
-    let old : Destination = record node { phase = DestPhase.Running } in
-    (w.0, w.1, still_flowing (record source { phase = SourcePhase.Stopped }) old (handled old guest held owed requests arrivals installed dropped faults) forward urgent values copies w.2)
-wires_handled SourcePhase.Paused DestPhase.Running source node forward back urgent guest held owed requests arrivals installed dropped faults values copies w =
-    let old : Destination = record node { phase = DestPhase.Running } in
-    (w.0, still_receiving (record source { phase = SourcePhase.Paused }) old (handled old guest held owed requests arrivals installed dropped faults) Received.Running back values w.1)
-wires_handled SourcePhase.Paused DestPhase.Ended source node forward back urgent guest held owed requests arrivals installed dropped faults values copies w =
-    let old : Destination = record node { phase = DestPhase.Ended } in
-    (w.0, still_receiving (record source { phase = SourcePhase.Paused }) old (handled old guest held owed requests arrivals installed dropped faults) Received.Ended back values w.1)
+wires_handled SourcePhase.Stopped DestPhase.Running source node forward back urgent guest held owed requests arrivals installed dropped faults values copies w = grind (arith, nat_tests, still_flowing)
+wires_handled SourcePhase.Paused DestPhase.Running source node forward back urgent guest held owed requests arrivals installed dropped faults values copies w = grind (arith, nat_tests, still_receiving)
+wires_handled SourcePhase.Paused DestPhase.Ended source node forward back urgent guest held owed requests arrivals installed dropped faults values copies w = grind (arith, nat_tests, still_receiving)
 wires_handled _ _ source node forward back urgent guest held owed requests arrivals installed dropped faults values copies w = w
 
 -- The invariant
@@ -188,23 +182,17 @@ entered_one : (old new : Host) (transcript : List Entry) (cpu : ℕ) (command : 
 entered_one old new transcript cpu command took (Silent none same) sound holds flat =
     let all : transcript ≡ transcript ++ entries_of cpu command took = sym (append-nil transcript) ∙ ap (λ es. transcript ++ es) (sym none) in
     record { flat = subst IsFlatRun all flat; holds = ap memory same ∙ holds ∙ ap memory_of all }
-entered_one old new transcript cpu command took (Entered one then) sound holds flat =
-    record {
-      flat = subst (λ es. IsFlatRun (transcript ++ es)) (sym one) (flat_after old transcript cpu command holds flat);
-      holds = ap memory then ∙ holds_after old transcript cpu command sound holds ∙ ap (λ es. memory_of (transcript ++ es)) (sym one);
-    }
+entered_one old new transcript cpu command took (Entered one then) sound holds flat = grind (arith, nat_tests, flat_after, holds_after)
 
 -- The wires do not depend on the destination's guest
 
 pub wires-with_guest : (from : Source) (to : Destination) (guest : Guest) (forward back urgent : List Sent) → Wires from to forward back urgent → Wires from (record to { guest = guest }) forward back urgent
-wires-with_guest from to guest forward back urgent w =
-    wires_handled from.phase to.phase from to forward back urgent guest to.held to.owed to.requests to.arrivals to.installed to.dropped to.faults (same_pairs to.owed) (λ page origin h k. k) w
+wires-with_guest from to guest forward back urgent w = grind (arith, nat_tests, wires_handled, same_pairs)
 
 -- The world
 
 pub ready_of : (world : World) → IsSoundWorld world → IsReady world.destination.guest.space (get world.destination.owed)
-ready_of world kept =
-    record { sound = kept.spaces.destination_space; unprotected = kept.spaces.unprotected; only_missing = kept.spaces.only_missing; events = kept.spaces.destination_events; pairs = kept.owing.pairs_missing }
+ready_of world kept = grind (arith, nat_tests)
 
 -- the current host where the destination has run
 pub current_seen : (world : World) → world.destination.has_run ≡ true → current_host world ≡ seen_host world.destination.guest.space.host (space_of world.source).host (settled world.destination)

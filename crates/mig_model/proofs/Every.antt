@@ -1,7 +1,7 @@
 -- A command, Start, Switch, End and what a node takes from a wire keep what every world keeps; so does every list of steps.
 use Rattle.std.proofs.lemmas.Bool.Decides.{nat_tests}
-use Rattle.std.proofs.Common.{◌≡◌, ℕ, Bool, true, sym, false, List, [], ◌∷◌, ◌++◌, refl, ap, ◌∙◌, subst, ◌==◌, ◌^◌, ◌-◌, ◌||◌, not, ltb, Option, Some, None, arith}
-use Rattle.std.proofs.lemmas.Bool.{false≢true, not-false}
+use Rattle.std.proofs.Common.{◌≡◌, ℕ, Bool, true, sym, false, List, [], ◌∷◌, ◌++◌, refl, ap, subst, ◌||◌, not, ltb, Option, None, arith}
+use Rattle.std.proofs.lemmas.Bool.{not-false}
 use Rattle.mig_base.specs.declared.command.Command.{Command}
 use Rattle.mig_base.specs.declared.step.SourcePhase.{SourcePhase}
 use Rattle.mig_base.specs.declared.step.SourcePhase.TheVariants as source
@@ -23,7 +23,7 @@ use Rattle.mig_model.proofs.HostLemmas.{IsSound-empty}
 use Rattle.mig_base.specs.declared.step.Step.{Step}
 use Rattle.mig_base.specs.declared.step.Step.TheVariants as step
 use Rattle.mig_base.specs.declared.step.Refusal.{Refusal}
-use Rattle.mig_base.specs.declared.step.Refusal.TheVariants.{NoCpu, Phase, CountUsed}
+use Rattle.mig_base.specs.declared.step.Refusal.TheVariants.{NoCpu, Phase}
 use Rattle.mig_base.specs.Tests.{first_holding}
 
 -- where the source has stopped and the destination does not run, no command is taken. Elsewhere what the wires hold does not
@@ -37,11 +37,8 @@ IsKept-issued world cpu command may kept = issued_in world.source.phase world.de
 
 -- Start
 
-started_in : (from : SourcePhase) (to : DestinationPhase) (ends : Bool) (world : World) → is_idle from ≡ true → IsKept (at_stage from to ends world) → IsKept (started (at_stage from to ends world))
-started_in from to ends world now kept = grind (arith, nat_tests)
-
 pub IsKept-started : (world : World) → is_idle world.source.phase ≡ true → IsKept world → IsKept (started world)
-IsKept-started world now kept = started_in world.source.phase world.destination.phase world.source.end_sent world now kept
+IsKept-started world now kept = grind (arith, nat_tests)
 
 -- Switch
 
@@ -49,12 +46,8 @@ IsKept-started world now kept = started_in world.source.phase world.destination.
 on_the_way : (host : Host) (kept : FinMap nat_cmp (List ℕ)) (ends : Bool) → IsSound host → kept ≡ empty → ends ≡ false → IsOnTheWay host kept (switch_frames host) ends
 on_the_way host kept ends sound nothing unsent = grind (arith, nat_tests, AreCopies-page_frames, kept_by-page_frames)
 
-switched_in : (from : SourcePhase) (to : DestinationPhase) (ends : Bool) (world : World) → is_precopy from ≡ true → IsKept (at_stage from to ends world) →
-    IsKept (switched (at_stage from to ends world))
-switched_in from to ends world now kept = grind (arith, nat_tests, on_the_way)
-
 pub IsKept-switched : (world : World) → is_precopy world.source.phase ≡ true → IsKept world → IsKept (switched world)
-IsKept-switched world now kept = switched_in world.source.phase world.destination.phase world.source.end_sent world now kept
+IsKept-switched world now kept = grind (arith, nat_tests, on_the_way)
 
 -- End
 
@@ -64,13 +57,9 @@ then_end host kept frames way = grind (arith, nat_tests, append_assoc)
 sent_end : (epoch : ℕ) (forward : List Frame) → sent_in epoch forward ++ sent_in epoch (End ∷ []) ≡ sent_in epoch (forward ++ End ∷ [])
 sent_end epoch forward = sym (sent_in-append epoch forward (End ∷ []))
 
-ended_in : (from : SourcePhase) (to : DestinationPhase) (world : World) → is_stopped from ≡ true → IsKept (at_stage from to false world) → IsKept (end_sent (at_stage from to false world))
-ended_in from to world now kept = grind (arith, nat_tests, sent_end, then_end)
-
 ended_if : (ends : Bool) (world : World) → is_stopped world.source.phase ≡ true → ends ≡ false → IsKept (at_stage world.source.phase world.destination.phase ends world) →
     IsKept (end_sent (at_stage world.source.phase world.destination.phase ends world))
-ended_if false world now unsent kept = ended_in world.source.phase world.destination.phase world now kept
-ended_if true world now unsent kept = absurd (false≢true (sym unsent))
+ended_if ends world now unsent kept = grind (arith, nat_tests, sent_end, then_end)
 
 pub IsKept-end_sent : (world : World) → is_stopped world.source.phase ≡ true → world.source.end_sent ≡ false → IsKept world → IsKept (end_sent world)
 IsKept-end_sent world now unsent kept = ended_if world.source.end_sent world now unsent kept
@@ -89,8 +78,7 @@ copy_taken : (ends : Bool) (world : World) (copies : List Frame) → AreCopies c
     world.forward ≡ sent_in world.source.epoch (copies ++ Discard finset.empty ∷ Package world.source.host.areas finset.empty ∷ end_if ends) → world.back ≡ [] →
     world.destination.epoch ≡ world.source.epoch → IsKept (at_stage source.Stopped destination.Advised ends world) →
     IsKept (delivered (at_stage source.Stopped destination.Advised ends world) world.forward)
-copy_taken ends world [] are all wire back epoch kept =
-    taken (at_stage source.Stopped destination.Advised ends world) _ wire (rewired kept (refl, refl, refl, refl) (refl, unanswered world.back back, discard_none world.destination.kept ∙ all, epoch))
+copy_taken ends world [] are all wire back epoch kept = grind (arith, nat_tests, taken, at_stage, rewired, unanswered, discard_none)
 copy_taken ends world (Page page bytes ∷ copies) are all wire back epoch kept =
     let rest : List Frame = copies ++ Discard finset.empty ∷ Package world.source.host.areas finset.empty ∷ end_if ends in
     taken (at_stage source.Stopped destination.Advised ends world) _ wire
@@ -101,29 +89,21 @@ copy_taken ends world (Zero page ∷ copies) are all wire back epoch kept =
     (rewired kept (refl, refl, refl, refl) (rest, refl, unanswered world.back back, record { copies = copies; are_copies = are; all = all; frames_are = refl }, epoch))
 copy_taken ends world (_ ∷ copies) are all wire back epoch kept = absurd are
 
-delivered_in : (from : SourcePhase) (to : DestinationPhase) (ends : Bool) (world : World) → IsKept (at_stage from to ends world) → IsKept (delivered (at_stage from to ends world) world.forward)
-delivered_in from to ends world kept = grind (arith, nat_tests, at_stage, rewired, unanswered, copy_taken)
-
 pub IsKept-delivered : (world : World) → IsKept world → IsKept (delivered world world.forward)
-IsKept-delivered world kept = delivered_in world.source.phase world.destination.phase world.source.end_sent world kept
+IsKept-delivered world kept = grind (arith, nat_tests, at_stage, rewired, unanswered, copy_taken)
 
 -- The wire back
 
-delivered_back_in : (from : SourcePhase) (to : DestinationPhase) (ends : Bool) (world : World) → IsKept (at_stage from to ends world) → IsKept (delivered_back (at_stage from to ends world) world.back)
-delivered_back_in from to ends world kept = grind (arith, nat_tests, at_stage, IsSound-empty)
-
 pub IsKept-delivered_back : (world : World) → IsKept world → IsKept (delivered_back world world.back)
-IsKept-delivered_back world kept = delivered_back_in world.source.phase world.destination.phase world.source.end_sent world kept
+IsKept-delivered_back world kept = grind (arith, nat_tests, at_stage, IsSound-empty)
 
 -- what holds of the old world, and of the new one where nothing refuses the step
 pub by_refusal : (P : World → Type 0) (refusal : Option Refusal) (old new : World) → P old → (refusal ≡ None → P new) → P (next_by refusal old new)
-by_refusal P None old new kept h = h refl
-by_refusal P (Some refusal) old new kept h = kept
+by_refusal P refusal old new kept h = grind (arith, nat_tests)
 
 -- the first and the second test that no step passes which is accepted
 pub first_test : (a : Bool) (r : Refusal) (more : List (Bool × Refusal)) → first_holding ((a, r) ∷ more) ≡ None → a ≡ false
-first_test true r more h = absurd (cc)
-first_test false r more h = refl
+first_test a r more h = grind (arith, nat_tests)
 
 pub second_test : (a b : Bool) (r s : Refusal) → first_holding ((a, r) ∷ (b, s) ∷ []) ≡ None → b ≡ false
 second_test a b r s h = grind (arith, nat_tests)
@@ -136,18 +116,11 @@ unfolding next
 IsKept-next world (step.Issue cpu command) kept =
     by_refusal IsKept (refusal_of world (step.Issue cpu command)) world (issued world cpu command) kept
     (λ h. IsKept-issued world cpu command (not-false (may_issue world command) (second_test (not (ltb cpu world.cpus)) (not (may_issue world command)) NoCpu Phase h)) kept)
-IsKept-next world step.Start kept =
-    by_refusal IsKept (refusal_of world step.Start) world (started world) kept
-    (λ h. IsKept-started world (not-false (is_idle world.source.phase) (first_test (not (is_idle world.source.phase)) Phase ((world.source.epoch == 2 ^ 32 - 1, CountUsed) ∷ []) h)) kept)
-IsKept-next world step.Switch kept =
-    by_refusal IsKept (refusal_of world step.Switch) world (switched world) kept
-    (λ h. IsKept-switched world (not-false (is_precopy world.source.phase) (first_test (not (is_precopy world.source.phase)) Phase [] h)) kept)
+IsKept-next world step.Start kept = grind (arith, nat_tests, by_refusal, IsKept-started, not-false, first_test)
+IsKept-next world step.Switch kept = grind (arith, nat_tests, by_refusal, IsKept-switched, not-false, first_test)
 IsKept-next world step.Deliver kept = by_refusal IsKept (refusal_of world step.Deliver) world (delivered world world.forward) kept (λ h. IsKept-delivered world kept)
 IsKept-next world step.DeliverBack kept = by_refusal IsKept (refusal_of world step.DeliverBack) world (delivered_back world world.back) kept (λ h. IsKept-delivered_back world kept)
-IsKept-next world step.End kept =
-    by_refusal IsKept (refusal_of world step.End) world (end_sent world) kept
-    (λ h. let open_end = either_false (is_stopped world.source.phase) world.source.end_sent (first_test (not (is_stopped world.source.phase) || world.source.end_sent) Phase [] h) in
-    IsKept-end_sent world open_end.0 open_end.1 kept)
+IsKept-next world step.End kept = grind (arith, nat_tests, by_refusal, either_false, first_test, IsKept-end_sent)
 
 pub IsKept-after_steps : (world : World) (steps : List Step) → IsKept world → IsKept (after_steps world steps)
 IsKept-after_steps world [] kept = kept

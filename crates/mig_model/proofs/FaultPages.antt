@@ -1,6 +1,6 @@
 -- The pages of faults, unread and held, are pages that may be mapped.
 use Rattle.std.proofs.lemmas.Bool.Decides.{nat_tests}
-use Rattle.std.proofs.Common.{◌≡◌, ℕ, ◌*◌, ◌/◌, Bool, true, false, Option, Some, None, List, [], ◌∷◌, ◌++◌, refl, sym, ap, ◌∙◌, subst, if◌then◌else◌, arith}
+use Rattle.std.proofs.Common.{◌≡◌, ℕ, ◌*◌, ◌/◌, Bool, true, Option, Some, List, [], ◌∷◌, ◌++◌, refl, sym, ap, ◌∙◌, if◌then◌else◌, arith}
 use Rattle.mig_base.specs.declared.TheConstants.{PAGE_SIZE}
 use Rattle.mig_base.specs.declared.command.Access.{Access}
 use Rattle.mig_base.specs.declared.command.Access.TheVariants.{Answered, Missing, Protected}
@@ -10,7 +10,7 @@ use Rattle.mig_base.specs.declared.message.Message.TheVariants.{PageFault}
 use Rattle.mig_base.specs.declared.schedule.Side.{Side}
 use Rattle.mig_base.specs.declared.schedule.Step.{Step}
 use Rattle.mig_base.specs.Commands.{is_access, page_of}
-use Rattle.mig_model.specs.Userfault.{Noted, Object, fault_queued, next_message, next_of, thread_id, waits_fault}
+use Rattle.mig_model.specs.Userfault.{Noted, Object, fault_queued, next_message, next_of}
 use Rattle.mig_model.specs.Space.{Space, access_of, accessed_by}
 use Rattle.mig_model.specs.Cpus.{access_took}
 use Rattle.mig_model.specs.Guest.{Act, Fault, Guest, held_after, read_guest, space_by, tried}
@@ -52,12 +52,10 @@ pages-push [] noted are is = (is, tt)
 pages-push (first ∷ faults) noted are is = (are.0, pages-push faults noted are.1 is)
 
 waits_or_more : (waits : Bool) (object more : Object) → AreFaultPages object.faults → AreFaultPages more.faults → AreFaultPages (if waits then object else more).faults
-waits_or_more true object more old new = old
-waits_or_more false object more old new = new
+waits_or_more waits object more old new = grind (arith, nat_tests)
 
 fault_pages : (object : Object) (page : ℕ) (write wp : Bool) (cpu : ℕ) → IsPage page → AreFaultPages object.faults → AreFaultPages (fault_queued object (4096 * page) write wp cpu).faults
-fault_pages object page write wp cpu is are =
-    waits_or_more (waits_fault object.faults (4096 * page) wp) object _ are (pages-push object.faults (record { message = PageFault (4096 * page) write wp (thread_id object cpu); cpu = cpu }) are (subst IsPage (sym (pages_again page)) is))
+fault_pages object page write wp cpu is are = grind (arith, nat_tests, waits_or_more, pages-push, pages_again)
 
 slept_page : (space : Space) (command : Command) (access : Access) → access_of space command ≡ access → access_took access ≡ access_took Missing → is_access command ≡ true → IsMapping space.host.areas → IsPage (page_of command)
 slept_page space command access is sleeps accesses mapping = access_page command (right_slept true space command (sym accesses) mapping (ap access_took is ∙ sleeps))
@@ -102,14 +100,9 @@ with_source : {from : List Noted} {from_held : List Fault} {to : List Noted} {to
     AreInside from from_held to to_held → AreInside faults held to to_held
 with_source faults held queued read h = record { source = queued; source_held = read; destination = h.destination; destination_held = h.destination_held }
 
-with_destination : {from : List Noted} {from_held : List Fault} {to : List Noted} {to_held : List Fault} (faults : List Noted) (held : List Fault) → AreFaultPages faults → AreHeldPages held →
-    AreInside from from_held to to_held → AreInside from from_held faults held
-with_destination faults held queued read h = record { source = h.source; source_held = h.source_held; destination = queued; destination_held = read }
-
 guest_inside : (ran : Bool) (world : World) (cpu : ℕ) (command : Command) → IsMapping (space_of world.source).host.areas → IsMapping world.destination.guest.space.host.areas → HasFaultsInside world →
     HasFaultsInside (with_guest_by ran world (tried (is_access command) (guest_by ran world.source.guest world.destination.guest) cpu command))
-guest_inside true world cpu command from to h = with_destination _ world.destination.held (tried_pages (is_access command) world.destination.guest.space cpu command refl to h.destination) h.destination_held h
-guest_inside false world cpu command from to h = with_source _ world.source.log.held (tried_pages (is_access command) (space_of world.source) cpu command refl from h.source) h.source_held h
+guest_inside ran world cpu command from to h = grind (arith, nat_tests, tried_pages, with_source)
 
 acted_inside : (act : Act) (world : World) (page : ℕ) → HasFaultsInside world → HasFaultsInside (record world { source = source_acted_by act world.source page })
 acted_inside act world page h = grind (arith, nat_tests)
@@ -118,8 +111,7 @@ handled_inside : (act : Act) (world : World) (page : ℕ) → HasFaultsInside wo
 handled_inside act world page h = grind (arith, nat_tests)
 
 installed_inside : (o : Option ℕ) (world : World) (copy : Copy) (rest : List Copy) → HasFaultsInside world → HasFaultsInside (record world { destination = install_by o world.destination copy rest })
-installed_inside None world copy rest h = h
-installed_inside (Some page) world copy rest h = h
+installed_inside o world copy rest h = grind (arith, nat_tests)
 
 took_inside : (frame : Frame) (epoch : ℕ) (world : World) → HasFaultsInside world → HasFaultsInside (record world { destination = destination_took world.destination epoch frame })
 took_inside frame epoch world h = grind (arith, nat_tests)
@@ -165,8 +157,7 @@ inside-answer cpus world Step.Resume all h = holds-made _ world Step.Resume (λ 
 
 inside-after_steps : (cpus : ℕ) (world : World) (steps : List Step) → IsBounded cpus world → HasFaultsInside world → HasFaultsInside (after_steps world steps)
 inside-after_steps cpus world [] all h = h
-inside-after_steps cpus world (step ∷ steps) all h =
-    inside-after_steps cpus (next world step) steps (bounded-next cpus world step all) (leaves-next HasFaultsInside world step h (inside-answer cpus world step all h))
+inside-after_steps cpus world (step ∷ steps) all h = grind (arith, nat_tests, bounded-next, leaves-next, inside-answer, inside-after_steps cpus (next world step) steps (bounded-next cpus world step all) (leaves-next HasFaultsInside world step h (inside-answer cpus world step all h)))
 
 pub inside-reached : (world : World) → IsReached world → HasFaultsInside world
 inside-reached world reached = grind (arith, nat_tests, inside-after_steps, bounded-first)

@@ -133,11 +133,8 @@ mremap_few memory addr old_len new_len may_move fixed target bounded h =
 
 -- Every command
 
-cleared_was : (here : Bool) (o : Option Cell) → is_some (cond here None o) ≡ true → is_some o ≡ true
-cleared_was here o h = grind (arith, nat_tests)
-
 few_changed : (memory : Memory) (command : Command) (reply : Reply) → IsBounded memory → reply ≡ reply_of memory command → IsFew memory → IsFew (changed memory command reply)
-few_changed memory command reply bounded h few = grind (arith, nat_tests, less_few, mapped_few, cleared_was, mremap_few)
+few_changed memory command reply bounded h few = grind (arith, nat_tests, less_few, mapped_few, mremap_few)
 
 few_from : (memory : Memory) (entries : List Entry) → IsBounded memory → IsFew memory → IsFew (memory_from memory entries)
 few_from memory [] bounded few = few

@@ -1,18 +1,16 @@
 -- What a Package or a Recv that is in flight tells, whatever the phases are; and what a Switch owes.
-use Rattle.std.proofs.Common.{◌≡◌, ℕ, ◌&&◌, Bool, true, false, not, ltb, Option, Some, None, is_some, List, [], ◌∷◌, refl, sym, ap, ◌∙◌, subst, arith, IsOk, if◌then◌else◌}
+use Rattle.std.proofs.Common.{◌≡◌, ℕ, ◌&&◌, Bool, true, false, not, Option, Some, None, is_some, List, [], ◌∷◌, refl, sym, ap, ◌∙◌, subst, arith, IsOk, if◌then◌else◌}
 use Rattle.std.specs.Option.{option_and_then}
 use Rattle.std.specs.FinSet.{contains}
 use Rattle.std.proofs.lemmas.Bool.Decides.{nat_tests}
 use Rattle.std.proofs.lemmas.Bool.{false≢true, true_from_ne_false, and_parts, or_from}
 use Rattle.std.proofs.lemmas.Option.{none-some}
-use Rattle.mig_base.specs.declared.TheConstants.{HIGH_PAGE}
 use Rattle.mig_base.specs.declared.phase.DestPhase.{DestPhase}
 use Rattle.mig_base.specs.declared.phase.Received.{Received}
 use Rattle.mig_base.specs.declared.phase.SourcePhase.{SourcePhase}
 use Rattle.mig_base.specs.declared.schedule.Step.{Step}
 use Rattle.mig_base.specs.Tests.{is_empty}
 use Rattle.mig_model.specs.Wire.{Frame, Sent, wire_with}
-use Rattle.mig_model.specs.Wire.Frame.{Request, Done}
 use Rattle.mig_model.specs.Guest.{is_present}
 use Rattle.mig_model.specs.Source.{not_clean, space_of, switch_frames}
 use Rattle.mig_model.specs.Migration.{World, outcome, next}
@@ -36,8 +34,7 @@ past_next : (flow next : Flow) (frame : Frame) → is_past flow ≡ true → flo
 past_next flow next frame past h = grind (arith, nat_tests)
 
 not_here : (here : Bool) (frame : Frame) (rest : Option Frame) → here ≡ false → is_some (if here then Some frame else rest) ≡ true → is_some rest ≡ true
-not_here true frame rest h there = absurd (false≢true (sym h))
-not_here false frame rest h there = there
+not_here here frame rest h there = grind (arith, nat_tests)
 
 -- no Package comes any more
 pub none_past : (flow end : Flow) (wire : List Sent) → is_past flow ≡ true → flow_after flow wire ≡ Some end → is_some (package_in wire) ≡ true → ⊥
@@ -55,8 +52,7 @@ package_next : (flow next : Flow) (frame : Frame) → is_package frame ≡ true 
 package_next flow next frame is h = grind (arith, nat_tests)
 
 here_or_later : {A : Type 0} (here : Bool) (frame : Frame) (rest : Option Frame) → is_some (if here then Some frame else rest) ≡ true → (here ≡ true → A) → (is_some rest ≡ true → A) → A
-here_or_later true frame rest there now later = now refl
-here_or_later false frame rest there now later = later there
+here_or_later here frame rest there now later = grind (arith, nat_tests)
 
 pub none_precopy : (flow : Flow) (wire : List Sent) → flow_after flow wire ≡ Some Copies → is_some (package_in wire) ≡ true → ⊥
 none_precopy flow [] h there = false≢true there
@@ -102,12 +98,10 @@ package_tells world kept there =
 -- A Recv in flight
 
 request_not : (frame : Frame) → is_request frame ≡ true → is_running_recv frame ≡ false
-request_not (Request page) h = refl
-request_not _ h = absurd (false≢true h)
+request_not frame h = grind (arith, nat_tests)
 
 done_not : (frame : Frame) → is_done frame ≡ true → is_running_recv frame ≡ false
-done_not Done h = refl
-done_not _ h = absurd (false≢true h)
+done_not frame h = grind (arith, nat_tests)
 
 requests_no_recv : (wire : List Sent) → are_requests wire ≡ true → has_recv wire ≡ false
 requests_no_recv [] h = refl
@@ -116,8 +110,7 @@ requests_no_recv (sent ∷ rest) h =
     or_from (is_running_recv sent.frame) (has_recv rest) (request_not sent.frame both.0) (requests_no_recv rest both.1)
 
 empty_no_recv : (wire : List Sent) → is_empty wire ≡ true → has_recv wire ≡ false
-empty_no_recv [] h = refl
-empty_no_recv (sent ∷ rest) h = absurd (false≢true h)
+empty_no_recv wire h = grind (arith, nat_tests)
 
 ended_no_recv : (wire : List Sent) → are_requests_and_done wire ≡ true → has_recv wire ≡ false
 ended_no_recv [] h = absurd (false≢true h)
@@ -139,11 +132,8 @@ recv_tells world kept there =
 
 -- Switch
 
-present_low : (world : World) (page : ℕ) → IsSoundWorld world → (ltb page HIGH_PAGE && is_present (space_of world.source) page) ≡ is_present (space_of world.source) page
-present_low world page kept = grind (arith, nat_tests)
-
 pub owed_at : (world : World) (page : ℕ) → IsSoundWorld world → contains (not_clean world.source) page ≡ (is_present (space_of world.source) page && not (contains world.source.log.clean page))
-owed_at world page kept = member_not_clean world.source page ∙ ap (λ b. b && not (contains world.source.log.clean page)) (present_low world page kept)
+owed_at world page kept = grind (arith, nat_tests, member_not_clean)
 
 pub switch_owes : (world : World) (page : ℕ) → IsSoundWorld world → IsOk (outcome world Step.Switch) → contains (next world Step.Switch).source.remaining page ≡ (is_present (space_of world.source) page && not (contains world.source.log.clean page))
 switch_owes world page kept ok =

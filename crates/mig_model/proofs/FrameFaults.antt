@@ -1,5 +1,5 @@
 -- A frame that is taken has no fault, but for having to wait.
-use Rattle.std.proofs.Common.{◌≡◌, ℕ, ◌≤◌, ◌&&◌, ◌||◌, Bool, true, false, not, eqb, leb, ltb, Option, Some, None, List, [], ◌∷◌, refl, sym, ap, ◌∙◌, arith, cond, is_some, ◌<◌, if◌then◌else◌}
+use Rattle.std.proofs.Common.{◌≡◌, ℕ, ◌≤◌, ◌&&◌, ◌||◌, Bool, true, false, not, eqb, leb, ltb, Option, Some, None, List, [], ◌∷◌, refl, sym, ap, ◌∙◌, arith, cond, is_some, ◌<◌}
 use Rattle.std.specs.Prelude.{Ok, Err, Result}
 use Rattle.std.specs.Ordering.{nat_cmp}
 use Rattle.std.specs.FinMap as finmap
@@ -8,8 +8,6 @@ use Rattle.std.specs.FinSet as finset
 use Rattle.std.specs.FinSet.{FinSet, contains, contains-empty, contains-retain, len-empty, nat_cmp-IsAntisymmetric}
 use Rattle.std.proofs.lemmas.Bool.{false≢true, and_from, eq-eqb, leb-true, not_from_true, or_from}
 use Rattle.std.proofs.lemmas.Bool.Decides.{nat_tests}
-use Rattle.mig_base.specs.declared.Prot.{Prot}
-use Rattle.mig_base.specs.declared.fault.BackFault.{BackFault}
 use Rattle.mig_base.specs.declared.fault.TakeFault.{TakeFault}
 use Rattle.mig_base.specs.declared.phase.Received.{Received}
 use Rattle.mig_base.specs.Tests.{first_holding, is_empty}
@@ -29,18 +27,9 @@ use Rattle.mig_model.specs.Guest.{is_present}
 use Rattle.mig_model.specs.Log.{no_pages, present}
 use Rattle.mig_model.specs.Source.{Source, space_of}
 use Rattle.mig_model.specs.Destination.{Destination}
-use Rattle.mig_model.specs.Faults.{frame_fault, back_fault, rebuild_fault, take_fault, urgent_fault, wait_fault, is_bad, is_in_place_back, is_of_epoch, is_too_soon, is_torn}
-use Rattle.mig_model.proofs.Taken.{IsTaken, IsTakenUrgent, IsGood, IsOwnEpoch, IsInPlaceBack}
+use Rattle.mig_model.specs.Faults.{frame_fault, back_fault, rebuild_fault, take_fault, urgent_fault, wait_fault, is_bad, is_too_soon}
+use Rattle.mig_model.proofs.Taken.{IsTaken, IsTakenUrgent, IsGood, IsInPlaceBack}
 use Rattle.mig_model.proofs.Facts.{low_or, none_absurd}
-
--- Tests that all fail
-
-none_first : {A : Type 0} (test : Bool) (value : A) (rest : Option A) → test ≡ false → rest ≡ None → (if test then Some value else rest) ≡ None
-none_first true value rest h none = none_absurd (sym h)
-none_first false value rest h none = none
-
-two_none : {A : Type 0} (a b : Bool) (x y : A) → a ≡ false → b ≡ false → first_holding ((a, x) ∷ (b, y) ∷ []) ≡ None
-two_none a b x y h k = none_first a x _ h (none_first b y None k refl)
 
 -- Sets and maps without members
 
@@ -48,8 +37,7 @@ none_empty : (set : FinSet nat_cmp) → ((q : ℕ) → contains set q ≡ false)
 none_empty set h = ap (λ s. not (eqb (finset.len s) 0)) (same_members set finset.empty (λ q. h q ∙ sym (contains-empty nat_cmp q))) ∙ ap (λ n. not (eqb n 0)) (len-empty nat_cmp)
 
 and_none : (a b : Bool) → (a ≡ true → b ≡ false) → (a && b) ≡ false
-and_none true b h = h refl
-and_none false b h = refl
+and_none a b h = grind (arith, nat_tests)
 
 no_member : (set : FinSet nat_cmp) (test : ℕ → Bool) → ((q : ℕ) → contains set q ≡ true → test q ≡ false) → (q : ℕ) → contains (finset.retain set test) q ≡ false
 no_member set test h q =
@@ -67,8 +55,7 @@ none_kept {X} map keep h =
 -- The destination
 
 empty_is : (arrivals : List Copy) → is_empty arrivals ≡ true → arrivals ≡ []
-empty_is [] h = refl
-empty_is (copy ∷ rest) h = none_absurd h
+empty_is arrivals h = grind (arith, nat_tests, none_absurd)
 
 soon_by : (none free all : Bool) → (free ≡ true → all ≡ true → none ≡ true) → (not none && free && all) ≡ false
 soon_by none free all h = grind (arith, nat_tests)
@@ -80,37 +67,26 @@ not_too_soon node (End urgent) good =
 not_too_soon node Advise good = refl
 not_too_soon node _ good = refl
 
-of_epoch : (own epoch : ℕ) (node : Destination) (frame : Frame) → own ≡ node.epoch → IsOwnEpoch node epoch frame → is_of_epoch own epoch frame ≡ true
-of_epoch own epoch node frame is h = grind (arith, nat_tests)
-
 torn_by : (kept mapped : Bool) → kept ≡ false → mapped ≡ true → (kept || not mapped) ≡ false
 torn_by kept mapped h k = or_from kept (not mapped) h (not_from_true mapped k)
-
-not_torn : (kept : FinMap nat_cmp (List ℕ)) (areas : FinMap nat_cmp Prot) (owed : FinSet nat_cmp) → ((page : ℕ) → contains owed page ≡ true → contains_key kept page ≡ false) →
-    ((page : ℕ) → contains owed page ≡ true → contains_key areas page ≡ true) → ((page : ℕ) → contains_key kept page ≡ true → contains_key areas page ≡ true) → is_torn kept areas owed ≡ false
-not_torn kept areas owed apart mapped kept_mapped = grind (arith, nat_tests, none_empty, no_member, torn_by, none_kept, not_from_true)
 
 pub no_fewer : (came told : ℕ) → came ≤ told → ltb told came ≡ false
 no_fewer came told h = grind (arith, nat_tests)
 
 not_bad : (node : Destination) (frame : Frame) → IsGood node frame → is_bad node frame ≡ false
-not_bad node frame good = grind (arith, nat_tests, not_torn, not_from_true, eq-eqb, no_fewer)
+not_bad node frame good = grind (arith, nat_tests, not_from_true, eq-eqb, no_fewer, none_empty, no_member, torn_by, none_kept)
 
 -- a frame that is taken is not wrong
 pub no_frame_fault : (node : Destination) (sent : Sent) → IsTaken node sent → frame_fault node sent.epoch sent.frame ≡ None
-no_frame_fault node sent taken = grind (arith, nat_tests, or_from, not_from_true, not_too_soon, of_epoch, not_bad)
+no_frame_fault node sent taken = grind (arith, nat_tests, or_from, not_from_true, not_too_soon, not_bad)
 
 pub no_urgent_fault : (node : Destination) (sent : Sent) → IsTakenUrgent node sent → urgent_fault node sent.epoch sent.frame ≡ None
 no_urgent_fault node sent taken = grind (arith, nat_tests)
 
 -- The source
 
-in_place_back : (node : Source) (frame : Frame) → IsInPlaceBack node frame → is_in_place_back node frame ≡ true
-in_place_back node frame place = grind (arith, nat_tests)
-
 pub no_back_fault : (node : Source) (sent : Sent) → IsInPlaceBack node sent.frame → sent.epoch ≡ node.epoch → back_fault node sent.epoch sent.frame ≡ None
-no_back_fault node sent place own =
-    two_none (not (is_in_place_back node sent.frame)) (not (eqb sent.epoch node.epoch)) BackFault.OutOfPlace BackFault.StaleEpoch (not_from_true (is_in_place_back node sent.frame) (in_place_back node sent.frame place)) (not_from_true (eqb sent.epoch node.epoch) (eq-eqb sent.epoch node.epoch own))
+no_back_fault node sent place own = grind (arith, nat_tests, not_from_true, eq-eqb)
 
 none_listed : (owed : FinSet nat_cmp) → owed ≡ no_pages → not (eqb (finset.len owed) 0) ≡ false
 none_listed owed none = ap (λ s. not (eqb (finset.len s) 0)) none ∙ ap (λ n. not (eqb n 0)) (len-empty nat_cmp)
@@ -177,9 +153,6 @@ is_full world n sent rest kept up first full taken = grind (arith, nat_tests, id
 pub sound_below : (space : Space) → IsSoundSpace space → (page : ℕ) → is_present space page ≡ true → page < HIGH_PAGE
 sound_below space sound page h = low_or (λ high. false≢true (sym (ap is_some (sound.host.mapped page (sound.host.bound page high))) ∙ h))
 
-below_high : (page : ℕ) → page < HIGH_PAGE → ltb page HIGH_PAGE ≡ true
-below_high page h = grind (arith, nat_tests)
-
 -- the present pages of a source
 pub present_below : (space : Space) → IsSoundSpace space → (page : ℕ) → is_present space page ≡ true → contains (present space) page ≡ true
-present_below space sound page h = member_below _ HIGH_PAGE page ∙ and_from (ltb page HIGH_PAGE) (is_present space page) (below_high page (sound_below space sound page h)) h
+present_below space sound page h = grind (arith, nat_tests, member_below, and_from, sound_below)

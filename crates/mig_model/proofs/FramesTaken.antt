@@ -1,6 +1,6 @@
 -- No frame is refused: the first frame of each wire is in place, of the right epoch, and right.
 use Rattle.std.proofs.lemmas.Bool.Decides.{nat_tests}
-use Rattle.std.proofs.Common.{◌≡◌, ℕ, Bool, true, false, cond, Option, None, List, [], ◌∷◌, refl, sym, ap, ◌∙◌, subst, arith, is_some}
+use Rattle.std.proofs.Common.{◌≡◌, ℕ, Bool, true, cond, Option, None, List, [], ◌∷◌, refl, sym, ap, ◌∙◌, subst, arith, is_some}
 use Rattle.std.specs.Ordering.{nat_cmp}
 use Rattle.std.specs.FinMap as finmap
 use Rattle.std.specs.FinMap.{FinMap, get, contains_key, get-empty}
@@ -32,11 +32,6 @@ use Rattle.mig_model.proofs.Facts.{none_absurd}
 use Rattle.mig_model.proofs.UrgentWire.{EndTells, end_tells}
 use Rattle.mig_model.proofs.Delivery.{ended_now, nowhere}
 
--- In place
-
-place_of : (from : SourcePhase) (to : DestPhase) (frame : Frame) → comes from to frame ≡ true → is_in_place to frame ≡ true
-place_of from to frame h = grind (arith, nat_tests)
-
 -- Of the right epoch
 
 epoch_of : (to : DestPhase) (node : Destination) (epoch source_epoch : ℕ) (frame : Frame) → is_in_place to frame ≡ true → epoch ≡ source_epoch → EpochAt to node.epoch source_epoch → IsOwnEpoch node epoch frame
@@ -60,8 +55,7 @@ mapped_of : (space : Space) (page : ℕ) → IsSound space.host → is_present s
 mapped_of space page sound present = grind (arith, nat_tests)
 
 kept_unless : (owed : Bool) (bytes : Option (List ℕ)) → is_some (cond owed None bytes) ≡ true → is_some bytes ≡ true
-kept_unless true bytes h = none_absurd h
-kept_unless false bytes h = h
+kept_unless owed bytes h = grind (arith, nat_tests, none_absurd)
 
 package_good : (source : Source) (node : Destination) (epoch : ℕ) (areas : FinMap nat_cmp Prot) (owed : FinSet nat_cmp) (commands : List (Option Command)) (rest urgent : List Sent) → IsSound (space_of source).host →
     IsSwitching source node.kept (record { epoch = epoch; frame = Package areas owed commands } ∷ rest) urgent → length node.guest.cpus ≡ length source.guest.cpus → IsGood node (Package areas owed commands)
@@ -97,9 +91,7 @@ end_good epoch count rest world up kept free came =
     ∙ sym (get-empty nat_cmp page))
 
 good_of : (from : SourcePhase) (to : DestPhase) (epoch : ℕ) (frame : Frame) (rest : List Sent) (world : World) → comes from to frame ≡ true → world.up ≡ true → IsSoundWorld (with_first from to epoch frame rest world) → AreAsMany world → EndTells frame world → IsGood (with_first from to epoch frame rest world).destination frame
-good_of SourcePhase.Stopped DestPhase.Discarding epoch (Package areas owed commands) rest world h up kept many tells =
-    let old = with_first SourcePhase.Stopped DestPhase.Discarding epoch (Package areas owed commands) rest world in
-    package_good old.source old.destination epoch areas owed commands rest world.urgent.frames kept.spaces.source_space.host (kept.flight.wires up).2 many
+good_of SourcePhase.Stopped DestPhase.Discarding epoch (Package areas owed commands) rest world h up kept many tells = grind (arith, nat_tests, package_good)
 good_of SourcePhase.Stopped DestPhase.Running epoch (End count) rest world h up kept many tells = let told = tells count refl in (told.0, λ free all. end_good epoch count rest world up kept free (told.1 all))
 good_of SourcePhase.Precopy DestPhase.Idle epoch (End count) rest world h up kept many tells = none_absurd h
 good_of SourcePhase.Precopy DestPhase.Idle epoch (Package areas owed commands) rest world h up kept many tells = none_absurd h
@@ -117,7 +109,7 @@ good_of from to epoch Done rest world h up kept many tells = tt
 good_of _ _ epoch _ rest world h up kept many tells = none_absurd h
 
 taken_in : (from : SourcePhase) (to : DestPhase) (epoch : ℕ) (frame : Frame) (rest : List Sent) (world : World) → world.up ≡ true → IsSoundWorld (with_first from to epoch frame rest world) → AreAsMany world → EndTells frame world → IsTaken (with_first from to epoch frame rest world).destination (record { epoch = epoch; frame = frame })
-taken_in from to epoch frame rest world up kept many tells = grind (arith, nat_tests, place_of, epoch_of, good_of)
+taken_in from to epoch frame rest world up kept many tells = grind (arith, nat_tests, epoch_of, good_of)
 
 -- the first frame on the wire to the destination
 pub is_taken : (world : World) (sent : Sent) (rest : List Sent) → IsSoundWorld world → AreSoundUrgent world → AreAsMany world → world.up ≡ true → world.forward.frames ≡ sent ∷ rest → IsTaken world.destination sent
@@ -126,17 +118,9 @@ is_taken world sent rest kept urgent many up first =
 
 -- The wire back
 
--- a world in these phases, with this first frame on the wire back
-abbrev with_back : SourcePhase → DestPhase → Sent → List Sent → World → World
-with_back from to sent rest world = record world { source = record world.source { phase = from }; destination = record world.destination { phase = to }; back = record world.back { frames = sent ∷ rest } }
-
-back_in : (from : SourcePhase) (to : DestPhase) (sent : Sent) (rest : List Sent) (world : World) → world.up ≡ true → IsSoundWorld (with_back from to sent rest world) → IsInPlaceBack (with_back from to sent rest world).source sent.frame
-back_in from to sent rest world up kept = grind (arith, nat_tests)
-
 -- the first frame on the wire back, and its epoch
 pub is_taken_back : (world : World) (sent : Sent) (rest : List Sent) → IsSoundWorld world → world.up ≡ true → world.back.frames ≡ sent ∷ rest → IsInPlaceBack world.source sent.frame
-is_taken_back world sent rest kept up first =
-    back_in world.source.phase world.destination.phase sent rest world up (subst (λ w. IsSoundWorld (record world { back = record world.back { frames = w } })) first kept)
+is_taken_back world sent rest kept up first = grind (arith, nat_tests)
 
 pub back_epoch : (world : World) (sent : Sent) (rest : List Sent) → IsSoundWorld world → world.back.frames ≡ sent ∷ rest → sent.epoch ≡ world.source.epoch
 back_epoch world sent rest kept first = (subst (λ w. AreOf world.source.epoch w) first kept.epochs.back_epoch).0

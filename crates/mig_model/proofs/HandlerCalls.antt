@@ -9,7 +9,6 @@ use Rattle.std.proofs.lemmas.Bool.{or_left, or_right}
 use Rattle.mig_base.specs.declared.TheConstants.{HIGH_PAGE}
 use Rattle.mig_base.specs.declared.Run.{Run}
 use Rattle.mig_base.specs.declared.effect.Effect.{Effect}
-use Rattle.mig_base.specs.declared.phase.SourcePhase.{SourcePhase}
 use Rattle.mig_base.specs.declared.schedule.Step.{Step}
 use Rattle.mig_base.specs.declared.command.Errno.TheVariants.{Einval}
 use Rattle.mig_base.specs.declared.wake.Wake.TheVariants.{Nobody, Range}
@@ -29,11 +28,10 @@ use Rattle.mig_model.specs.Guest.Act.{Unprotected, Zeroed, Woke, Forgot}
 use Rattle.mig_model.specs.Log.{least_of, no_pages}
 use Rattle.mig_model.specs.Owed.{home, settled_by}
 use Rattle.mig_model.specs.Wire.{Copy, Frame, Sent, is_zeros}
-use Rattle.mig_model.specs.Wire.Frame.{Package}
-use Rattle.mig_model.specs.Source.{bytes_of, for_both, is_precopy, is_released, source_act, source_act_by, source_acted_by, space_of}
+use Rattle.mig_model.specs.Source.{bytes_of, for_both, is_precopy, source_act, source_act_by, source_acted_by, space_of}
 use Rattle.mig_model.specs.Destination.{assembled, destination_act, destination_act_by, destination_acted_by, for_missing, install_by}
 use Rattle.mig_model.specs.Migration.{World, act_effect, after_deliver, after_install, after_source_act, frame_effect, install_effect, next, outcome, run_bound}
-use Rattle.mig_model.specs.Invariant.{AreFaithful, SwitchedAt, is_unread, IsSoundWorld}
+use Rattle.mig_model.specs.Invariant.{AreFaithful, is_unread, IsSoundWorld}
 use Rattle.mig_model.specs.Bounds.{IsMapping, IsPage}
 use Rattle.mig_model.specs.Handlers.{AreRegistered, AreRunsOf, AreWatched, IsCopy, IsWake, IsWriteProtect, IsZeroPage}
 use Rattle.mig_model.proofs.Bounded.{IsBounded, bounded-next, has_memory}
@@ -66,12 +64,9 @@ destination_served gone here owed h = grind (arith, nat_tests)
 told_unprotected : (act : Act) (a b : ℕ) → act_effect act a ≡ Effect.Unprotected b → (act ≡ Unprotected) × (a ≡ b)
 told_unprotected act a b h = grind (arith, nat_tests)
 
-unswitched_unreleased : (phase : SourcePhase) (switched : Bool) → SwitchedAt phase switched → switched ≡ false → is_released phase ≡ false
-unswitched_unreleased phase switched at not = grind (arith, nat_tests)
-
 -- the object of a source that runs its processors
 source_open : (cpus : ℕ) (world : World) → IsBounded cpus world → world.source.switched ≡ false → IsOpen (space_of world.source).object all_features
-source_open cpus world all unswitched = all.opened.source (unswitched_unreleased world.source.phase world.source.switched all.ready.kept.phases.source_phase unswitched)
+source_open cpus world all unswitched = grind (arith, nat_tests)
 
 -- The source's handler
 
@@ -373,8 +368,7 @@ abbrev IsAssembled : World → Type 0
 IsAssembled new = new.destination.guest.space ≡ assembled new.destination.guest.space.host.areas new.destination.guest.space.host.bytes
 
 frame_assembles : (frame : Frame) (epoch : ℕ) (rest : List Sent) (world : World) (count : ℕ) → frame_effect frame ≡ Effect.TookPackage count → IsAssembled (after_deliver world (record { epoch = epoch; frame = frame }) rest)
-frame_assembles (Package areas owed commands) epoch rest world count h = refl
-frame_assembles _ epoch rest world count h = absurd (cc)
+frame_assembles frame epoch rest world count h = grind (arith, nat_tests)
 
 no_package : (n count : ℕ) → Effect.Moved n ≡ Effect.TookPackage count → ⊥
 no_package n count h = cc

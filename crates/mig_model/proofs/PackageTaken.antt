@@ -43,10 +43,7 @@ none_lower q b = grind (arith, nat_tests)
 pub get-own_places : (owed : FinSet nat_cmp) (bound q : ℕ) → get (own_places owed bound) q ≡ (if ltb q bound && contains owed q then Some q else None)
 unfolding own_places
 get-own_places owed zero q = get-empty nat_cmp q ∙ sym (none_lower q (contains owed q))
-get-own_places owed (suc bound) q =
-    get-put (own_places owed bound) bound q (cond (contains owed bound) (Some bound) None)
-    ∙ ap (λ o. cond (eqb q bound) (cond (contains owed bound) (Some bound) None) o) (get-own_places owed bound q)
-    ∙ placed owed bound q
+get-own_places owed (suc bound) q = grind (arith, nat_tests, get-put, placed, get-own_places owed bound q)
 
 -- what a pair of the table tells
 pub own_place : (owed : FinSet nat_cmp) (page origin : ℕ) → get (own_places owed HIGH_PAGE) page ≡ Some origin → (page < HIGH_PAGE) × (contains owed page ≡ true) × (origin ≡ page)

@@ -2,7 +2,6 @@
 use Rattle.mig_base.specs.declared.TheConstants.{LOW_PAGE, HIGH_PAGE}
 use Rattle.std.proofs.lemmas.Bool.Decides.{nat_tests}
 use Rattle.std.proofs.Common.{◌≡◌, ℕ, ◌+◌, ◌*◌, ◌/◌, ◌<◌, ◌≤◌, ◌&&◌, ◌||◌, Bool, true, false, not, eqb, ltb, Option, None, is_some, unwrap_or, List, sym, ap, ◌∙◌, arith, length, if◌then◌else◌}
-use Rattle.std.specs.Prelude.{Ok}
 use Rattle.std.specs.Ordering.{nat_cmp}
 use Rattle.std.specs.FinMap.{FinMap, contains_key, insert}
 use Rattle.std.specs.FinSet.{contains}
@@ -23,11 +22,10 @@ use Rattle.mig_base.proofs.BitLemmas.{zero_is_no_one}
 use Rattle.mig_base.proofs.RangeLemmas.{least_below-none, none_below-from}
 use Rattle.mig_model.specs.Userfault.{changing, is_registered}
 use Rattle.mig_model.specs.Space.{Space}
-use Rattle.mig_model.specs.Guest.{Guest, in_bytes, resolved, is_present, zero_installed}
-use Rattle.mig_model.specs.Ioctls.{Put, answered_by, copy_error, copy_errors, handed, installed, is_bad_range, is_one_area, missing_run, protected_in, put_answer, put_by, put_pages, same_prot, zeropage_error}
+use Rattle.mig_model.specs.Guest.{Guest, resolved, is_present, zero_installed}
+use Rattle.mig_model.specs.Ioctls.{Put, copy_error, copy_errors, handed, installed, is_bad_range, is_one_area, missing_run, protected_in, put_answer, put_by, put_pages, same_prot, zeropage_error}
 use Rattle.mig_model.specs.Bounds.{IsPage}
 use Rattle.mig_model.specs.Handlers.{IsCopy, IsWake, IsWriteProtect, IsZeroPage, page_put, woken_by}
-use Rattle.mig_model.specs.Cpus.{all_woken}
 use Rattle.mig_model.proofs.Registering.{left_new, nothing_holds, pages_again, range_good}
 
 -- a page for which a call is made: the object is enabled, no event is unread, and the page may be mapped
@@ -52,12 +50,9 @@ same_prot_self o h = grind (arith, nat_tests)
 pub same_bool_self : (b : Bool) → same_bool b b ≡ true
 same_bool_self b = grind (arith, nat_tests)
 
-and_three : (a b c : Bool) → a ≡ true → b ≡ true → c ≡ true → (a && b && c) ≡ true
-and_three a b c ha hb hc = grind (arith, nat_tests)
-
 -- a mapped page that is registered is one area
 one_area : (space : Space) (page : ℕ) → contains_key space.host.areas page ≡ true → is_registered space.object page ≡ true → is_one_area space page 1 ≡ true
-one_area space page mapped registered = grind (arith, nat_tests, every_one, and_three, same_prot_self, same_bool_self)
+one_area space page mapped registered = grind (arith, nat_tests, every_one, same_prot_self, same_bool_self)
 
 -- a missing page is put whole
 missing_one : (space : Space) (page : ℕ) → is_present space page ≡ false → missing_run space page 1 ≡ 1
@@ -69,12 +64,8 @@ put_new error put h = grind (arith, nat_tests)
 one_put : (addr : ℕ) → put_answer addr 1 1 0 Eexist ≡ page_put addr
 one_put addr = ap (λ b. record { bytes = 4096; fault = None; wake = if b then Nobody else Range addr 4096 }) (zero_is_no_one 0)
 
--- the range of a page is that page
-page_bytes : (page q : ℕ) → eqb q page ≡ in_bytes (4096 * page) (4096 * page + 4096) q
-page_bytes page q = grind (arith, nat_tests)
-
 pub page_woken : (guest : Guest) (page : ℕ) (space : Space) → (resolved guest page space).cpus ≡ woken_by (Range (4096 * page) 4096) guest.cpus
-page_woken guest page space = let same : (λ q. eqb q page) ≡ in_bytes (4096 * page) (4096 * page + 4096) = λ i q. page_bytes page q i in ap (λ test. all_woken test guest.cpus) same
+page_woken guest page space = grind (arith, nat_tests)
 
 -- UFFDIO_ZEROPAGE
 
@@ -137,17 +128,11 @@ copy_made guest page bytes is mapped registered gone whole =
 
 -- UFFDIO_WRITEPROTECT
 
-answered_new : {A : Type 0} (error : Option Errno) (answer : A) → error ≡ None → answered_by error answer ≡ Ok answer
-answered_new error answer h = grind (arith, nat_tests)
-
-in_run : (first count i : ℕ) → i < count → in_range first count (first + i) ≡ true
-in_run first count i l = grind (arith, nat_tests)
-
 pub range_protect_made : (guest new : Guest) (first count bits : ℕ) (protect : Bool) → guest.space.object.enabled ≡ true → ltb 0 (changing guest.space.object) ≡ false → 0 < count → LOW_PAGE ≤ first → first + count ≤ HIGH_PAGE →
     ((q : ℕ) → in_range first count q ≡ true → contains guest.space.object.protect q ≡ true) → ltb 2 bits ≡ false → is_one bits 0 ≡ protect → new.space ≡ protected_in guest.space first count protect →
     new.cpus ≡ woken_by (if eqb bits 0 then Range (4096 * first) (4096 * count) else Nobody) guest.cpus →
     IsWriteProtect guest new (4096 * first) (4096 * count) bits (if eqb bits 0 then Range (4096 * first) (4096 * count) else Nobody)
-range_protect_made guest new first count bits protect enabled quiet some low high watched few mode leaves wakes = grind (arith, nat_tests, none_below-from, not_from_true, in_run, nothing_holds, range_good, answered_new, left_new)
+range_protect_made guest new first count bits protect enabled quiet some low high watched few mode leaves wakes = grind (arith, nat_tests, none_below-from, not_from_true, nothing_holds, range_good, left_new)
 
 only_itself : (page q : ℕ) → in_range page 1 q ≡ true → page ≡ q
 only_itself page q h = grind (arith, nat_tests)

@@ -20,19 +20,17 @@ use Rattle.mig_model.specs.Invariant.{IsSoundWorld, IsPrecopying, IsSwitching, I
 use Rattle.mig_model.specs.Promises.{IsComplete, IsAlone, ArePaired, AreUnderWay}
 use Rattle.mig_model.proofs.Stopping.{in_phases}
 use Rattle.mig_model.proofs.SettledLemmas.{IsOneToOne-settled, values-settled, none-settled}
-use Rattle.mig_model.specs.Source.{is_precopy, is_released, is_source_paused, is_stopped, released, source_act, source_act_by, space_of}
-use Rattle.mig_model.specs.Destination.{destination_act, destination_act_by, is_running, settled}
+use Rattle.mig_model.specs.Source.{is_precopy, is_released, is_source_paused, is_stopped, released, source_act, space_of}
+use Rattle.mig_model.specs.Destination.{destination_act, is_running, settled}
 use Rattle.mig_model.proofs.Facts.{none_absurd}
 
 -- A table without pairs
 
 own_bytes : (o : Option (List ℕ)) (there : FinMap nat_cmp (List ℕ)) (owed : Option ℕ) → owed ≡ None → (elim o [ Some bytes ↦ Some bytes | None ↦ option_and_then (get there) owed ]) ≡ o
-own_bytes None there owed h = ap (option_and_then (get there)) h
-own_bytes (Some bytes) there owed h = refl
+own_bytes o there owed h = grind (arith, nat_tests)
 
 all_low : (low : Bool) (o : Option (List ℕ)) → (low ≡ false → o ≡ None) → cond low o None ≡ o
-all_low true o h = refl
-all_low false o h = sym (h refl)
+all_low low o h = grind (arith, nat_tests)
 
 not_low : (page : ℕ) → ltb page HIGH_PAGE ≡ false → HIGH_PAGE ≤ page
 not_low page h = grind (arith, nat_tests)
@@ -100,11 +98,8 @@ are_under_way world kept urgent ran = grind (arith, nat_tests, whereabouts_in)
 
 -- What is in flight
 
-precopying_in : (from : SourcePhase) (to : DestPhase) (world : World) → is_precopy from ≡ true → world.up ≡ true → IsSoundWorld (in_phases from to world) → IsPrecopying (in_phases from to world).source world.destination.kept world.forward.frames
-precopying_in from to world precopy up kept = grind (arith, nat_tests)
-
 pub is_precopying : (world : World) → IsSoundWorld world → world.up ≡ true → is_precopy world.source.phase ≡ true → IsPrecopying world.source world.destination.kept world.forward.frames
-is_precopying world kept up precopy = precopying_in world.source.phase world.destination.phase world precopy up kept
+is_precopying world kept up precopy = grind (arith, nat_tests)
 
 switching_in : (from : SourcePhase) (to : DestPhase) (world : World) → is_stopped from ≡ true → world.up ≡ true → world.destination.has_run ≡ false → IsSoundWorld (in_phases from to world) → IsSwitching (in_phases from to world).source world.destination.kept world.forward.frames world.urgent.frames
 switching_in SourcePhase.Stopped DestPhase.Running world stopped up ran kept = absurd (false≢true (sym ran ∙ kept.phases.destination_phase.0))
@@ -116,24 +111,13 @@ switching_in _ to world stopped up ran kept = none_absurd stopped
 pub is_switching : (world : World) → IsSoundWorld world → world.up ≡ true → is_stopped world.source.phase ≡ true → world.destination.has_run ≡ false → IsSwitching world.source world.destination.kept world.forward.frames world.urgent.frames
 is_switching world kept up stopped ran = switching_in world.source.phase world.destination.phase world stopped up ran kept
 
-receiving_in : (from : SourcePhase) (to : DestPhase) (world : World) → is_source_paused from ≡ true → is_running to ≡ true → world.up ≡ true → IsSoundWorld (in_phases from to world) →
-    IsReceiving (in_phases from to world).source (in_phases from to world).destination Received.Running world.back.frames
-receiving_in from to world paused runs up kept = grind (arith, nat_tests)
-
 pub is_receiving : (world : World) → IsSoundWorld world → world.up ≡ true → is_source_paused world.source.phase ≡ true → is_running world.destination.phase ≡ true → IsReceiving world.source world.destination Received.Running world.back.frames
-is_receiving world kept up paused runs = receiving_in world.source.phase world.destination.phase world paused runs up kept
+is_receiving world kept up paused runs = grind (arith, nat_tests)
 
 -- The zero pages of the handlers
 
-source_zero_by : (forgotten present protected : Bool) → source_act_by forgotten present protected ≡ Zeroed → present ≡ false
-source_zero_by forgotten present protected h = grind (arith, nat_tests)
-
 pub source_zero : (world : World) (fault : Fault) → source_act world.source fault ≡ Zeroed → is_present (space_of world.source) fault.page ≡ false
-source_zero world fault h = source_zero_by _ (is_present (space_of world.source) fault.page) _ h
-
-destination_zero_by : (forgotten present : Bool) (owed : Option ℕ) → destination_act_by forgotten present owed ≡ Zeroed → present ≡ false
-destination_zero_by false false owed h = refl
-destination_zero_by _ _ owed h = absurd (cc)
+source_zero world fault h = grind (arith, nat_tests)
 
 pub destination_zero : (world : World) (fault : Fault) → destination_act world.destination fault ≡ Zeroed → is_present world.destination.guest.space fault.page ≡ false
-destination_zero world fault h = destination_zero_by _ (is_present world.destination.guest.space fault.page) _ h
+destination_zero world fault h = grind (arith, nat_tests)

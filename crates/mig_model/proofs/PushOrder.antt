@@ -1,12 +1,10 @@
 -- After a Push no Switch of its epoch is made, and no Recv of its epoch is taken.
 use Rattle.std.proofs.lemmas.Bool.Decides.{nat_tests}
-use Rattle.std.proofs.Common.{◌≡◌, ℕ, ◌<◌, Bool, true, false, not, List, ◌∷◌, refl, sym, ◌∙◌, ◌⊎◌, inr, ⊎_elim, arith, IsOk}
-use Rattle.std.proofs.lemmas.Bool.{false≢true}
+use Rattle.std.proofs.Common.{◌≡◌, ℕ, ◌<◌, Bool, true, false, not, List, ◌∷◌, refl, ◌⊎◌, inr, arith, IsOk}
 use Rattle.mig_base.specs.declared.phase.SourcePhase.{SourcePhase}
 use Rattle.mig_base.specs.declared.schedule.Step.{Step}
 use Rattle.mig_base.specs.declared.schedule.Ticket.{Ticket}
-use Rattle.mig_model.specs.Wire.{Frame, Sent}
-use Rattle.mig_model.specs.Wire.Frame.{Recv}
+use Rattle.mig_model.specs.Wire.{Sent}
 use Rattle.mig_model.specs.Invariant.{IsSoundWorld, SwitchedAt, AreSoundUrgent}
 use Rattle.mig_model.proofs.EveryStep.{by_steps, kept-next}
 use Rattle.mig_model.proofs.FramesTaken.{is_taken_back}
@@ -15,7 +13,6 @@ use Rattle.mig_model.proofs.WokenSteps.{stopped_switched}
 use Rattle.mig_model.specs.Source.{Source, is_source_idle, is_source_paused, is_stopped}
 use Rattle.mig_model.specs.Migration.{World, after_steps, next, outcome}
 use Rattle.mig_model.specs.Promises.{is_recv}
-use Rattle.mig_model.proofs.Taken.{IsInPlaceBack}
 use Rattle.mig_model.proofs.StepCases.{MakesWorld, made-next, made-ok}
 use Rattle.mig_model.proofs.UrgentSteps.{urgent-next}
 
@@ -34,22 +31,11 @@ record IsAlike (old new : Source) : Type 0 where
   phase : new.phase ≡ old.phase
 
 pub idle_unswitched : (phase : SourcePhase) (switched : Bool) → is_source_idle phase ≡ true → SwitchedAt phase switched → switched ≡ false
-idle_unswitched SourcePhase.Idle switched h at = at
-idle_unswitched _ switched h at = absurd (false≢true h)
+idle_unswitched phase switched h at = grind (arith, nat_tests)
 
 -- a later epoch alone is left, where the source has not switched
 later : {A : Type 0} (pushed epoch : ℕ) (switched : Bool) (phase : SourcePhase) (up : Bool) → switched ≡ false → HasPushed pushed epoch switched phase up → (pushed < epoch → A) → A
-later pushed epoch switched phase up not h more =
-    ⊎_elim more (λ (one : (epoch ≡ pushed) × (switched ≡ true) × (up ≡ true → is_source_paused phase ≡ false)). absurd (false≢true (sym not ∙ one.1))) h
-
--- the same, where it is paused and the link is up
-resumed_later : {A : Type 0} (pushed epoch : ℕ) (switched : Bool) (phase : SourcePhase) (up : Bool) → up ≡ true → is_source_paused phase ≡ true → HasPushed pushed epoch switched phase up → (pushed < epoch → A) → A
-resumed_later pushed epoch switched phase up linked paused h more =
-    ⊎_elim more (λ (one : (epoch ≡ pushed) × (switched ≡ true) × (up ≡ true → is_source_paused phase ≡ false)). absurd (false≢true (sym (one.2 linked) ∙ paused))) h
-
-recv_paused : (frame : Frame) (node : Source) → IsInPlaceBack node frame → is_recv frame ≡ true → is_source_paused node.phase ≡ true
-recv_paused (Recv state owed) node place is = place.0
-recv_paused _ node place is = absurd (false≢true is)
+later pushed epoch switched phase up not h more = grind (arith, nat_tests)
 
 pushed_answer : (pushed : ℕ) (world : World) (step : Step) → IsSoundWorld world → PushedIn pushed world → MakesWorld (PushedIn pushed) world step
 pushed_answer pushed world step kept h = grind (arith, nat_tests)
@@ -58,8 +44,7 @@ pushed_steps : (pushed : ℕ) (world : World) (steps : List Step) → IsSoundWor
 pushed_steps pushed world steps = by_steps (PushedIn pushed) (λ old step kept urgent h. made-next (PushedIn pushed) old step h (pushed_answer pushed old step kept h)) world steps
 
 stopped_not_paused : (phase : SourcePhase) → is_stopped phase ≡ true → is_source_paused phase ≡ false
-stopped_not_paused SourcePhase.Stopped h = refl
-stopped_not_paused _ h = absurd (false≢true h)
+stopped_not_paused phase h = grind (arith, nat_tests)
 
 -- an accepted Push, and any steps behind it
 pub pushed_before : (world : World) (ticket : Ticket) (steps : List Step) → IsSoundWorld world → AreSoundUrgent world → IsOk (outcome world (Step.Push ticket)) → PushedIn world.source.epoch (after_steps (next world (Step.Push ticket)) steps)
@@ -89,5 +74,4 @@ no_switch pushed world kept h same ok =
 
 -- and no Recv is on the wire back
 pub no_recv_taken : (pushed : ℕ) (world : World) (sent : Sent) (rest : List Sent) → IsSoundWorld world → PushedIn pushed world → world.source.epoch ≡ pushed → world.up ≡ true → world.back.frames ≡ sent ∷ rest → is_recv sent.frame ≡ true → ⊥
-no_recv_taken pushed world sent rest kept h same up first is =
-    resumed_later pushed world.source.epoch world.source.switched world.source.phase world.up up (recv_paused sent.frame world.source (is_taken_back world sent rest kept up first) is) h (not_later pushed world.source.epoch same)
+no_recv_taken pushed world sent rest kept h same up first is = grind (arith, nat_tests, is_taken_back, not_later)

@@ -80,8 +80,7 @@ abbrev are_other : List (Bool × Refusal) → Bool
 are_other reasons = list_all (λ reason. not (is_lacking (Err reason.1))) reasons
 
 other_if : (test : Bool) (refusal : Refusal) (rest : Answer) → not (is_lacking (Err refusal)) ≡ true → is_other rest ≡ true → is_other (if test then Err refusal else rest) ≡ true
-other_if true refusal rest here behind = here
-other_if false refusal rest here behind = behind
+other_if test refusal rest here behind = grind (arith, nat_tests)
 
 other-unless : (reasons : List (Bool × Refusal)) (rest : Answer) → are_other reasons ≡ true → is_other rest ≡ true → is_other (unless reasons rest) ≡ true
 unfolding unless
@@ -91,15 +90,10 @@ other-unless (reason ∷ reasons) rest all behind =
     other_if reason.0 reason.1 (unless reasons rest) both.0 (other-unless reasons rest both.1 behind)
 
 other_either : (test : Bool) (one two : Answer) → is_other one ≡ true → is_other two ≡ true → is_other (if test then one else two) ≡ true
-other_either true one two a b = a
-other_either false one two a b = b
-
-other_first : {A : Type 0} (f : List A → Answer) (l : List A) → is_other (f []) ≡ true → ((x : A) (xs : List A) → is_other (f (x ∷ xs)) ≡ true) → is_other (f l) ≡ true
-other_first f [] none some = none
-other_first f (x ∷ xs) none some = some x xs
+other_either test one two a b = grind (arith, nat_tests)
 
 other_answer : (world : World) (step : Step) → is_other (answer world step) ≡ true
-other_answer world step = grind (arith, nat_tests, other-unless, other_first, other_either)
+other_answer world step = grind (arith, nat_tests, other-unless, other_either)
 
 pub never_lacking : (world : World) (step : Step) → outcome world step ≢ Err Refusal.NoMemory
 unfolding outcome

@@ -1,6 +1,6 @@
 -- The settled owed relation once a map call has queued its events: it changes as the pages do.
 use Rattle.std.proofs.lemmas.Bool.Decides.{nat_tests}
-use Rattle.std.proofs.Common.{◌≡◌, ℕ, ◌+◌, ◌-◌, ◌*◌, ◌/◌, ◌<◌, ◌≤◌, ◌&&◌, Bool, true, false, cond, Option, Some, None, List, [], ◌∷◌, ◌++◌, refl, sym, ap, ◌∙◌, subst, arith, if◌then◌else◌}
+use Rattle.std.proofs.Common.{◌≡◌, ℕ, ◌+◌, ◌-◌, ◌*◌, ◌/◌, ◌<◌, ◌≤◌, ◌&&◌, Bool, true, false, cond, Option, Some, None, List, [], ◌∷◌, ◌++◌, refl, sym, ap, subst, arith, if◌then◌else◌}
 use Rattle.std.proofs.lemmas.Bool.{not-false}
 use Rattle.mig_base.specs.declared.message.Message.{Message}
 use Rattle.mig_base.specs.declared.message.Message.TheVariants.{Remap, Remove, Unmap}
@@ -27,9 +27,7 @@ settled_messages (message ∷ messages) owed = settled_messages messages (owed_a
 
 pub settled-queued : (object : Object) (messages : List Message) (cpu : ℕ) (owed : ℕ → Option ℕ) → settled_by (all_queued object messages cpu).events owed ≡ settled_messages messages (settled_by object.events owed)
 settled-queued object [] cpu owed = refl
-settled-queued object (message ∷ messages) cpu owed =
-    settled-queued (event_queued object message cpu) messages cpu owed
-    ∙ ap (settled_messages messages) (settled-push object.events (record { message = message; cpu = cpu }) owed)
+settled-queued object (message ∷ messages) cpu owed = grind (arith, nat_tests, settled-push, settled-queued (event_queued object message cpu) messages cpu owed)
 
 pub settled-append : (some more : List Message) (owed : ℕ → Option ℕ) → settled_messages (some ++ more) owed ≡ settled_messages more (settled_messages some owed)
 settled-append [] more owed = refl

@@ -22,13 +22,9 @@ IsOneToOne owed = (page other origin : ℕ) → owed page ≡ Some origin → ow
 pub get-owed_table_after : (message : Message) (owed : FinMap nat_cmp ℕ) (page : ℕ) → get (owed_table_after message owed) page ≡ owed_after message (get owed) page
 get-owed_table_after message owed page = grind (arith, nat_tests, get-moved_range, get-remove_range)
 
--- the same as functions
-pub owed_table_after-applied : (message : Message) (owed : FinMap nat_cmp ℕ) → get (owed_table_after message owed) ≡ owed_after message (get owed)
-owed_table_after-applied message owed = λ i page. get-owed_table_after message owed page i
-
 -- an event that is read changes the table and not what is settled
 pub settled_by-applied : (noted : Noted) (events : List Noted) (owed : FinMap nat_cmp ℕ) → settled_by events (get (owed_table_after noted.message owed)) ≡ settled_by (noted ∷ events) (get owed)
-settled_by-applied noted events owed = ap (settled_by events) (owed_table_after-applied noted.message owed)
+settled_by-applied noted events owed = grind (arith, nat_tests, get-owed_table_after)
 
 -- What an event leaves
 

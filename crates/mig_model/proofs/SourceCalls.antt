@@ -1,5 +1,5 @@
 -- A map call leaves each registered page of which its messages do not tell as it was, and its messages are right.
-use Rattle.std.proofs.Common.{◌≡◌, ℕ, ◌+◌, ◌-◌, ◌*◌, ◌/◌, ◌%◌, ◌<◌, ◌≤◌, ◌&&◌, Bool, true, false, cond, not, eqb, ltb, leb, Some, None, ◌++◌, refl, sym, ap, ◌∙◌, subst, ◌⊎◌, inl, inr, ⊎_elim, arith, is_some, List, []}
+use Rattle.std.proofs.Common.{◌≡◌, ℕ, ◌+◌, ◌-◌, ◌*◌, ◌/◌, ◌%◌, ◌<◌, ◌≤◌, ◌&&◌, Bool, true, false, cond, not, eqb, ltb, leb, Some, None, ◌++◌, refl, sym, ap, ◌∙◌, subst, ◌⊎◌, inl, inr, ⊎_elim, arith, is_some, []}
 use Rattle.std.specs.Ordering.{nat_cmp}
 use Rattle.std.specs.FinMap.{FinMap, get, contains_key}
 use Rattle.std.specs.FinSet.{FinSet, contains}
@@ -28,7 +28,7 @@ use Rattle.mig_model.specs.Userfault.{Object, is_registered, is_watched}
 use Rattle.mig_model.specs.Space.{Space, IsSoundSpace, told, remap_messages, call_messages, modes_after, protected_after}
 use Rattle.mig_model.proofs.HostLemmas.{is_mapped-memory, memory-none}
 use Rattle.mig_model.proofs.CommandLemmas.{remapped_place}
-use Rattle.mig_model.proofs.SourceMessages.{tells, unmapped_outside, removed_outside, dropped_outside, outside_told, in_bytes-pages, Stays, stays_there, moved_away, lesser_is, AllRight, AllRight-append, told_right}
+use Rattle.mig_model.proofs.SourceMessages.{tells, unmapped_outside, removed_outside, dropped_outside, outside_told, in_bytes-pages, Stays, stays_there, moved_away, AllRight, AllRight-append, told_right}
 use Rattle.mig_model.proofs.Facts.{none_absurd, in_range_first, same_or_other, low_or, and_true, lesser_right, whole_page, lesser_left}
 use Rattle.mig_base.specs.declared.message.Message.{Message}
 
@@ -50,12 +50,10 @@ bytes_stay pages first count page out = get-remove_range pages first count page 
 
 moved_stays : {A : Type 0} (test : ℕ → A) (from count to new_count page : ℕ) (growth none : A) → Stays from count to new_count page →
     cond (in_range to new_count page) (cond (ltb (page - to) count) (test (from + (page - to))) growth) (cond (in_range from count page) none (test page)) ≡ test page
-moved_stays test from count to new_count page growth none (inl h) = rw (h.0, h.1, h.2) refl
-moved_stays test from count to new_count page growth none (inr h) = rw (h.0, h.1) refl
+moved_stays test from count to new_count page growth none h8 = grind (arith, nat_tests)
 
 member_moved : (s : FinSet nat_cmp) (from count to new_count page : ℕ) (growth : Bool) → ltb page HIGH_PAGE ≡ true → Stays from count to new_count page → contains (moved_set s from count to new_count growth) page ≡ contains s page
-member_moved s from count to new_count page growth low (inl h) = member_below _ HIGH_PAGE page ∙ rw (low, h.0, h.1, h.2) refl
-member_moved s from count to new_count page growth low (inr h) = member_below _ HIGH_PAGE page ∙ rw (low, h.0, h.1) refl
+member_moved s from count to new_count page growth low h8 = grind (arith, nat_tests, member_below)
 
 -- The place of an mremap
 
@@ -216,9 +214,6 @@ untouched space _ _ page sound call is registered silent = record { bytes = refl
 whole_times : (count : ℕ) → 4096 * count % 4096 ≡ 0
 whole_times count = omega arith
 
-whole_lesser : (start count : ℕ) → start % 4096 ≡ 0 → lesser (start + 4096 * count) HIGH % 4096 ≡ 0
-whole_lesser start count h = ⊎_elim (λ e. ap (λ n. n % 4096) e ∙ whole_page start count h) (λ e. ap (λ n. n % 4096) e) (lesser_is (start + 4096 * count) HIGH)
-
 not_same : (a b : ℕ) (rest : Bool) → (not (eqb a b) && rest) ≡ true → a ≡ b → ⊥
 not_same a b rest h e = grind (arith, nat_tests)
 
@@ -254,40 +249,26 @@ right_remap host object addr old_len new_len target may_move fixed sound is =
     )))
 
 pub right_messages : (host : Host) (object : Object) (command : Command) (reply : Reply) → IsSound host → reply ≡ reply_of (memory host) command → AllRight (call_messages object command reply)
-right_messages host object command reply sound is = grind (arith, nat_tests, mmap_inside, whole_page, munmap_whole, right_remap, dontneed_done, dontneed_hole, whole_lesser)
+right_messages host object command reply sound is = grind (arith, nat_tests, mmap_inside, whole_page, munmap_whole, right_remap, dontneed_done, dontneed_hole)
 
 -- Nothing is told where nothing is registered
 
 abbrev pub IsUnregistered : Object → Type 0
 IsUnregistered object = (page : ℕ) → is_registered object page ≡ false
 
-unwatched : (object : Object) (first count : ℕ) → IsUnregistered object → is_watched object first count ≡ false
-unwatched object first count none = ap not (none_below-from (λ i. is_registered object (first + i)) count (λ i l. none (first + i)))
-
 pub untold : (reason : Bool) (message : Message) → reason ≡ false → told reason message ≡ []
-untold true message h = none_absurd (sym h)
-untold false message h = refl
-
-joined_none : (a b : List Message) → a ≡ [] → b ≡ [] → a ++ b ≡ []
-joined_none a b x y = rw (x, y) refl
+untold reason message h = grind (arith, nat_tests, none_absurd)
 
 pub no_messages : (object : Object) (command : Command) (reply : Reply) → IsUnregistered object → call_messages object command reply ≡ []
-no_messages object command reply none = grind (arith, nat_tests, unwatched, joined_none, and_right)
+no_messages object command reply none = grind (arith, nat_tests, and_right, none_below-from)
 
 -- Modes
 
 pub modes_same : (object : Object) (command : Command) (reply : Reply) → object.missing ≡ object.protect → (modes_after object command reply).missing ≡ (modes_after object command reply).protect
 modes_same object command reply same = grind (arith, nat_tests)
 
-none_without : (s : FinSet nat_cmp) (first count page : ℕ) → contains s page ≡ false → contains (without s first count) page ≡ false
-none_without s first count page none = member_without s first count page ∙ ap (λ b. b && not (in_range first count page)) none
-
 moved_none : (low new old out a growth b : Bool) → a ≡ false → growth ≡ false → b ≡ false → (low && cond new (cond old a growth) (out && b)) ≡ false
 moved_none low new old out a growth b x y z = grind arith
 
-none_moved : (s : FinSet nat_cmp) (from count to new_count page : ℕ) (growth : Bool) → ((q : ℕ) → contains s q ≡ false) → growth ≡ false → contains (moved_set s from count to new_count growth) page ≡ false
-none_moved s from count to new_count page growth none not_grown =
-    member_below _ HIGH_PAGE page ∙ moved_none (ltb page HIGH_PAGE) (in_range to new_count page) (ltb (page - to) count) (not (in_range from count page)) (contains s (from + (page - to))) growth (contains s page) (none (from + (page - to))) not_grown (none page)
-
 pub none_missing : (object : Object) (command : Command) (reply : Reply) → ((page : ℕ) → contains object.missing page ≡ false) → (page : ℕ) → contains (modes_after object command reply).missing page ≡ false
-none_missing object command reply none page = grind (arith, nat_tests, none_without, none_moved)
+none_missing object command reply none page = grind (arith, nat_tests, member_without, member_below, moved_none)

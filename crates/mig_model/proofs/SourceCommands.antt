@@ -1,13 +1,12 @@
 -- A command that is tried at the source, before it has stopped, keeps what every world keeps.
 use Rattle.std.proofs.lemmas.Bool.Decides.{nat_tests}
-use Rattle.std.proofs.Common.{◌≡◌, append-nil, ℕ, ◌||◌, Bool, true, false, cond, eqb, if◌then◌else◌, Some, List, [], ◌∷◌, ◌++◌, refl, sym, ap, ◌∙◌, subst, is_some, arith}
+use Rattle.std.proofs.Common.{◌≡◌, append-nil, ℕ, ◌||◌, Bool, true, false, cond, eqb, Some, List, [], ◌∷◌, ◌++◌, refl, sym, ap, ◌∙◌, subst, is_some, arith}
 use Rattle.std.specs.Ordering.{nat_cmp}
 use Rattle.std.specs.FinMap.{FinMap, get, insert, contains_key}
 use Rattle.std.specs.FinSet.{contains}
 use Rattle.std.proofs.lemmas.Bool.{eqb-true, and_from, or_right, or_parts}
 use Rattle.mig_base.specs.declared.cpu_state.CpuState.{CpuState}
 use Rattle.mig_base.specs.declared.command.Command.{Command}
-use Rattle.mig_base.specs.declared.command.Command.TheVariants.{Store}
 use Rattle.mig_base.specs.declared.command.Reply.{Reply}
 use Rattle.mig_base.specs.declared.command.Access.{Access}
 use Rattle.mig_base.specs.declared.command.Access.TheVariants.{Answered, Missing, Protected}
@@ -15,7 +14,7 @@ use Rattle.mig_base.specs.Flat.{reply_of, memory_of, IsFlatRun}
 use Rattle.mig_base.proofs.SetLemmas.{same_members}
 use Rattle.mig_model.specs.Host.{Host, memory, host_changed, host_after}
 use Rattle.mig_base.specs.Commands.{is_access}
-use Rattle.mig_model.specs.Userfault.{Object, fault_queued, waits_fault}
+use Rattle.mig_model.specs.Userfault.{Object, fault_queued}
 use Rattle.mig_model.specs.Space.{Space, IsSoundSpace, access_of, accessed_by, called, queued_by, call_messages, modes_after}
 use Rattle.mig_model.specs.Guest.{took_by, tried}
 use Rattle.mig_model.specs.Migration.{World, after_command}
@@ -41,14 +40,9 @@ never_answered missing protect reply other p h = grind arith
 other_page : (bytes : FinMap nat_cmp (List ℕ)) (page q : ℕ) (held : List ℕ) → eqb q page ≡ false → get (insert bytes page held) q ≡ get bytes q
 other_page bytes page q held other = get-put bytes page q held ∙ ap (λ b. cond b (Some held) (get bytes q)) other
 
--- a store that is made is of another page than a protected one
-stored_elsewhere : (space : Space) (addr width value page : ℕ) (made other : Reply) → made ≡ reply_of (memory space.host) (Store addr width value) → access_of space (Store addr width value) ≡ Answered other →
-    contains space.object.protect page ≡ true → contains space.protected page ≡ true → get (host_changed space.host (Store addr width value) made).bytes page ≡ get space.host.bytes page
-stored_elsewhere space addr width value page made other is answered watched protected = grind (arith, nat_tests, eqb-true, never_answered, and_from, other_page)
-
 elsewhere : (space : Space) (command : Command) (page : ℕ) (other : Reply) → is_access command ≡ true → access_of space command ≡ Answered other → contains space.object.protect page ≡ true → contains space.protected page ≡ true →
     get (host_after space.host command).bytes page ≡ get space.host.bytes page
-elsewhere space command page other access answered watched protected = grind (arith, nat_tests, stored_elsewhere)
+elsewhere space command page other access answered watched protected = grind (arith, nat_tests, eqb-true, never_answered, and_from, other_page)
 
 answered_changed : (world : World) (cpu : ℕ) (command : Command) (reply : Reply) (processors : List CpuState) → IsSoundWorld world → world.destination.has_run ≡ false → world.source.switched ≡ false → is_access command ≡ true →
     access_of (space_of world.source) command ≡ Answered reply →
@@ -83,12 +77,8 @@ record IsAlike (object new : Object) : Type 0 where
   missing : new.missing ≡ object.missing
   protect : new.protect ≡ object.protect
 
-alike_if : (waits : Bool) (object new : Object) → IsAlike object new → IsAlike object (if waits then object else new)
-alike_if true object new alike = record { events = refl; missing = refl; protect = refl }
-alike_if false object new alike = alike
-
 faulted_alike : (object : Object) (addr : ℕ) (write wp : Bool) (cpu : ℕ) → IsAlike object (fault_queued object addr write wp cpu)
-faulted_alike object addr write wp cpu = alike_if (waits_fault object.faults addr wp) object _ (record { events = refl; missing = refl; protect = refl })
+faulted_alike object addr write wp cpu = grind (arith, nat_tests)
 
 slept_changed : (world : World) (processors : List CpuState) (object : Object) → IsSoundWorld world → world.destination.has_run ≡ false → world.source.switched ≡ false → IsAlike (space_of world.source).object object →
     IsSoundSpace (record (space_of world.source) { object = object }) →

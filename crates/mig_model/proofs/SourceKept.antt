@@ -1,5 +1,5 @@
 -- What a step of a source that has not stopped has to keep, and that its handler keeps it: a message is read, a fault is worked.
-use Rattle.std.proofs.Common.{◌≡◌, ◌≢◌, ℕ, ◌≤◌, Bool, true, false, Option, Some, None, List, [], refl, sym, ap, ◌∙◌, ◌⊎◌, arith, cond, get_or, unwrap_or, is_some, ◌&&◌, not, eqb, ltb}
+use Rattle.std.proofs.Common.{◌≡◌, ◌≢◌, ℕ, ◌≤◌, Bool, true, false, Option, Some, None, List, [], refl, sym, ap, ◌∙◌, ◌⊎◌, arith, cond, get_or, unwrap_or, ◌&&◌, not, ltb}
 use Rattle.std.specs.Ordering.{nat_cmp}
 use Rattle.std.specs.FinMap as finmap
 use Rattle.std.specs.FinMap.{FinMap, get, get-empty, contains_key}
@@ -29,7 +29,7 @@ use Rattle.mig_base.specs.Ranges.{in_range}
 use Rattle.mig_base.proofs.ByteLemmas.{length-zero_page, get_or-zero_page}
 use Rattle.mig_base.proofs.SetLemmas.{member_below, member_removed}
 use Rattle.mig_model.specs.Userfault.{Noted, Object, next_message, message_read}
-use Rattle.mig_model.specs.Ioctls.{protected_in, put_pages}
+use Rattle.mig_model.specs.Ioctls.{protected_in}
 use Rattle.mig_model.specs.Guest.Act.{Unprotected, Zeroed}
 use Rattle.mig_model.proofs.IoctlLemmas.{IsSoundSpace-read, IsSoundSpace-protected, IsSoundSpace-installed, CanPut, get-put_pages}
 use Rattle.mig_model.proofs.SourceCalls.{registered_below}
@@ -73,15 +73,13 @@ current_before ran here there owed h = grind arith
 
 -- the memory of the source is the guest's
 pub source_holds : (world : World) → IsSoundWorld world → world.destination.has_run ≡ false → memory (space_of world.source).host ≡ memory_of world.transcript
-source_holds world kept bare =
-    sym (ap memory (current_before world.destination.has_run world.destination.guest.space.host (space_of world.source).host (settled world.destination) bare)) ∙ kept.memory.holds
+source_holds world kept bare = grind (arith, nat_tests, current_before)
 
 nothing_owed : {A : Type 0} (owed : FinMap nat_cmp ℕ) (page origin : ℕ) → owed ≡ finmap.empty → get owed page ≡ Some origin → A
 nothing_owed owed page origin none h = let e : None ≡ Some origin = sym (ap (λ m. get m page) none ∙ get-empty nat_cmp page) ∙ h in absurd (cc)
 
 released_switched : {A : Type 0} (phase : SourcePhase) (switched : Bool) → SwitchedAt phase switched → switched ≡ false → phase ≡ SourcePhase.Released → A
-released_switched SourcePhase.Released switched at h e = none_absurd (sym h ∙ at)
-released_switched _ switched at h e = absurd (cc)
+released_switched phase switched at h e = grind (arith, nat_tests, none_absurd)
 
 pub renewed : (world : World) (source : Source) (forward : List Sent) (transcript : List Entry) → IsSoundWorld world → world.destination.has_run ≡ false → IsNext world source forward transcript →
     IsSoundWorld (record world { source = source; forward = record world.forward { frames = forward }; transcript = transcript })
@@ -149,20 +147,7 @@ in_one_is page q h = eqb-true q page (sym (only_one page q) ∙ h)
 -- A page of zeros at a missing page changes nothing that the guest reads
 
 zero_bytes : (here : Bool) (o : Option (List ℕ)) (i : ℕ) → (here ≡ true → o ≡ None) → get_or (unwrap_or (cond here (Some zero_page) o) []) i 0 ≡ get_or (unwrap_or o []) i 0
-zero_bytes true o i h = get_or-zero_page i ∙ sym (ap (λ p. get_or (unwrap_or p []) i 0) (h refl))
-zero_bytes false o i h = refl
-
--- a missing page reads as one of zeros
-memory_zeroed : (host : Host) (page : ℕ) → get host.bytes page ≡ None → memory (record host { bytes = put_pages host.bytes page 1 (λ i. zero_page) }) ≡ memory host
-memory_zeroed host page none =
-    memory-reads host.areas host.bytes (put_pages host.bytes page 1 (λ i. zero_page)) (λ q i.
-    ap (λ o. byte_of o i) (get-put_one host.bytes page q zero_page) ∙ zero_bytes (eqb q page) (get host.bytes q) i (λ here. ap (get host.bytes) (eqb-true q page here) ∙ none))
-
-more_present : (space : Space) (page q : ℕ) → is_present space q ≡ true → is_present (zero_installed space page) q ≡ true
-more_present space page q h = ap is_some (get-put_pages space.host.bytes page 1 q (λ i. zero_page)) ∙ some_either (in_range page 1 q) zero_page (get space.host.bytes q) h
-
-same_elsewhere : (space : Space) (page q : ℕ) → is_present space page ≡ false → is_present space q ≡ true → get (zero_installed space page).host.bytes q ≡ get space.host.bytes q
-same_elsewhere space page q missing present = grind (arith, nat_tests, get-put_pages, in_one_is)
+zero_bytes here o i h = grind (arith, nat_tests, get_or-zero_page)
 
 -- A message is read
 
@@ -206,14 +191,10 @@ is_watched : (space : Space) (page : ℕ) → contains space.object.missing page
 is_watched space page both h = grind (arith, nat_tests)
 
 unprotected_is : (forgotten present protected : Bool) → source_act_by forgotten present protected ≡ Unprotected → forgotten ≡ false
-unprotected_is true present protected h = absurd (cc)
-unprotected_is false present protected h = refl
+unprotected_is forgotten present protected h = grind (arith, nat_tests)
 
 zeroed_is : (forgotten present protected : Bool) → source_act_by forgotten present protected ≡ Zeroed → (forgotten ≡ false) × (present ≡ false)
 zeroed_is forgotten present protected h = grind arith
-
-not_in_one : (page q : ℕ) → eqb q page ≡ false → in_range page 1 q ≡ false
-not_in_one page q h = grind (arith, nat_tests)
 
 -- nothing but processors and held faults has changed
 same_changed : (world : World) (processors : List CpuState) → IsSoundWorld world → world.source.switched ≡ false →
@@ -221,34 +202,16 @@ same_changed : (world : World) (processors : List CpuState) → IsSoundWorld wor
 same_changed world processors kept unswitched = grind (arith, nat_tests)
 
 protected_below : (space : Space) (page : ℕ) → IsSoundSpace space → contains space.protected page ≡ true → ltb page HIGH_PAGE ≡ true
-protected_below space page sound h =
-    lt-ltb page HIGH_PAGE (registered_below space page sound (or_right (contains space.object.missing page) (contains space.object.protect page) (sound.watched page h)))
+protected_below space page sound h = grind (arith, nat_tests, lt-ltb, registered_below, or_right)
 
 unprotected_changed : (world : World) (page : ℕ) (processors : List CpuState) → IsSoundWorld world → world.source.switched ≡ false → is_source_idle world.source.phase ≡ false → IsWatched (space_of world.source) page →
     IsChanged world.source (record { space = protected_in (space_of world.source) page 1 false; cpus = processors }) (remove world.source.log.clean page) world.source.log.todo world.transcript
-unprotected_changed world page processors kept unswitched started watched = grind (arith, nat_tests, member_removed, source_holds, has_not_run, IsSoundSpace-protected, in_one_is, never_idle, member_below, protected_below, not_in_one, not-true)
+unprotected_changed world page processors kept unswitched started watched = grind (arith, nat_tests, member_removed, source_holds, has_not_run, IsSoundSpace-protected, in_one_is, never_idle, member_below, protected_below, not-true)
 
 zeroed_changed : (world : World) (page : ℕ) (processors : List CpuState) → IsSoundWorld world → world.source.switched ≡ false → is_source_idle world.source.phase ≡ false → IsWatched (space_of world.source) page →
     is_present (space_of world.source) page ≡ false →
     IsChanged world.source (record { space = zero_installed (space_of world.source) page; cpus = processors }) world.source.log.clean world.source.log.todo world.transcript
-zeroed_changed world page processors kept unswitched started watched missing =
-    let space = space_of world.source in
-    let sound = kept.spaces.source_space in
-    let can : CanPut space page 1 (λ i. zero_page) false =
-    record { mapped = λ q h. ap (contains_key space.host.areas) (in_one_is page q h) ∙ watched.mapped; whole = λ i l. length-zero_page; watched = λ e q h. none_absurd e } in
-    let new : Space = zero_installed space page in
-    let holds = memory_zeroed space.host page (missing_none (get space.host.bytes page) missing) ∙ source_holds world kept (has_not_run world kept unswitched) in
-    let installed = IsSoundSpace-installed space page 1 (λ i. zero_page) false can sound in
-    let idle = never_idle world.source.phase new world.source.log.clean world.source.log.todo world.source.log.sent started in
-    let protected : (q : ℕ) → contains world.source.log.clean q ≡ true → is_unread space.object.events q ≡ false → contains new.protected q ≡ true = λ q h u.
-    let was = kept.precopy.clean_protected unswitched q h u in
-    member_below _ HIGH_PAGE q ∙ rw (protected_below space q sound was) (or_left (contains space.protected q) _ was) in
-    let sendable : (q : ℕ) → contains world.source.log.todo q ≡ true → is_unread space.object.events q ≡ false → (is_present new q ≡ true) × (contains space.object.protect q ≡ true) = λ q h u.
-    let was = kept.precopy.todo_sendable unswitched q h u in
-    (more_present space page q was.0, was.1) in
-    let copies : CopiesStay world.source (record { space = new; cpus = processors }) world.source.log.clean = λ q h u.
-    (h, u, same_elsewhere space page q missing (sound.present q (kept.precopy.clean_protected unswitched q h u))) in
-    assumption
+zeroed_changed world page processors kept unswitched started watched missing = grind (arith, nat_tests, CanPut, in_one_is, length-zero_page, none_absurd, missing_none, source_holds, has_not_run, IsSoundSpace-installed, never_idle, member_below, protected_below, or_left, memory-reads, byte_of, get-put_one, zero_bytes, eqb-true, get-put_pages, some_either)
 
 -- Every act
 
@@ -263,8 +226,7 @@ acted world fault Zeroed kept unswitched started is =
     let told = zeroed_is (is_forgotten space fault.page) (is_present space fault.page) (contains space.protected fault.page && fault.wp) is in
     let watched = is_watched space fault.page (kept.spaces.both_modes fault.page) told.0 in
     changed world _ _ _ _ world.source.rounds world.source.faults world.transcript kept (has_not_run world kept unswitched) unswitched (zeroed_changed world fault.page _ kept unswitched started watched told.1)
-acted world fault _ kept unswitched started is =
-    changed world _ _ _ _ world.source.rounds world.source.faults world.transcript kept (has_not_run world kept unswitched) unswitched (same_changed world _ kept unswitched)
+acted world fault _ kept unswitched started is = grind (arith, nat_tests, changed, has_not_run, same_changed)
 
 pub kept-source_act : (world : World) (fault : Fault) → IsSoundWorld world → is_source_idle world.source.phase ≡ false → world.source.switched ≡ false → IsSoundWorld (after_source_act world fault)
 kept-source_act world fault kept started unswitched = acted world fault (source_act world.source fault) kept unswitched started refl

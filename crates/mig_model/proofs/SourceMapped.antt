@@ -3,7 +3,6 @@ use Rattle.std.proofs.lemmas.Bool.Decides.{nat_tests}
 use Rattle.std.proofs.Common.{◌≡◌, ℕ, Bool, true, false, refl, sym, subst, arith}
 use Rattle.mig_base.specs.declared.command.Command.{Command}
 use Rattle.mig_base.specs.declared.message.Message.{Message}
-use Rattle.mig_base.specs.declared.message.Message.TheVariants.{PageFault}
 use Rattle.mig_base.specs.declared.schedule.Side.{Side}
 use Rattle.mig_base.specs.declared.schedule.Step.{Step}
 use Rattle.mig_base.specs.Commands.{is_access}
@@ -29,12 +28,10 @@ command_mapped false world cpu command is kept h =
     (IsMapping-after (space_of world.source).host world.transcript cpu command kept.spaces.source_space.host (source_holds world kept is))
 
 pub read_host : (guest : Guest) (cpu : ℕ) (message : Message) → (read_guest guest cpu message).space.host ≡ guest.space.host
-read_host guest cpu (PageFault addr write wp tid) = refl
-read_host guest cpu _ = refl
+read_host guest cpu message = grind (arith, nat_tests)
 
 acted_mapped : (act : Act) (node : Source) (page : ℕ) → IsMapped node → IsMapped (source_acted_by act node page)
-acted_mapped Act.Zeroed node page h = h
-acted_mapped _ node page h = h
+acted_mapped act node page h = grind (arith, nat_tests)
 
 took_mapped : (frame : Frame) (switched : Bool) (node : Source) → IsMapped node → IsMapped (source_took (record node { switched = switched }) frame)
 took_mapped frame switched node h = grind (arith, nat_tests, IsMapping-empty)

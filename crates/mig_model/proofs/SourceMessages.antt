@@ -1,7 +1,7 @@
 -- The messages of a map call: each is right, and together they tell of every registered page that the call changes.
 use Rattle.std.proofs.Common.{◌≡◌, append-nil, ℕ, ◌+◌, ◌-◌, ◌*◌, ◌/◌, ◌<◌, ◌≤◌, ◌&&◌, ◌||◌, Bool, true, false, not, ltb, List, [], ◌∷◌, ◌++◌, refl, sym, ap, ◌∙◌, ◌⊎◌, arith, append_assoc}
 use Rattle.std.proofs.lemmas.Bool.Decides.{nat_tests}
-use Rattle.std.proofs.lemmas.Bool.{false≢true, and_from, or_parts}
+use Rattle.std.proofs.lemmas.Bool.{false≢true, and_from}
 use Rattle.mig_base.specs.declared.TheConstants.{HIGH, HIGH_PAGE}
 use Rattle.mig_base.specs.declared.message.Message.{Message}
 use Rattle.mig_base.specs.declared.message.Message.TheVariants.{Remove, Unmap}
@@ -12,7 +12,7 @@ use Rattle.mig_model.specs.Guest.{is_changed_by, in_bytes}
 use Rattle.mig_model.specs.Space.{told, all_queued}
 use Rattle.mig_model.specs.Invariant.{is_unread, IsRight, AreRight}
 use Rattle.mig_model.specs.Migration.{start}
-use Rattle.mig_model.proofs.Facts.{none_absurd, in_range_first, or_assoc}
+use Rattle.mig_model.proofs.Facts.{in_range_first, or_assoc}
 
 -- Messages and the events that they become
 
@@ -32,9 +32,7 @@ tells (message ∷ messages) page = is_changed_by message page || tells messages
 pub is_unread-append : (events : List Noted) (messages : List Message) (cpu page : ℕ) → is_unread (events ++ noted_all messages cpu) page ≡ (is_unread events page || tells messages page)
 is_unread-append [] [] cpu page = refl
 is_unread-append [] (message ∷ messages) cpu page = ap (λ b. is_changed_by message page || b) (is_unread-append [] messages cpu page)
-is_unread-append (noted ∷ events) messages cpu page =
-    ap (λ b. is_changed_by noted.message page || b) (is_unread-append events messages cpu page)
-    ∙ or_assoc (is_changed_by noted.message page) (is_unread events page) (tells messages page)
+is_unread-append (noted ∷ events) messages cpu page = grind (arith, nat_tests, or_assoc, is_unread-append events messages cpu page)
 
 abbrev pub AllRight : List Message → Type 0
 AllRight [] = Unit {0}
@@ -50,14 +48,9 @@ AllRight-append [] b one two = two
 AllRight-append (message ∷ a) b one two = (one.0, AllRight-append a b one.1 two)
 
 pub told_right : (reason : Bool) (message : Message) → (reason ≡ true → IsRight message) → AllRight (told reason message)
-told_right true message right = (right refl, tt)
-told_right false message right = tt
+told_right reason message right = grind (arith, nat_tests)
 
 -- A message is told where a page of its range was registered
-
-untold : (reason changed : Bool) (message : Message) (page : ℕ) → is_changed_by message page ≡ changed → reason ≡ true → tells (told reason message) page ≡ false → changed ≡ false
-untold true changed message page is reasoned h = sym is ∙ (or_parts (is_changed_by message page) false h).0
-untold false changed message page is reasoned h = none_absurd reasoned
 
 watched_by : (none : Bool) → (none ≡ true → ⊥) → not none ≡ true
 watched_by none never = grind arith
@@ -75,7 +68,7 @@ in_bytes-pages start count page = let n : (start + 4096 * count) / 4096 - start 
 -- a registered page of which nothing is told lies outside of a range of which it would be told
 pub outside_told : (reason : Bool) (message : Message) (object : Object) (first count page : ℕ) → (in_range first count page ≡ true → is_changed_by message page ≡ true) → reason ≡ true → is_registered object page ≡ true →
     tells (told (reason && is_watched object first count) message) page ≡ false → in_range first count page ≡ false
-outside_told reason message object first count page covers reasoned registered h = grind (arith, nat_tests, untold, and_from, watched_page)
+outside_told reason message object first count page covers reasoned registered h = grind (arith, nat_tests, and_from, watched_page)
 
 pub unmapped_outside : (object : Object) (start count page : ℕ) → is_registered object page ≡ true → tells (told (is_watched object (start / 4096) count) (Unmap start (start + 4096 * count))) page ≡ false → in_range (start / 4096) count page ≡ false
 unmapped_outside object start count page registered h =

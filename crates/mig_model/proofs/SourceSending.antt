@@ -1,5 +1,5 @@
 -- The source sends the next page of a round, or a run of neighbouring pages in one frame, and keeps what every world keeps.
-use Rattle.std.proofs.Common.{◌≡◌, ℕ, zero, suc, ◌+◌, Bool, true, false, cond, eqb, Option, Some, List, [], ◌∷◌, ◌++◌, sym, ap, ◌∙◌, length, subst, arith, ◌&&◌, ◌||◌, ltb, is_some, unwrap_or}
+use Rattle.std.proofs.Common.{◌≡◌, ℕ, zero, suc, ◌+◌, Bool, true, false, cond, eqb, Option, Some, List, [], ◌∷◌, ◌++◌, sym, ap, ◌∙◌, length, arith, ◌&&◌, ◌||◌, ltb, is_some, unwrap_or}
 use Rattle.std.proofs.lemmas.Bool.Decides.{nat_tests}
 use Rattle.mig_base.specs.Ranges.{in_range}
 use Rattle.std.specs.List.{list_all}
@@ -14,7 +14,6 @@ use Rattle.mig_model.proofs.HostLemmas.{get-put}
 use Rattle.mig_model.specs.Migration.{World, after_run, after_send, is_changing, run_bound}
 use Rattle.mig_model.proofs.Facts.{none_absurd, zero_bytes, kept_page, copies_of-append, AreWhole-append, either, eqb-self, only_one, AreOf-one, no_event}
 use Rattle.mig_model.proofs.WireLemmas.{has_no_package, copies_in-page, page_flow, flow_sent, fits-append, flight_up}
-use Rattle.std.specs.FinSet as finset
 use Rattle.std.specs.FinSet.{FinSet, contains}
 use Rattle.std.proofs.lemmas.Bool.{or_right}
 use Rattle.mig_base.specs.declared.phase.DestPhase.{DestPhase}
@@ -41,17 +40,11 @@ kept_after-page_frame kept page bytes n = kept_page (list_all (λ byte. eqb byte
 -- One more frame
 
 pub copies_whole-push : (wire : List Sent) (sent : Sent) → AreWhole (copies_in sent.frame) → AreWhole (copies_of wire) → AreWhole (copies_of (wire ++ sent ∷ []))
-copies_whole-push wire sent whole are =
-    subst AreWhole (sym (copies_of-append wire (sent ∷ []))) (AreWhole-append (copies_of wire) (copies_of (sent ∷ [])) are (AreWhole-append (copies_in sent.frame) [] whole tt))
+copies_whole-push wire sent whole are = grind (arith, nat_tests, copies_of-append, AreWhole-append)
 
 -- what is kept once one more frame behind copies is taken
 pub kept_by-push : (wire : List Sent) (flow : Flow) (sent : Sent) (kept : FinMap nat_cmp (List ℕ)) → flow_after flow wire ≡ Some Copies → kept_by kept (wire ++ sent ∷ []) ≡ kept_by (kept_by kept wire) (sent ∷ [])
 kept_by-push wire flow sent kept h = (has_no_package flow kept wire (sent ∷ []) h).kept_then
-
--- the page's own bytes are the newest then
-pub kept_by-page : (wire : List Sent) (flow : Flow) (kept : FinMap nat_cmp (List ℕ)) (epoch page : ℕ) (bytes : List ℕ) → flow_after flow wire ≡ Some Copies → length bytes ≡ 4096 → (q : ℕ) →
-    get (kept_by kept (wire ++ record { epoch = epoch; frame = page_frame page bytes } ∷ [])) q ≡ cond (eqb q page) (Some bytes) (get (kept_by kept wire) q)
-kept_by-page wire flow kept epoch page bytes h n q = grind (arith, nat_tests, kept_by-push, kept_after-page_frame, get-put)
 
 -- A run of pages
 
@@ -74,16 +67,12 @@ one_in f first count q o = grind (arith, nat_tests)
 
 get-kept_with : (node : Source) (kept : FinMap nat_cmp (List ℕ)) (first count q : ℕ) → get (kept_with kept (run_copies first (run_of node first count))) q ≡ cond (in_range first count q) (Some (bytes_of node q)) (get kept q)
 get-kept_with node kept first zero q = none_in first q (Some (bytes_of node q)) (get kept q)
-get-kept_with node kept first (suc count) q =
-    get-kept_with node (insert kept first (bytes_of node first)) (1 + first) count q
-    ∙ ap (cond (in_range (1 + first) count q) (Some (bytes_of node q))) (get-put kept first q (bytes_of node first))
-    ∙ one_in (λ page. Some (bytes_of node page)) first count q (get kept q)
+get-kept_with node kept first (suc count) q = grind (arith, nat_tests, get-put, one_in, get-kept_with node (insert kept first (bytes_of node first)) (1 + first) count q)
 
 -- its pages' own bytes are the newest then
 pub kept_by-run : (wire : List Sent) (flow : Flow) (kept : FinMap nat_cmp (List ℕ)) (epoch : ℕ) (node : Source) (first count : ℕ) → flow_after flow wire ≡ Some Copies → (q : ℕ) →
     get (kept_by kept (wire ++ record { epoch = epoch; frame = Run first (run_of node first count) } ∷ [])) q ≡ cond (in_range first count q) (Some (bytes_of node q)) (get (kept_by kept wire) q)
-kept_by-run wire flow kept epoch node first count h q =
-    ap (λ m. get m q) (kept_by-push wire flow (record { epoch = epoch; frame = Run first (run_of node first count) }) kept h) ∙ get-kept_with node (kept_by kept wire) first count q
+kept_by-run wire flow kept epoch node first count h q = grind (arith, nat_tests, kept_by-push, get-kept_with)
 
 pub present_bytes : {X : Type 0} (o : Option X) (zeros : X) → is_some o ≡ true → Some (unwrap_or o zeros) ≡ o
 present_bytes o zeros h = grind arith
@@ -174,14 +163,8 @@ kept-carried world first count frame log pages kept precopy up unswitched are is
 first_of_one : (page : ℕ) → in_range page 1 page ≡ true
 first_of_one page = only_one page page ∙ eqb-self page
 
-one_page : (f : ℕ → List ℕ) (page q : ℕ) (o : Option (List ℕ)) → cond (eqb q page) (Some (f page)) o ≡ cond (in_range page 1 q) (Some (f q)) o
-one_page f page q o = grind (arith, nat_tests)
-
-inserted_is : (set : FinSet nat_cmp) (page q : ℕ) → contains (finset.insert set page) q ≡ (in_range page 1 q || contains set q)
-inserted_is set page q = member_inserted set page q ∙ ap (λ b. b || contains set q) (sym (only_one page q))
-
 page_carried : (source : Source) (page : ℕ) → length (bytes_of source page) ≡ 4096 → IsCarried (space_of source) source.log page 1 (page_frame page (bytes_of source page)) (log_sent source.log page)
-page_carried source page whole = grind (arith, nat_tests, inserted_is, member_removed, copies_in-page, page_flow, kept_by-page, one_page)
+page_carried source page whole = grind (arith, nat_tests, member_removed, copies_in-page, page_flow, member_inserted, only_one, kept_by-push, kept_after-page_frame, get-put)
 
 pub kept-send : (world : World) (page : ℕ) → IsSoundWorld world → least_of world.source.log.todo ≡ Some page → is_precopy world.source.phase ≡ true → world.up ≡ true → is_changing world.source.guest ≡ false → IsSoundWorld (after_send world page)
 kept-send world page kept found precopy up quiet =

@@ -1,10 +1,9 @@
 -- What a space keeps over each load, store and map call.
 use Rattle.std.proofs.lemmas.Bool.Decides.{nat_tests}
-use Rattle.std.proofs.Common.{◌≡◌, ℕ, ◌+◌, ◌-◌, ◌/◌, ◌&&◌, ◌||◌, Bool, true, false, cond, not, eqb, ltb, Option, Some, None, List, refl, sym, ap, ◌∙◌, subst, arith, is_some}
+use Rattle.std.proofs.Common.{◌≡◌, ℕ, ◌+◌, ◌-◌, ◌/◌, ◌||◌, Bool, true, false, cond, not, Some, None, List, refl, sym, ap, ◌∙◌, subst, arith, is_some}
 use Rattle.std.specs.Ordering.{nat_cmp}
-use Rattle.std.specs.FinMap.{FinMap, get, insert, contains_key}
+use Rattle.std.specs.FinMap.{FinMap, get, contains_key}
 use Rattle.std.specs.FinSet.{FinSet, empty, contains, contains-empty}
-use Rattle.mig_base.specs.declared.TheConstants.{HIGH_PAGE}
 use Rattle.mig_base.specs.declared.Prot.{Prot}
 use Rattle.mig_base.specs.declared.command.Errno.TheVariants.{Enomem}
 use Rattle.mig_base.specs.declared.command.Command.{Command}
@@ -20,7 +19,7 @@ use Rattle.mig_base.specs.Flat.{reply_of}
 use Rattle.mig_base.proofs.PageLemmas.{get-set_range, get-remove_range, get-moved_range}
 use Rattle.mig_base.proofs.SetLemmas.{member_without, member_below}
 use Rattle.mig_base.proofs.ReplyLemmas.{IsRemapped, mremap_told}
-use Rattle.mig_model.specs.Host.{Host, memory, host_changed, host_after, IsSound}
+use Rattle.mig_model.specs.Host.{Host, memory, host_changed, IsSound}
 use Rattle.mig_base.specs.Commands.{is_access}
 use Rattle.mig_base.proofs.BoundLemmas.{one_prot_some}
 use Rattle.mig_model.specs.Userfault.{Mode, mode_at, fault_queued}
@@ -49,11 +48,8 @@ sound_of space host parts = record { host = host; mapped = parts.mapped; present
 
 -- Ranges taken out
 
-one_left : (a gone : Bool) → (a && not gone) ≡ true → (gone ≡ false) × (a ≡ true)
-one_left a gone h = grind (arith, nat_tests)
-
 left_of : (s : Set) (first count page : ℕ) → contains (without s first count) page ≡ true → (in_range first count page ≡ false) × (contains s page ≡ true)
-left_of s first count page h = one_left (contains s page) (in_range first count page) (sym (member_without s first count page) ∙ h)
+left_of s first count page h = grind (arith, nat_tests, member_without)
 
 stays : {X : Type 0} (pages : PageMap X) (first count page : ℕ) → in_range first count page ≡ false → contains_key pages page ≡ true → contains_key (remove_range pages first count) page ≡ true
 stays pages first count page out h = ap is_some (get-remove_range pages first count page ∙ ap (λ b. cond b None (get pages page)) out) ∙ h
@@ -74,24 +70,9 @@ dropped areas bytes missing protect protected first count old = grind (arith, na
 
 -- Pages moved
 
-abbrev in_moved : (ℕ → Bool) → ℕ → ℕ → ℕ → ℕ → Bool → ℕ → Bool
-in_moved test from count to new_count growth page =
-    ltb page HIGH_PAGE && cond (in_range to new_count page) (cond (ltb (page - to) count) (test (from + (page - to))) growth) (not (in_range from count page) && test page)
-
-member_moved : (s : Set) (from count to new_count page : ℕ) (growth : Bool) → contains (moved_set s from count to new_count growth) page ≡ in_moved (contains s) from count to new_count growth page
-member_moved s from count to new_count page growth = member_below _ HIGH_PAGE page
-
-moved_present : {X : Type 0} (low new old from p1 p2 : Bool) (b1 b2 : Option X) → (p1 ≡ true → is_some b1 ≡ true) → (p2 ≡ true → is_some b2 ≡ true) →
-    (low && cond new (cond old p1 false) (not from && p2)) ≡ true → is_some (cond new (cond old b1 None) (cond from None b2)) ≡ true
-moved_present low new old from p1 p2 b1 b2 one two h = grind (arith, nat_tests)
-
-moved_watched : (low new old from p1 p2 w1 w2 wg : Bool) → (p1 ≡ true → w1 ≡ true) → (p2 ≡ true → w2 ≡ true) →
-    (low && cond new (cond old p1 false) (not from && p2)) ≡ true → (low && cond new (cond old w1 wg) (not from && w2)) ≡ true
-moved_watched low new old from p1 p2 w1 w2 wg one two h = grind (arith, nat_tests)
-
 moved_parts : (areas : PageMap Prot) (bytes : PageMap (List ℕ)) (missing protect protected : Set) (from count to new_count : ℕ) (mode : Mode) → contains_key areas from ≡ true → IsWatched areas bytes missing protect protected →
     IsWatched (moved_range areas from count to new_count (get areas from)) (moved_range bytes from count to new_count None) (moved_set missing from count to new_count mode.missing) (moved_set protect from count to new_count mode.protect) (moved_set protected from count to new_count false)
-moved_parts areas bytes missing protect protected from count to new_count mode some old = grind (arith, nat_tests, get-moved_range, member_moved, moved_present, moved_watched)
+moved_parts areas bytes missing protect protected from count to new_count mode some old = grind (arith, nat_tests, get-moved_range, member_below)
 
 -- Map calls
 
@@ -130,27 +111,19 @@ IsSoundSpace-called space cpu command call sound =
 
 -- Loads and stores
 
-more_present : (bytes : PageMap (List ℕ)) (page q : ℕ) (held : List ℕ) → contains_key bytes q ≡ true → contains_key (insert bytes page held) q ≡ true
-more_present bytes page q held h = ap is_some (get-put bytes page q held) ∙ some_either (eqb q page) held (get bytes q) h
-
 -- a load or store leaves the areas, and leaves present what is present
 pub record Keeps (old new : Host) : Type 0 where
   areas : new.areas ≡ old.areas
   present : (page : ℕ) → contains_key old.bytes page ≡ true → contains_key new.bytes page ≡ true
 
 accessed_host : (host : Host) (command : Command) (reply : Reply) → is_access command ≡ true → Keeps host (host_changed host command reply)
-accessed_host host command reply access = grind (arith, nat_tests, more_present, none_absurd)
-
-answered_sound : (space : Space) (command : Command) → is_access command ≡ true → IsSoundSpace space → IsSoundSpace (record space { host = host_after space.host command })
-answered_sound space command access sound = grind (arith, nat_tests, accessed_host, IsSound-changed)
+accessed_host host command reply access = grind (arith, nat_tests, none_absurd, get-put, some_either)
 
 faulted_sound : (space : Space) (addr : ℕ) (write wp : Bool) (cpu : ℕ) → IsSoundSpace space → IsSoundSpace (record space { object = fault_queued space.object addr write wp cpu })
 faulted_sound space addr write wp cpu sound = grind (arith, nat_tests)
 
 accessed_sound : (access : Access) (space : Space) (cpu : ℕ) (command : Command) → is_access command ≡ true → IsSoundSpace space → IsSoundSpace (accessed_by access space cpu command)
-accessed_sound (Answered reply) space cpu command is sound = answered_sound space command is sound
-accessed_sound Missing space cpu command is sound = faulted_sound space _ _ _ cpu sound
-accessed_sound Protected space cpu command is sound = faulted_sound space _ _ _ cpu sound
+accessed_sound access space cpu command is sound = grind (arith, nat_tests, faulted_sound, accessed_host, IsSound-changed)
 
 pub IsSoundSpace-accessed : (space : Space) (cpu : ℕ) (command : Command) → is_access command ≡ true → IsSoundSpace space → IsSoundSpace (accessed space cpu command)
 IsSoundSpace-accessed space cpu command is sound = accessed_sound (access_of space command) space cpu command is sound

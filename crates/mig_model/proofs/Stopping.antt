@@ -1,5 +1,5 @@
 -- Push, Serve, End and Switch keep what every world of the whole migration keeps.
-use Rattle.std.proofs.Common.{◌≡◌, ◌≢◌, ℕ, ◌<◌, ◌&&◌, ◌||◌, Bool, true, false, cond, not, eqb, Option, Some, None, List, [], ◌∷◌, ◌++◌, refl, sym, ap, ◌∙◌, subst, ◌⊎◌, ⊎_elim, arith, append-nil, length, is_some, unwrap_or, ◌≤◌, ltb}
+use Rattle.std.proofs.Common.{◌≡◌, ◌≢◌, ℕ, ◌<◌, ◌&&◌, ◌||◌, Bool, true, false, cond, not, eqb, Option, Some, None, List, [], ◌∷◌, ◌++◌, refl, sym, ap, ◌∙◌, subst, ◌⊎◌, arith, append-nil, length, is_some, unwrap_or, ◌≤◌, ltb}
 use Rattle.std.specs.Ordering.{nat_cmp}
 use Rattle.std.specs.FinMap.{FinMap, get, get-retain_keys, nat_cmp-IsAntisymmetric}
 use Rattle.std.specs.FinSet as finset
@@ -54,13 +54,11 @@ or_true a = grind arith
 -- a page that was pushed is in flight where it remained
 pushed_whereabouts : (remaining : FinSet nat_cmp) (urgent : List Sent) (copies : List Copy) (page q : ℕ) (bytes : List ℕ) → (is_urgent_or_left remaining urgent q || has_copy copies q) ≡ true →
     (is_urgent_or_left (finset.remove remaining page) urgent q || has_copy (copies ++ record { page = page; bytes = bytes } ∷ []) q) ≡ true
-pushed_whereabouts remaining urgent copies page q bytes h =
-    rw (member_removed remaining page q, has_copy-append copies (record { page = page; bytes = bytes } ∷ []) q) (grind (arith, nat_tests))
+pushed_whereabouts remaining urgent copies page q bytes h = grind (arith, nat_tests, member_removed, has_copy-append)
 
 pushed_flowing : (remaining : FinSet nat_cmp) (urgent : List Sent) (copies arrivals : List Copy) (page q : ℕ) (bytes : List ℕ) → (is_urgent_or_left remaining urgent q || has_copy copies q || has_copy arrivals q) ≡ true →
     (is_urgent_or_left (finset.remove remaining page) urgent q || has_copy (copies ++ record { page = page; bytes = bytes } ∷ []) q || has_copy arrivals q) ≡ true
-pushed_flowing remaining urgent copies arrivals page q bytes h =
-    rw (member_removed remaining page q, has_copy-append copies (record { page = page; bytes = bytes } ∷ []) q) (grind (arith, nat_tests))
+pushed_flowing remaining urgent copies arrivals page q bytes h = grind (arith, nat_tests, member_removed, has_copy-append)
 
 -- Push
 
@@ -95,18 +93,7 @@ pushed_wires : (to : DestPhase) (world : World) (page : ℕ) → get (space_of w
 pushed_wires DestPhase.Idle world page held whole other flows old = (flows BeforeAdvise old.0, old.1, pushed_switching (stopped_at DestPhase.Idle world).source world.destination.kept world.forward.frames world.urgent.frames page held whole old.2)
 pushed_wires DestPhase.Advised world page held whole other flows old = (flows Copies old.0, old.1, pushed_switching (stopped_at DestPhase.Advised world).source world.destination.kept world.forward.frames world.urgent.frames page held whole old.2)
 pushed_wires DestPhase.Discarding world page held whole other flows old = (flows BeforePackage old.0, old.1, pushed_switching (stopped_at DestPhase.Discarding world).source world.destination.kept world.forward.frames world.urgent.frames page held whole old.2)
-pushed_wires DestPhase.Running world page held whole other flows old =
-    let more = pushed_frame world.source page ∷ [] in
-    let copies : copies_of (world.forward.frames ++ more) ≡ copies_of world.forward.frames ++ record { page = page; bytes = bytes_of world.source page } ∷ [] =
-    copies_of-append world.forward.frames more ∙ ap (λ c. copies_of world.forward.frames ++ c) (copies_of-page world.source.epoch page (bytes_of world.source page) whole) in (
-      flows Pushed old.0,
-      old.1,
-      record {
-        whereabouts = λ q origin owed.
-            ap (λ c. is_urgent_or_left (finset.remove world.source.remaining page) world.urgent.frames origin || has_copy c origin || has_copy world.destination.arrivals origin) copies
-            ∙ pushed_flowing world.source.remaining world.urgent.frames (copies_of world.forward.frames) world.destination.arrivals page origin (bytes_of world.source page) (old.2.whereabouts q origin owed);
-      },
-    )
+pushed_wires DestPhase.Running world page held whole other flows old = grind (arith, nat_tests, copies_of-append, copies_of-page, pushed_flowing)
 pushed_wires DestPhase.Paused world page held whole other flows old = absurd old
 pushed_wires DestPhase.Ended world page held whole other flows old = absurd (other old.2)
 
@@ -161,11 +148,8 @@ served_wires DestPhase.Paused world pages old = absurd old
 served_wires DestPhase.Ended world pages old = old
 served_wires _ world pages old = (old.0, old.1, record { owed = old.2.owed; plan = old.2.plan; owed_present = old.2.owed_present; kept_rest = old.2.kept_rest; whereabouts = old.2.whereabouts; faithful = old.2.faithful })
 
-served_in : (from : SourcePhase) (to : DestPhase) (world : World) (pages : List ℕ) → is_stopped from ≡ true → IsSoundWorld (in_phases from to world) → IsSoundWorld (after_serve (in_phases from to world) pages)
-served_in from to world pages stopped kept = grind (arith, nat_tests, served_wires)
-
 pub kept-serve : (world : World) (pages : List ℕ) → IsSoundWorld world → is_stopped world.source.phase ≡ true → IsSoundWorld (after_serve world pages)
-kept-serve world pages kept stopped = served_in world.source.phase world.destination.phase world pages stopped kept
+kept-serve world pages kept stopped = grind (arith, nat_tests, served_wires)
 
 -- End
 
@@ -307,11 +291,8 @@ switched_wires DestPhase.Advised world kept quiet other old =
 switched_wires DestPhase.Discarding world kept quiet other old = absurd old
 switched_wires _ world kept quiet other old = absurd old
 
-precopy_not_idle : SourcePhase.Precopy ≢ SourcePhase.Idle
-precopy_not_idle h = cc
-
 was_not_ended : (A : Type 0) → (A ⊎ (SourcePhase.Precopy ≡ SourcePhase.Idle)) → A
-was_not_ended A told = ⊎_elim (λ a. a) (λ idle. absurd (precopy_not_idle idle)) told
+was_not_ended A told = grind (arith, nat_tests)
 
 switched_in : (from : SourcePhase) (to : DestPhase) (world : World) → is_precopy from ≡ true → world.up ≡ true → (space_of world.source).object.events ≡ [] → IsSoundWorld (in_phases from to world) → IsSoundWorld (after_switch (in_phases from to world))
 switched_in SourcePhase.Precopy to world precopy up quiet kept =

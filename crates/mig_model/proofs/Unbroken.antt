@@ -14,10 +14,7 @@ use Rattle.mig_base.specs.declared.schedule.Step.{Step}
 use Rattle.mig_model.specs.Host.{Host}
 use Rattle.mig_model.specs.Wire.{Frame, Sent}
 use Rattle.mig_model.specs.Wire.Frame.{Package}
-use Rattle.mig_model.specs.Guest.{is_present}
 use Rattle.mig_model.specs.Source.{Source, commands_of, is_precopy, is_stopped, not_clean, space_of}
-use Rattle.mig_model.specs.Destination.{destination_act}
-use Rattle.mig_model.specs.Owed.{home}
 use Rattle.mig_model.specs.Migration.{World, after_command, after_deliver, after_steps, frame_effect, is_changing, next, outcome, runs}
 use Rattle.mig_model.specs.Invariant.{IsSoundWorld, is_package, package_in}
 use Rattle.mig_model.specs.Promises.{IsReached}
@@ -75,28 +72,19 @@ awaits_answer host frame_sent world Step.Start kept linked h = λ idle unused up
 awaits_answer host frame_sent world Step.Round kept linked h = λ precopy quiet up ran. unstopped host frame_sent world (h ran) (precopy_unstopped world.source.phase precopy)
 awaits_answer host frame_sent world Step.Send kept linked h = λ page is precopy link quiet up ran. unstopped host frame_sent world (h ran) (precopy_unstopped world.source.phase precopy)
 awaits_answer host frame_sent world (Step.SendRun count) kept linked h = λ first number is many precopy link quiet up ran. unstopped host frame_sent world (h ran) (precopy_unstopped world.source.phase precopy)
-awaits_answer host frame_sent world Step.SourceRead kept linked h =
-    λ noted is started unswitched up ran. unstopped host frame_sent world (h ran) (not_stopped world.source.phase world.source.switched kept.phases.source_phase unswitched)
-awaits_answer host frame_sent world Step.SourceAct kept linked h =
-    λ fault rest is started unswitched quiet up ran. unstopped host frame_sent world (h ran) (not_stopped world.source.phase world.source.switched kept.phases.source_phase unswitched)
+awaits_answer host frame_sent world Step.SourceRead kept linked h = grind (arith, nat_tests, unstopped, not_stopped)
+awaits_answer host frame_sent world Step.SourceAct kept linked h = grind (arith, nat_tests, unstopped, not_stopped)
 awaits_answer host frame_sent world Step.Switch kept linked h = λ precopy link quiet up ran. unstopped host frame_sent world (h ran) (precopy_unstopped world.source.phase precopy)
-awaits_answer host frame_sent world (Step.Deliver n) kept linked h =
-    ((λ sent rest is short up ran. let now = h ran in record { stopped = now.stopped; host_is = now.host_is; package_is = now.package_is }), (λ sent rest is full started link free early up. taken_awaits host frame_sent sent.epoch sent.frame rest world is h))
-awaits_answer host frame_sent world (Step.DeliverBack n) kept linked h =
-    ((λ sent rest is short up ran. let now = h ran in record { stopped = now.stopped; host_is = now.host_is; package_is = now.package_is }), (λ sent rest is full started link up ran. absurd (empty_not sent rest (sym is ∙ no_back world.source.phase world.destination.phase world (h ran).stopped linked ran kept))))
+awaits_answer host frame_sent world (Step.Deliver n) kept linked h = grind (arith, nat_tests, taken_awaits)
+awaits_answer host frame_sent world (Step.DeliverBack n) kept linked h = grind (arith, nat_tests, empty_not, no_back)
 awaits_answer host frame_sent world Step.DestRead kept linked h = λ noted is runs up ran. absurd (false≢true (sym ran ∙ runs))
-awaits_answer host frame_sent world Step.DestAct kept linked h =
-    λ fault rest is runs quiet up ran. absurd (false≢true (sym ran ∙ (handles (destination_act world.destination fault) world.destination fault.page).ran ∙ runs))
-awaits_answer host frame_sent world Step.Install kept linked h =
-    λ copy rest is runs quiet up ran. absurd (false≢true (sym ran ∙ (installs (home world.destination.owed copy.page) world.destination copy rest).ran ∙ runs))
+awaits_answer host frame_sent world Step.DestAct kept linked h = grind (arith, nat_tests, handles)
+awaits_answer host frame_sent world Step.Install kept linked h = grind (arith, nat_tests, installs)
 awaits_answer host frame_sent world (Step.Push ticket) kept linked h =
     λ stopped link own present remains up ran. let now = h ran in record { stopped = now.stopped; host_is = now.host_is; package_is = sent_more host frame_sent world _ now }
-awaits_answer host frame_sent world (Step.PushUrgent ticket) kept linked h =
-    λ stopped link own present remains up ran. let now = h ran in record { stopped = now.stopped; host_is = now.host_is; package_is = now.package_is }
-awaits_answer host frame_sent world (Step.DeliverUrgent n) kept linked h =
-    ((λ sent rest is short up ran. let now = h ran in record { stopped = now.stopped; host_is = now.host_is; package_is = now.package_is }), (λ sent rest is full runs link up ran. absurd (false≢true (sym ran ∙ (takes_urgent sent.frame world.destination).node.ran ∙ runs))))
-awaits_answer host frame_sent world Step.Serve kept linked h =
-    λ page pages is stopped link up ran. let now = h ran in record { stopped = now.stopped; host_is = now.host_is; package_is = now.package_is }
+awaits_answer host frame_sent world (Step.PushUrgent ticket) kept linked h = grind (arith, nat_tests)
+awaits_answer host frame_sent world (Step.DeliverUrgent n) kept linked h = grind (arith, nat_tests, takes_urgent)
+awaits_answer host frame_sent world Step.Serve kept linked h = grind (arith, nat_tests)
 awaits_answer host frame_sent world Step.End kept linked h =
     λ stopped other link none up ran. let now = h ran in record { stopped = now.stopped; host_is = now.host_is; package_is = sent_more host frame_sent world _ now }
 awaits_answer host frame_sent world Step.Break kept linked h = λ started unreleased link up. absurd (false≢true up)
@@ -114,8 +102,7 @@ awaits_steps host frame_sent world (step ∷ steps) reached linked stays h =
 -- The Switch
 
 no_package_by : (o : Option Frame) → (is_some o ≡ true → ⊥) → o ≡ None
-no_package_by None not = refl
-no_package_by (Some frame) not = absurd (not refl)
+no_package_by o not = grind (arith, nat_tests)
 
 none_before : (from : SourcePhase) (to : DestPhase) (world : World) → is_precopy from ≡ true → world.up ≡ true → IsSoundWorld (in_phases from to world) → is_some (package_in world.forward.frames) ≡ true → ⊥
 none_before from to world precopy up kept there = grind (arith, nat_tests, none_precopy)
@@ -152,8 +139,7 @@ record IsPackageFirst (world : World) : Type 0 where
   is : is_package sent.frame ≡ true
 
 takes_package : (frame : Frame) (owed : ℕ) → frame_effect frame ≡ Effect.TookPackage owed → is_package frame ≡ true
-takes_package (Package areas pages commands) owed h = refl
-takes_package _ owed h = absurd (cc)
+takes_package frame owed h = grind (arith, nat_tests)
 
 package_first : (world : World) (n owed : ℕ) → outcome world (Step.Deliver n) ≡ Ok (Effect.TookPackage owed) → IsPackageFirst world
 package_first world n owed answered =
@@ -165,13 +151,9 @@ kept_then : (source : Source) (now : World) → IsSoundWorld now → now.up ≡ 
     get now.destination.kept page ≡ cond (contains (not_clean source) page) None (get (space_of source).host.bytes page)
 kept_then source now sound up first awaits page = grind (arith, nat_tests)
 
--- a clean page of a source that may switch is present
-clean_present : (world : World) (page : ℕ) → IsSoundWorld world → is_precopy world.source.phase ≡ true → is_changing world.source.guest ≡ false → contains world.source.log.clean page ≡ true → is_present (space_of world.source) page ≡ true
-clean_present world page kept precopy quiet clean = grind (arith, nat_tests, no_event)
-
 keeps_by : (world now : World) → IsSoundWorld world → is_precopy world.source.phase ≡ true → is_changing world.source.guest ≡ false →
     ((page : ℕ) → get now.destination.kept page ≡ cond (contains (not_clean world.source) page) None (get (space_of world.source).host.bytes page)) → KeepsClean world now
-keeps_by world now kept precopy quiet all = grind (arith, nat_tests, clean_present, owed_at)
+keeps_by world now kept precopy quiet all = grind (arith, nat_tests, owed_at, no_event)
 
 pub keeps_clean : (world : World) (steps : List Step) (n owed : ℕ) → IsReached world → IsOk (outcome world Step.Switch) → StaysUp (next world Step.Switch) steps →
     outcome (after_steps (next world Step.Switch) steps) (Step.Deliver n) ≡ Ok (Effect.TookPackage owed) → KeepsClean world (after_steps (next world Step.Switch) steps)

@@ -1,24 +1,21 @@
 -- The frames that were put on the urgent wire in an epoch and the pages that remain are, together, no more than the pages of the source.
-use Rattle.std.proofs.Common.{◌≡◌, ℕ, ◌+◌, ◌-◌, ◌≤◌, ◌&&◌, not, Bool, true, false, List, refl, sym, ◌∙◌, arith, ltb}
+use Rattle.std.proofs.Common.{◌≡◌, ℕ, ◌+◌, ◌≤◌, not, Bool, true, false, List, refl, sym, ◌∙◌, arith}
 use Rattle.std.specs.Ordering.{nat_cmp}
 use Rattle.std.specs.FinSet as finset
 use Rattle.std.specs.FinSet.{FinSet, contains, len}
 use Rattle.std.proofs.lemmas.Bool.{false≢true}
 use Rattle.std.proofs.lemmas.Bool.Decides.{nat_tests}
-use Rattle.mig_base.specs.declared.TheConstants.{HIGH_PAGE}
 use Rattle.mig_base.specs.declared.phase.SourcePhase.{SourcePhase}
 use Rattle.mig_base.specs.declared.schedule.Side.{Side}
 use Rattle.mig_base.specs.declared.schedule.Step.{Step}
 use Rattle.mig_base.specs.declared.command.Command.{Command}
-use Rattle.mig_base.specs.Commands.{is_access}
 use Rattle.mig_base.proofs.SetLemmas.{member_below}
 use Rattle.mig_model.specs.Host.{IsSound}
 use Rattle.mig_model.specs.Space.{Space}
-use Rattle.mig_model.specs.Guest.{Guest, Act, is_present, tried}
-use Rattle.mig_model.specs.Guest.Act.{Unprotected}
+use Rattle.mig_model.specs.Guest.{Act, is_present}
 use Rattle.mig_model.specs.Log.{present}
 use Rattle.mig_model.specs.Wire.{Frame, Sent}
-use Rattle.mig_model.specs.Migration.{World, after_command, after_deliver_back, after_switch, first_world_with, guest_of, next, runs, with_guest_by}
+use Rattle.mig_model.specs.Migration.{World, after_command, after_deliver_back, after_switch, first_world_with, next, runs}
 use Rattle.mig_model.specs.Source.{is_precopy, is_released, is_stopped, source_act, source_acted_by, space_of}
 use Rattle.mig_model.specs.Invariant.{AreSoundUrgent, IsSoundWorld}
 use Rattle.mig_model.specs.Promises.{IsReached}
@@ -36,26 +33,14 @@ use Rattle.mig_model.proofs.UrgentWire.{is_paused}
 
 -- Sets of pages of the source
 
-past : (q bound : ℕ) (here : Bool) → bound ≤ q → (ltb q bound && here) ≡ false
-past q bound here l = grind (arith, nat_tests)
-
-no_page_past : (space : Space) (q : ℕ) → HIGH_PAGE ≤ q → contains (present space) q ≡ false
-no_page_past space q l = member_below (λ page. is_present space page) HIGH_PAGE q ∙ past q HIGH_PAGE (is_present space q) l
-
 -- a set of present pages has no more than there are
 pub few_present : (space : Space) (set : FinSet nat_cmp) → IsSound space.host → ((page : ℕ) → contains set page ≡ true → is_present space page ≡ true) → len set ≤ len (present space)
-few_present space set sound h = grind (arith, nat_tests, len-part, member_below, present_below, no_page_past)
+few_present space set sound h = grind (arith, nat_tests, len-part, member_below, present_below)
 
 -- Sums
 
 sum_fresh : (count left all : ℕ) → count ≡ 0 → left ≤ all → count + left ≤ all
 sum_fresh count left all none few = omega (arith, none, few)
-
-sum_less : (count left less all : ℕ) → count + left ≤ all → less ≡ left - 1 → count + less ≤ all
-sum_less count left less all few is = omega (arith, few, is)
-
-sum_moved : (count left less all : ℕ) → count + left ≤ all → less ≡ left - 1 → 1 ≤ left → (count + 1) + less ≤ all
-sum_moved count left less all few is some = omega (arith, few, is, some)
 
 -- The source
 
@@ -67,29 +52,22 @@ before : {from : SourcePhase} {switched : Bool} {count : ℕ} {space : Space} {r
     IsUrgentFew from switched count space remaining → IsUrgentFew to switched count new left
 before to new left not h = record { before_switch = h.before_switch; few = λ s. absurd (false≢true (sym not ∙ s)) }
 
-guest_few : (ran : Bool) (world : World) (guest : Guest) → (ran ≡ false → world.source.switched ≡ false) → AreUrgentFew world → AreUrgentFew (with_guest_by ran world guest)
-guest_few true world guest not h = h
-guest_few false world guest not h = before world.source.phase guest.space world.source.remaining (not refl) h
-
 command_few : (world : World) (cpu : ℕ) (command : Command) → runs world ≡ true → AreUrgentFew world → AreUrgentFew (after_command world cpu command)
-command_few world cpu command may h =
-    guest_few world.destination.has_run world (tried (is_access command) (guest_of world) cpu command) (runs_source world.source.switched world.destination.has_run may) h
+command_few world cpu command may h = grind (arith, nat_tests, runs_source)
 
 acted_few : (act : Act) (world : World) (page : ℕ) → world.source.switched ≡ false → AreUrgentFew world → AreUrgentFew (record world { source = source_acted_by act world.source page })
-acted_few Unprotected world page not h = before _ _ _ not h
-acted_few _ world page not h = before _ _ _ not h
+acted_few act world page not h = grind (arith, nat_tests, before)
 
 switch_few : (world : World) → IsSoundWorld world → is_precopy world.source.phase ≡ true → AreUrgentFew world → AreUrgentFew (after_switch world)
 switch_few world kept precopy h = grind (arith, nat_tests, sum_fresh, few_present, owed_is_present)
 
 push_few : (world : World) (page : ℕ) → contains world.source.remaining page ≡ true → AreUrgentFew world →
     IsUrgentFew world.source.phase world.source.switched world.source.urgent_sent (space_of world.source) (finset.remove world.source.remaining page)
-push_few world page remains h =
-    record { before_switch = h.before_switch; few = λ s p. sum_less world.source.urgent_sent (len world.source.remaining) _ _ (h.few s p) (len-removed world.source.remaining page remains) }
+push_few world page remains h = grind (arith, nat_tests, len-removed)
 
 push_urgent_few : (world : World) (page : ℕ) → IsSoundWorld world → is_stopped world.source.phase ≡ true → contains world.source.remaining page ≡ true → AreUrgentFew world →
     IsUrgentFew world.source.phase world.source.switched (world.source.urgent_sent + 1) (space_of world.source) (finset.remove world.source.remaining page)
-push_urgent_few world page kept stopped remains h = grind (arith, nat_tests, sum_moved, len-removed, len-some)
+push_urgent_few world page kept stopped remains h = grind (arith, nat_tests, len-removed, len-some)
 
 -- Frames that the source takes
 

@@ -27,12 +27,9 @@ use Rattle.mig_model.proofs.WireLemmas.{copies_of-page, has_copy-append}
 
 -- PushUrgent
 
-moved_page : (left urgent more : Bool) → (left || urgent) ≡ true → (left || (urgent || more)) ≡ true
-moved_page left urgent more h = grind (arith, nat_tests)
-
 still_urgent : (remaining : FinSet nat_cmp) (urgent : List Sent) (sent : Sent) (page q : ℕ) (bytes : List ℕ) → copies_of (urgent ++ sent ∷ []) ≡ copies_of urgent ++ record { page = page; bytes = bytes } ∷ [] →
     is_urgent_or_left remaining urgent q ≡ true → is_urgent_or_left (finset.remove remaining page) (urgent ++ sent ∷ []) q ≡ true
-still_urgent remaining urgent sent page q bytes copies h = grind (arith, nat_tests, member_removed, has_copy-append, or_true, moved_page, same_or_other)
+still_urgent remaining urgent sent page q bytes copies h = grind (arith, nat_tests, member_removed, has_copy-append, or_true, same_or_other)
 
 first_by : (a new b : Bool) → (a ≡ true → new ≡ true) → (a || b) ≡ true → (new || b) ≡ true
 first_by a new b h k = grind (arith, nat_tests)

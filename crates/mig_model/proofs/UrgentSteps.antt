@@ -1,6 +1,6 @@
 -- What every world keeps of the urgent wire is kept by every step.
 use Rattle.std.proofs.lemmas.Bool.Decides.{nat_tests}
-use Rattle.std.proofs.Common.{◌≡◌, ℕ, ◌+◌, true, false, not, Option, Some, None, List, [], ◌∷◌, ◌++◌, refl, sym, ap, ◌∙◌, subst, arith, length}
+use Rattle.std.proofs.Common.{◌≡◌, ℕ, ◌+◌, true, false, not, Option, Some, List, [], ◌∷◌, ◌++◌, sym, ap, ◌∙◌, subst, arith, length}
 use Rattle.std.specs.FinMap.{get}
 use Rattle.std.specs.FinSet.{contains}
 use Rattle.std.proofs.lemmas.Bool.{false≢true}
@@ -11,11 +11,10 @@ use Rattle.mig_base.specs.declared.schedule.Side.{Side}
 use Rattle.mig_base.specs.declared.schedule.Step.{Step}
 use Rattle.mig_base.specs.declared.command.Command.{Command}
 use Rattle.mig_model.specs.Wire.{Frame, Sent, Wire, Copy, page_frame, sending}
-use Rattle.mig_model.specs.Wire.Frame.{Run, End}
+use Rattle.mig_model.specs.Wire.Frame.{Run}
 use Rattle.mig_model.specs.Migration.{World, after_break, after_command, after_deliver, after_deliver_back, after_deliver_urgent, after_end, after_move_urgent, after_notice, after_push_urgent, after_resume, after_start, after_switch, first_world_with, is_early, is_short, next, runs}
 use Rattle.mig_model.specs.Guest.{Act, is_present}
-use Rattle.mig_model.specs.Guest.Act.{Unprotected}
-use Rattle.mig_model.specs.Source.{Source, is_stopped, bytes_of, is_precopy, is_source_idle, source_act, source_acted_by, space_of, switch_frames, run_of}
+use Rattle.mig_model.specs.Source.{Source, is_stopped, bytes_of, is_precopy, is_source_idle, source_acted_by, space_of, switch_frames, run_of}
 use Rattle.mig_model.specs.Destination.{Destination, destination_act, destination_acted_by, install_by, is_dest_paused}
 use Rattle.mig_model.specs.Invariant.{AreFaithful, AreSoundUrgent, AreTold, IsSoundWorld, Wires, copies_of}
 use Rattle.mig_model.proofs.Taken.{IsInPlaceBack}
@@ -24,8 +23,6 @@ use Rattle.mig_model.specs.Owed.{home}
 use Rattle.mig_model.proofs.Facts.{AreFaithful-append, AreOf-one, copies_of-append}
 use Rattle.mig_model.proofs.StepCases.{MakesWorld, made-next}
 use Rattle.mig_model.proofs.Stopping.{not_ended, present_bytes}
-use Rattle.mig_model.proofs.FirstFrame.{comes}
-use Rattle.mig_model.proofs.Delivery.{AllCame}
 use Rattle.mig_model.proofs.UrgentWire.{are_copies-push, is_copy_page, not_stopped, other_bytes, other_forward, placed, precopy_unstopped, stopped_unpaused, told-push, told-sending, told_ended, told_open, told_page, all_came}
 use Rattle.mig_model.proofs.FramesTaken.{is_taken_back}
 use Rattle.mig_model.proofs.WireLemmas.{fits-more, fits-moved, copies_of-page}
@@ -39,16 +36,13 @@ command_urgent : (world : World) (cpu : ℕ) (command : Command) → IsSoundWorl
 command_urgent world cpu command kept may h = grind (arith, nat_tests)
 
 acted_urgent : (act : Act) (world : World) (page : ℕ) → is_stopped world.source.phase ≡ false → AreSoundUrgent world → AreSoundUrgent (record world { source = source_acted_by act world.source page })
-acted_urgent Unprotected world page not h = other_bytes _ not h
-acted_urgent _ world page not h = other_bytes _ not h
+acted_urgent act world page not h = grind (arith, nat_tests, other_bytes)
 
 handled_urgent : (act : Act) (world : World) (page : ℕ) (back : Wire) → AreSoundUrgent world → AreSoundUrgent (record world { destination = destination_acted_by act world.destination page; back = back })
-handled_urgent Unprotected world page back h = h
-handled_urgent _ world page back h = h
+handled_urgent act world page back h = grind (arith, nat_tests)
 
 installed_urgent : (o : Option ℕ) (world : World) (copy : Copy) (rest : List Copy) → AreSoundUrgent world → AreSoundUrgent (record world { destination = install_by o world.destination copy rest })
-installed_urgent None world copy rest h = h
-installed_urgent (Some page) world copy rest h = h
+installed_urgent o world copy rest h = grind (arith, nat_tests)
 
 -- The source
 
@@ -72,8 +66,7 @@ run_urgent : (world : World) (first count : ℕ) → AreSoundUrgent world → Ar
 run_urgent world first count h = told-sending world.source.epoch world.source.end_epoch world.source.urgent_sent world.forward.frames world.source.epoch (Run first (run_of world.source first count) ∷ []) h.told (tt, tt)
 
 end_urgent : (world : World) → AreSoundUrgent world → AreSoundUrgent (after_end world)
-end_urgent world h =
-    assumption (told-push world.source.epoch world.source.epoch world.source.urgent_sent world.forward.frames (record { epoch = world.source.epoch; frame = End world.source.urgent_sent }) (told_ended world.source.epoch world.source.end_epoch world.source.urgent_sent world.forward.frames h.told) (refl, refl))
+end_urgent world h = grind (arith, nat_tests, told-push, told_ended)
 
 -- while the destination has ended End was sent in this epoch
 ended_told : (from : SourcePhase) (to : DestPhase) (source : Source) (node : Destination) (forward back urgent : List Sent) → is_stopped from ≡ true → to ≡ DestPhase.Ended →
@@ -109,31 +102,14 @@ push_urgent_kept world page kept stopped up present remains h =
 
 -- Frames that the destination takes
 
-abbrev Taken : World → ℕ → Frame → List Sent → Type 0
-Taken world epoch frame rest = AreSoundUrgent (after_deliver world (record { epoch = epoch; frame = frame }) rest)
-
-taken_urgent : (frame : Frame) (epoch : ℕ) (rest : List Sent) (world : World) → IsSoundWorld world → world.up ≡ true → comes world.source.phase world.destination.phase frame ≡ true → AllCame frame world →
-    AreTold world.source.epoch world.source.end_epoch world.source.urgent_sent rest → AreSoundUrgent world → Taken world epoch frame rest
-taken_urgent frame epoch rest world kept up comes came told h = grind (arith, nat_tests)
-
 deliver_urgent_kept : (world : World) (sent : Sent) (rest : List Sent) → IsSoundWorld world → world.forward.frames ≡ sent ∷ rest → world.up ≡ true → is_early world.destination sent.frame ≡ false → AreSoundUrgent world → AreSoundUrgent (after_deliver world sent rest)
-deliver_urgent_kept world sent rest kept first up early h =
-    let told : AreTold world.source.epoch world.source.end_epoch world.source.urgent_sent (sent ∷ rest) = subst (AreTold world.source.epoch world.source.end_epoch world.source.urgent_sent) first h.told in
-    taken_urgent sent.frame sent.epoch rest world kept up (placed world sent rest kept first up) (all_came world sent rest kept h first up early) told.1 h
-
-abbrev UrgentFrames : World → List Sent → Type 0
-UrgentFrames world frames = AreSoundUrgent (record world { urgent = record world.urgent { frames = frames } })
-
-urgent_taken_by : (frame : Frame) (epoch : ℕ) (rest : List Sent) (world : World) → world.destination.has_run ≡ true → UrgentFrames world (record { epoch = epoch; frame = frame } ∷ rest) →
-    AreSoundUrgent (after_deliver_urgent world (record { epoch = epoch; frame = frame }) rest)
-urgent_taken_by frame epoch rest world ran h = grind (arith, nat_tests)
+deliver_urgent_kept world sent rest kept first up early h = grind (arith, nat_tests, placed, all_came)
 
 urgent_delivered : (world : World) (sent : Sent) (rest : List Sent) → world.urgent.frames ≡ sent ∷ rest → world.destination.has_run ≡ true → AreSoundUrgent world → AreSoundUrgent (after_deliver_urgent world sent rest)
-urgent_delivered world sent rest first ran h = urgent_taken_by sent.frame sent.epoch rest world ran (subst (UrgentFrames world) first h)
+urgent_delivered world sent rest first ran h = grind (arith, nat_tests)
 
 urgent_moved : (world : World) (n : ℕ) (sent : Sent) (rest : List Sent) → world.urgent.frames ≡ sent ∷ rest → is_short world.urgent sent.frame n ≡ true → AreSoundUrgent world → AreSoundUrgent (after_move_urgent world n)
-urgent_moved world n sent rest first short h =
-    assumption (fits-moved world.urgent n sent rest first short)
+urgent_moved world n sent rest first short h = grind (arith, nat_tests, fits-moved)
 
 -- Frames that the source takes
 
@@ -162,18 +138,13 @@ urgent-answer world (Step.Issue cpu command) kept h = λ there idle may. command
 urgent-answer world (Step.Retry cpu) kept h = λ command waits woken may. command_urgent world cpu command kept may h
 urgent-answer world Step.Start kept h = λ idle unused. start_urgent world kept idle h
 urgent-answer world Step.Round kept h = λ precopy quiet. other_bytes _ (precopy_unstopped world.source.phase precopy) h
-urgent-answer world Step.Send kept h =
-    λ page is precopy up quiet. other_bytes _ (precopy_unstopped world.source.phase precopy) (other_forward _ (sent_urgent world page h) h)
-urgent-answer world (Step.SendRun count) kept h =
-    λ first number is many precopy up quiet. other_bytes _ (precopy_unstopped world.source.phase precopy) (other_forward _ (run_urgent world first number h) h)
+urgent-answer world Step.Send kept h = grind (arith, nat_tests, other_bytes, precopy_unstopped, other_forward, sent_urgent)
+urgent-answer world (Step.SendRun count) kept h = grind (arith, nat_tests, other_bytes, precopy_unstopped, other_forward, run_urgent)
 urgent-answer world Step.SourceRead kept h = λ noted is started unswitched. other_bytes _ (not_stopped world.source.phase world.source.switched kept.phases.source_phase unswitched) h
-urgent-answer world Step.SourceAct kept h =
-    λ fault rest is started unswitched quiet.
-    acted_urgent (source_act world.source fault) world fault.page (not_stopped world.source.phase world.source.switched kept.phases.source_phase unswitched) h
+urgent-answer world Step.SourceAct kept h = grind (arith, nat_tests, acted_urgent, not_stopped)
 urgent-answer world Step.Switch kept h = λ precopy up quiet. switch_urgent world precopy h
 urgent-answer world (Step.Deliver n) kept h = ((λ sent rest is short. h), (λ sent rest is full started up free early. deliver_urgent_kept world sent rest kept is up early h))
-urgent-answer world (Step.DeliverBack n) kept h =
-    ((λ sent rest is short. h), (λ sent rest is full started up. back_urgent sent.frame sent.epoch rest world kept up is (is_taken_back world sent rest kept up is) h))
+urgent-answer world (Step.DeliverBack n) kept h = grind (arith, nat_tests, back_urgent, is_taken_back)
 urgent-answer world Step.DestAct kept h = λ fault rest is ran quiet. handled_urgent (destination_act world.destination fault) world fault.page world.back h
 urgent-answer world Step.Install kept h = λ copy rest is ran quiet. installed_urgent (home world.destination.owed copy.page) world copy rest h
 urgent-answer world (Step.Push ticket) kept h = λ stopped up own present remains. other_forward _ (sent_urgent world ticket.page h) h

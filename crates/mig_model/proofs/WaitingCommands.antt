@@ -1,5 +1,5 @@
 -- A command that waits is changed by no step but the Retry that answers it.
-use Rattle.std.proofs.Common.{◌≡◌, ℕ, zero, suc, Bool, true, false, Option, Some, List, [], ◌∷◌, refl, sym, ap, ◌∙◌, subst, arith, if◌then◌else◌, IsOk, ◌⊎◌, inl, inr, ⊎_elim, not, ltb, length}
+use Rattle.std.proofs.Common.{◌≡◌, ℕ, zero, suc, Bool, true, false, Option, Some, List, [], ◌∷◌, refl, sym, ap, ◌∙◌, subst, arith, IsOk, ◌⊎◌, inl, inr, ⊎_elim, not, ltb, length}
 use Rattle.std.specs.Prelude.{map, set}
 use Rattle.std.specs.Ordering.{nat_cmp}
 use Rattle.std.specs.FinMap.{FinMap}
@@ -13,7 +13,7 @@ use Rattle.mig_base.specs.declared.Prot.{Prot}
 use Rattle.mig_base.specs.declared.command.Command.{Command}
 use Rattle.mig_base.specs.declared.message.Message.{Message}
 use Rattle.mig_base.specs.declared.message.Message.TheVariants.{PageFault}
-use Rattle.mig_base.specs.Commands.{is_access, page_of}
+use Rattle.mig_base.specs.Commands.{is_access}
 use Rattle.mig_model.specs.Guest.{Guest, is_left_by, read_guest, took_by, tried}
 use Rattle.mig_model.specs.Cpus.Took.{Sleep}
 use Rattle.mig_model.specs.Wire.{Frame, Sent}
@@ -24,7 +24,7 @@ use Rattle.mig_model.specs.Promises.{is_retry_of, Slept}
 use Rattle.mig_model.proofs.FirstFrame.{delivered}
 use Rattle.mig_model.proofs.StepCases.{made-next, made-ok}
 use Rattle.mig_model.proofs.WokenSteps.{IsWoken, guest_woken, wakes-next, wakes-taken}
-use Rattle.mig_model.specs.Cpus.{idle_processors, all_woken, is_idle, message_less, outstanding, processor_after, processor_at, taken_over, woken_if, Took}
+use Rattle.mig_model.specs.Cpus.{idle_processors, all_woken, is_idle, message_less, outstanding, processor_after, processor_at, taken_over, Took}
 use Rattle.mig_model.specs.Source.{is_stopped, commands_of}
 use Rattle.mig_model.proofs.Facts.{some_command}
 
@@ -48,24 +48,15 @@ map_at f [] k idle = sym idle
 map_at f (p ∷ ps) zero idle = refl
 map_at f (p ∷ ps) (suc k) idle = map_at f ps k idle
 
-woken_by : (here : Bool) (command : Command) → outstanding (if here then CpuState.Woken command else CpuState.Asleep command) ≡ Some command
-woken_by true command = refl
-woken_by false command = refl
-
-woken_outstanding : (test : ℕ → Bool) (p : CpuState) → outstanding (woken_if test p) ≡ outstanding p
-woken_outstanding test (CpuState.Asleep command) = woken_by (test (page_of command)) command
-woken_outstanding test _ = refl
-
 -- waking leaves what waits
 pub woken_keeps : (test : ℕ → Bool) (ps : List CpuState) (k : ℕ) → outstanding (processor_at (all_woken test ps) k) ≡ outstanding (processor_at ps k)
-woken_keeps test ps k = ap outstanding (map_at (woken_if test) ps k refl) ∙ woken_outstanding test (processor_at ps k)
+woken_keeps test ps k = grind (arith, nat_tests, map_at)
 
 pub less_same : (p : CpuState) → outstanding (message_less p) ≡ outstanding p
 less_same p = grind (arith, nat_tests)
 
 taken_outstanding : (p : CpuState) → outstanding (taken_over (outstanding p)) ≡ outstanding p
-taken_outstanding CpuState.Idle = refl
-taken_outstanding _ = refl
+taken_outstanding p = grind (arith, nat_tests)
 
 -- the destination takes over what waits
 pub taken_keeps : (ps : List CpuState) (k : ℕ) → outstanding (processor_at (map taken_over (commands_of ps)) k) ≡ outstanding (processor_at ps k)
@@ -91,12 +82,10 @@ waits_read guest cpu message k = read_same guest cpu message k
 
 -- where the guest runs, by the node that changes
 pub waits_source : (ran : Bool) (old new to : Guest) → SameWaits old new → SameWaits (guest_by ran old to) (guest_by ran new to)
-waits_source true old new to same k = refl
-waits_source false old new to same k = same k
+waits_source ran old new to same k = grind (arith, nat_tests)
 
 pub waits_destination : (ran : Bool) (from old new : Guest) → SameWaits old new → SameWaits (guest_by ran from old) (guest_by ran from new)
-waits_destination true from old new same k = same k
-waits_destination false from old new same k = refl
+waits_destination ran from old new same k = grind (arith, nat_tests)
 
 -- Steps
 
@@ -116,8 +105,7 @@ pub tried_other : (world : World) (cpu : ℕ) (tries : Command) (k : ℕ) → (c
 tried_other world cpu tries k other = grind (arith, nat_tests, set_other)
 
 idle_none : (p : CpuState) (command : Command) → is_idle p ≡ true → outstanding p ≡ Some command → ⊥
-idle_none CpuState.Idle command h e = none-some command e
-idle_none _ command h e = false≢true h
+idle_none p command h e = grind (arith, nat_tests, none-some)
 
 -- Deliveries
 
@@ -143,8 +131,7 @@ pub woken_waits : (old new : List CpuState) → IsWoken old new → (k : ℕ) �
 woken_waits old new w k = ap (λ ps. outstanding (processor_at ps k)) w.is ∙ woken_keeps w.test old k
 
 taken_same : (frame : Frame) (epoch : ℕ) (rest : List Sent) (world : World) → world.up ≡ true → world.forward.frames ≡ record { epoch = epoch; frame = frame } ∷ rest → IsSoundWorld world → WaitsAs world (after_deliver world (record { epoch = epoch; frame = frame }) rest)
-taken_same (Package areas owed commands) epoch rest world up first kept k = package_same epoch areas owed commands rest world up first kept k
-taken_same frame epoch rest world up first kept k = woken_waits _ _ (guest_woken world _ (wakes-taken world (record { epoch = epoch; frame = frame }) rest refl)) k
+taken_same frame epoch rest world up first kept k = grind (arith, nat_tests, package_same, woken_waits, guest_woken, wakes-taken)
 
 pub same_waits : (world : World) (step : Step) → IsSoundWorld world → is_try step ≡ false → WaitsAs world (next world step)
 same_waits world (Step.Issue cpu tries) kept other = absurd (false≢true (sym other))

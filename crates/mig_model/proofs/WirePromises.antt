@@ -131,8 +131,7 @@ stays_up world step h up = made-next IsUp world step up (up_answer world step h 
 -- Installs
 
 arrivals_by : (o : Option ℕ) (node : Destination) (copy : Copy) (rest : List Copy) → (install_by o node copy rest).arrivals ≡ rest
-arrivals_by None node copy rest = refl
-arrivals_by (Some page) node copy rest = refl
+arrivals_by o node copy rest = grind (arith, nat_tests)
 
 pub arrivals_after : (world : World) (copy : Copy) (rest : List Copy) → IsOk (outcome world Step.Install) → world.destination.arrivals ≡ copy ∷ rest → (next world Step.Install).destination.arrivals ≡ rest
 arrivals_after world copy rest ok first =
