@@ -1,5 +1,5 @@
 -- What frames rest on is kept by every step, so every frame in flight has a text.
-use Rattle.std.proofs.Common.{◌≡◌, ◌≢◌, ℕ, ◌+◌, ◌-◌, ◌^◌, ◌<◌, ◌≤◌, ◌||◌, Bool, true, false, eqb, Option, Some, None, List, [], ◌∷◌, refl, sym, ap, ◌∙◌, subst, arith, length}
+use Rattle.std.proofs.Common.{◌≡◌, ℕ, ◌+◌, ◌-◌, ◌^◌, ◌<◌, ◌≤◌, ◌||◌, Bool, true, false, eqb, Option, Some, List, [], ◌∷◌, refl, sym, ◌∙◌, subst, arith, length}
 use Rattle.std.specs.Ordering.{nat_cmp}
 use Rattle.std.specs.FinMap as finmap
 use Rattle.std.specs.FinMap.{get, get-empty}
@@ -8,7 +8,6 @@ use Rattle.std.specs.FinSet.{FinSet, contains}
 use Rattle.std.proofs.lemmas.Bool.{false≢true, eqb-true, not-true}
 use Rattle.std.proofs.lemmas.Bool.Decides.{nat_tests}
 use Rattle.std.proofs.lemmas.Option.{none-some}
-use Rattle.mig_base.specs.declared.phase.DestPhase.{DestPhase}
 use Rattle.mig_base.specs.declared.phase.Received.{Received}
 use Rattle.mig_base.specs.declared.phase.SourcePhase.{SourcePhase}
 use Rattle.mig_base.specs.declared.command.Command.{Command}
@@ -21,22 +20,21 @@ use Rattle.mig_base.specs.Ranges.{in_range}
 use Rattle.mig_base.specs.Sets.{run_length, with_range}
 use Rattle.mig_model.specs.Host.{Host, bare_host}
 use Rattle.mig_model.specs.Guest.{Act, Fault, Guest, is_forgotten, is_present, tried}
-use Rattle.mig_model.specs.Guest.Act.{Zeroed, Requested}
+use Rattle.mig_model.specs.Guest.Act.{Requested}
 use Rattle.mig_model.specs.Userfault.{Noted}
 use Rattle.mig_model.specs.Log.{least_of, no_pages}
 use Rattle.mig_model.specs.Owed.{home}
 use Rattle.mig_model.specs.Wire.{Copy, Frame, Sent, page_frame, wire_behind}
-use Rattle.mig_model.specs.Wire.Frame.{Package, Advise, Run, End, Resume, Request, Recv, Done}
-use Rattle.mig_model.specs.Source.{Source, bytes_of, is_precopy, is_released, is_source_idle, is_source_paused, is_stopped, rebuild_frames, run_of, source_act, source_acted_by, source_rebuilt, space_of, switch_frames}
-use Rattle.mig_model.specs.Destination.{Destination, act_frames, destination_act, destination_acted_by, destination_took, install_by}
+use Rattle.mig_model.specs.Wire.Frame.{Advise, Run, End, Resume, Request, Recv, Done}
+use Rattle.mig_model.specs.Source.{bytes_of, is_precopy, is_released, is_source_idle, is_source_paused, is_stopped, rebuild_frames, run_of, source_act, source_acted_by, source_rebuilt, space_of, switch_frames}
+use Rattle.mig_model.specs.Destination.{act_frames, destination_act, destination_acted_by, install_by}
 use Rattle.mig_model.specs.Migration.{World, after_break, after_command, after_deliver, after_deliver_back, after_deliver_urgent, after_dest_act, after_end, after_notice, after_push, after_push_urgent, after_resume, after_run, after_send, after_source_read, after_start, after_switch, first_world_with, guest_by, guest_of, has_started, is_changing, is_used, next, run_bound, source_sends, with_guest_by}
-use Rattle.mig_model.specs.Invariant.{IsSoundWorld, PausedWires}
+use Rattle.mig_model.specs.Invariant.{IsSoundWorld}
 use Rattle.mig_model.proofs.Taken.{IsInPlaceBack}
 use Rattle.mig_model.specs.Bounds.{ArePages, IsCpuCount, IsMapping, IsPage}
 use Rattle.frame_texts.proofs.PageBytes.{HasBytes, changed_bytes, zeroed_bytes}
-use Rattle.mig_model.proofs.WokenSteps.{stopped_switched, takes, takes_urgent}
+use Rattle.mig_model.proofs.WokenSteps.{stopped_switched, takes_urgent}
 use Rattle.mig_model.proofs.Facts.{no_event, no_page}
-use Rattle.mig_model.proofs.FirstFrame.{empty_not}
 use Rattle.frame_texts.proofs.FrameBounds.{AreBodies, AreListed, act_good, act_listed, answers_good, bodies-sending, bodies-sending_if, end_good, listed-without, page_good, present_page, rebuilt_good, run_good, requested_owed, switch_good}
 use Rattle.mig_model.proofs.FramesTaken.{is_taken_back}
 use Rattle.mig_model.proofs.MappingLemmas.{IsMapping-after, IsMapping-empty, host_tried}
@@ -85,24 +83,20 @@ with_host new areas bytes h = assumption
 -- other frames on the wire to the destination
 with_forward : {cpus : ℕ} {from : SourcePhase} {epoch : ℕ} {host : Host} {sent : FinSet nat_cmp} {requests : List ℕ} {forward back urgent : List Sent} (new : List Sent) → (IsCpuCount cpus → AreBodies new) →
     IsLimited cpus from epoch host sent requests forward back urgent → IsLimited cpus from epoch host sent requests new back urgent
-with_forward new bodies h =
-    assumption
+with_forward new bodies h = grind (arith, nat_tests)
 
 -- other requests, and other frames on the wire back
 with_requests : {cpus : ℕ} {from : SourcePhase} {epoch : ℕ} {host : Host} {sent : FinSet nat_cmp} {requests : List ℕ} {forward back urgent : List Sent} (new : List ℕ) (frames : List Sent) → AreListed new → (IsCpuCount cpus → AreBodies frames) →
     IsLimited cpus from epoch host sent requests forward back urgent → IsLimited cpus from epoch host sent new forward frames urgent
-with_requests new frames listed bodies h =
-    assumption
+with_requests new frames listed bodies h = grind (arith, nat_tests)
 
 -- other frames on the urgent wire
 with_urgent : {cpus : ℕ} {from : SourcePhase} {epoch : ℕ} {host : Host} {sent : FinSet nat_cmp} {requests : List ℕ} {forward back urgent : List Sent} (new : List Sent) → (IsCpuCount cpus → AreBodies new) →
     IsLimited cpus from epoch host sent requests forward back urgent → IsLimited cpus from epoch host sent requests forward back new
-with_urgent new bodies h =
-    assumption
+with_urgent new bodies h = grind (arith, nat_tests)
 
 guest_limited : {cpus : ℕ} → (ran : Bool) (world : World) (guest : Guest) → (ran ≡ false → IsMapping guest.space.host.areas × HasBytes guest.space.host.bytes) → AreLimited cpus world → AreLimited cpus (with_guest_by ran world guest)
-guest_limited true world guest new h = h
-guest_limited false world guest new h = with_host guest.space.host (new refl).0 (new refl).1 h
+guest_limited ran world guest new h = grind (arith, nat_tests, with_host)
 
 -- the source's guest after a command: it holds the flat memory until the destination has run
 command_host : {cpus : ℕ} → (ran : Bool) (world : World) (cpu : ℕ) (command : Command) → world.destination.has_run ≡ ran → IsSoundWorld world → AreLimited cpus world → ran ≡ false →
@@ -133,8 +127,7 @@ sendable : (world : World) (page : ℕ) → IsSoundWorld world → least_of worl
 sendable world page kept found precopy quiet = grind (arith, nat_tests, precopy_unswitched, least_below_tells, no_event)
 
 one_more : (here there : Bool) {A : Type 0} → (here ≡ true → A) → (there ≡ true → A) → (here || there) ≡ true → A
-one_more true there h k is = h refl
-one_more false there h k is = k is
+one_more here there h k is = grind (arith, nat_tests)
 
 inserted_pages : (set : FinSet nat_cmp) (page : ℕ) → ArePages set → IsPage page → ArePages (finset.insert set page)
 inserted_pages set page are is q h = one_more (eqb q page) (contains set q) (λ e. subst IsPage (sym (eqb-true q page e)) is) (λ old. are q old) (sym (member_inserted set page q) ∙ h)
@@ -178,12 +171,10 @@ read_limited : {cpus : ℕ} → (world : World) (noted : Noted) → AreLimited c
 read_limited world noted h = grind (arith, nat_tests, read_host, with_host, HasBytes)
 
 acted_limited : {cpus : ℕ} → (act : Act) (world : World) (page : ℕ) → AreLimited cpus world → AreLimited cpus (record world { source = source_acted_by act world.source page })
-acted_limited Zeroed world page h = with_host _ h.areas (zeroed_bytes (space_of world.source).host.bytes page h.bytes) h
-acted_limited _ world page h = h
+acted_limited act world page h = grind (arith, nat_tests, with_host, zeroed_bytes)
 
 stopped_unreleased : (phase : SourcePhase) → is_stopped phase ≡ true → is_released phase ≡ false
-stopped_unreleased SourcePhase.Released h = sym h
-stopped_unreleased _ h = refl
+stopped_unreleased phase h = grind (arith, nat_tests)
 
 switch_limited : {cpus : ℕ} → (world : World) → IsReady cpus world → is_precopy world.source.phase ≡ true → AreLimited cpus world → AreLimited cpus (after_switch world)
 switch_limited {cpus = cpus} world ready precopy h =
@@ -212,12 +203,8 @@ end_limited world ready stopped h =
 
 -- Frames that the destination takes
 
-took_requests : (frame : Frame) (epoch : ℕ) (node : Destination) → (destination_took node epoch frame).requests ≡ node.requests
-took_requests (Package areas owed commands) epoch node = refl
-took_requests frame epoch node = (takes frame node epoch refl).requests
-
 deliver_limited : {cpus : ℕ} → (world : World) (sent : Sent) (rest : List Sent) → IsSoundWorld world → world.forward.frames ≡ sent ∷ rest → AreLimited cpus world → AreLimited cpus (after_deliver world sent rest)
-deliver_limited {cpus = cpus} world sent rest kept first h = grind (arith, nat_tests, AreBodies, with_forward, with_requests, AreListed, took_requests, bodies-sending_if, answers_good)
+deliver_limited {cpus = cpus} world sent rest kept first h = grind (arith, nat_tests, AreBodies, with_forward, with_requests, AreListed, bodies-sending_if, answers_good)
 
 urgent_limited : {cpus : ℕ} → (world : World) (sent : Sent) (rest : List Sent) → world.urgent.frames ≡ sent ∷ rest → AreLimited cpus world → AreLimited cpus (after_deliver_urgent world sent rest)
 urgent_limited {cpus = cpus} world sent rest first h = grind (arith, nat_tests, AreBodies, with_urgent, with_requests, AreListed, takes_urgent)
@@ -235,34 +222,19 @@ handled_limited world fault kept h =
     (λ c. bodies-sending_if world.up world.back.frames (destination_acted_by act node fault.page).epoch (act_frames act node) (h.to_source c) (act_good act node page)) h
 
 installed_limited : {cpus : ℕ} → (o : Option ℕ) (world : World) (copy : Copy) (rest : List Copy) → AreLimited cpus world → AreLimited cpus (record world { destination = install_by o world.destination copy rest })
-installed_limited None world copy rest h = h
-installed_limited (Some page) world copy rest h = with_requests _ world.back.frames (listed-without world.destination.requests copy.page h.requested) h.to_source h
+installed_limited o world copy rest h = grind (arith, nat_tests, with_requests, listed-without)
 
 -- Frames that the source takes
 
-abbrev first_frame : List Sent → Frame
-first_frame [] = Done
-first_frame (sent ∷ rest) = sent.frame
-
--- a destination that has not run says so
-recv_differs : (owed other : FinSet nat_cmp) (epoch at : ℕ) (state : Received) (rest more : List Sent) → state ≢ Received.NotRun →
-    record { epoch = epoch; frame = Recv Received.NotRun owed } ∷ rest ≡ record { epoch = at; frame = Recv state other } ∷ more → ⊥
-recv_differs owed other epoch at state rest more differs h = differs (let same : Recv Received.NotRun owed ≡ Recv state other = ap first_frame h in cc)
-
-bare_paused : (to : DestPhase) (source : Source) (node : Destination) (forward rest : List Sent) (epoch : ℕ) (owed : FinSet nat_cmp) →
-    PausedWires source (record node { phase = to }) forward (record { epoch = epoch; frame = Recv Received.NotRun owed } ∷ rest) → node.has_run ≡ false
-bare_paused to source node forward rest epoch owed w = grind (arith, nat_tests, recv_differs, empty_not)
-
 bare_notrun : (world : World) (rest : List Sent) (epoch : ℕ) (owed : FinSet nat_cmp) → IsSoundWorld world → world.up ≡ true → world.back.frames ≡ record { epoch = epoch; frame = Recv Received.NotRun owed } ∷ rest →
     is_source_paused world.source.phase ≡ true → world.destination.has_run ≡ false
-bare_notrun world rest epoch owed kept up first paused = grind (arith, nat_tests, bare_paused, is_paused)
+bare_notrun world rest epoch owed kept up first paused = grind (arith, nat_tests, is_paused)
 
 rebuilt_limited : {cpus : ℕ} → (switched : Bool) (world : World) (rest : List Sent) (owed : FinSet nat_cmp) → IsSoundWorld world → AllRight world.source.guest.cpus → length world.source.guest.cpus ≡ cpus → world.source.epoch < 2 ^ 32 → (IsCpuCount cpus → AreBodies rest) → AreLimited cpus world →
     AreLimited cpus (source_sends (record world { back = wire_behind rest }) (source_rebuilt Received.NotRun owed (record world.source { switched = switched })) (rebuild_frames Received.NotRun (record world.source { switched = switched })))
 rebuilt_limited {cpus = cpus} true world rest owed kept right many epoch bodies h =
     assumption (λ (c : IsCpuCount cpus). bodies-sending world.forward.frames world.source.epoch (rebuild_frames Received.NotRun (record world.source { switched = true })) (h.to_destination c) (rebuilt_good Received.NotRun (record world.source { switched = true }) kept.spaces.source_space.host h.areas (λ s. right) (subst IsCpuCount (sym many) c)))
-rebuilt_limited {cpus = cpus} false world rest owed kept right many epoch bodies h =
-    assumption none_pages
+rebuilt_limited {cpus = cpus} false world rest owed kept right many epoch bodies h = grind (arith, nat_tests, none_pages)
 
 released_limited : {cpus : ℕ} → (world : World) (rest : List Sent) → world.source.epoch < 2 ^ 32 → (IsCpuCount cpus → AreBodies rest) → AreLimited cpus world →
     IsLimited cpus SourcePhase.Released world.source.epoch bare_host no_pages world.destination.requests world.forward.frames rest world.urgent.frames
@@ -273,8 +245,7 @@ back_limited : {cpus : ℕ} → (frame : Frame) (epoch : ℕ) (rest : List Sent)
 back_limited (Recv Received.NotRun owed) epoch rest world ready up below first place bodies h =
     rebuilt_limited world.source.switched world rest owed ready.kept
     (right_source world.destination.has_run world.source.guest world.destination.guest (bare_notrun world rest epoch owed ready.kept up first place.0) ready.right) ready.many below bodies h
-back_limited (Recv Received.Running owed) epoch rest world ready up below first place bodies h =
-    assumption
+back_limited (Recv Received.Running owed) epoch rest world ready up below first place bodies h = grind (arith, nat_tests)
 back_limited (Recv Received.Ended owed) epoch rest world ready up below first place bodies h = released_limited world rest below bodies h
 back_limited Done epoch rest world ready up below first place bodies h = released_limited world rest below bodies h
 back_limited (Request page) epoch rest world ready up below first place bodies h = with_requests world.destination.requests rest h.requested bodies h
@@ -291,8 +262,7 @@ break_limited : {cpus : ℕ} → (world : World) → AreLimited cpus world → A
 break_limited world h = with_forward [] (λ c. tt) (with_urgent [] (λ c. tt) (with_requests world.destination.requests [] h.requested (λ c. tt) h))
 
 notices_limited : {cpus : ℕ} → (world : World) → has_started world ≡ true → AreLimited cpus world → AreLimited cpus (after_notice world Side.Source)
-notices_limited {cpus = cpus} world started h =
-    assumption (h.started (not-true (is_source_idle world.source.phase) started))
+notices_limited {cpus = cpus} world started h = grind (arith, nat_tests, not-true)
 
 resume_limited : {cpus : ℕ} → (world : World) → is_used world.source.epoch ≡ false → AreLimited cpus world → AreLimited cpus (after_resume world)
 resume_limited {cpus = cpus} world unused h =

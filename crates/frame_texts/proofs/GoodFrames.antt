@@ -29,12 +29,9 @@ frames_of : (epoch : ℕ) (frames : List Sent) → epoch < 2 ^ 32 → AreOf epoc
 frames_of epoch [] below of bodies = tt
 frames_of epoch (sent ∷ rest) below of bodies = (subst (λ e. e < 2 ^ 32) (sym of.0) below, bodies.0, frames_of epoch rest below of.1 bodies.1)
 
-no_frames : (frames : List Sent) → frames ≡ [] → AreFrames frames
-no_frames frames none = subst AreFrames (sym none) tt
-
 -- a migration that has not begun has nothing in flight, and the epoch of any other has 32 bits
 frames_by : (idle : Bool) (cpus : ℕ) (world : World) → is_source_idle world.source.phase ≡ idle → IsBounded cpus world → AreLimited cpus world → IsCpuCount cpus → HasGoodFrames world
-frames_by idle cpus world is all limited count = grind (arith, nat_tests, no_frames, idle_forward, idle_back, idle_unstopped, frames_of)
+frames_by idle cpus world is all limited count = grind (arith, nat_tests, idle_forward, idle_back, idle_unstopped, frames_of)
 
 pub frames_good : (world : World) → IsReached world → IsCpuCount (length world.source.guest.cpus) → HasGoodFrames world
 frames_good world reached count =

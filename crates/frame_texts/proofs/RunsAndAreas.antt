@@ -164,12 +164,9 @@ in_areas_of areas prot q below h =
     let low = begins.low in
     covered-listed (λ first q. in_range first (area_at areas first).count q) (begins_area areas) HIGH_PAGE begins.first q (omega (arith, low)) begins.is (area_covers areas prot begins.first q low below begins.all)
 
-all_shown : (b : Bool) (o : Option Prot) → ((prot : Prot) → o ≡ Some prot → b ≡ true) → cond b o None ≡ o
-all_shown b o h = grind (arith, nat_tests)
-
 -- mapped pages have the protections of their areas
 pub prot_in-areas_of : (areas : FinMap nat_cmp Prot) → AreMappedBelow areas → (q : ℕ) → prot_in (areas_of areas) q ≡ get areas q
-prot_in-areas_of areas below q = grind (arith, nat_tests, prots_covered, all_shown, covered, in_areas_of)
+prot_in-areas_of areas below q = grind (arith, nat_tests, prots_covered, in_areas_of)
 
 pub areas_of-same : (a b : FinMap nat_cmp Prot) → AreMappedBelow a → AreMappedBelow b → areas_of a ≡ areas_of b → a ≡ b
 areas_of-same a b in_a in_b e = same_pages a b (λ q. sym (prot_in-areas_of a in_a q) ∙ ap (λ areas. prot_in areas q) e ∙ prot_in-areas_of b in_b q)
