@@ -50,10 +50,10 @@ bytes_stay pages first count page out = get-remove_range pages first count page 
 
 moved_stays : {A : Type 0} (test : ℕ → A) (from count to new_count page : ℕ) (growth none : A) → Stays from count to new_count page →
     cond (in_range to new_count page) (cond (ltb (page - to) count) (test (from + (page - to))) growth) (cond (in_range from count page) none (test page)) ≡ test page
-moved_stays test from count to new_count page growth none h8 = grind (arith, nat_tests)
+moved_stays test from count to new_count page growth none h = grind (arith, nat_tests)
 
 member_moved : (s : FinSet nat_cmp) (from count to new_count page : ℕ) (growth : Bool) → ltb page HIGH_PAGE ≡ true → Stays from count to new_count page → contains (moved_set s from count to new_count growth) page ≡ contains s page
-member_moved s from count to new_count page growth low h8 = grind (arith, nat_tests, member_below)
+member_moved s from count to new_count page growth low h = grind (arith, nat_tests, member_below)
 
 -- The place of an mremap
 

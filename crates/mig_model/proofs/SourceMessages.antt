@@ -82,7 +82,7 @@ pub lesser_is : (a b : ℕ) → (lesser a b ≡ a) ⊎ (lesser a b ≡ b)
 lesser_is a b = grind (arith, nat_tests)
 
 below_end : (start count page end : ℕ) → page < HIGH_PAGE → start / 4096 ≤ page → page < start / 4096 + count → (end ≡ start + 4096 * count) ⊎ (end ≡ HIGH) → in_bytes start end page ≡ true
-below_end start count page end below low high h7 = grind (arith, nat_tests)
+below_end start count page end below low high h = grind (arith, nat_tests)
 
 -- the same where the range is told to its end, or to the end of the address space
 pub dropped_outside : (object : Object) (start count page : ℕ) → page < HIGH_PAGE → is_registered object page ≡ true → tells (told (is_watched object (start / 4096) count) (Remove start (lesser (start + 4096 * count) HIGH))) page ≡ false →
