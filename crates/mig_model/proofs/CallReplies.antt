@@ -5,7 +5,7 @@ use Rattle.std.specs.Prelude.{set, map, Ok}
 use Rattle.std.specs.Ordering.{nat_cmp}
 use Rattle.std.specs.FinMap.{FinMap}
 use Rattle.std.specs.FinSet.{FinSet}
-use Rattle.std.proofs.lemmas.Bool.{false≢true, cases_eq, ne_eqb}
+use Rattle.std.proofs.lemmas.Bool.{false≢true, cases_eq}
 use Rattle.std.proofs.lemmas.Option.{none-some}
 use Rattle.mig_base.specs.declared.Prot.{Prot}
 use Rattle.mig_base.specs.declared.command.Command.{Command}
@@ -28,10 +28,10 @@ use Rattle.mig_model.specs.Promises.{IsReached}
 use Rattle.mig_model.specs.Replies.{HandsOver, call_reply, last_reply}
 use Rattle.mig_model.proofs.Calls.{are_sound_calls, calls-first, calls_next}
 use Rattle.mig_model.proofs.EveryStep.{by_reached, kept-reached}
-use Rattle.mig_model.proofs.Facts.{by_test, eqb-self}
+use Rattle.mig_model.proofs.Facts.{by_test}
 use Rattle.mig_model.proofs.FirstFrame.{delivered}
 use Rattle.mig_model.proofs.StepCases.{Makes, holds-made}
-use Rattle.mig_model.proofs.WokenSteps.{IsQuiet, IsWoken, frame_not_last, guest_woken, is_last_read, quiet, stopped_switched, wakes-taken}
+use Rattle.mig_model.proofs.WokenSteps.{IsQuiet, IsWoken, frame_not_last, guest_woken, is_last_read, quiet, wakes-taken}
 use Rattle.mig_model.proofs.StepLemmas.{Holds, Leaves, holds-effect, holds-map, leaves-next}
 use Rattle.mig_model.proofs.WaitingCommands.{idle_at, is_try, map_at, set_other, tried_guest}
 use Rattle.mig_model.proofs.SourceKept.{has_not_run}
@@ -47,7 +47,7 @@ last_reply-push [] entry k = refl
 last_reply-push (first ∷ entries) entry k = grind (arith, nat_tests, behind_first, last_reply-push entries entry k)
 
 other_entry : (entries : List Entry) (cpu : ℕ) (command : Command) (reply : Reply) (k : ℕ) → (cpu ≡ k → ⊥) → last_reply (entries ++ record { cpu = cpu; command = command; reply = reply } ∷ []) k ≡ last_reply entries k
-other_entry entries cpu command reply k other = grind (arith, nat_tests, last_reply-push, ne_eqb)
+other_entry entries cpu command reply k other = grind (arith, nat_tests, last_reply-push)
 
 -- what a command enters is not of another processor
 entered_other : (took : Took) (entries : List Entry) (cpu : ℕ) (command : Command) (k : ℕ) → (cpu ≡ k → ⊥) → last_reply (entries ++ entries_of cpu command took) k ≡ last_reply entries k
@@ -57,7 +57,7 @@ entered_other (Call reply left) entries cpu command k other = other_entry entrie
 
 -- a call has entered the reply that it will give
 entered_call : (took : Took) (entries : List Entry) (cpu : ℕ) (command : Command) (reply : Reply) → call_reply (processor_after command took) ≡ Some reply → last_reply (entries ++ entries_of cpu command took) cpu ≡ Some reply
-entered_call took entries cpu command reply h = grind (arith, nat_tests, last_reply-push, eqb-self)
+entered_call took entries cpu command reply h = grind (arith, nat_tests, last_reply-push)
 
 -- Processors
 
@@ -90,10 +90,10 @@ less_goes_on : (p : CpuState) (reply : Reply) → call_reply p ≡ Some reply �
 less_goes_on p reply h = grind (arith, nat_tests)
 
 less_was : (p : CpuState) (reply : Reply) → call_reply (message_less p) ≡ Some reply → call_reply p ≡ Some reply
-less_was p reply h = grind (arith, nat_tests, none-some)
+less_was p reply h = grind (arith, nat_tests)
 
 last_message : (p : CpuState) (reply : Reply) → handed_over p ≡ Some reply → p ≡ CpuState.InCall reply 1
-last_message p reply h = grind (arith, nat_tests, none-some)
+last_message p reply h = grind (arith, nat_tests)
 
 set_reply : (processors : List CpuState) (i k : ℕ) (new : CpuState) (reply : Reply) → (call_reply new ≡ Some reply → reply_at processors i ≡ Some reply) → reply_at (set processors i new) k ≡ Some reply → reply_at processors k ≡ Some reply
 set_reply [] i k new reply was h = h
@@ -197,7 +197,7 @@ quietly world new effect same not entered = record { calls = all_go_on (guest_of
 -- a Package is taken where no processor is in a call, and none is then
 package_calls : (epoch : ℕ) (areas : FinMap nat_cmp Prot) (owed : FinSet nat_cmp) (commands : List (Option Command)) (rest : List Sent) (world : World) → world.up ≡ true → world.forward.frames ≡ record { epoch = epoch; frame = Package areas owed commands } ∷ rest → IsSoundWorld world →
     AreSoundCalls world → SameCalls (guest_of world) (guest_of (delivered world (record { epoch = epoch; frame = Package areas owed commands } ∷ rest)))
-package_calls epoch areas owed commands rest world up first kept all k = grind (arith, nat_tests, stopped_switched, taken_reply)
+package_calls epoch areas owed commands rest world up first kept all k = grind (arith, nat_tests, taken_reply)
 
 -- waking leaves calls
 woken_calls : (old new : List CpuState) → IsWoken old new → (k : ℕ) → reply_at new k ≡ reply_at old k
@@ -205,7 +205,7 @@ woken_calls old new w k = ap (λ ps. reply_at ps k) w.is ∙ woken_replies w.tes
 
 taken_calls : (frame : Frame) (epoch : ℕ) (rest : List Sent) (world : World) → world.up ≡ true → world.forward.frames ≡ record { epoch = epoch; frame = frame } ∷ rest → IsSoundWorld world → AreSoundCalls world →
     SameCalls (guest_of world) (guest_of (after_deliver world (record { epoch = epoch; frame = frame }) rest))
-taken_calls frame epoch rest world up first kept all k = grind (arith, nat_tests, package_calls, woken_calls, guest_woken, wakes-taken)
+taken_calls frame epoch rest world up first kept all k = grind (arith, nat_tests, package_calls, guest_woken, wakes-taken)
 
 goes_on : (world : World) (step : Step) → IsSoundWorld world → AreSoundCalls world → is_try step ≡ false → Holds (GoesOn world) (answer world step)
 goes_on world (Step.Issue cpu command) kept all other = absurd (false≢true (sym other))
@@ -247,7 +247,7 @@ tried_at : (world : World) (cpu : ℕ) (command : Command) (k : ℕ) →
 tried_at world cpu command k = ap (λ g. processor_at g.cpus k) (tried_guest world cpu command)
 
 tried_keeps : (world : World) (cpu : ℕ) (command : Command) (k : ℕ) (reply : Reply) → reply_at (guest_of world).cpus cpu ≡ None → reply_at (guest_of world).cpus k ≡ Some reply → reply_at (guest_of (after_command world cpu command)).cpus k ≡ Some reply
-tried_keeps world cpu command k reply free h = grind (arith, nat_tests, tried_at, set_other)
+tried_keeps world cpu command k reply free h = grind (arith, nat_tests, set_other)
 
 -- every processor in a call has entered its reply
 abbrev HasReplies : World → Type 0

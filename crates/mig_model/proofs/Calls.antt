@@ -30,7 +30,7 @@ use Rattle.mig_model.specs.Migration.{first_world_with, World, after_command, gu
 use Rattle.mig_model.specs.Promises.{IsReached}
 use Rattle.mig_model.proofs.StepCases.{made-next}
 use Rattle.mig_model.proofs.WokenSteps.{Wakes, takes, wakes-next}
-use Rattle.mig_model.proofs.Facts.{eqb-self, some_is, modes_events}
+use Rattle.mig_model.proofs.Facts.{eqb-self, modes_events}
 
 -- Numbers of events
 
@@ -152,7 +152,7 @@ fault_calls : (message : Message) (cpu : ℕ) (faults events : List Noted) (gues
 fault_calls message cpu faults events guest calls = grind (arith, nat_tests)
 
 read_calls : (guest : Guest) (noted : Noted) → next_message guest.space.object ≡ Some noted → AreRight guest.space.object.events → HasSoundCalls guest → HasSoundCalls (read_guest guest noted.cpu noted.message)
-read_calls guest noted is right calls = grind (arith, nat_tests, some_is, event_calls, fault_calls)
+read_calls guest noted is right calls = grind (arith, nat_tests, event_calls, fault_calls)
 
 -- a processor that is taken over is in no call
 taken_fits : (commands : List (Option Command)) (k : ℕ) → CallFits (processor_at (map taken_over commands) k) 0

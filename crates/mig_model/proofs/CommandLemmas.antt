@@ -59,7 +59,7 @@ memory-stored host addr width value sound form =
     memory-write host addr width value (contents host.bytes (addr / 4096)) (low_bytes value width) (reads_or_zero (get host.bytes (addr / 4096))) (length-contents host (addr / 4096) sound) (digits_low_bytes value width is.few) is.inside
 
 IsSound-stored : (host : Host) (addr width value : ℕ) → IsSound host → contains_key host.areas (addr / 4096) ≡ true → is_aligned addr width ≡ true → IsSound (host_changed host (Store addr width value) Done)
-IsSound-stored host addr width value sound mapped form = grind (arith, nat_tests, digits_low_bytes, length-contents, IsSound-put, length-overwrite)
+IsSound-stored host addr width value sound mapped form = grind (arith, nat_tests, length-contents, IsSound-put, length-overwrite)
 
 -- Ranges
 

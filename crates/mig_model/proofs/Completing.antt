@@ -12,11 +12,8 @@ use Rattle.mig_model.specs.World.{World, refusal_of, started, switched, end_sent
 use Rattle.mig_model.specs.Kept.{IsKept}
 use Rattle.mig_model.proofs.Every.{by_refusal}
 
-pub released : (world : World) → phase_of world ≡ phase.Complete → world.source.phase ≡ source.Released
-released world h = grind (arith, nat_tests)
-
 pub alone : (world : World) → phase_of world ≡ phase.Complete → IsKept world → (memory world.destination.host ≡ memory_of world.transcript) × (world.source.host ≡ bare_host)
-alone world h kept = grind (arith, nat_tests, released)
+alone world h kept = grind (arith, nat_tests)
 
 -- It stays complete
 
@@ -32,7 +29,7 @@ after_steps-released world [] h = h
 after_steps-released world (step ∷ steps) h = after_steps-released (next world step) steps (next-released world step h)
 
 pub stays_complete : (world : World) (steps : List Step) → phase_of world ≡ phase.Complete → phase_of (after_steps world steps) ≡ phase.Complete
-stays_complete world steps h = grind (arith, nat_tests, after_steps-released, released)
+stays_complete world steps h = grind (arith, nat_tests, after_steps-released)
 
 -- Which parts each step changes
 
@@ -66,11 +63,11 @@ end_changes world = by_refusal (AtSource world) (refusal_of world step.End) worl
 
 pub deliver_changes : (world : World) → AtDestination world (next world step.Deliver)
 unfolding next
-deliver_changes world = grind (arith, nat_tests, by_refusal)
+deliver_changes world = grind (arith, nat_tests)
 
 pub deliver_back_changes : (world : World) → AtSourceBack world (next world step.DeliverBack)
 unfolding next
-deliver_back_changes world = grind (arith, nat_tests, by_refusal)
+deliver_back_changes world = grind (arith, nat_tests)
 
 pub issue_changes : (world : World) (cpu : ℕ) (command : Command) → OffWires world (next world (step.Issue cpu command))
 unfolding next

@@ -19,7 +19,7 @@ use Rattle.mig_model.specs.Promises.{CanComplete, IsReached}
 use Rattle.mig_model.proofs.Facts.{none_absurd}
 use Rattle.mig_model.proofs.FirstFrame.{empty_not}
 use Rattle.mig_model.proofs.EveryStep.{kept-reached, urgent-reached}
-use Rattle.mig_model.proofs.AcceptedSteps.{IsInOrder, complete_now, by_deliver, by_deliver_back, by_notice, by_resume, by_source_read, by_start, by_switch}
+use Rattle.mig_model.proofs.AcceptedSteps.{IsInOrder, by_deliver, by_deliver_back, by_notice, by_resume, by_source_read, by_start, by_switch}
 use Rattle.mig_model.proofs.CompletionStopped.{IsUpAt, next_some, read-less, read_object, stopped_completes, unread, wires_at}
 
 -- Pre-copy: the messages are read, until no event is unread, and the source switches
@@ -48,7 +48,7 @@ is_going SourcePhase.Released = true
 is_going phase = false
 
 going_by : (from : SourcePhase) (world : World) → world.source.phase ≡ from → is_going from ≡ true → world.up ≡ true → IsInOrder world → CanComplete world
-going_by from world is going up order = grind (arith, nat_tests, precopy_by, stopped_completes, complete_now, none_absurd)
+going_by from world is going up order = grind (arith, nat_tests, precopy_by, stopped_completes, none_absurd)
 
 rebuilt_going : (state : Received) (owed : FinSet nat_cmp) (node : Source) → is_going (source_rebuilt state owed node).phase ≡ true
 rebuilt_going state owed node = grind (arith, nat_tests)
@@ -75,7 +75,7 @@ resume_taken world is at =
 -- The link is up, and the migration has begun
 
 link_up_by : (from : SourcePhase) (world : World) → world.source.phase ≡ from → is_source_idle from ≡ false → world.up ≡ true → IsInOrder world → CanComplete world
-link_up_by from world is started up order = grind (arith, nat_tests, IsUpAt, paused_by, resume_taken, going_by)
+link_up_by from world is started up order = grind (arith, nat_tests, paused_by, resume_taken, going_by)
 
 -- The link is down: both sides notice it, and the source resumes in its next epoch
 

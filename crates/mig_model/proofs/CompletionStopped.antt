@@ -7,7 +7,6 @@ use Rattle.std.specs.FinSet.{FinSet, contains, contains-empty, empty_of_len, len
 use Rattle.std.proofs.lemmas.Cmp.{nat_cmp_total}
 use Rattle.std.proofs.lemmas.Bool.{false≢true}
 use Rattle.std.proofs.lemmas.Bool.Decides.{nat_tests}
-use Rattle.std.proofs.lemmas.Option.{same_Some}
 use Rattle.mig_base.specs.declared.TheConstants.{HIGH_PAGE}
 use Rattle.mig_base.specs.declared.message.Message.{Message}
 use Rattle.mig_base.specs.declared.phase.DestPhase.{DestPhase}
@@ -26,7 +25,7 @@ use Rattle.mig_model.specs.Invariant.{AreTold, Flow, IsTold, RanAt, Wires, flow_
 use Rattle.mig_model.specs.Invariant.Flow.{BeforeAdvise, Copies, BeforePackage, Pushed, AfterEnd}
 use Rattle.mig_model.specs.Promises.{CanComplete}
 use Rattle.mig_model.proofs.Taken.{IsInPlaceBack}
-use Rattle.mig_model.proofs.Facts.{and_false, none_absurd}
+use Rattle.mig_model.proofs.Facts.{and_false}
 use Rattle.mig_model.proofs.FirstFrame.{comes}
 use Rattle.mig_model.proofs.FramesTaken.{is_taken_back}
 use Rattle.mig_model.proofs.UrgentWire.{placed}
@@ -99,7 +98,7 @@ none_more : (arrivals : List Copy) → length arrivals ≤ length arrivals + 1
 none_more arrivals = omega arith
 
 pushed-next : (node : Destination) (epoch : ℕ) (frame : Frame) → is_some (flow_next Pushed frame) ≡ true → IsNext node (destination_took node epoch frame)
-pushed-next node epoch frame in_place = grind (arith, nat_tests, none_absurd, one_more, none_more)
+pushed-next node epoch frame in_place = grind (arith, nat_tests, one_more, none_more)
 
 urgent_took-next : (node : Destination) (frame : Frame) → IsNext node (urgent_took node frame)
 urgent_took-next node frame = grind (arith, nat_tests, one_more)
@@ -179,10 +178,10 @@ deliver_step world sent rest first none free draining again =
 
 -- the wire is not empty as long as End was not taken
 not_at_end : (flow : Flow) (source : Source) (frames : List Sent) → flow ≢ AfterEnd → flow_of source ≡ AfterEnd → flow_after flow frames ≡ Some (flow_of source) → frames ≢ []
-not_at_end flow source frames other told h none = grind (arith, nat_tests, same_Some)
+not_at_end flow source frames other told h none = grind (arith, nat_tests)
 
 forward_step : (frames : List Sent) (world : World) → world.forward.frames ≡ frames → world.urgent.frames ≡ [] → world.destination.arrivals ≡ [] → IsDraining world → Again world → CanComplete world
-forward_step frames world first none free draining again = grind (arith, nat_tests, wires_at, deliver_step)
+forward_step frames world first none free draining again = grind (arith, nat_tests, deliver_step)
 
 quiet_step : (copy : Copy) (rest : List Copy) (events : List Noted) (world : World) → world.destination.arrivals ≡ copy ∷ rest → world.destination.guest.space.object.events ≡ events → IsDraining world → Again world → CanComplete world
 quiet_step copy rest [] world first quiet draining again = install_step world copy rest first (ap (λ events. ltb 0 (length events)) quiet) draining again
@@ -232,11 +231,11 @@ waiting_wire to world waits is at = grind (arith, nat_tests)
 
 -- a destination that has taken no End waits, runs or has ended
 by_phase : (to : DestPhase) (world : World) → world.destination.phase ≡ to → IsUpAt SourcePhase.Stopped world → flow_of world.source ≡ AfterEnd → (is_waiting to ≡ true → CanComplete world) → CanComplete world
-by_phase to world is at told waiting = grind (arith, nat_tests, running_by, wires_at)
+by_phase to world is at told waiting = grind (arith, nat_tests, running_by)
 
 waiting_step : (world : World) (sent : Sent) (rest : List Sent) → world.forward.frames ≡ sent ∷ rest → IsUpAt SourcePhase.Stopped world → is_waiting world.destination.phase ≡ true →
     (IsUpAt SourcePhase.Stopped (after_deliver world sent rest) → CanComplete (after_deliver world sent rest)) → CanComplete world
-waiting_step world sent rest first at waits can = grind (arith, nat_tests, placed, by_deliver, and_false)
+waiting_step world sent rest first at waits can = grind (arith, nat_tests, by_deliver, and_false)
 
 -- once End is sent, until it is taken
 told_by : (frames : List Sent) (world : World) → world.forward.frames ≡ frames → IsUpAt SourcePhase.Stopped world → flow_of world.source ≡ AfterEnd → CanComplete world

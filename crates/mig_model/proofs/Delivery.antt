@@ -5,7 +5,7 @@ use Rattle.std.specs.Ordering.{nat_cmp}
 use Rattle.std.specs.FinMap as finmap
 use Rattle.std.specs.FinMap.{get, get-empty, FinMap, insert, get-retain_keys, nat_cmp-IsAntisymmetric}
 use Rattle.std.specs.FinSet.{FinSet, contains-empty, contains}
-use Rattle.std.proofs.lemmas.Bool.{false≢true, eqb-true, and_from, lt-ltb}
+use Rattle.std.proofs.lemmas.Bool.{false≢true, lt-ltb}
 use Rattle.mig_base.specs.declared.phase.DestPhase.{DestPhase}
 use Rattle.mig_base.specs.declared.phase.SourcePhase.{SourcePhase}
 use Rattle.mig_base.proofs.PageLemmas.{same_pages}
@@ -34,7 +34,7 @@ use Rattle.mig_base.proofs.TestLemmas.{never_some}
 
 -- a wire that gets past End is that of a source that has sent it in this epoch
 pub ended_now : (source : Source) → flow_of source ≡ AfterEnd → source.end_epoch ≡ source.epoch
-ended_now source h = grind (arith, nat_tests, eqb-true)
+ended_now source h = grind (arith, nat_tests)
 
 -- no page remains, none is in flight and none waits
 pub nowhere : (remaining : FinSet nat_cmp) (rest urgent : List Sent) (arrivals : List Copy) (origin : ℕ) → remaining ≡ no_pages → rest ≡ [] → urgent ≡ [] → arrivals ≡ [] →
@@ -68,7 +68,7 @@ end_taken epoch count rest world free came kept =
 
 -- each origin of the table is among them
 pub origins-pair : (owed : FinMap nat_cmp ℕ) (page origin : ℕ) → get owed page ≡ Some origin → page < HIGH_PAGE → ltb origin HIGH_PAGE ≡ true → contains (origins owed) origin ≡ true
-origins-pair owed page origin h low high = grind (arith, nat_tests, member_below, and_from, home-some)
+origins-pair owed page origin h low high = grind (arith, nat_tests, member_below, home-some)
 
 -- and each of them is an origin of the table
 pub pair-origins : (owed : FinMap nat_cmp ℕ) (origin : ℕ) → contains (origins owed) origin ≡ true → (page : ℕ) × (get owed page ≡ Some origin)
@@ -97,7 +97,7 @@ goes_on : (to : DestPhase) (ran : Bool) (epoch : ℕ) (keeps : FinMap nat_cmp (L
     } in
     IsSoundWorld old → to ≢ DestPhase.Idle → RanAt to ran world.destination.ended → (epoch ≡ world.source.epoch → EpochAt to epoch world.source.epoch) → (ran ≡ true → keeps ≡ finmap.empty) →
     ((page : ℕ) (bytes : List ℕ) → get keeps page ≡ Some bytes → length bytes ≡ 4096) → Wires new.source new.destination new.forward.frames new.back.frames new.urgent.frames → IsSoundWorld new
-goes_on to ran epoch keeps frames rest world kept advised phase at kept_none kept_whole on_wires = grind (arith, nat_tests, flight_up, AreOf-sending, fits-none, fits-more)
+goes_on to ran epoch keeps frames rest world kept advised phase at kept_none kept_whole on_wires = grind (arith, nat_tests, AreOf-sending, fits-none, fits-more)
 
 -- it has not run: what it kept is given up
 resume_waiting : (epoch : ℕ) (rest : List Sent) (world : World) →
@@ -231,7 +231,7 @@ copy_arrives : (epoch : ℕ) (frame : Frame) (copy : Copy) (rest : List Sent) (w
     ((page origin : ℕ) → get world.destination.owed page ≡ Some origin →
     (is_urgent_or_left world.source.remaining world.urgent.frames origin || has_copy (copy ∷ copies_of rest) origin || has_copy world.destination.arrivals origin) ≡ true) →
     IsSoundWorld (record old { destination = record old.destination { arrivals = world.destination.arrivals ++ copy ∷ [] }; forward = wire_behind rest })
-copy_arrives epoch frame copy rest world kept faithful whole flow requests whereabouts = grind (arith, nat_tests, not_up, AreFaithful-append, has_copy-append, flight_up, fits-none)
+copy_arrives epoch frame copy rest world kept faithful whole flow requests whereabouts = grind (arith, nat_tests, AreFaithful-append, has_copy-append, flight_up, fits-none)
 
 -- The frames in their phases
 
@@ -279,7 +279,7 @@ stopped_advised epoch _ rest world kept = absurd (none-some (flow_of (record wor
 stopped_discarding : (epoch : ℕ) (frame : Frame) (rest : List Sent) (world : World) →
     let old : World = at_state SourcePhase.Stopped DestPhase.Discarding false true (record { epoch = epoch; frame = frame } ∷ rest) world in
     IsSoundWorld old → IsSoundWorld (delivered old old.forward.frames)
-stopped_discarding epoch frame rest world kept = grind (arith, nat_tests, package_taken, none-some)
+stopped_discarding epoch frame rest world kept = grind (arith, nat_tests, package_taken)
 
 -- whether the frame is one before which all that came has to be installed
 abbrev IsFree : Frame → World → Type 0
@@ -290,7 +290,7 @@ abbrev pub AllCame : Frame → World → Type 0
 AllCame frame world = (count : ℕ) → frame ≡ End count → world.urgent.frames ≡ []
 
 none_waits : (arrivals : List Copy) → not (is_empty arrivals) ≡ false → arrivals ≡ []
-none_waits arrivals h = grind (arith, nat_tests, not_up)
+none_waits arrivals h = grind (arith, nat_tests)
 
 stopped_running : (epoch : ℕ) (frame : Frame) (rest : List Sent) (world : World) → IsFree frame world → AllCame frame world →
     let old : World = at_state SourcePhase.Stopped DestPhase.Running true true (record { epoch = epoch; frame = frame } ∷ rest) world in

@@ -93,7 +93,7 @@ no_copy page kept h = ap (λ k. contains_key k page) h ∙ ap is_some (get-empty
 recv_precopy : (owed : FinSet nat_cmp) (epoch : ℕ) (rest : List Sent) (world : World) →
     let old : World = at_back SourcePhase.Paused DestPhase.Advised false false [] (record { epoch = epoch; frame = Recv Received.NotRun owed } ∷ rest) world in
     IsSoundWorld old → rest ≡ [] → IsSoundWorld (delivered_back old old.back.frames)
-recv_precopy owed epoch rest world kept last = grind (arith, nat_tests, no_page, no_copy, flight_up, fits-none)
+recv_precopy owed epoch rest world kept last = grind (arith, nat_tests, no_copy, flight_up, fits-none)
 
 -- where End was not sent in this epoch
 all_owed : (low : Bool) (o : Option (List ℕ)) → (low ≡ false → o ≡ None) → None ≡ cond (low && is_some o) None o

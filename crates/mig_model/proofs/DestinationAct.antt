@@ -43,7 +43,7 @@ use Rattle.mig_model.specs.Wire.Frame.{Request}
 use Rattle.mig_model.specs.Guest.Act.{Zeroed, Woke, Forgot, Requested}
 use Rattle.mig_model.proofs.HostLemmas.{memory-at}
 use Rattle.mig_model.specs.Log.{present}
-use Rattle.mig_model.proofs.WireLemmas.{fits-append, AreOf-append, are_requests-append}
+use Rattle.mig_model.proofs.WireLemmas.{AreOf-append, are_requests-append}
 
 -- One page put
 
@@ -77,7 +77,7 @@ seen_by own other = elim own [ Some bytes ↦ Some bytes | None ↦ other ]
 
 memory-put : (here there : Host) (owed : FinMap nat_cmp ℕ) (page origin : ℕ) (bytes : List ℕ) → get here.bytes page ≡ None → get owed page ≡ Some origin → get there.bytes origin ≡ Some bytes →
     memory (seen_host (record here { bytes = put_pages here.bytes page 1 (λ i. bytes) }) there (get (finmap.remove owed page))) ≡ memory (seen_host here there (get owed))
-memory-put here there owed page origin bytes none pair same = grind (arith, nat_tests, get-put_one, get-without, eqb-true)
+memory-put here there owed page origin bytes none pair same = grind (arith, nat_tests, get-put_one, get-without)
 
 -- The pairs that are left
 
@@ -285,7 +285,7 @@ request_wires from _ source node forward back urgent sent is runs w = none_absur
 -- a request is sent where the destination runs and the page was not asked for yet, and is lost where the link is down
 sent_back : (up asked runs : Bool) (world : World) (source : ℕ) → world.up ≡ up → is_running world.destination.phase ≡ runs → IsSoundWorld world →
     IsSoundWorld (record world { back = wire_if up world.back world.destination.epoch (if asked || not runs then [] else Request source ∷ []) })
-sent_back up asked runs world source up_ running kept = grind (arith, nat_tests, AreOf-append, request_wires, fits-append)
+sent_back up asked runs world source up_ running kept = grind (arith, nat_tests, AreOf-append, request_wires)
 
 -- nothing is sent
 nothing_sent : (up : Bool) (world : World) → world.up ≡ up → IsSoundWorld world → IsSoundWorld (record world { back = wire_if up world.back world.destination.epoch [] })

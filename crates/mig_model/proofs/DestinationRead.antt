@@ -29,14 +29,13 @@ use Rattle.mig_model.specs.Cpus.{Took, entries_of}
 use Rattle.mig_model.specs.Owed.{owed_table_after, settled_by}
 use Rattle.mig_model.specs.Source.{Source, space_of}
 use Rattle.mig_model.specs.Destination.{Destination, settled}
-use Rattle.mig_model.proofs.Facts.{up_not_down, some_is}
+use Rattle.mig_model.proofs.Facts.{some_is}
 use Rattle.mig_base.specs.declared.command.Command.{Command}
 use Rattle.mig_base.specs.declared.command.Entry.{Entry}
 use Rattle.mig_base.specs.Commands.{is_access}
 use Rattle.mig_model.proofs.FaultLemmas.{AreFaults-tried}
 use Rattle.mig_model.proofs.WorldLemmas.{holds_after, flat_after}
 use Rattle.mig_model.proofs.SeenLemmas.{IsSound-seen}
-use Rattle.mig_model.proofs.PairLemmas.{pairs_watched}
 use Rattle.mig_model.proofs.TriedLemmas.{IsReady, IsEntered, command_tries}
 use Rattle.mig_model.proofs.TriedLemmas.IsEntered.{Silent, Entered}
 
@@ -103,7 +102,7 @@ wires_handled _ _ source node forward back urgent guest held owed requests arriv
 
 pub kept-handled : (world : World) (guest : Guest) (held : List Fault) (owed : FinMap nat_cmp ℕ) (requests : List ℕ) (arrivals : List Copy) (installed dropped faults : ℕ) → IsSoundWorld world → world.destination.has_run ≡ true → IsHandled world guest owed arrivals →
     IsSoundWorld (record world { destination = handled world.destination guest held owed requests arrivals installed dropped faults })
-kept-handled world guest held owed requests arrivals installed dropped faults kept runs new = grind (arith, nat_tests, up_not_down, wires_handled)
+kept-handled world guest held owed requests arrivals installed dropped faults kept runs new = grind (arith, nat_tests, wires_handled)
 
 -- A message is read
 
@@ -187,7 +186,7 @@ entered_one old new transcript cpu command took (Entered one then) sound holds f
 -- The wires do not depend on the destination's guest
 
 pub wires-with_guest : (from : Source) (to : Destination) (guest : Guest) (forward back urgent : List Sent) → Wires from to forward back urgent → Wires from (record to { guest = guest }) forward back urgent
-wires-with_guest from to guest forward back urgent w = grind (arith, nat_tests, wires_handled, same_pairs)
+wires-with_guest from to guest forward back urgent w = grind (arith, nat_tests, wires_handled)
 
 -- The world
 
@@ -199,7 +198,7 @@ pub current_seen : (world : World) → world.destination.has_run ≡ true → cu
 current_seen world ran = ap (λ b. current_by b world.destination.guest.space.host (space_of world.source).host (settled world.destination)) ran
 
 pub sound_seen : (world : World) → IsSoundWorld world → IsSound (seen_host world.destination.guest.space.host (space_of world.source).host (settled world.destination))
-sound_seen world kept = grind (arith, nat_tests, IsSound-seen, pairs_watched)
+sound_seen world kept = grind (arith, nat_tests, IsSound-seen)
 
 -- the world once a command is tried where `runs` tells
 abbrev tried_at : Bool → World → ℕ → Command → World

@@ -90,12 +90,12 @@ copy_taken ends world (Zero page ∷ copies) are all wire back epoch kept =
 copy_taken ends world (_ ∷ copies) are all wire back epoch kept = absurd are
 
 pub IsKept-delivered : (world : World) → IsKept world → IsKept (delivered world world.forward)
-IsKept-delivered world kept = grind (arith, nat_tests, at_stage, rewired, unanswered, copy_taken)
+IsKept-delivered world kept = grind (arith, nat_tests, rewired, unanswered, copy_taken)
 
 -- The wire back
 
 pub IsKept-delivered_back : (world : World) → IsKept world → IsKept (delivered_back world world.back)
-IsKept-delivered_back world kept = grind (arith, nat_tests, at_stage, IsSound-empty)
+IsKept-delivered_back world kept = grind (arith, nat_tests, IsSound-empty)
 
 -- what holds of the old world, and of the new one where nothing refuses the step
 pub by_refusal : (P : World → Type 0) (refusal : Option Refusal) (old new : World) → P old → (refusal ≡ None → P new) → P (next_by refusal old new)

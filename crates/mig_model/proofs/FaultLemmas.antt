@@ -1,10 +1,10 @@
 -- The messages of page faults that wait are of page faults alone, and stay so.
 use Rattle.std.proofs.lemmas.Bool.Decides.{nat_tests}
-use Rattle.std.proofs.Common.{◌≡◌, ℕ, Bool, List, [], ◌∷◌, ◌++◌, if◌then◌else◌, arith}
+use Rattle.std.proofs.Common.{ℕ, Bool, List, [], ◌∷◌, ◌++◌, arith}
 use Rattle.mig_base.specs.declared.command.Access.{Access}
 use Rattle.mig_base.specs.declared.command.Command.{Command}
-use Rattle.mig_model.specs.Userfault.{Noted, Object}
-use Rattle.mig_model.specs.Space.{Space, accessed_by, called}
+use Rattle.mig_model.specs.Userfault.{Noted}
+use Rattle.mig_model.specs.Space.{Space, accessed_by}
 use Rattle.mig_model.specs.Guest.{space_by}
 use Rattle.mig_model.specs.Invariant.{IsFault, AreFaults}
 
@@ -14,16 +14,9 @@ AreFaults-push (first ∷ faults) noted is are = (are.0, AreFaults-push faults n
 
 -- Loads, stores and map calls
 
-fault_waits : (waits : Bool) (object other : Object) → AreFaults object.faults → AreFaults other.faults → AreFaults (if waits then object else other).faults
-fault_waits waits object other are more = grind (arith, nat_tests)
-
 accessed_faults : (access : Access) (space : Space) (cpu : ℕ) (command : Command) → AreFaults space.object.faults → AreFaults (accessed_by access space cpu command).object.faults
-accessed_faults access space cpu command are = grind (arith, nat_tests, fault_waits, AreFaults-push)
-
--- a map call queues no fault
-pub called_faults : (space : Space) (cpu : ℕ) (command : Command) → (called space cpu command).object.faults ≡ space.object.faults
-called_faults space cpu command = grind (arith, nat_tests)
+accessed_faults access space cpu command are = grind (arith, nat_tests, AreFaults-push)
 
 -- the space once a processor has tried a command
 pub AreFaults-tried : (access : Bool) (space : Space) (cpu : ℕ) (command : Command) → AreFaults space.object.faults → AreFaults (space_by access space cpu command).object.faults
-AreFaults-tried access space cpu command are = grind (arith, nat_tests, accessed_faults, called_faults)
+AreFaults-tried access space cpu command are = grind (arith, nat_tests, accessed_faults)

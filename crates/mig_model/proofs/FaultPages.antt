@@ -1,6 +1,6 @@
 -- The pages of faults, unread and held, are pages that may be mapped.
 use Rattle.std.proofs.lemmas.Bool.Decides.{nat_tests}
-use Rattle.std.proofs.Common.{◌≡◌, ℕ, ◌*◌, ◌/◌, Bool, true, Option, Some, List, [], ◌∷◌, ◌++◌, refl, sym, ap, ◌∙◌, if◌then◌else◌, arith}
+use Rattle.std.proofs.Common.{◌≡◌, ℕ, ◌*◌, ◌/◌, Bool, true, Option, Some, List, [], ◌∷◌, ◌++◌, refl, sym, ap, ◌∙◌, arith}
 use Rattle.mig_base.specs.declared.TheConstants.{PAGE_SIZE}
 use Rattle.mig_base.specs.declared.command.Access.{Access}
 use Rattle.mig_base.specs.declared.command.Access.TheVariants.{Answered, Missing, Protected}
@@ -13,7 +13,7 @@ use Rattle.mig_base.specs.Commands.{is_access, page_of}
 use Rattle.mig_model.specs.Userfault.{Noted, Object, fault_queued, next_message, next_of}
 use Rattle.mig_model.specs.Space.{Space, access_of, accessed_by}
 use Rattle.mig_model.specs.Cpus.{access_took}
-use Rattle.mig_model.specs.Guest.{Act, Fault, Guest, held_after, read_guest, space_by, tried}
+use Rattle.mig_model.specs.Guest.{Act, Fault, held_after, space_by, tried}
 use Rattle.mig_model.specs.Owed.{home}
 use Rattle.mig_model.specs.Wire.{Copy, Frame}
 use Rattle.mig_model.specs.Source.{source_act, source_acted_by, source_took, space_of}
@@ -51,11 +51,8 @@ pages-push : (faults : List Noted) (noted : Noted) → AreFaultPages faults → 
 pages-push [] noted are is = (is, tt)
 pages-push (first ∷ faults) noted are is = (are.0, pages-push faults noted are.1 is)
 
-waits_or_more : (waits : Bool) (object more : Object) → AreFaultPages object.faults → AreFaultPages more.faults → AreFaultPages (if waits then object else more).faults
-waits_or_more waits object more old new = grind (arith, nat_tests)
-
 fault_pages : (object : Object) (page : ℕ) (write wp : Bool) (cpu : ℕ) → IsPage page → AreFaultPages object.faults → AreFaultPages (fault_queued object (4096 * page) write wp cpu).faults
-fault_pages object page write wp cpu is are = grind (arith, nat_tests, waits_or_more, pages-push, pages_again)
+fault_pages object page write wp cpu is are = grind (arith, nat_tests, pages-push, pages_again)
 
 slept_page : (space : Space) (command : Command) (access : Access) → access_of space command ≡ access → access_took access ≡ access_took Missing → is_access command ≡ true → IsMapping space.host.areas → IsPage (page_of command)
 slept_page space command access is sleeps accesses mapping = access_page command (right_slept true space command (sym accesses) mapping (ap access_took is ∙ sleeps))
@@ -82,9 +79,6 @@ held_pages message held is are = grind (arith, nat_tests, held-push)
 next_page : (faults events : List Noted) (noted : Noted) → next_of faults events ≡ Some noted → AreFaultPages faults → AreRight events → IsFaultPage noted.message
 next_page faults events noted is are right = grind (arith, nat_tests)
 
-read_pages : (guest : Guest) (cpu : ℕ) (message : Message) → AreFaultPages guest.space.object.faults → AreFaultPages (read_guest guest cpu message).space.object.faults
-read_pages guest cpu message are = grind (arith, nat_tests)
-
 -- Both nodes
 
 pub record AreInside (from : List Noted) (from_held : List Fault) (to : List Noted) (to_held : List Fault) : Type 0 where
@@ -102,7 +96,7 @@ with_source faults held queued read h = record { source = queued; source_held = 
 
 guest_inside : (ran : Bool) (world : World) (cpu : ℕ) (command : Command) → IsMapping (space_of world.source).host.areas → IsMapping world.destination.guest.space.host.areas → HasFaultsInside world →
     HasFaultsInside (with_guest_by ran world (tried (is_access command) (guest_by ran world.source.guest world.destination.guest) cpu command))
-guest_inside ran world cpu command from to h = grind (arith, nat_tests, tried_pages, with_source)
+guest_inside ran world cpu command from to h = grind (arith, nat_tests, tried_pages)
 
 acted_inside : (act : Act) (world : World) (page : ℕ) → HasFaultsInside world → HasFaultsInside (record world { source = source_acted_by act world.source page })
 acted_inside act world page h = grind (arith, nat_tests)
@@ -123,10 +117,10 @@ back_inside : (frame : Frame) (world : World) → HasFaultsInside world → HasF
 back_inside frame world h = grind (arith, nat_tests)
 
 source_read_inside : (world : World) (noted : Noted) → IsSoundWorld world → next_message (space_of world.source).object ≡ Some noted → HasFaultsInside world → HasFaultsInside (after_source_read world noted)
-source_read_inside world noted kept is h = grind (arith, nat_tests, read_pages, held_pages, next_page)
+source_read_inside world noted kept is h = grind (arith, nat_tests, held_pages, next_page)
 
 dest_read_inside : (world : World) (noted : Noted) → IsSoundWorld world → next_message world.destination.guest.space.object ≡ Some noted → HasFaultsInside world → HasFaultsInside (after_dest_read world noted)
-dest_read_inside world noted kept is h = grind (arith, nat_tests, read_pages, held_pages, next_page)
+dest_read_inside world noted kept is h = grind (arith, nat_tests, held_pages, next_page)
 
 -- Steps
 

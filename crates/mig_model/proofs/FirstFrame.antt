@@ -33,10 +33,6 @@ delivered_back world (sent ∷ rest) = after_deliver_back world sent rest
 pub empty_not : {A : Type 0} (x : A) (xs : List A) → x ∷ xs ≡ [] → ⊥
 empty_not x xs h = cc
 
--- the first frame of a wire that is in order may come there
-pub first_flows : (flow : Flow) (sent : Sent) (rest : List Sent) (end : Flow) → flow_after flow (sent ∷ rest) ≡ Some end → is_some (flow_next flow sent.frame) ≡ true
-first_flows flow sent rest end h = grind (arith, nat_tests)
-
 -- whether the Discard was on the wire
 abbrev is_late : Flow → Bool
 is_late BeforeAdvise = false
@@ -85,7 +81,7 @@ comes from to frame = false
 
 in_place_by : (from : SourcePhase) (to : DestPhase) (source : Source) (destination : Destination) (sent : Sent) (rest back urgent : List Sent)
     → Wires (record source { phase = from }) (record destination { phase = to }) (sent ∷ rest) back urgent → comes from to sent.frame ≡ true
-in_place_by from to source destination sent rest back urgent w = grind (arith, nat_tests, first_flows, empty_not, ends_late)
+in_place_by from to source destination sent rest back urgent w = grind (arith, nat_tests, empty_not, ends_late)
 
 -- while the link is up the first frame is never out of place
 pub first_in_place : (source : Source) (destination : Destination) (sent : Sent) (rest back urgent : List Sent) → Wires source destination (sent ∷ rest) back urgent → comes source.phase destination.phase sent.frame ≡ true

@@ -120,7 +120,7 @@ remapped_few memory addr old_size target new_size bounded some one high room =
 
 target_few : (memory : Memory) (addr old_size new_size : ℕ) (may_move : Bool) (fixed : Option ℕ) (target : ℕ) → IsBounded memory → 0 < old_size → has_one_prot memory addr old_size ≡ true → target + new_size ≤ HIGH →
     At target ≡ mremap_target memory addr old_size new_size may_move fixed → IsFew (moved memory addr old_size target new_size)
-target_few memory addr old_size new_size may_move fixed target bounded some one high h = grind (arith, nat_tests, remapped_few, ltb-false, same_at)
+target_few memory addr old_size new_size may_move fixed target bounded some one high h = grind (arith, nat_tests, remapped_few, same_at)
 
 mremap_few : (memory : Memory) (addr old_len new_len : ℕ) (may_move : Bool) (fixed : Option ℕ) (target : ℕ) → IsBounded memory → At target ≡ mremap_reply memory addr old_len new_len may_move fixed →
     IsFew (moved memory addr (rounded old_len) target (rounded new_len))

@@ -6,7 +6,7 @@ use Rattle.std.specs.FinMap as finmap
 use Rattle.std.specs.FinMap.{FinMap, contains_key, retain_keys, get, get-empty, get-retain_keys}
 use Rattle.std.specs.FinSet as finset
 use Rattle.std.specs.FinSet.{FinSet, contains, contains-empty, contains-retain, len-empty, nat_cmp-IsAntisymmetric}
-use Rattle.std.proofs.lemmas.Bool.{false≢true, and_from, eq-eqb, leb-true, not_from_true, or_from}
+use Rattle.std.proofs.lemmas.Bool.{false≢true, eq-eqb, leb-true, not_from_true, or_from}
 use Rattle.std.proofs.lemmas.Bool.Decides.{nat_tests}
 use Rattle.mig_base.specs.declared.fault.TakeFault.{TakeFault}
 use Rattle.mig_base.specs.declared.phase.Received.{Received}
@@ -20,7 +20,6 @@ use Rattle.mig_base.specs.declared.schedule.Step.{Step}
 use Rattle.mig_model.specs.Space.{Space, IsSoundSpace}
 use Rattle.mig_model.specs.Migration.{World, Made, Answer, after_deliver, frame_effect, has_started, is_early, is_end, is_short, made, outcome, outcome_by, unless}
 use Rattle.mig_model.specs.Invariant.{IsSoundWorld}
-use Rattle.mig_model.proofs.SourceRounds.{idle_forward}
 use Rattle.mig_model.specs.Wire.{Frame, Sent, Copy}
 use Rattle.mig_model.specs.Wire.Frame.{Advise, End, Recv}
 use Rattle.mig_model.specs.Guest.{is_present}
@@ -29,7 +28,7 @@ use Rattle.mig_model.specs.Source.{Source, space_of}
 use Rattle.mig_model.specs.Destination.{Destination}
 use Rattle.mig_model.specs.Faults.{frame_fault, back_fault, rebuild_fault, take_fault, urgent_fault, wait_fault, is_bad, is_too_soon}
 use Rattle.mig_model.proofs.Taken.{IsTaken, IsTakenUrgent, IsGood, IsInPlaceBack}
-use Rattle.mig_model.proofs.Facts.{low_or, none_absurd}
+use Rattle.mig_model.proofs.Facts.{low_or}
 
 -- Sets and maps without members
 
@@ -55,7 +54,7 @@ none_kept {X} map keep h =
 -- The destination
 
 empty_is : (arrivals : List Copy) → is_empty arrivals ≡ true → arrivals ≡ []
-empty_is arrivals h = grind (arith, nat_tests, none_absurd)
+empty_is arrivals h = grind (arith, nat_tests)
 
 soon_by : (none free all : Bool) → (free ≡ true → all ≡ true → none ≡ true) → (not none && free && all) ≡ false
 soon_by none free all h = grind (arith, nat_tests)
@@ -74,11 +73,11 @@ pub no_fewer : (came told : ℕ) → came ≤ told → ltb told came ≡ false
 no_fewer came told h = grind (arith, nat_tests)
 
 not_bad : (node : Destination) (frame : Frame) → IsGood node frame → is_bad node frame ≡ false
-not_bad node frame good = grind (arith, nat_tests, not_from_true, eq-eqb, no_fewer, none_empty, no_member, torn_by, none_kept)
+not_bad node frame good = grind (arith, nat_tests, eq-eqb, no_fewer, none_empty, no_member, torn_by, none_kept)
 
 -- a frame that is taken is not wrong
 pub no_frame_fault : (node : Destination) (sent : Sent) → IsTaken node sent → frame_fault node sent.epoch sent.frame ≡ None
-no_frame_fault node sent taken = grind (arith, nat_tests, or_from, not_from_true, not_too_soon, not_bad)
+no_frame_fault node sent taken = grind (arith, nat_tests, not_from_true, not_too_soon, not_bad)
 
 pub no_urgent_fault : (node : Destination) (sent : Sent) → IsTakenUrgent node sent → urgent_fault node sent.epoch sent.frame ≡ None
 no_urgent_fault node sent taken = grind (arith, nat_tests)
@@ -86,7 +85,7 @@ no_urgent_fault node sent taken = grind (arith, nat_tests)
 -- The source
 
 pub no_back_fault : (node : Source) (sent : Sent) → IsInPlaceBack node sent.frame → sent.epoch ≡ node.epoch → back_fault node sent.epoch sent.frame ≡ None
-no_back_fault node sent place own = grind (arith, nat_tests, not_from_true, eq-eqb)
+no_back_fault node sent place own = grind (arith, nat_tests)
 
 none_listed : (owed : FinSet nat_cmp) → owed ≡ no_pages → not (eqb (finset.len owed) 0) ≡ false
 none_listed owed none = ap (λ s. not (eqb (finset.len s) 0)) none ∙ ap (λ n. not (eqb n 0)) (len-empty nat_cmp)
@@ -94,7 +93,7 @@ none_listed owed none = ap (λ s. not (eqb (finset.len s) 0)) none ∙ ap (λ n.
 -- a Recv that is taken lists what the source has
 pub no_rebuild_fault : (node : Source) (state : Received) (owed : FinSet nat_cmp) → ((page : ℕ) → is_present (space_of node) page ≡ true → contains (present (space_of node)) page ≡ true) → IsInPlaceBack node (Recv state owed) →
     rebuild_fault node state owed ≡ None
-no_rebuild_fault node state owed below place = grind (arith, nat_tests, none_listed, or_from, not_from_true, none_empty, no_member)
+no_rebuild_fault node state owed below place = grind (arith, nat_tests, none_listed, not_from_true, none_empty, no_member)
 
 -- A Deliver that completes a frame
 
@@ -148,11 +147,11 @@ full_by world n sent rest fault is h =
     ∙ ap (λ f. answer_to f new) (only_waits world.destination sent fault is.right h)
 
 pub is_full : (world : World) (n : ℕ) (sent : Sent) (rest : List Sent) → IsSoundWorld world → world.up ≡ true → world.forward.frames ≡ sent ∷ rest → is_short world.forward sent.frame n ≡ false → IsTaken world.destination sent → IsFull world n sent rest
-is_full world n sent rest kept up first full taken = grind (arith, nat_tests, idle_forward, no_frame_fault)
+is_full world n sent rest kept up first full taken = grind (arith, nat_tests, no_frame_fault)
 
 pub sound_below : (space : Space) → IsSoundSpace space → (page : ℕ) → is_present space page ≡ true → page < HIGH_PAGE
 sound_below space sound page h = low_or (λ high. false≢true (sym (ap is_some (sound.host.mapped page (sound.host.bound page high))) ∙ h))
 
 -- the present pages of a source
 pub present_below : (space : Space) → IsSoundSpace space → (page : ℕ) → is_present space page ≡ true → contains (present space) page ≡ true
-present_below space sound page h = grind (arith, nat_tests, member_below, and_from, sound_below)
+present_below space sound page h = grind (arith, nat_tests, member_below, sound_below)

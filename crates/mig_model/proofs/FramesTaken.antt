@@ -20,9 +20,8 @@ use Rattle.mig_model.specs.Space.{Space}
 use Rattle.mig_model.specs.Wire.{Frame, Sent}
 use Rattle.mig_model.specs.Wire.Frame.{Advise, Page, Zero, Run, Discard, Package, End, Resume, Request, Recv, Done}
 use Rattle.mig_model.specs.Migration.{World}
-use Rattle.mig_model.specs.Invariant.{IsSoundWorld, IsSwitching, IsFlowing, EpochAt, AreOf, flow_of, AreSoundUrgent}
-use Rattle.mig_model.proofs.Taken.{IsOwnEpoch, IsGood, IsTaken, IsInPlaceBack}
-use Rattle.mig_model.specs.Faults.{is_in_place}
+use Rattle.mig_model.specs.Invariant.{IsSoundWorld, IsSwitching, IsFlowing, AreOf, flow_of, AreSoundUrgent}
+use Rattle.mig_model.proofs.Taken.{IsGood, IsTaken, IsInPlaceBack}
 use Rattle.mig_model.proofs.FirstFrame.{comes, nothing_behind}
 use Rattle.mig_model.specs.Cpus.{outstanding}
 use Rattle.mig_model.specs.Log.{present}
@@ -31,11 +30,6 @@ use Rattle.mig_model.specs.Destination.{Destination}
 use Rattle.mig_model.proofs.Facts.{none_absurd}
 use Rattle.mig_model.proofs.UrgentWire.{EndTells, end_tells}
 use Rattle.mig_model.proofs.Delivery.{ended_now, nowhere}
-
--- Of the right epoch
-
-epoch_of : (to : DestPhase) (node : Destination) (epoch source_epoch : ℕ) (frame : Frame) → is_in_place to frame ≡ true → epoch ≡ source_epoch → EpochAt to node.epoch source_epoch → IsOwnEpoch node epoch frame
-epoch_of to node epoch source_epoch frame h e at = grind (arith, nat_tests)
 
 -- Right
 
@@ -55,7 +49,7 @@ mapped_of : (space : Space) (page : ℕ) → IsSound space.host → is_present s
 mapped_of space page sound present = grind (arith, nat_tests)
 
 kept_unless : (owed : Bool) (bytes : Option (List ℕ)) → is_some (cond owed None bytes) ≡ true → is_some bytes ≡ true
-kept_unless owed bytes h = grind (arith, nat_tests, none_absurd)
+kept_unless owed bytes h = grind (arith, nat_tests)
 
 package_good : (source : Source) (node : Destination) (epoch : ℕ) (areas : FinMap nat_cmp Prot) (owed : FinSet nat_cmp) (commands : List (Option Command)) (rest urgent : List Sent) → IsSound (space_of source).host →
     IsSwitching source node.kept (record { epoch = epoch; frame = Package areas owed commands } ∷ rest) urgent → length node.guest.cpus ≡ length source.guest.cpus → IsGood node (Package areas owed commands)
@@ -109,7 +103,7 @@ good_of from to epoch Done rest world h up kept many tells = tt
 good_of _ _ epoch _ rest world h up kept many tells = none_absurd h
 
 taken_in : (from : SourcePhase) (to : DestPhase) (epoch : ℕ) (frame : Frame) (rest : List Sent) (world : World) → world.up ≡ true → IsSoundWorld (with_first from to epoch frame rest world) → AreAsMany world → EndTells frame world → IsTaken (with_first from to epoch frame rest world).destination (record { epoch = epoch; frame = frame })
-taken_in from to epoch frame rest world up kept many tells = grind (arith, nat_tests, epoch_of, good_of)
+taken_in from to epoch frame rest world up kept many tells = grind (arith, nat_tests, good_of)
 
 -- the first frame on the wire to the destination
 pub is_taken : (world : World) (sent : Sent) (rest : List Sent) → IsSoundWorld world → AreSoundUrgent world → AreAsMany world → world.up ≡ true → world.forward.frames ≡ sent ∷ rest → IsTaken world.destination sent

@@ -16,9 +16,8 @@ use Rattle.mig_base.specs.Flat.{Memory, Cell, no_memory, is_mapped, mapped_count
 use Rattle.mig_base.proofs.RangeLemmas.{count_below-blocks, in_range_tells}
 use Rattle.mig_base.proofs.PageLemmas.{get-set_range, get-remove_range, get-moved_range, count_below-contains_key}
 use Rattle.mig_base.proofs.ByteLemmas.{get_or-overwrite_below, get_or-overwrite_in, get_or-overwrite_above}
-use Rattle.mig_base.proofs.TestLemmas.{cond_none}
 use Rattle.mig_model.specs.Host.{Host, byte_in, memory, host_moved, host_dropped, IsSound}
-use Rattle.mig_model.proofs.Facts.{in_range_first, eqb_other, put_whole}
+use Rattle.mig_model.proofs.Facts.{in_range_first, eqb_other}
 
 -- two memories that hold the same at each address are one
 pub same_memory : (a b : Memory) → ((addr : ℕ) → a addr ≡ b addr) → a ≡ b
@@ -65,7 +64,7 @@ pub get-put : (bytes : FinMap nat_cmp (List ℕ)) (page q : ℕ) (held : List �
 get-put bytes page q held = get-insert nat_cmp_total bytes page held q ∙ ap (λ b. cond b (Some held) (get bytes q)) (unsigned_tied q page)
 
 pub IsSound-put : (host : Host) (page : ℕ) (held : List ℕ) → IsSound host → contains_key host.areas page ≡ true → length held ≡ 4096 → IsSound (record host { bytes = insert host.bytes page held })
-IsSound-put host page held sound has n = grind (arith, nat_tests, get-put, put_whole)
+IsSound-put host page held sound has n = grind (arith, nat_tests, get-put)
 
 -- A write
 
@@ -79,7 +78,7 @@ abbrev pub ReadsAs : List ℕ → List ℕ → Type 0
 ReadsAs held other = (i : ℕ) → get_or held i 0 ≡ get_or other i 0
 
 pub memory-write : (host : Host) (addr width value : ℕ) (held digits : List ℕ) → ReadsAs held (page_at host.bytes (addr / 4096)) → length held ≡ 4096 → AreDigits digits width value → addr % 4096 + width ≤ 4096 → memory (record host { bytes = insert host.bytes (addr / 4096) (overwrite held (addr % 4096) digits) }) ≡ write (memory host) addr width value
-memory-write host addr width value held digits same n are inside = grind (arith, nat_tests, same_memory, memory-at, get_or-overwrite_in, get_or-overwrite_below, get_or-overwrite_above, in_range_tells, get-put, eq-eqb, eqb_other)
+memory-write host addr width value held digits same n are inside = grind (arith, nat_tests, memory-at, get_or-overwrite_in, get_or-overwrite_below, get_or-overwrite_above, in_range_tells, get-put, eq-eqb, eqb_other)
 
 -- Ranges of pages
 
@@ -93,27 +92,27 @@ abbrev with_byte : ℕ → Option Prot → Option Cell
 with_byte byte o = option_map (λ prot. record { byte = byte; prot = prot }) o
 
 pub memory-map : (host : Host) (first count : ℕ) (prot : Prot) → memory (record { areas = set_range host.areas first count prot; bytes = remove_range host.bytes first count }) ≡ fill (memory host) (first * 4096) (4096 * count) (record { byte = 0; prot = prot })
-memory-map host first count prot = grind (arith, nat_tests, memory-at, cell_at, get-set_range, with_byte, byte_in-remove, in_range-pages)
+memory-map host first count prot = grind (arith, nat_tests, memory-at, get-set_range, with_byte, byte_in-remove, in_range-pages)
 
 pub some_kept : (b : Bool) (bytes : List ℕ) (p : Option (List ℕ)) → cond b None p ≡ Some bytes → p ≡ Some bytes
 some_kept b bytes p h = grind (arith, nat_tests)
 
 pub IsSound-map : (host : Host) (first count : ℕ) (prot : Prot) → IsSound host → first + count ≤ HIGH_PAGE → IsSound (record { areas = set_range host.areas first count prot; bytes = remove_range host.bytes first count })
-IsSound-map host first count prot sound high = grind (arith, nat_tests, get-set_range, get-remove_range, some_kept)
+IsSound-map host first count prot sound high = grind (arith, nat_tests, get-set_range, get-remove_range)
 
 pub memory-unmap : (host : Host) (first count : ℕ) → memory (record { areas = remove_range host.areas first count; bytes = remove_range host.bytes first count }) ≡ clear (memory host) (first * 4096) (4096 * count)
-memory-unmap host first count = grind (arith, nat_tests, memory-at, cell_at, get-remove_range, in_range-pages)
+memory-unmap host first count = grind (arith, nat_tests, memory-at, get-remove_range, in_range-pages)
 
 pub IsSound-unmap : (host : Host) (first count : ℕ) → IsSound host → IsSound (record { areas = remove_range host.areas first count; bytes = remove_range host.bytes first count })
-IsSound-unmap host first count sound = grind (arith, nat_tests, get-remove_range, some_kept)
+IsSound-unmap host first count sound = grind (arith, nat_tests, get-remove_range)
 
 -- Pages made missing
 
 pub memory-dropped : (host : Host) (first count : ℕ) → memory (host_dropped host first count) ≡ zeroed (memory host) (first * 4096) (4096 * count)
-memory-dropped host first count = grind (arith, nat_tests, memory-at, with_byte, byte_in-remove, cell_at, in_range-pages)
+memory-dropped host first count = grind (arith, nat_tests, memory-at, byte_in-remove, cell_at, in_range-pages)
 
 pub IsSound-dropped : (host : Host) (first count : ℕ) → IsSound host → IsSound (host_dropped host first count)
-IsSound-dropped host first count sound = grind (arith, nat_tests, get-remove_range, some_kept)
+IsSound-dropped host first count sound = grind (arith, nat_tests, get-remove_range)
 
 -- Pages moved
 
@@ -162,4 +161,4 @@ memory-moved host from count to new_count =
     ∙ ap (λ b. cond (in_range (to * 4096) (4096 * new_count) q) (cond (ltb (q - to * 4096) (4096 * count)) (memory host (from * 4096 + (q - to * 4096))) (grown (memory host (from * 4096)))) (cond b None (memory host q))) (in_range-pages from count q))
 
 pub IsSound-moved : (host : Host) (from count to new_count : ℕ) → IsSound host → to + new_count ≤ HIGH_PAGE → IsSound (host_moved host from count to new_count)
-IsSound-moved host from count to new_count sound high = grind (arith, nat_tests, get-moved_range, cond_none)
+IsSound-moved host from count to new_count sound high = grind (arith, nat_tests, get-moved_range)

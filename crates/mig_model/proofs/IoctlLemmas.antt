@@ -4,7 +4,7 @@ use Rattle.std.specs.Ordering.{nat_cmp}
 use Rattle.std.specs.FinMap.{FinMap, get, contains_key}
 use Rattle.std.specs.FinSet.{contains}
 use Rattle.std.proofs.lemmas.Bool.Decides.{nat_tests}
-use Rattle.std.proofs.lemmas.Bool.{false≢true, not-false, or_left, or_cases, or_right}
+use Rattle.std.proofs.lemmas.Bool.{false≢true, not-false, or_cases, or_right}
 use Rattle.std.proofs.lemmas.List.{length-take, length-drop}
 use Rattle.mig_base.specs.declared.TheConstants.{HIGH_PAGE}
 use Rattle.mig_base.specs.declared.command.Errno.{Errno}
@@ -27,7 +27,7 @@ pub below_high : (space : Space) (page : ℕ) → IsSoundSpace space → contain
 below_high space page sound mapped = grind (arith, nat_tests)
 
 pub IsSoundSpace-registered : (space : Space) (first count : ℕ) (mode : Mode) → IsSoundSpace space → IsSoundSpace (registered_in space first count mode)
-IsSoundSpace-registered space first count mode sound = grind (arith, nat_tests, or_left, member_below, or_right, or_cases, and_left, below_high)
+IsSoundSpace-registered space first count mode sound = grind (arith, nat_tests, member_below, or_right, or_cases, and_left, below_high)
 
 -- Pages put
 
@@ -46,7 +46,7 @@ pub record CanPut (space : Space) (first count : ℕ) (bytes : ℕ → List ℕ)
   pub watched : protect ≡ true → (page : ℕ) → in_range first count page ≡ true → contains space.object.protect page ≡ true
 
 pub IsSoundSpace-installed : (space : Space) (first count : ℕ) (bytes : ℕ → List ℕ) (protect : Bool) → CanPut space first count bytes protect → IsSoundSpace space → IsSoundSpace (installed space first count bytes protect)
-IsSoundSpace-installed space first count bytes protect can sound = grind (arith, nat_tests, and_second, member_below, get-put_pages, false≢true, in_range_first, some_either, and_left)
+IsSoundSpace-installed space first count bytes protect can sound = grind (arith, nat_tests, member_below, get-put_pages, false≢true, in_range_first, some_either, and_left)
 
 -- Write protection
 
@@ -103,7 +103,7 @@ IsSoundSpace-range_registered space start len bits sound =
     left_sound (register_error space start len bits) space _ sound (λ e. IsSoundSpace-registered space (start / 4096) (len / 4096) (mode_of bits) sound)
 
 pub IsSoundSpace-range_unregistered : (space : Space) (start len : ℕ) → IsSoundSpace space → IsSoundSpace (range_unregistered space start len)
-IsSoundSpace-range_unregistered space start len sound = grind (arith, nat_tests, left_sound, and_left, member_without, or_right, or_cases, and_second)
+IsSoundSpace-range_unregistered space start len sound = grind (arith, nat_tests, and_left, member_without, or_right, or_cases, and_second)
 
 pub IsSoundSpace-write_protected : (space : Space) (start len bits : ℕ) → IsSoundSpace space → IsSoundSpace (write_protected space start len bits)
 IsSoundSpace-write_protected space start len bits sound =

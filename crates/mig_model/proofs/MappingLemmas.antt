@@ -25,7 +25,7 @@ use Rattle.mig_model.proofs.WorldLemmas.{entry_of, holds_after, sound_after}
 
 -- the flat memory of a transcript
 pub flat_within : (entries : List Entry) → IsWithinBounds (memory_of entries)
-flat_within entries = grind (arith, nat_tests, false≢true, memory_of_bounded, high_or, memory_of_few)
+flat_within entries = grind (arith, nat_tests, memory_of_bounded, high_or, memory_of_few)
 
 page_inside : (page : ℕ) → LOW ≤ 4096 * page → 4096 * page < HIGH → IsPage page
 page_inside page low high = (omega (arith, low), omega (arith, high))

@@ -5,7 +5,7 @@ use Rattle.std.specs.Ordering.{nat_cmp}
 use Rattle.std.specs.FinMap as finmap
 use Rattle.std.specs.FinMap.{FinMap, get, contains_key, get-empty}
 use Rattle.std.specs.FinSet.{FinSet, contains, contains-empty}
-use Rattle.std.proofs.lemmas.Bool.{false≢true, false_from_ne_true, lt-ltb, and_from, ltb-false, ltb-true}
+use Rattle.std.proofs.lemmas.Bool.{false≢true, false_from_ne_true, lt-ltb, and_from, ltb-false}
 use Rattle.std.proofs.lemmas.Bool.Decides.{nat_tests}
 use Rattle.std.proofs.lemmas.Option.{none-some}
 use Rattle.mig_base.specs.declared.phase.DestPhase.{DestPhase}
@@ -47,7 +47,7 @@ get-own_places owed (suc bound) q = grind (arith, nat_tests, get-put, placed, ge
 
 -- what a pair of the table tells
 pub own_place : (owed : FinSet nat_cmp) (page origin : ℕ) → get (own_places owed HIGH_PAGE) page ≡ Some origin → (page < HIGH_PAGE) × (contains owed page ≡ true) × (origin ≡ page)
-own_place owed page origin h = grind (arith, nat_tests, get-own_places, ltb-true)
+own_place owed page origin h = grind (arith, nat_tests, get-own_places)
 
 -- The space that is put together
 

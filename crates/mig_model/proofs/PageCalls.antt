@@ -23,7 +23,7 @@ use Rattle.mig_base.proofs.RangeLemmas.{least_below-none, none_below-from}
 use Rattle.mig_model.specs.Userfault.{changing, is_registered}
 use Rattle.mig_model.specs.Space.{Space}
 use Rattle.mig_model.specs.Guest.{Guest, resolved, is_present, zero_installed}
-use Rattle.mig_model.specs.Ioctls.{Put, copy_error, copy_errors, handed, installed, is_bad_range, is_one_area, missing_run, protected_in, put_answer, put_by, put_pages, same_prot, zeropage_error}
+use Rattle.mig_model.specs.Ioctls.{Put, copy_error, handed, installed, is_bad_range, is_one_area, missing_run, protected_in, put_answer, put_by, put_pages, same_prot, zeropage_error}
 use Rattle.mig_model.specs.Bounds.{IsPage}
 use Rattle.mig_model.specs.Handlers.{IsCopy, IsWake, IsWriteProtect, IsZeroPage, page_put, woken_by}
 use Rattle.mig_model.proofs.Registering.{left_new, nothing_holds, pages_again, range_good}
@@ -52,7 +52,7 @@ same_bool_self b = grind (arith, nat_tests)
 
 -- a mapped page that is registered is one area
 one_area : (space : Space) (page : ℕ) → contains_key space.host.areas page ≡ true → is_registered space.object page ≡ true → is_one_area space page 1 ≡ true
-one_area space page mapped registered = grind (arith, nat_tests, every_one, same_prot_self, same_bool_self)
+one_area space page mapped registered = grind (arith, nat_tests, every_one, same_bool_self)
 
 -- a missing page is put whole
 missing_one : (space : Space) (page : ℕ) → is_present space page ≡ false → missing_run space page 1 ≡ 1
@@ -70,7 +70,7 @@ page_woken guest page space = grind (arith, nat_tests)
 -- UFFDIO_ZEROPAGE
 
 zeropage_accepted : (space : Space) (page : ℕ) → IsCalled space page → contains_key space.host.areas page ≡ true → is_registered space.object page ≡ true → zeropage_error space (4096 * page) 4096 0 ≡ None
-zeropage_accepted space page is mapped registered = grind (arith, nat_tests, not_from_true, page_range, pages_again, one_area)
+zeropage_accepted space page is mapped registered = grind (arith, nat_tests, page_range, pages_again, one_area)
 
 pub zero_page_made : (guest : Guest) (page : ℕ) → IsCalled guest.space page → contains_key guest.space.host.areas page ≡ true → is_registered guest.space.object page ≡ true → is_present guest.space page ≡ false →
     IsZeroPage guest (resolved guest page (zero_installed guest.space page)) (4096 * page)
@@ -89,11 +89,8 @@ zero_page_made guest page is mapped registered gone =
 
 -- UFFDIO_COPY
 
-abbrev copy_errors_of : Space → ℕ → ℕ → List (Bool × Errno)
-copy_errors_of space page len = copy_errors space (4096 * page) len 0
-
 copy_accepted : (space : Space) (page : ℕ) → IsCalled space page → contains_key space.host.areas page ≡ true → is_registered space.object page ≡ true → copy_error space (4096 * page) 4096 0 ≡ None
-copy_accepted space page is mapped registered = grind (arith, nat_tests, copy_errors_of, not_from_true, page_range, pages_again, one_area, zero_is_no_one)
+copy_accepted space page is mapped registered = grind (arith, nat_tests, not_from_true, page_range, pages_again, one_area, zero_is_no_one)
 
 put_one : (pages : FinMap nat_cmp (List ℕ)) (page : ℕ) (one other : ℕ → List ℕ) → one 0 ≡ other 0 → put_pages pages page 1 one ≡ put_pages pages page 1 other
 unfolding put_pages
@@ -132,7 +129,7 @@ pub range_protect_made : (guest new : Guest) (first count bits : ℕ) (protect :
     ((q : ℕ) → in_range first count q ≡ true → contains guest.space.object.protect q ≡ true) → ltb 2 bits ≡ false → is_one bits 0 ≡ protect → new.space ≡ protected_in guest.space first count protect →
     new.cpus ≡ woken_by (if eqb bits 0 then Range (4096 * first) (4096 * count) else Nobody) guest.cpus →
     IsWriteProtect guest new (4096 * first) (4096 * count) bits (if eqb bits 0 then Range (4096 * first) (4096 * count) else Nobody)
-range_protect_made guest new first count bits protect enabled quiet some low high watched few mode leaves wakes = grind (arith, nat_tests, none_below-from, not_from_true, nothing_holds, range_good, left_new)
+range_protect_made guest new first count bits protect enabled quiet some low high watched few mode leaves wakes = grind (arith, nat_tests, none_below-from, nothing_holds, range_good, left_new)
 
 only_itself : (page q : ℕ) → in_range page 1 q ≡ true → page ≡ q
 only_itself page q h = grind (arith, nat_tests)

@@ -7,7 +7,6 @@ use Rattle.mig_base.specs.declared.schedule.Ticket.{Ticket}
 use Rattle.mig_model.specs.Wire.{Sent}
 use Rattle.mig_model.specs.Invariant.{IsSoundWorld, SwitchedAt, AreSoundUrgent}
 use Rattle.mig_model.proofs.EveryStep.{by_steps, kept-next}
-use Rattle.mig_model.proofs.FramesTaken.{is_taken_back}
 use Rattle.mig_model.proofs.SourceRounds.{precopy_unswitched}
 use Rattle.mig_model.proofs.WokenSteps.{stopped_switched}
 use Rattle.mig_model.specs.Source.{Source, is_source_idle, is_source_paused, is_stopped}
@@ -74,4 +73,4 @@ no_switch pushed world kept h same ok =
 
 -- and no Recv is on the wire back
 pub no_recv_taken : (pushed : ℕ) (world : World) (sent : Sent) (rest : List Sent) → IsSoundWorld world → PushedIn pushed world → world.source.epoch ≡ pushed → world.up ≡ true → world.back.frames ≡ sent ∷ rest → is_recv sent.frame ≡ true → ⊥
-no_recv_taken pushed world sent rest kept h same up first is = grind (arith, nat_tests, is_taken_back, not_later)
+no_recv_taken pushed world sent rest kept h same up first is = grind (arith, nat_tests)

@@ -1,8 +1,6 @@
 -- A command that waits is a load or store whose form is right, of a page that may be mapped.
 use Rattle.std.proofs.lemmas.Bool.Decides.{nat_tests}
 use Rattle.std.proofs.Common.{◌≡◌, ℕ, suc, ◌/◌, ◌^◌, Bool, true, false, Option, Some, is_some, List, [], ◌∷◌, refl, sym, ap, ◌∙◌, ⊎_elim, if◌then◌else◌, ◌<◌, arith}
-use Rattle.std.proofs.lemmas.Bool.{ltb-true}
-use Rattle.std.proofs.lemmas.Option.{none-some}
 use Rattle.mig_base.specs.declared.Prot.{Prot}
 use Rattle.mig_base.specs.declared.cpu_state.CpuState.{CpuState}
 use Rattle.mig_base.specs.declared.command.Command.{Command}
@@ -44,7 +42,7 @@ right_form : (command : Command) → IsInside command → IsRightAccess command
 right_form command is = grind (arith, nat_tests)
 
 pub right_slept : (access : Bool) (space : Space) (command : Command) → access ≡ is_access command → IsMapping space.host.areas → took_by access space command ≡ Sleep → IsInside command
-right_slept access space command is mapping h = grind (arith, nat_tests, access_form, page_of_access, ltb-true)
+right_slept access space command is mapping h = grind (arith, nat_tests, access_form, page_of_access)
 
 -- Where the guest runs
 
@@ -55,7 +53,7 @@ abbrev pub AreRight : World → Type 0
 AreRight world = AllRight (guest_of world).cpus
 
 pub right-first : (cpus epoch rounds : ℕ) → AreRight (first_world_with cpus epoch rounds)
-right-first cpus epoch rounds = grind (arith, nat_tests, none-some, idle_at)
+right-first cpus epoch rounds = grind (arith, nat_tests, idle_at)
 
 pub right-next : (world : World) (step : Step) → IsSoundWorld world → AreRight world → AreRight (next world step)
 right-next world step kept right k command h =

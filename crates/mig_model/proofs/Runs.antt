@@ -89,11 +89,8 @@ other-unless (reason ∷ reasons) rest all behind =
     let both = and_parts (not (is_lacking (Err reason.1))) (are_other reasons) all in
     other_if reason.0 reason.1 (unless reasons rest) both.0 (other-unless reasons rest both.1 behind)
 
-other_either : (test : Bool) (one two : Answer) → is_other one ≡ true → is_other two ≡ true → is_other (if test then one else two) ≡ true
-other_either test one two a b = grind (arith, nat_tests)
-
 other_answer : (world : World) (step : Step) → is_other (answer world step) ≡ true
-other_answer world step = grind (arith, nat_tests, other-unless, other_either)
+other_answer world step = grind (arith, nat_tests, other-unless)
 
 pub never_lacking : (world : World) (step : Step) → outcome world step ≢ Err Refusal.NoMemory
 unfolding outcome

@@ -27,7 +27,7 @@ use Rattle.mig_model.proofs.SettledLemmas.{settled_by-applied}
 use Rattle.mig_model.proofs.TriedLemmas.{settled_then}
 use Rattle.mig_model.proofs.WokenSteps.{TakesFrame, takes_urgent}
 use Rattle.mig_model.proofs.StepCases.{MakesWorld, made-next, made-ok, made-effect}
-use Rattle.mig_model.proofs.DestinationRead.{none_is, ready_of}
+use Rattle.mig_model.proofs.DestinationRead.{ready_of}
 use Rattle.mig_model.specs.Cpus.{outstanding, processor_at}
 use Rattle.mig_model.specs.Owed.{home, settled_by}
 use Rattle.mig_model.specs.Destination.{Destination, destination_act, destination_acted_by, destination_took, install_by, settled}
@@ -58,7 +58,7 @@ at_queues faults events world =
 
 read_settled : (faults events : List Noted) (noted : Noted) (world : World) → next_of faults events ≡ Some noted → AreFaults faults → AreRight events → (page : ℕ) →
     settled (after_dest_read (at_queues faults events world) noted).destination page ≡ settled (at_queues faults events world).destination page
-read_settled faults events noted world is are right page = grind (arith, nat_tests, none_is, some_is, settled_by-applied)
+read_settled faults events noted world is are right page = grind (arith, nat_tests, some_is, settled_by-applied)
 
 -- A load or store
 

@@ -4,7 +4,7 @@ use Rattle.std.specs.Ordering.{nat_cmp}
 use Rattle.std.specs.FinMap.{FinMap, get, contains_key}
 use Rattle.std.specs.FinSet.{FinSet, contains}
 use Rattle.std.proofs.lemmas.Bool.Decides.{nat_tests}
-use Rattle.std.proofs.lemmas.Bool.{false≢true, or_left, and_parts, false_from_ne_true, cases_lt, lt-ltb, and_right}
+use Rattle.std.proofs.lemmas.Bool.{false≢true, or_left, and_parts, false_from_ne_true, cases_lt, lt-ltb}
 use Rattle.mig_base.specs.declared.TheConstants.{LOW, HIGH, HIGH_PAGE}
 use Rattle.mig_base.specs.declared.command.Errno.TheVariants.{Enomem}
 use Rattle.mig_base.specs.declared.command.Command.{Command}
@@ -166,7 +166,7 @@ are_silent : (object : Object) (addr count target new_count page : ℕ) → tell
 are_silent object addr count target new_count page h = grind (arith, nat_tests)
 
 tail_outside : (object : Object) (addr count target new_count page : ℕ) → AreSilent object addr count target new_count page → is_registered object page ≡ true → new_count < count → in_range (addr / 4096 + new_count) (count - new_count) page ≡ false
-tail_outside object addr count target new_count page silent registered shorter = grind (arith, nat_tests, outside_told, lt-ltb)
+tail_outside object addr count target new_count page silent registered shorter = grind (arith, nat_tests, outside_told)
 
 remap_stays : (space : Space) (addr old_len new_len target page : ℕ) → IsSoundSpace space → IsRemapped (memory space.host) addr old_len new_len target → is_registered space.object page ≡ true →
     AreSilent space.object addr (pages_of old_len) target (pages_of new_len) page → Stays (addr / 4096) (pages_of old_len) (target / 4096) (pages_of new_len) page
@@ -249,7 +249,7 @@ right_remap host object addr old_len new_len target may_move fixed sound is =
     )))
 
 pub right_messages : (host : Host) (object : Object) (command : Command) (reply : Reply) → IsSound host → reply ≡ reply_of (memory host) command → AllRight (call_messages object command reply)
-right_messages host object command reply sound is = grind (arith, nat_tests, mmap_inside, whole_page, munmap_whole, right_remap, dontneed_done, dontneed_hole)
+right_messages host object command reply sound is = grind (arith, nat_tests, mmap_inside, munmap_whole, right_remap, dontneed_done, dontneed_hole)
 
 -- Nothing is told where nothing is registered
 
@@ -257,18 +257,15 @@ abbrev pub IsUnregistered : Object → Type 0
 IsUnregistered object = (page : ℕ) → is_registered object page ≡ false
 
 pub untold : (reason : Bool) (message : Message) → reason ≡ false → told reason message ≡ []
-untold reason message h = grind (arith, nat_tests, none_absurd)
+untold reason message h = grind (arith, nat_tests)
 
 pub no_messages : (object : Object) (command : Command) (reply : Reply) → IsUnregistered object → call_messages object command reply ≡ []
-no_messages object command reply none = grind (arith, nat_tests, and_right, none_below-from)
+no_messages object command reply none = grind (arith, nat_tests, none_below-from)
 
 -- Modes
 
 pub modes_same : (object : Object) (command : Command) (reply : Reply) → object.missing ≡ object.protect → (modes_after object command reply).missing ≡ (modes_after object command reply).protect
 modes_same object command reply same = grind (arith, nat_tests)
 
-moved_none : (low new old out a growth b : Bool) → a ≡ false → growth ≡ false → b ≡ false → (low && cond new (cond old a growth) (out && b)) ≡ false
-moved_none low new old out a growth b x y z = grind arith
-
 pub none_missing : (object : Object) (command : Command) (reply : Reply) → ((page : ℕ) → contains object.missing page ≡ false) → (page : ℕ) → contains (modes_after object command reply).missing page ≡ false
-none_missing object command reply none page = grind (arith, nat_tests, member_without, member_below, moved_none)
+none_missing object command reply none page = grind (arith, nat_tests, member_without, member_below)

@@ -4,7 +4,7 @@ use Rattle.std.proofs.Common.{◌≡◌, append-nil, ℕ, ◌||◌, Bool, true, 
 use Rattle.std.specs.Ordering.{nat_cmp}
 use Rattle.std.specs.FinMap.{FinMap, get, insert, contains_key}
 use Rattle.std.specs.FinSet.{contains}
-use Rattle.std.proofs.lemmas.Bool.{eqb-true, and_from, or_right, or_parts}
+use Rattle.std.proofs.lemmas.Bool.{and_from, or_right, or_parts}
 use Rattle.mig_base.specs.declared.cpu_state.CpuState.{CpuState}
 use Rattle.mig_base.specs.declared.command.Command.{Command}
 use Rattle.mig_base.specs.declared.command.Reply.{Reply}
@@ -26,13 +26,13 @@ use Rattle.mig_model.proofs.SourceMessages.{noted_all, events_queued, tells, is_
 use Rattle.mig_model.proofs.SourceCalls.{untouched, IsUnregistered, right_messages, no_messages, modes_same, none_missing}
 use Rattle.mig_model.specs.Cpus.{access_took, call_took, entries_of}
 use Rattle.mig_model.specs.Source.{space_of}
-use Rattle.mig_model.proofs.Facts.{none_absurd, queued_missing, queued_protect, entered_once, modes_events}
+use Rattle.mig_model.proofs.Facts.{queued_missing, queued_protect, entered_once, modes_events}
 use Rattle.mig_model.proofs.WorldLemmas.{entry_of, flat_after, holds_after}
 
 -- Loads and stores that are answered
 
 present_after : (host : Host) (command : Command) (reply : Reply) (page : ℕ) → is_access command ≡ true → contains_key host.bytes page ≡ true → contains_key (host_changed host command reply).bytes page ≡ true
-present_after host command reply page access h = grind (arith, nat_tests, get-put, none_absurd)
+present_after host command reply page access h = grind (arith, nat_tests, get-put)
 
 never_answered : (missing protect : Bool) (reply other : Reply) → protect ≡ true → cond missing Missing (cond protect Protected (Answered reply)) ≡ Answered other → ⊥
 never_answered missing protect reply other p h = grind arith
@@ -42,7 +42,7 @@ other_page bytes page q held other = get-put bytes page q held ∙ ap (λ b. con
 
 elsewhere : (space : Space) (command : Command) (page : ℕ) (other : Reply) → is_access command ≡ true → access_of space command ≡ Answered other → contains space.object.protect page ≡ true → contains space.protected page ≡ true →
     get (host_after space.host command).bytes page ≡ get space.host.bytes page
-elsewhere space command page other access answered watched protected = grind (arith, nat_tests, eqb-true, never_answered, and_from, other_page)
+elsewhere space command page other access answered watched protected = grind (arith, nat_tests, never_answered, and_from, other_page)
 
 answered_changed : (world : World) (cpu : ℕ) (command : Command) (reply : Reply) (processors : List CpuState) → IsSoundWorld world → world.destination.has_run ≡ false → world.source.switched ≡ false → is_access command ≡ true →
     access_of (space_of world.source) command ≡ Answered reply →

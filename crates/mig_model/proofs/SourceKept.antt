@@ -19,7 +19,7 @@ use Rattle.mig_model.specs.Source.{Source, is_source_idle, space_of, source_act,
 use Rattle.mig_model.specs.Destination.{Destination, settled}
 use Rattle.mig_model.proofs.Facts.{none_absurd, missing_none, only_one, some_either}
 use Rattle.std.proofs.lemmas.Bool.Decides.{nat_tests}
-use Rattle.std.proofs.lemmas.Bool.{false≢true, or_left, and_parts, false_from_ne_true, lt-ltb, or_right, not-true, eqb-true}
+use Rattle.std.proofs.lemmas.Bool.{false≢true, or_left, and_parts, false_from_ne_true, not-true, eqb-true}
 use Rattle.mig_base.specs.declared.cpu_state.CpuState.{CpuState}
 use Rattle.mig_base.specs.declared.TheConstants.{HIGH_PAGE}
 use Rattle.mig_base.specs.declared.message.Message.{Message}
@@ -31,8 +31,7 @@ use Rattle.mig_base.proofs.SetLemmas.{member_below, member_removed}
 use Rattle.mig_model.specs.Userfault.{Noted, Object, next_message, message_read}
 use Rattle.mig_model.specs.Ioctls.{protected_in}
 use Rattle.mig_model.specs.Guest.Act.{Unprotected, Zeroed}
-use Rattle.mig_model.proofs.IoctlLemmas.{IsSoundSpace-read, IsSoundSpace-protected, IsSoundSpace-installed, CanPut, get-put_pages}
-use Rattle.mig_model.proofs.SourceCalls.{registered_below}
+use Rattle.mig_model.proofs.IoctlLemmas.{IsSoundSpace-read, IsSoundSpace-protected, IsSoundSpace-installed, get-put_pages}
 use Rattle.mig_model.proofs.DestinationAct.{get-put_one, byte_of, memory-reads}
 
 pub no_page_absurd : {A : Type 0} (set : FinSet nat_cmp) (page : ℕ) → set ≡ no_pages → contains set page ≡ true → A
@@ -73,13 +72,13 @@ current_before ran here there owed h = grind arith
 
 -- the memory of the source is the guest's
 pub source_holds : (world : World) → IsSoundWorld world → world.destination.has_run ≡ false → memory (space_of world.source).host ≡ memory_of world.transcript
-source_holds world kept bare = grind (arith, nat_tests, current_before)
+source_holds world kept bare = grind (arith, nat_tests)
 
 nothing_owed : {A : Type 0} (owed : FinMap nat_cmp ℕ) (page origin : ℕ) → owed ≡ finmap.empty → get owed page ≡ Some origin → A
 nothing_owed owed page origin none h = let e : None ≡ Some origin = sym (ap (λ m. get m page) none ∙ get-empty nat_cmp page) ∙ h in absurd (cc)
 
 released_switched : {A : Type 0} (phase : SourcePhase) (switched : Bool) → SwitchedAt phase switched → switched ≡ false → phase ≡ SourcePhase.Released → A
-released_switched phase switched at h e = grind (arith, nat_tests, none_absurd)
+released_switched phase switched at h e = grind (arith, nat_tests)
 
 pub renewed : (world : World) (source : Source) (forward : List Sent) (transcript : List Entry) → IsSoundWorld world → world.destination.has_run ≡ false → IsNext world source forward transcript →
     IsSoundWorld (record world { source = source; forward = record world.forward { frames = forward }; transcript = transcript })
@@ -167,7 +166,7 @@ read_changed : (world : World) (noted : Noted) (processors : List CpuState) → 
     next_message (space_of world.source).object ≡ Some noted →
     IsChanged world.source (record { space = record (space_of world.source) { object = message_read (space_of world.source).object }; cpus = processors })
     (unchanged world.source.log.clean noted.message) (unchanged world.source.log.todo noted.message) world.transcript
-read_changed world noted processors kept unswitched started next = grind (arith, nat_tests, source_holds, has_not_run, IsSoundSpace-read, never_idle, member_unchanged)
+read_changed world noted processors kept unswitched started next = grind (arith, nat_tests, has_not_run, IsSoundSpace-read, never_idle, member_unchanged)
 
 -- whatever the message is
 read_by_message : (world : World) (noted : Noted) (message : Message) → IsSoundWorld world → world.source.switched ≡ false → is_source_idle world.source.phase ≡ false → next_message (space_of world.source).object ≡ Some noted →
@@ -202,16 +201,16 @@ same_changed : (world : World) (processors : List CpuState) → IsSoundWorld wor
 same_changed world processors kept unswitched = grind (arith, nat_tests)
 
 protected_below : (space : Space) (page : ℕ) → IsSoundSpace space → contains space.protected page ≡ true → ltb page HIGH_PAGE ≡ true
-protected_below space page sound h = grind (arith, nat_tests, lt-ltb, registered_below, or_right)
+protected_below space page sound h = grind (arith, nat_tests)
 
 unprotected_changed : (world : World) (page : ℕ) (processors : List CpuState) → IsSoundWorld world → world.source.switched ≡ false → is_source_idle world.source.phase ≡ false → IsWatched (space_of world.source) page →
     IsChanged world.source (record { space = protected_in (space_of world.source) page 1 false; cpus = processors }) (remove world.source.log.clean page) world.source.log.todo world.transcript
-unprotected_changed world page processors kept unswitched started watched = grind (arith, nat_tests, member_removed, source_holds, has_not_run, IsSoundSpace-protected, in_one_is, never_idle, member_below, protected_below, not-true)
+unprotected_changed world page processors kept unswitched started watched = grind (arith, nat_tests, member_removed, has_not_run, IsSoundSpace-protected, in_one_is, never_idle, member_below, protected_below, not-true)
 
 zeroed_changed : (world : World) (page : ℕ) (processors : List CpuState) → IsSoundWorld world → world.source.switched ≡ false → is_source_idle world.source.phase ≡ false → IsWatched (space_of world.source) page →
     is_present (space_of world.source) page ≡ false →
     IsChanged world.source (record { space = zero_installed (space_of world.source) page; cpus = processors }) world.source.log.clean world.source.log.todo world.transcript
-zeroed_changed world page processors kept unswitched started watched missing = grind (arith, nat_tests, CanPut, in_one_is, length-zero_page, none_absurd, missing_none, source_holds, has_not_run, IsSoundSpace-installed, never_idle, member_below, protected_below, or_left, memory-reads, byte_of, get-put_one, zero_bytes, eqb-true, get-put_pages, some_either)
+zeroed_changed world page processors kept unswitched started watched missing = grind (arith, nat_tests, in_one_is, length-zero_page, none_absurd, missing_none, source_holds, has_not_run, IsSoundSpace-installed, never_idle, member_below, protected_below, or_left, memory-reads, byte_of, get-put_one, zero_bytes, eqb-true, get-put_pages, some_either)
 
 -- Every act
 

@@ -1,7 +1,7 @@
 -- The messages of a map call: each is right, and together they tell of every registered page that the call changes.
 use Rattle.std.proofs.Common.{◌≡◌, append-nil, ℕ, ◌+◌, ◌-◌, ◌*◌, ◌/◌, ◌<◌, ◌≤◌, ◌&&◌, ◌||◌, Bool, true, false, not, ltb, List, [], ◌∷◌, ◌++◌, refl, sym, ap, ◌∙◌, ◌⊎◌, arith, append_assoc}
 use Rattle.std.proofs.lemmas.Bool.Decides.{nat_tests}
-use Rattle.std.proofs.lemmas.Bool.{false≢true, and_from}
+use Rattle.std.proofs.lemmas.Bool.{false≢true}
 use Rattle.mig_base.specs.declared.TheConstants.{HIGH, HIGH_PAGE}
 use Rattle.mig_base.specs.declared.message.Message.{Message}
 use Rattle.mig_base.specs.declared.message.Message.TheVariants.{Remove, Unmap}
@@ -68,7 +68,7 @@ in_bytes-pages start count page = let n : (start + 4096 * count) / 4096 - start 
 -- a registered page of which nothing is told lies outside of a range of which it would be told
 pub outside_told : (reason : Bool) (message : Message) (object : Object) (first count page : ℕ) → (in_range first count page ≡ true → is_changed_by message page ≡ true) → reason ≡ true → is_registered object page ≡ true →
     tells (told (reason && is_watched object first count) message) page ≡ false → in_range first count page ≡ false
-outside_told reason message object first count page covers reasoned registered h = grind (arith, nat_tests, and_from, watched_page)
+outside_told reason message object first count page covers reasoned registered h = grind (arith, nat_tests, watched_page)
 
 pub unmapped_outside : (object : Object) (start count page : ℕ) → is_registered object page ≡ true → tells (told (is_watched object (start / 4096) count) (Unmap start (start + 4096 * count))) page ≡ false → in_range (start / 4096) count page ≡ false
 unmapped_outside object start count page registered h =

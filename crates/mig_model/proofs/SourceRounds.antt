@@ -5,12 +5,12 @@ use Rattle.std.specs.FinMap as finmap
 use Rattle.std.specs.FinMap.{FinMap, get, contains_key, get-empty}
 use Rattle.std.specs.FinSet.{contains}
 use Rattle.std.proofs.lemmas.Bool.Decides.{nat_tests}
-use Rattle.std.proofs.lemmas.Bool.{true_from_ne_false, lt-ltb, and_from, or_right}
+use Rattle.std.proofs.lemmas.Bool.{lt-ltb, and_from, or_right}
 use Rattle.mig_base.specs.declared.phase.DestPhase.{DestPhase}
 use Rattle.mig_base.specs.declared.phase.SourcePhase.{SourcePhase}
 use Rattle.mig_base.specs.declared.TheConstants.{HIGH_PAGE}
 use Rattle.mig_base.specs.Ranges.{in_range}
-use Rattle.mig_base.proofs.SetLemmas.{member_below, same_members}
+use Rattle.mig_base.proofs.SetLemmas.{member_below}
 use Rattle.mig_model.specs.Space.{Space, IsSoundSpace}
 use Rattle.mig_model.specs.Guest.{is_present}
 use Rattle.mig_model.specs.Wire.{Sent}
@@ -19,7 +19,7 @@ use Rattle.mig_model.specs.Migration.{World, after_round, after_start}
 use Rattle.mig_model.specs.Invariant.{IsSoundWorld, AreSoundEpochs, is_unread, Wires, PrecopyWires, SwitchedAt, EpochAt, AreOf, AreWhole, flow_after, copies_of, kept_by}
 use Rattle.mig_model.specs.Invariant.Flow.{BeforeAdvise}
 use Rattle.mig_model.proofs.IoctlLemmas.{IsSoundSpace-registered}
-use Rattle.mig_model.proofs.SourceKept.{no_page_absurd, source_holds, IsNext, renewed, IsChanged, CopiesStay, changed, never_idle, has_not_run}
+use Rattle.mig_model.proofs.SourceKept.{no_page_absurd, source_holds, IsNext, renewed, IsChanged, CopiesStay, never_idle, has_not_run}
 use Rattle.mig_model.proofs.SourceCalls.{registered_below}
 use Rattle.mig_model.specs.Cpus.{is_idle}
 use Rattle.mig_model.specs.Log.{no_pages}
@@ -31,10 +31,10 @@ use Rattle.mig_model.proofs.Facts.{none_absurd, and_true, owed_is_present}
 -- The source makes rounds of pre-copy
 
 pub precopy_unswitched : (phase : SourcePhase) (switched : Bool) → is_precopy phase ≡ true → SwitchedAt phase switched → switched ≡ false
-precopy_unswitched phase switched h at = grind (arith, nat_tests, none_absurd)
+precopy_unswitched phase switched h at = grind (arith, nat_tests)
 
 pub precopy_started : (phase : SourcePhase) → is_precopy phase ≡ true → is_source_idle phase ≡ false
-precopy_started phase h = grind (arith, nat_tests, none_absurd)
+precopy_started phase h = grind (arith, nat_tests)
 
 pub watched_below : (space : Space) (page : ℕ) → IsSoundSpace space → contains space.object.protect page ≡ true → ltb page HIGH_PAGE ≡ true
 watched_below space page sound h = lt-ltb page HIGH_PAGE (registered_below space page sound (or_right (contains space.object.missing page) (contains space.object.protect page) h))
@@ -42,7 +42,7 @@ watched_below space page sound h = lt-ltb page HIGH_PAGE (registered_below space
 -- Every mapped page is registered
 
 registered_modes : (space : Space) → ((page : ℕ) → contains space.object.missing page ≡ contains space.object.protect page) → (all_registered space).object.missing ≡ (all_registered space).object.protect
-registered_modes space both = grind (arith, nat_tests, same_members)
+registered_modes space both = grind (arith, nat_tests)
 
 registered_now : (low test missing protect : Bool) → low ≡ true → test ≡ true → (low && cond (test && not (missing && protect)) true protect) ≡ true
 registered_now low test missing protect low_ is = grind arith
@@ -51,7 +51,7 @@ whole_range : (page : ℕ) → page < HIGH_PAGE → in_range 0 HIGH_PAGE page �
 whole_range page h = grind (arith, nat_tests)
 
 mapped_registered : (space : Space) (page : ℕ) → IsSoundSpace space → contains_key space.host.areas page ≡ true → contains (all_registered space).object.protect page ≡ true
-mapped_registered space page sound mapped = grind (arith, nat_tests, member_below, lt-ltb, and_from)
+mapped_registered space page sound mapped = grind (arith, nat_tests, member_below, and_from)
 
 pub present_mapped : (space : Space) (page : ℕ) → IsSoundSpace space → is_present space page ≡ true → contains_key space.host.areas page ≡ true
 present_mapped space page sound h = grind (arith, nat_tests)
@@ -60,10 +60,10 @@ present_mapped space page sound h = grind (arith, nat_tests)
 
 round_changed : (world : World) → IsSoundWorld world → is_precopy world.source.phase ≡ true → world.source.switched ≡ false →
     IsChanged world.source (record world.source.guest { space = all_registered (space_of world.source) }) world.source.log.clean (not_clean world.source) world.transcript
-round_changed world kept precopy unswitched = grind (arith, nat_tests, source_holds, has_not_run, IsSoundSpace-registered, registered_modes, never_idle, precopy_started, owed_is_present, present_mapped, CopiesStay, member_below, watched_below, and_true, registered_now, lt-ltb, and_from, whole_range)
+round_changed world kept precopy unswitched = grind (arith, nat_tests, has_not_run, IsSoundSpace-registered, registered_modes, never_idle, precopy_started, owed_is_present, present_mapped, CopiesStay, member_below, watched_below, and_true, registered_now, lt-ltb, and_from, whole_range)
 
 pub kept-round : (world : World) → IsSoundWorld world → is_precopy world.source.phase ≡ true → IsSoundWorld (after_round world)
-kept-round world kept precopy = grind (arith, nat_tests, changed, has_not_run, round_changed)
+kept-round world kept precopy = grind (arith, nat_tests, has_not_run, round_changed)
 
 -- Start
 
@@ -137,4 +137,4 @@ pub idle_back : (world : World) → IsSoundWorld world → is_source_idle world.
 idle_back world kept is_idle = grind (arith, nat_tests)
 
 pub kept-start : (world : World) → IsSoundWorld world → is_source_idle world.source.phase ≡ true → IsSoundWorld (after_start world)
-kept-start world kept is_idle = grind (arith, nat_tests, true_from_ne_false, renewed, has_not_run, started_next, idle_wires)
+kept-start world kept is_idle = grind (arith, nat_tests, renewed, has_not_run, started_next, idle_wires)

@@ -12,8 +12,8 @@ use Rattle.mig_model.specs.Invariant.Flow.{BeforeAdvise, Copies}
 use Rattle.mig_model.specs.Source.{Source, bytes_of, run_of, in_space, is_precopy, space_of}
 use Rattle.mig_model.proofs.HostLemmas.{get-put}
 use Rattle.mig_model.specs.Migration.{World, after_run, after_send, is_changing, run_bound}
-use Rattle.mig_model.proofs.Facts.{none_absurd, zero_bytes, kept_page, copies_of-append, AreWhole-append, either, eqb-self, only_one, AreOf-one, no_event}
-use Rattle.mig_model.proofs.WireLemmas.{has_no_package, copies_in-page, page_flow, flow_sent, fits-append, flight_up}
+use Rattle.mig_model.proofs.Facts.{none_absurd, zero_bytes, kept_page, copies_of-append, AreWhole-append, eqb-self, only_one, AreOf-one, no_event}
+use Rattle.mig_model.proofs.WireLemmas.{has_no_package, copies_in-page, flow_sent, fits-append, flight_up}
 use Rattle.std.specs.FinSet.{FinSet, contains}
 use Rattle.std.proofs.lemmas.Bool.{or_right}
 use Rattle.mig_base.specs.declared.phase.DestPhase.{DestPhase}
@@ -114,7 +114,7 @@ carried_wire world frame = world.forward.frames ++ record { epoch = world.source
 still_after : (world : World) (first count : ℕ) (clean : FinSet nat_cmp) → IsSoundWorld world → world.source.switched ≡ false → AreSent (space_of world.source) first count →
     ((q : ℕ) → contains clean q ≡ (in_range first count q || contains world.source.log.clean q)) →
     (q : ℕ) → contains clean q ≡ true → is_unread (space_of world.source).object.events q ≡ false → contains (protected_in (space_of world.source) first count true).protected q ≡ true
-still_after world first count clean kept unswitched are clean_is q h u = grind (arith, nat_tests, member_below, either, watched_below, or_right)
+still_after world first count clean kept unswitched are clean_is q h u = grind (arith, nat_tests, member_below, watched_below, or_right)
 
 -- the copies of the clean pages are right once those of these pages are behind them
 carried_copies : (source : Source) (first count : ℕ) (frame : Frame) (log : Log) (pages epoch : ℕ) (flow : Flow) (kept : FinMap nat_cmp (List ℕ)) (wire : List Sent) → AreSent (space_of source) first count →
@@ -164,7 +164,7 @@ first_of_one : (page : ℕ) → in_range page 1 page ≡ true
 first_of_one page = only_one page page ∙ eqb-self page
 
 page_carried : (source : Source) (page : ℕ) → length (bytes_of source page) ≡ 4096 → IsCarried (space_of source) source.log page 1 (page_frame page (bytes_of source page)) (log_sent source.log page)
-page_carried source page whole = grind (arith, nat_tests, member_removed, copies_in-page, page_flow, member_inserted, only_one, kept_by-push, kept_after-page_frame, get-put)
+page_carried source page whole = grind (arith, nat_tests, member_removed, copies_in-page, member_inserted, only_one, kept_by-push, kept_after-page_frame, get-put)
 
 pub kept-send : (world : World) (page : ℕ) → IsSoundWorld world → least_of world.source.log.todo ≡ Some page → is_precopy world.source.phase ≡ true → world.up ≡ true → is_changing world.source.guest ≡ false → IsSoundWorld (after_send world page)
 kept-send world page kept found precopy up quiet =

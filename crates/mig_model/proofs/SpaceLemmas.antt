@@ -22,7 +22,7 @@ use Rattle.mig_base.proofs.ReplyLemmas.{IsRemapped, mremap_told}
 use Rattle.mig_model.specs.Host.{Host, memory, host_changed, IsSound}
 use Rattle.mig_base.specs.Commands.{is_access}
 use Rattle.mig_base.proofs.BoundLemmas.{one_prot_some}
-use Rattle.mig_model.specs.Userfault.{Mode, mode_at, fault_queued}
+use Rattle.mig_model.specs.Userfault.{Mode, mode_at}
 use Rattle.mig_model.specs.Space.{Space, fresh_space, IsSoundSpace, access_of, accessed_by, accessed, called, modes_after, protected_after, call_messages}
 use Rattle.mig_model.proofs.HostLemmas.{IsSound-empty, memory-none, get-put}
 use Rattle.mig_model.proofs.CommandLemmas.{IsSound-changed}
@@ -58,7 +58,7 @@ stays pages first count page out h = ap is_some (get-remove_range pages first co
 taken_out : (areas new_areas : PageMap Prot) (bytes : PageMap (List ℕ)) (missing protect protected : Set) (first count : ℕ) → IsWatched areas bytes missing protect protected →
     ((page : ℕ) → in_range first count page ≡ false → contains_key areas page ≡ true → contains_key new_areas page ≡ true) →
     IsWatched new_areas (remove_range bytes first count) (without missing first count) (without protect first count) (without protected first count)
-taken_out areas new_areas bytes missing protect protected first count old areas_stay = grind (arith, nat_tests, member_without, left_of, stays)
+taken_out areas new_areas bytes missing protect protected first count old areas_stay = grind (arith, nat_tests, member_without, stays)
 
 given : (areas : PageMap Prot) (first count page : ℕ) (prot : Prot) → in_range first count page ≡ false → contains_key areas page ≡ true → contains_key (set_range areas first count prot) page ≡ true
 given areas first count page prot out h = ap is_some (get-set_range areas first count prot page ∙ ap (λ b. cond b (Some prot) (get areas page)) out) ∙ h
@@ -117,13 +117,10 @@ pub record Keeps (old new : Host) : Type 0 where
   present : (page : ℕ) → contains_key old.bytes page ≡ true → contains_key new.bytes page ≡ true
 
 accessed_host : (host : Host) (command : Command) (reply : Reply) → is_access command ≡ true → Keeps host (host_changed host command reply)
-accessed_host host command reply access = grind (arith, nat_tests, none_absurd, get-put, some_either)
-
-faulted_sound : (space : Space) (addr : ℕ) (write wp : Bool) (cpu : ℕ) → IsSoundSpace space → IsSoundSpace (record space { object = fault_queued space.object addr write wp cpu })
-faulted_sound space addr write wp cpu sound = grind (arith, nat_tests)
+accessed_host host command reply access = grind (arith, nat_tests, get-put, some_either)
 
 accessed_sound : (access : Access) (space : Space) (cpu : ℕ) (command : Command) → is_access command ≡ true → IsSoundSpace space → IsSoundSpace (accessed_by access space cpu command)
-accessed_sound access space cpu command is sound = grind (arith, nat_tests, faulted_sound, accessed_host, IsSound-changed)
+accessed_sound access space cpu command is sound = grind (arith, nat_tests, accessed_host, IsSound-changed)
 
 pub IsSoundSpace-accessed : (space : Space) (cpu : ℕ) (command : Command) → is_access command ≡ true → IsSoundSpace space → IsSoundSpace (accessed space cpu command)
 IsSoundSpace-accessed space cpu command is sound = accessed_sound (access_of space command) space cpu command is sound
@@ -132,7 +129,7 @@ pub no_member : (page : ℕ) → contains {R = nat_cmp} empty page ≡ false
 no_member page = contains-empty nat_cmp page
 
 pub IsSoundSpace-fresh : IsSoundSpace fresh_space
-IsSoundSpace-fresh = grind (arith, nat_tests, IsSound-empty, no_member, none_absurd)
+IsSoundSpace-fresh = grind (arith, nat_tests, IsSound-empty, no_member)
 
 -- What an access answers
 

@@ -22,7 +22,7 @@ use Rattle.mig_model.proofs.StepCases.{MakesWorld, made-next, made-ok, made-effe
 use Rattle.mig_model.specs.Cpus.{entries_of, outstanding, processor_at}
 use Rattle.mig_model.specs.Source.{source_act, source_acted_by, space_of}
 use Rattle.mig_model.specs.Destination.{destination_act, destination_acted_by}
-use Rattle.mig_model.proofs.Facts.{and_second, some_command, page_again}
+use Rattle.mig_model.proofs.Facts.{some_command, page_again}
 
 -- The transcript
 
@@ -84,7 +84,7 @@ abbrev RemainedIn : World → ℕ → World → Type 0
 RemainedIn world q new = contains new.source.remaining q ≡ true → contains world.source.remaining q ≡ true
 
 remaining_answer : (world : World) (step : Step) (q : ℕ) → keeps_remaining step ≡ true → MakesWorld (RemainedIn world q) world step
-remaining_answer world step q keeps = grind (arith, nat_tests, and_second, member_removed)
+remaining_answer world step q keeps = grind (arith, nat_tests, member_removed)
 
 pub remaining_shrinks : (world : World) (step : Step) (q : ℕ) → keeps_remaining step ≡ true → contains (next world step).source.remaining q ≡ true → contains world.source.remaining q ≡ true
 remaining_shrinks world step q keeps = made-next (RemainedIn world q) world step (λ h. h) (remaining_answer world step q keeps)

@@ -103,7 +103,7 @@ access_tried Protected there owed space cpu command far access ready is = faulte
 -- what is settled after a map call: the owed relation has changed as the pages have
 pub settled_then : (space : Space) (owed : ℕ → Option ℕ) (cpu : ℕ) (command : Command) → IsReady space owed →
     settled_in (called space cpu command) owed ≡ owed_changed (settled_in space owed) command (reply_of (memory space.host) command)
-settled_then space owed cpu command ready = grind (arith, nat_tests, settled-queued, modes_events, settled_called, pairs_watched)
+settled_then space owed cpu command ready = grind (arith, nat_tests, settled-queued, settled_called, pairs_watched)
 
 call_tried : (there : Host) (owed : ℕ → Option ℕ) (space : Space) (cpu : ℕ) (command : Command) → IsSound there → is_access command ≡ false → IsReady space owed →
     IsTried there owed space (called space cpu command) cpu command (call_took (reply_of (memory space.host) command) (queued_by space command))

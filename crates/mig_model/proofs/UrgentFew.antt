@@ -21,21 +21,19 @@ use Rattle.mig_model.specs.Invariant.{AreSoundUrgent, IsSoundWorld}
 use Rattle.mig_model.specs.Promises.{IsReached}
 use Rattle.mig_model.proofs.Taken.{IsInPlaceBack}
 use Rattle.mig_model.specs.Bounds.{AreUrgentFew, IsUrgentFew}
-use Rattle.mig_model.proofs.EveryStep.{runs_source, by_reached}
+use Rattle.mig_model.proofs.EveryStep.{by_reached}
 use Rattle.mig_model.proofs.Facts.{owed_is_present}
 use Rattle.mig_model.proofs.FramesTaken.{is_taken_back}
 use Rattle.mig_model.proofs.PushOrder.{idle_unswitched}
 use Rattle.mig_model.proofs.SetSizes.{len-part, len-removed, len-some}
 use Rattle.mig_model.proofs.SourceRounds.{precopy_unswitched}
 use Rattle.mig_model.proofs.StepCases.{MakesWorld, made-next}
-use Rattle.mig_model.proofs.Stopping.{present_below}
-use Rattle.mig_model.proofs.UrgentWire.{is_paused}
 
 -- Sets of pages of the source
 
 -- a set of present pages has no more than there are
 pub few_present : (space : Space) (set : FinSet nat_cmp) → IsSound space.host → ((page : ℕ) → contains set page ≡ true → is_present space page ≡ true) → len set ≤ len (present space)
-few_present space set sound h = grind (arith, nat_tests, len-part, member_below, present_below)
+few_present space set sound h = grind (arith, nat_tests, len-part, member_below)
 
 -- Sums
 
@@ -53,13 +51,13 @@ before : {from : SourcePhase} {switched : Bool} {count : ℕ} {space : Space} {r
 before to new left not h = record { before_switch = h.before_switch; few = λ s. absurd (false≢true (sym not ∙ s)) }
 
 command_few : (world : World) (cpu : ℕ) (command : Command) → runs world ≡ true → AreUrgentFew world → AreUrgentFew (after_command world cpu command)
-command_few world cpu command may h = grind (arith, nat_tests, runs_source)
+command_few world cpu command may h = grind (arith, nat_tests)
 
 acted_few : (act : Act) (world : World) (page : ℕ) → world.source.switched ≡ false → AreUrgentFew world → AreUrgentFew (record world { source = source_acted_by act world.source page })
-acted_few act world page not h = grind (arith, nat_tests, before)
+acted_few act world page not h = grind (arith, nat_tests)
 
 switch_few : (world : World) → IsSoundWorld world → is_precopy world.source.phase ≡ true → AreUrgentFew world → AreUrgentFew (after_switch world)
-switch_few world kept precopy h = grind (arith, nat_tests, sum_fresh, few_present, owed_is_present)
+switch_few world kept precopy h = grind (arith, nat_tests, few_present, owed_is_present)
 
 push_few : (world : World) (page : ℕ) → contains world.source.remaining page ≡ true → AreUrgentFew world →
     IsUrgentFew world.source.phase world.source.switched world.source.urgent_sent (space_of world.source) (finset.remove world.source.remaining page)
@@ -73,7 +71,7 @@ push_urgent_few world page kept stopped remains h = grind (arith, nat_tests, len
 
 back_few : (frame : Frame) (epoch : ℕ) (rest : List Sent) (world : World) → IsSoundWorld world → AreSoundUrgent world → world.up ≡ true → IsInPlaceBack world.source frame → AreUrgentFew world →
     AreUrgentFew (after_deliver_back world (record { epoch = epoch; frame = frame }) rest)
-back_few frame epoch rest world kept urgent up place h = grind (arith, nat_tests, is_paused, sum_fresh, few_present)
+back_few frame epoch rest world kept urgent up place h = grind (arith, nat_tests, sum_fresh, few_present)
 
 -- The channel
 

@@ -20,8 +20,8 @@ use Rattle.mig_model.specs.Destination.{urgent_came}
 use Rattle.mig_model.specs.Log.{present, no_pages}
 use Rattle.mig_model.specs.Guest.{is_present}
 use Rattle.mig_model.specs.Space.{fresh_space}
-use Rattle.mig_model.proofs.Facts.{AreFaithful-append, copies_of-append, none_absurd, not_up, same_or_other}
-use Rattle.mig_model.proofs.Stopping.{in_phases, not_ended, or_true, present_bytes, stopped_at, stopped_not_released, was_there}
+use Rattle.mig_model.proofs.Facts.{AreFaithful-append, copies_of-append, none_absurd, same_or_other}
+use Rattle.mig_model.proofs.Stopping.{in_phases, not_ended, present_bytes, stopped_at, stopped_not_released, was_there}
 use Rattle.mig_model.proofs.Taken.{IsTakenUrgent}
 use Rattle.mig_model.proofs.WireLemmas.{copies_of-page, has_copy-append}
 
@@ -29,7 +29,7 @@ use Rattle.mig_model.proofs.WireLemmas.{copies_of-page, has_copy-append}
 
 still_urgent : (remaining : FinSet nat_cmp) (urgent : List Sent) (sent : Sent) (page q : ℕ) (bytes : List ℕ) → copies_of (urgent ++ sent ∷ []) ≡ copies_of urgent ++ record { page = page; bytes = bytes } ∷ [] →
     is_urgent_or_left remaining urgent q ≡ true → is_urgent_or_left (finset.remove remaining page) (urgent ++ sent ∷ []) q ≡ true
-still_urgent remaining urgent sent page q bytes copies h = grind (arith, nat_tests, member_removed, has_copy-append, or_true, same_or_other)
+still_urgent remaining urgent sent page q bytes copies h = grind (arith, nat_tests, member_removed, has_copy-append, same_or_other)
 
 first_by : (a new b : Bool) → (a ≡ true → new ≡ true) → (a || b) ≡ true → (new || b) ≡ true
 first_by a new b h k = grind (arith, nat_tests)
@@ -115,7 +115,7 @@ at_urgent world frames =
 
 urgent_arrives : (copy : Copy) (sent : Sent) (rest : List Sent) (world : World) → copies_of (sent ∷ rest) ≡ copy ∷ copies_of rest → get (space_of world.source).host.bytes copy.page ≡ Some copy.bytes →
     IsSoundWorld (at_urgent world (sent ∷ rest)) → IsSoundWorld (record (at_urgent world (sent ∷ rest)) { destination = urgent_came (at_urgent world (sent ∷ rest)).destination copy; urgent = wire_behind rest })
-urgent_arrives copy sent rest world copies faithful kept = grind (arith, nat_tests, AreFaithful-append, not_up, has_copy-append, came_urgent)
+urgent_arrives copy sent rest world copies faithful kept = grind (arith, nat_tests, AreFaithful-append, has_copy-append, came_urgent)
 
 arrives_by : (frame : Frame) (epoch : ℕ) (rest : List Sent) (world : World) → are_copies (record { epoch = epoch; frame = frame } ∷ rest) ≡ true → AreFaithful (space_of world.source).host.bytes (copies_of (record { epoch = epoch; frame = frame } ∷ rest)) →
     IsSoundWorld (at_urgent world (record { epoch = epoch; frame = frame } ∷ rest)) → IsSoundWorld (after_deliver_urgent (at_urgent world (record { epoch = epoch; frame = frame } ∷ rest)) (record { epoch = epoch; frame = frame }) rest)

@@ -23,9 +23,9 @@ use Rattle.mig_model.specs.Owed.{home}
 use Rattle.mig_model.proofs.Facts.{AreFaithful-append, AreOf-one, copies_of-append}
 use Rattle.mig_model.proofs.StepCases.{MakesWorld, made-next}
 use Rattle.mig_model.proofs.Stopping.{not_ended, present_bytes}
-use Rattle.mig_model.proofs.UrgentWire.{are_copies-push, is_copy_page, not_stopped, other_bytes, other_forward, placed, precopy_unstopped, stopped_unpaused, told-push, told-sending, told_ended, told_open, told_page, all_came}
+use Rattle.mig_model.proofs.UrgentWire.{are_copies-push, is_copy_page, not_stopped, other_bytes, other_forward, precopy_unstopped, stopped_unpaused, told-push, told-sending, told_ended, told_open, told_page}
 use Rattle.mig_model.proofs.FramesTaken.{is_taken_back}
-use Rattle.mig_model.proofs.WireLemmas.{fits-more, fits-moved, copies_of-page}
+use Rattle.mig_model.proofs.WireLemmas.{fits-more, copies_of-page}
 
 pub urgent-first : (cpus epoch rounds : ℕ) → AreSoundUrgent (first_world_with cpus epoch rounds)
 urgent-first cpus epoch rounds = grind (arith, nat_tests)
@@ -36,7 +36,7 @@ command_urgent : (world : World) (cpu : ℕ) (command : Command) → IsSoundWorl
 command_urgent world cpu command kept may h = grind (arith, nat_tests)
 
 acted_urgent : (act : Act) (world : World) (page : ℕ) → is_stopped world.source.phase ≡ false → AreSoundUrgent world → AreSoundUrgent (record world { source = source_acted_by act world.source page })
-acted_urgent act world page not h = grind (arith, nat_tests, other_bytes)
+acted_urgent act world page not h = grind (arith, nat_tests)
 
 handled_urgent : (act : Act) (world : World) (page : ℕ) (back : Wire) → AreSoundUrgent world → AreSoundUrgent (record world { destination = destination_acted_by act world.destination page; back = back })
 handled_urgent act world page back h = grind (arith, nat_tests)
@@ -103,13 +103,13 @@ push_urgent_kept world page kept stopped up present remains h =
 -- Frames that the destination takes
 
 deliver_urgent_kept : (world : World) (sent : Sent) (rest : List Sent) → IsSoundWorld world → world.forward.frames ≡ sent ∷ rest → world.up ≡ true → is_early world.destination sent.frame ≡ false → AreSoundUrgent world → AreSoundUrgent (after_deliver world sent rest)
-deliver_urgent_kept world sent rest kept first up early h = grind (arith, nat_tests, placed, all_came)
+deliver_urgent_kept world sent rest kept first up early h = grind (arith, nat_tests)
 
 urgent_delivered : (world : World) (sent : Sent) (rest : List Sent) → world.urgent.frames ≡ sent ∷ rest → world.destination.has_run ≡ true → AreSoundUrgent world → AreSoundUrgent (after_deliver_urgent world sent rest)
 urgent_delivered world sent rest first ran h = grind (arith, nat_tests)
 
 urgent_moved : (world : World) (n : ℕ) (sent : Sent) (rest : List Sent) → world.urgent.frames ≡ sent ∷ rest → is_short world.urgent sent.frame n ≡ true → AreSoundUrgent world → AreSoundUrgent (after_move_urgent world n)
-urgent_moved world n sent rest first short h = grind (arith, nat_tests, fits-moved)
+urgent_moved world n sent rest first short h = grind (arith, nat_tests)
 
 -- Frames that the source takes
 

@@ -105,7 +105,7 @@ pub tried_other : (world : World) (cpu : ℕ) (tries : Command) (k : ℕ) → (c
 tried_other world cpu tries k other = grind (arith, nat_tests, set_other)
 
 idle_none : (p : CpuState) (command : Command) → is_idle p ≡ true → outstanding p ≡ Some command → ⊥
-idle_none p command h e = grind (arith, nat_tests, none-some)
+idle_none p command h e = grind (arith, nat_tests)
 
 -- Deliveries
 
@@ -131,7 +131,7 @@ pub woken_waits : (old new : List CpuState) → IsWoken old new → (k : ℕ) �
 woken_waits old new w k = ap (λ ps. outstanding (processor_at ps k)) w.is ∙ woken_keeps w.test old k
 
 taken_same : (frame : Frame) (epoch : ℕ) (rest : List Sent) (world : World) → world.up ≡ true → world.forward.frames ≡ record { epoch = epoch; frame = frame } ∷ rest → IsSoundWorld world → WaitsAs world (after_deliver world (record { epoch = epoch; frame = frame }) rest)
-taken_same frame epoch rest world up first kept k = grind (arith, nat_tests, package_same, woken_waits, guest_woken, wakes-taken)
+taken_same frame epoch rest world up first kept k = grind (arith, nat_tests, package_same, guest_woken, wakes-taken)
 
 pub same_waits : (world : World) (step : Step) → IsSoundWorld world → is_try step ≡ false → WaitsAs world (next world step)
 same_waits world (Step.Issue cpu tries) kept other = absurd (false≢true (sym other))

@@ -85,7 +85,7 @@ installs None node copy rest = assumption (still node.guest.cpus)
 installs (Some page) node copy rest = assumption (some_woken (λ q. eqb q page) node.guest.cpus)
 
 pub takes : (frame : Frame) (node : Destination) (epoch : ℕ) → is_package frame ≡ false → TakesFrame node (destination_took node epoch frame)
-takes frame node epoch h = grind (arith, nat_tests, none_absurd, still)
+takes frame node epoch h = grind (arith, nat_tests, still)
 
 pub takes_urgent : (frame : Frame) (node : Destination) → TakesFrame node (urgent_took node frame)
 takes_urgent frame node = grind (arith, nat_tests, still)
@@ -95,7 +95,7 @@ takes_back : (frame : Frame) (node : Source) → (is_last frame ≡ true → (sp
 takes_back frame node quiet = grind (arith, nat_tests, still)
 
 pub stopped_switched : (phase : SourcePhase) (switched : Bool) → is_stopped phase ≡ true → SwitchedAt phase switched → switched ≡ true
-stopped_switched phase switched h at = grind (arith, nat_tests, none_absurd)
+stopped_switched phase switched h at = grind (arith, nat_tests)
 
 last_switched : (frame : Frame) (world : World) → IsSoundWorld world → IsInPlaceBack world.source frame → is_last frame ≡ true → world.source.switched ≡ true
 last_switched frame world kept place h = grind (arith, nat_tests)
