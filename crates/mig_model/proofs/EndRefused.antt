@@ -14,7 +14,6 @@ use Rattle.mig_model.specs.Migration.{World, Answer, after_end, made, outcome, o
 use Rattle.mig_model.specs.Invariant.{IsSoundWorld}
 use Rattle.mig_model.proofs.FrameFaults.{sound_below}
 
--- a number below the bound that passes is found, or a lesser one
 by_tests : (stopped unended up left : Bool) (answer : Answer) → stopped ≡ true → unended ≡ false → up ≡ true → unless ((not stopped || unended, Refusal.Phase) ∷ (not up, Refusal.Broken) ∷ (left, Refusal.PagesLeft) ∷ []) answer ≡ (if left then Err Refusal.PagesLeft else answer)
 unfolding unless
 by_tests stopped unended up left answer s o u = grind (arith, nat_tests)

@@ -7,8 +7,6 @@ use Rattle.mig_model.specs.Invariant.{IsSoundWorld}
 use Rattle.mig_model.specs.Promises.{IsComplete}
 use Rattle.mig_model.proofs.StepCases.{MakesWorld, made-next}
 
--- Steps that leave the phase of the source
-
 complete-answer : (world : World) (step : Step) → IsSoundWorld world → IsComplete world → MakesWorld IsComplete world step
 complete-answer world step kept done = grind (arith, nat_tests)
 
