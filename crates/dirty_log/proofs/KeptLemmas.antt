@@ -69,7 +69,7 @@ rest_unread : (events : List Noted) (noted : Noted) (page : ℕ) → first_noted
 rest_unread [] noted page first out u = refl
 rest_unread (event ∷ rest) noted page first out u = rw (ap (λ n. is_changed_by n.message page) (same_noted event noted first) ∙ out) u
 
-was_unread : (faults : List Noted) (object : Object) (noted : Noted) (page : ℕ) → next_of faults object.events ≡ Some noted → is_changed_by noted.message page ≡ false → is_unread (read_by faults object).events page ≡ false → is_unread object.events page ≡ false
+pub was_unread : (faults : List Noted) (object : Object) (noted : Noted) (page : ℕ) → next_of faults object.events ≡ Some noted → is_changed_by noted.message page ≡ false → is_unread (read_by faults object).events page ≡ false → is_unread object.events page ≡ false
 was_unread [] object noted page next out u = rest_unread object.events noted page next out u
 was_unread (fault ∷ faults) object noted page next out u = u
 
@@ -107,7 +107,7 @@ acted_kept (machine.Act.Requested origin) node page sound kept = kept
 
 -- Commands of processors
 
-queued_by : (waits : Bool) (object new : Object) → new.events ≡ object.events → (cond waits object new).events ≡ object.events
+pub queued_by : (waits : Bool) (object new : Object) → new.events ≡ object.events → (cond waits object new).events ≡ object.events
 queued_by true object new h = refl
 queued_by false object new h = h
 

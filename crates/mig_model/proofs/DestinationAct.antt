@@ -17,7 +17,7 @@ use Rattle.mig_model.specs.Host.{Host, memory}
 use Rattle.mig_model.specs.Userfault.{Noted}
 use Rattle.mig_model.specs.Space.{Space, IsSoundSpace}
 use Rattle.mig_model.specs.Ioctls.{put_pages, installed as pages_installed}
-use Rattle.mig_model.specs.Guest.{Guest, is_present, Fault, is_forgotten, zero_installed, resolved}
+use Rattle.mig_model.specs.Guest.{Guest, counted, is_present, Fault, is_forgotten, zero_installed, resolved}
 use Rattle.mig_model.specs.Wire.{Copy, Sent, wire_if}
 use Rattle.mig_model.specs.Migration.{World, outcome, next, after_install, install_effect, is_changing, runs, destination_sends, after_dest_act}
 use Rattle.mig_model.specs.Invariant.{IsSoundWorld, AreFaithful, has_copy, seen_host, seen_bytes, Wires, are_requests, is_request}
@@ -144,7 +144,7 @@ put_there copy rest world page kept runs found =
     let alone = kept.owing.pairs_missing q origin was.1 in
     (alone.0, put-missing space page q copy.bytes was.0 alone.1) in
     let ended : old.destination.ended ≡ true → (rest_of ≡ finmap.empty) × (rest ≡ []) = λ h. absurd (some_first copy rest (kept.owing.ended_empty h).1) in
-    kept-handled old guest world.destination.held rest_of (without_request world.destination.requests copy.page) rest (world.destination.installed + 1) world.destination.dropped world.destination.faults kept runs
+    kept-handled old guest world.destination.held rest_of (without_request world.destination.requests copy.page) rest (counted world.destination.installed 1) world.destination.dropped world.destination.faults kept runs
     (assumption faithful.1)
 
 given_up : (copy : Copy) (rest : List Copy) (world : World) → IsSoundWorld (at_copies [] (copy ∷ rest) world) → world.destination.has_run ≡ true → home world.destination.owed copy.page ≡ None →
@@ -156,7 +156,7 @@ given_up copy rest world kept runs lost =
     behind_first (eqb copy.page origin) (has_copy rest origin)
     (λ e. home-none world.destination.owed copy.page q lost (kept.owing.owed_below q origin h) (h ∙ ap Some (sym (eqb-true copy.page origin e)))) k in
     let ended : old.destination.ended ≡ true → (world.destination.owed ≡ finmap.empty) × (rest ≡ []) = λ h. absurd (some_first copy rest (kept.owing.ended_empty h).1) in
-    kept-handled old old.destination.guest world.destination.held world.destination.owed world.destination.requests rest world.destination.installed (world.destination.dropped + 1) world.destination.faults kept runs
+    kept-handled old old.destination.guest world.destination.held world.destination.owed world.destination.requests rest world.destination.installed (counted world.destination.dropped 1) world.destination.faults kept runs
     (assumption (same_pairs world.destination.owed, faithful.1))
 
 install_at : (o : Option ℕ) (copy : Copy) (rest : List Copy) (world : World) → IsSoundWorld (at_copies [] (copy ∷ rest) world) → world.destination.has_run ≡ true → home world.destination.owed copy.page ≡ o →

@@ -50,7 +50,7 @@ registered_now low test missing protect low_ is = grind arith
 whole_range : (page : ℕ) → page < HIGH_PAGE → in_range 0 HIGH_PAGE page ≡ true
 whole_range page h = grind (arith, nat_tests)
 
-mapped_registered : (space : Space) (page : ℕ) → IsSoundSpace space → contains_key space.host.areas page ≡ true → contains (all_registered space).object.protect page ≡ true
+pub mapped_registered : (space : Space) (page : ℕ) → IsSoundSpace space → contains_key space.host.areas page ≡ true → contains (all_registered space).object.protect page ≡ true
 mapped_registered space page sound mapped = grind (arith, nat_tests, member_below, and_from)
 
 pub present_mapped : (space : Space) (page : ℕ) → IsSoundSpace space → is_present space page ≡ true → contains_key space.host.areas page ≡ true

@@ -15,7 +15,7 @@ use Rattle.mig_model.specs.Userfault.{Noted, Mode, fresh_object, enabled_with, r
 use Rattle.mig_model.specs.Space.{Space, fresh_space}
 use Rattle.mig_model.specs.Ioctls.{event_features, installed as pages_installed}
 use Rattle.mig_model.specs.Cpus.{idle_processors, taken_over}
-use Rattle.mig_model.specs.Guest.{Guest, Fault, Act, fault_count, read_guest, resolved, held_after, rest_held, zero_installed, is_forgotten, is_present}
+use Rattle.mig_model.specs.Guest.{Guest, Fault, Act, counted, fault_count, read_guest, resolved, held_after, rest_held, zero_installed, is_forgotten, is_present}
 use Rattle.mig_model.specs.Guest.Act.{Zeroed, Woke, Forgot, Requested}
 use Rattle.mig_model.specs.Log.{no_pages}
 use Rattle.mig_model.specs.Owed.{Owed, owed_table_after, settled_by, origins, own_places, is_requested, requesting, without_request}
@@ -173,7 +173,7 @@ destination_read node noted =
       guest = read_guest node.guest noted.cpu noted.message;
       held = held_after node.held noted.message;
       owed = owed_table_after noted.message node.owed;
-      faults = node.faults + fault_count noted.message;
+      faults = counted node.faults (fault_count noted.message);
     }
 
 -- by what the page is now, and by the page at the source that it is owed from
@@ -211,12 +211,12 @@ installed_at node copy rest page =
       owed = finmap.remove node.owed page;
       requests = without_request node.requests copy.page;
       arrivals = rest;
-      installed = node.installed + 1;
+      installed = counted node.installed 1;
     }
 
 -- a copy that no page is owed is given up
 abbrev pub copy_dropped : Destination → List Copy → Destination
-copy_dropped node rest = record node { arrivals = rest; dropped = node.dropped + 1 }
+copy_dropped node rest = record node { arrivals = rest; dropped = counted node.dropped 1 }
 
 abbrev pub install_by : Option ℕ → Destination → Copy → List Copy → Destination
 install_by (Some page) node copy rest = installed_at node copy rest page

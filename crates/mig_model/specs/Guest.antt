@@ -1,12 +1,12 @@
 -- The guest at a node: its memory with the userfault object, and its processors. What a command, a message and a fault that is
 -- resolved make of them.
-use Rattle.std.specs.Prelude.{ℕ, ◌+◌, ◌-◌, ◌/◌, ◌==◌, ◌||◌, not, Bool, true, false, List, [], ◌∷◌, ◌++◌, set}
+use Rattle.std.specs.Prelude.{ℕ, ◌+◌, ◌-◌, ◌/◌, ◌^◌, ◌==◌, ◌||◌, not, Bool, true, false, List, [], ◌∷◌, ◌++◌, set}
 use Rattle.std.specs.FinMap.{contains_key}
 use Rattle.mig_base.specs.declared.TheConstants.{PAGE_SIZE}
 use Rattle.mig_base.specs.declared.command.Command.{Command}
 use Rattle.mig_base.specs.declared.message.Message.{Message}
 use Rattle.mig_base.specs.declared.message.Message.TheVariants.{PageFault, Remap, Remove, Unmap}
-use Rattle.mig_base.specs.Ranges.{in_range}
+use Rattle.mig_base.specs.Ranges.{in_range, lesser}
 use Rattle.mig_base.specs.Bytes.{zero_page}
 use Rattle.mig_base.specs.Flat.{reply_of}
 use Rattle.mig_model.specs.Host.{memory}
@@ -85,6 +85,10 @@ held_after held message = held
 abbrev pub rest_held : List Fault → List Fault
 rest_held [] = []
 rest_held (fault ∷ rest) = rest
+
+-- a count of 64 bits once so many more are counted: it stops at its greatest value
+abbrev pub counted : ℕ → ℕ → ℕ
+counted count more = lesser (count + more) (2 ^ 64 - 1)
 
 -- 1 for a page fault
 abbrev pub fault_count : Message → ℕ

@@ -13,7 +13,7 @@ use Rattle.mig_model.specs.Userfault.{Noted, Mode, fresh_object, enabled_with}
 use Rattle.mig_model.specs.Space.{Space, fresh_space}
 use Rattle.mig_model.specs.Ioctls.{all_features, registered_in, protected_in}
 use Rattle.mig_model.specs.Cpus.{Cpus, idle_processors, outstanding}
-use Rattle.mig_model.specs.Guest.{Guest, Fault, Act, fault_count, read_guest, resolved, zero_installed, is_forgotten, is_present}
+use Rattle.mig_model.specs.Guest.{Guest, Fault, Act, counted, fault_count, read_guest, resolved, zero_installed, is_forgotten, is_present}
 use Rattle.mig_model.specs.Guest.Act.{Unprotected, Zeroed, Woke, Forgot}
 use Rattle.mig_model.specs.Log.{Log, empty_log, forgotten, dirty, log_sent, log_run_sent, log_read, log_resolved, log_written, no_pages, less, present}
 use Rattle.mig_model.specs.Wire.{Frame}
@@ -120,7 +120,7 @@ bytes_of node page = contents (space_of node).host.bytes page
 -- a page is protected, then read, and is clean
 abbrev pub page_sent : Source → ℕ → Source
 page_sent node page =
-    record (in_space node (protected_in (space_of node) page 1 true)) { log = log_sent node.log page; pages_sent = node.pages_sent + 1 }
+    record (in_space node (protected_in (space_of node) page 1 true)) { log = log_sent node.log page; pages_sent = counted node.pages_sent 1 }
 
 -- the bytes of neighbouring pages, from the first on
 abbrev pub run_of : Source → ℕ → ℕ → List (List ℕ)
@@ -130,7 +130,7 @@ run_of node first (suc count) = bytes_of node first ∷ run_of node (1 + first) 
 -- neighbouring pages are protected, then read, and are clean
 abbrev pub run_sent : Source → ℕ → ℕ → Source
 run_sent node first count =
-    record (in_space node (protected_in (space_of node) first count true)) { log = log_run_sent node.log first count; pages_sent = node.pages_sent + count }
+    record (in_space node (protected_in (space_of node) first count true)) { log = log_run_sent node.log first count; pages_sent = counted node.pages_sent count }
 
 -- a message is read: a fault is held, and an event's pages are neither clean nor to be sent
 abbrev pub source_read : Source → Noted → Source
@@ -138,7 +138,7 @@ source_read node noted =
     record node {
       guest = read_guest node.guest noted.cpu noted.message;
       log = log_read node.log noted.message;
-      faults = node.faults + fault_count noted.message;
+      faults = counted node.faults (fault_count noted.message);
     }
 
 -- at the source, by what the page is now
@@ -185,7 +185,7 @@ abbrev pub switch_frames : Source → List Frame
 switch_frames node = package_frames node (less node.log.sent node.log.clean) (not_clean node)
 
 abbrev pub page_pushed : Source → ℕ → Source
-page_pushed node page = record node { remaining = finset.remove node.remaining page; pages_sent = node.pages_sent + 1 }
+page_pushed node page = record node { remaining = finset.remove node.remaining page; pages_sent = counted node.pages_sent 1 }
 
 -- the same, where the page goes on the urgent wire
 abbrev pub urgent_pushed : Source → ℕ → Source

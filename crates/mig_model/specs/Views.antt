@@ -9,6 +9,7 @@ use Rattle.mig_base.specs.declared.refusal.Refusal.{Refusal}
 use Rattle.mig_base.specs.declared.step.WorldPhase.{WorldPhase}
 use Rattle.mig_base.specs.Ranges.{lesser}
 use Rattle.mig_model.specs.Cpus.{processor_at}
+use Rattle.mig_model.specs.Guest.{counted}
 use Rattle.mig_model.specs.Migration.{World, first_world_with, guest_of, has_no_cpu}
 
 -- a new world of so many processors, at least one and at most MAX_CPUS, whose counts stand at the numbers given
@@ -32,19 +33,15 @@ phase_of world = phase_by world.source.phase world.source.switched world.destina
 abbrev pub owed_left : World → ℕ
 owed_left world = if world.destination.has_run then len world.destination.owed else world.source.packaged
 
--- a count of 64 bits, which stops at its greatest value
-abbrev pub counted : ℕ → ℕ
-counted count = lesser count (2 ^ 64 - 1)
-
 -- what has been counted
 abbrev pub counts_of : World → Counts
 counts_of world =
     record {
       rounds = world.source.rounds;
-      sent = counted world.source.pages_sent;
-      installed = counted world.destination.installed;
-      dropped = counted world.destination.dropped;
-      faults = counted (world.source.faults + world.destination.faults);
+      sent = world.source.pages_sent;
+      installed = world.destination.installed;
+      dropped = world.destination.dropped;
+      faults = counted world.source.faults world.destination.faults;
     }
 
 -- what a processor does, where the guest runs; while it runs nowhere, as at the switch

@@ -1,6 +1,6 @@
 //! The type that callers see: an address space, and the userfault object that watches it.
 
-ghost use Rattle.std.specs.Prelude.{◌≡◌, ℕ, ◌<◌, ◌≤◌, IfOk, IfErr, OnErr, None};
+ghost use Rattle.std.specs.Prelude.{◌≡◌, ℕ, ◌<◌, ◌≤◌, IfOk, IfErr, OnErr, None, []};
 ghost use Rattle.std.specs.Option.{option_copied, option_map};
 ghost use Rattle.std.specs.FinMap as map;
 ghost use Rattle.std.specs.FinSet as set;
@@ -143,6 +143,14 @@ impl Space {
         ensures { result ≡ option_map (λ noted. noted.message) (object.next_message self.now.object) }
     {
         self.object.next_message()
+    }
+
+    /// Gives up the unread page faults, which nobody will read any more, as when the last descriptor of the object is closed. Unread
+    /// events stay.
+    pub fn drop_faults(&mut self)
+        ensures { self.new ≡ record self.old { object = record self.old.object { faults = [] } } }
+    {
+        self.object.drop_faults();
     }
 
     /// A copy of the mapped pages, with their protections.

@@ -1,6 +1,6 @@
 //! The type that callers see: one userfault object.
 
-ghost use Rattle.std.specs.Prelude.{◌≡◌, ℕ, ◌+◌, ◌≤◌, ◌⊎◌, false, if◌then◌else◌, Some, None, OnOk, OnErr, IfOk};
+ghost use Rattle.std.specs.Prelude.{◌≡◌, ℕ, ◌+◌, ◌≤◌, ◌⊎◌, false, if◌then◌else◌, Some, None, [], OnOk, OnErr, IfOk};
 ghost use Rattle.std.specs.Option.{option_map};
 ghost use Rattle.mig_base.specs.Ranges.{in_range};
 ghost use Rattle.mig_base.specs.declared.TheConstants.{HIGH_PAGE};
@@ -227,6 +227,13 @@ impl Userfault {
             None => self.events.pop_front()?,
         };
         Some((noted.message(), noted.cpu()))
+    }
+
+    /// Gives up the unread page faults. Unread events stay.
+    pub fn drop_faults(&mut self)
+        ensures { self.new ≡ record self.old { faults = [] } }
+    {
+        self.faults.clear();
     }
 
     /// How many events are unread. While there are any, the address space is changing.

@@ -40,11 +40,26 @@ impl DirtyLog {
         ensures ok { OnOk result (self.new ≡ record self.old { todo = machine.dirty space.now self.old }) }
         ensures err { OnErr result (self.new ≡ self.old) }
     {
-        space.is_in_order();
-        let mut todo = space.present()?;
-        subtract(&mut todo, &self.clean);
-        self.todo = todo;
+        let todo = self.dirty(space)?;
+        self.begin_round(todo);
         Ok(())
+    }
+
+    /// The present pages that are not clean, as a set of its own.
+    pub fn dirty(&self, space: &Space) -> Result<PageSet, NoMemory>
+        ensures { IfOk result (λ pages. pages ≡ machine.dirty space.now self.now) }
+    {
+        space.is_in_order();
+        let mut pages = space.present()?;
+        subtract(&mut pages, &self.clean);
+        Ok(pages)
+    }
+
+    /// A round begins that has to send these pages. It takes no memory.
+    pub fn begin_round(&mut self, todo: PageSet)
+        ensures { self.new ≡ record self.old { todo = todo } }
+    {
+        self.todo = todo;
     }
 
     /// The least page that this round still has to send.

@@ -1,0 +1,95 @@
+//! What a command comes to.
+
+ghost use Rattle.std.specs.Prelude.{◌≡◌, ◌<◌, set, length, option_to_list, IfOk, OnOk, OnErr};
+ghost use Rattle.mig_base.specs.Commands.{is_access};
+ghost use Rattle.mig_base.specs.declared.cpu_state.CpuState.{CpuState};
+ghost use Rattle.mig_model.specs.Cpus.{entries_of, processor_after, processor_at};
+ghost use Rattle.mig_model.specs.Guest.{space_by};
+ghost use Rattle.mig_model.specs.Migration.{try_effect};
+ghost use Rattle.guest.specs.Answers.{took_in};
+ghost use Rattle.guest.specs.Outcomes.{IsOutcome, took_of};
+
+use crate::tried::Tried;
+use mig_base::effect::Effect;
+use mig_base::{Access, Command, Entry, NoMemory, Reply};
+use uffd_ioctl::Space;
+use vcpu::Cpus;
+
+/// What a command comes to.
+#[derive(Clone, Copy)]
+pub enum Took {
+    /// It is answered.
+    Answer(Reply),
+    /// The processor sleeps on its page.
+    Sleep,
+    /// The map call goes on until that many messages have been read.
+    Call { reply: Reply, left: u8 },
+}
+
+impl Took {
+    /// Makes a command in the space. Out of memory changes nothing.
+    pub fn of(space: &mut Space, cpu: u8, command: Command) -> Result<Self, NoMemory>
+        ensures took { IfOk result (λ took. took_of took ≡ took_in space.old command) }
+        ensures outcome { IfOk result (λ took. IsOutcome command took) }
+        ensures space { OnOk result (space.new ≡ space_by (is_access command) space.old cpu command) }
+        ensures err { OnErr result (space.new ≡ space.old) }
+    {
+        if command.is_access() {
+            match space.access(cpu, command)? {
+                Access::Answered(reply) => Ok(Took::Answer(reply)),
+                Access::Missing | Access::Protected => Ok(Took::Sleep),
+            }
+        } else {
+            match space.map_call(cpu, command)? {
+                (reply, 0) => Ok(Took::Answer(reply)),
+                (reply, left) => Ok(Took::Call { reply, left }),
+            }
+        }
+    }
+
+    /// The processor, which is idle, then does what the command came to.
+    pub fn begin(self, cpus: &mut Cpus, cpu: u8, command: Command) -> Tried
+        requires cpu { cpu < length cpus.old }
+        requires idle { processor_at cpus.old cpu ≡ CpuState.Idle }
+        requires outcome { IsOutcome command self }
+        ensures effect { result.effect ≡ try_effect cpu (took_of self) }
+        ensures entry { option_to_list result.entry ≡ entries_of cpu command (took_of self) }
+        ensures cpus { cpus.new ≡ set cpus.old cpu (processor_after command (took_of self)) }
+    {
+        match self {
+            Took::Answer(reply) => Tried {
+                effect: Effect::Answered { cpu, reply },
+                entry: Some(Entry {
+                    cpu,
+                    command,
+                    reply,
+                }),
+            },
+            Took::Sleep => {
+                let Ok(()) = cpus.sleep(cpu, command) else {
+                    unreachable!();
+                };
+                Tried {
+                    effect: Effect::Asleep { cpu },
+                    entry: None,
+                }
+            }
+            Took::Call { reply, left } => {
+                let Ok(()) = cpus.call_sleeps(cpu, reply, left) else {
+                    unreachable!();
+                };
+                Tried {
+                    effect: Effect::InCall {
+                        cpu,
+                        messages: left,
+                    },
+                    entry: Some(Entry {
+                        cpu,
+                        command,
+                        reply,
+                    }),
+                }
+            }
+        }
+    }
+}

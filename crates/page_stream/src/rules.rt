@@ -1,0 +1,139 @@
+//! Which frames are well formed.
+
+ghost use Rattle.std.specs.Prelude.{◌≡◌, ◌^◌, ◌↔◌, nat_lt, true, length, IsTrue};
+ghost use Rattle.mig_base.specs.Flat.{is_aligned as is_access, is_width};
+ghost use Rattle.mig_model.specs.Bounds.{AreFewPages, ArePages, AreRightAccesses, IsCpuCount, IsFrame, IsMapping, IsPage};
+ghost use Rattle.page_stream.specs.Frames.{frame_of};
+ghost use Rattle.page_stream.specs.Rules.{IsRight, IsRunOf};
+
+use crate::frame::Frame;
+use crate::lists::Pages;
+use area_map::AreaMap;
+use mig_base::{Addr, Command, HIGH_PAGE, LOW_PAGE, MAX_CPUS, MAX_PAGES, MAX_RUN, PageNo, PageSet};
+
+impl Frame {
+    /// Whether it may be sent. Its pages lie from `LOW_PAGE` up to `HIGH_PAGE`, and no map, and no set but that of a Discard, has
+    /// more than `MAX_PAGES`; a run has 1 to `MAX_RUN`. A Package is of 1 to `MAX_CPUS` processors, and those that wait do so for
+    /// an aligned load, or an aligned store whose value fits its width.
+    ///
+    /// It takes no memory, and goes by whole sets and maps, not page by page.
+    pub fn is_well_formed(&self) -> bool
+        ensures { IsTrue result ↔ IsFrame (frame_of self.now) }
+    {
+        match self {
+            Frame::Advise | Frame::Resume | Frame::Done => true,
+            Frame::End { urgent } => {
+                // Any number of its type will do.
+                let _urgent = *urgent;
+                true
+            }
+            Frame::Page { page, bytes } => {
+                bytes.are_whole();
+                is_page(*page)
+            }
+            Frame::Zero { page } | Frame::Request { page } => is_page(*page),
+            Frame::Run { first, pages } => is_run(*first, pages),
+            Frame::Discard { pages } => are_pages(pages),
+            Frame::Package {
+                areas,
+                owed,
+                commands,
+            } => { is_mapping(areas) && are_few_pages(owed) && are_commands(commands.as_slice()) }
+            Frame::Recv { owed, .. } => are_few_pages(owed),
+        }
+    }
+}
+
+/// Whether a page may be mapped.
+fn is_page(page: PageNo) -> bool
+    ensures { IsTrue result ↔ IsPage page }
+{
+    LOW_PAGE <= page && page < HIGH_PAGE
+}
+
+/// Whether the pages may be sent as one run: there are 1 to `MAX_RUN`, and each may be mapped.
+fn is_run(first: PageNo, pages: &Pages) -> bool
+    ensures { IsTrue result ↔ IsRunOf first pages.now }
+{
+    pages.are_whole();
+    let count = pages.as_slice().len();
+    0 < count
+        && count <= usize::from(MAX_RUN)
+        && LOW_PAGE <= first
+        && first < HIGH_PAGE
+        && count <= (HIGH_PAGE - first) as usize
+}
+
+/// Whether each page of a set may be mapped.
+fn are_pages(pages: &PageSet) -> bool
+    ensures { IsTrue result ↔ ArePages pages.now }
+{
+    pages.ends_by_high_page();
+    LOW_PAGE <= pages.next(0, true)
+}
+
+/// Whether all may be mapped at once.
+fn are_few_pages(pages: &PageSet) -> bool
+    ensures { IsTrue result ↔ AreFewPages pages.now }
+{
+    are_pages(pages) && pages.len() <= MAX_PAGES
+}
+
+/// Whether the mapped pages are ones that may be mapped, and not too many.
+fn is_mapping(areas: &AreaMap) -> bool
+    ensures { IsTrue result ↔ IsMapping areas.now }
+{
+    areas.ends_by_high_page();
+    areas.mapped_in(0, LOW_PAGE) == 0 && areas.mapped_pages() <= MAX_PAGES
+}
+
+/// Whether there is a command, or none, for each of 1 to `MAX_CPUS` processors, and each is a load or store of the right form.
+fn are_commands(commands: &[Option<Command>]) -> bool
+    ensures { IsTrue result ↔ (AreRightAccesses commands.now × IsCpuCount (length commands.now)) }
+{
+    !commands.is_empty() && commands.len() <= usize::from(MAX_CPUS) && are_right(commands)
+}
+
+/// Whether each command is a load or store of the right form.
+fn are_right(commands: &[Option<Command>]) -> bool
+    ensures { IsTrue result ↔ AreRightAccesses commands.now }
+{
+    for command in commands {
+        if !is_right(*command) {
+            return false;
+        }
+    }
+    true
+}
+
+/// Whether a processor waits for nothing, or for a load or store of the right form.
+fn is_right(command: Option<Command>) -> bool
+    ensures { IsTrue result ↔ IsRight command }
+{
+    match command {
+        None => true,
+        Some(Command::Load { addr, width }) => is_aligned(addr, width),
+        Some(Command::Store { addr, width, value }) => is_aligned(addr, width)
+            && fits(value, width),
+        Some(_) => false,
+    }
+}
+
+/// Whether an access of that width may stand at the address.
+fn is_aligned(addr: Addr, width: u8) -> bool
+    ensures { result ≡ is_access addr width }
+{
+    matches!(width, 1 | 2 | 4 | 8) && addr % u64::from(width) == 0
+}
+
+/// Whether a number has room in `width` bytes, of which there are 1, 2, 4 or 8.
+fn fits(value: u64, width: u8) -> bool
+    ensures { is_width width ≡ true → result ≡ nat_lt value (256 ^ width) }
+{
+    match width {
+        1 => value <= 0xff,
+        2 => value <= 0xffff,
+        4 => value <= 0xffff_ffff,
+        _ => true,
+    }
+}

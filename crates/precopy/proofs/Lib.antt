@@ -1,0 +1,5 @@
+pub mod HandlerLemmas
+pub mod OrderLemmas
+pub mod SendLemmas
+pub mod StepLemmas
+pub mod TodoLemmas

@@ -1,0 +1,52 @@
+-- A page that the round sends next can be sent.
+use Rattle.std.proofs.Common.{◌≡◌, ℕ, ◌+◌, ◌<◌, Bool, true, false, not, ltb, Some, None, List, [], ◌∷◌, length, refl, sym, ap, ◌∙◌, inl, inr, ◌⊎◌, ⊎_elim, arith}
+use Rattle.std.specs.Prelude.{Ok, Err, Option}
+use Rattle.std.specs.FinSet.{contains}
+use Rattle.std.proofs.lemmas.Bool.{false≢true}
+use Rattle.mig_base.specs.declared.refusal.Refusal.{Refusal}
+use Rattle.mig_base.specs.declared.TheConstants.{HIGH_PAGE}
+use Rattle.mig_base.proofs.RangeLemmas.{least_below_tells}
+use Rattle.mig_base.specs.declared.schedule.Step.{Step}
+use Rattle.mig_base.specs.Ranges.{none_below}
+use Rattle.mig_base.specs.Tests.{is_every, first_holding}
+use Rattle.mig_model.specs.Userfault.{Noted}
+use Rattle.mig_model.specs.Invariant.{is_unread}
+use Rattle.mig_model.specs.Log.{least_of}
+use Rattle.mig_model.specs.Migration.{is_changing}
+use Rattle.mig_model.specs.Space.{Space}
+use Rattle.mig_model.specs.Source.{Source, is_precopy, space_of}
+use Rattle.dirty_log.specs.Answers.{IsRefusedFor, send_refusal}
+use Rattle.dirty_log.specs.Spaces.{is_sendable}
+use Rattle.precopy.specs.Answers.{first_sent, send_answer}
+use Rattle.precopy.specs.Order.{AreSendable}
+use Rattle.precopy.specs.Steps.{IsRefused}
+use Rattle.precopy.proofs.StepLemmas.{send_lacks}
+
+-- the tests that the page has passed
+pub least_sent : (node : Source) (page : ℕ) → send_answer node ≡ Ok page → least_of node.log.todo ≡ Some page
+least_sent node page is = grind arith
+
+pub quiet : (node : Source) (page : ℕ) → send_answer node ≡ Ok page → is_changing node.guest ≡ false
+quiet node page is = grind arith
+
+no_unread : (events : List Noted) (page : ℕ) → ltb 0 (length events) ≡ false → is_unread events page ≡ false
+no_unread [] page h = refl
+no_unread (noted ∷ events) page h = grind arith
+
+todo_accepted : (space : Space) (page : ℕ) → ltb 0 (length space.object.events) ≡ false → is_sendable space page ≡ true → send_refusal space page 1 ≡ None
+unfolding none_below
+todo_accepted space page quiet can = grind arith
+
+next_accepted : (node : Source) (page : ℕ) → send_answer node ≡ Ok page → contains node.log.todo page ≡ true → AreSendable node.log (space_of node) → send_refusal (space_of node) page 1 ≡ None
+next_accepted node page is todo kept = todo_accepted (space_of node) page (quiet node page is) (kept page todo (no_unread (space_of node).object.events page (quiet node page is)))
+
+pub send_accepted : (node : Source) (page : ℕ) → send_answer node ≡ Ok page → AreSendable node.log (space_of node) → send_refusal (space_of node) page 1 ≡ None
+send_accepted node page is kept = next_accepted node page is (least_below_tells (contains node.log.todo) HIGH_PAGE page (least_sent node page is)) kept
+
+-- what a send that is refused then lacks is memory
+only_memory : (refusal : Refusal) (reason : Option Refusal) → reason ≡ None → IsRefusedFor reason refusal → refusal ≡ Refusal.NoMemory
+only_memory refusal reason none (inl is) = absurd (let other : Some refusal ≡ None = sym is ∙ none in grind arith)
+only_memory refusal reason none (inr is) = is.1
+
+pub send_stopped : (node : Source) (page : ℕ) (refusal : Refusal) → send_answer node ≡ Ok page → AreSendable node.log (space_of node) → IsRefusedFor (send_refusal (space_of node) page 1) refusal → IsRefused node Step.Send refusal
+send_stopped node page refusal is kept why = rw (only_memory refusal _ (send_accepted node page is kept) why) (send_lacks node page is)

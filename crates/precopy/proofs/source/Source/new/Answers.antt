@@ -1,0 +1,9 @@
+use Rattle.std.proofs.Common.{◌∙◌}
+use Rattle.precopy.proofs.OrderLemmas.{handshake_ok, new_order, shaken}
+use Rattle.precopy.proofs.source.Source.new.Goals as goal
+
+pub unreachable-requires : goal.unreachable-requires
+unreachable-requires c = c.in_default.not-Ok 333 (c.handshake.ensures.answer ∙ rw c.new-space.ensures handshake_ok)
+
+pub invariant_of-result : goal.invariant_of-result
+invariant_of-result c = rw (c.handshake.ensures.space, c.new-2.ensures, c.new-space.ensures, shaken) new_order

@@ -1,0 +1,30 @@
+-- What a source looks at before it makes a step: why the step is refused, or what it is made with.
+use Rattle.std.specs.Prelude.{ℕ, ◌+◌, ◌&&◌, not, Bool, true, false, if◌then◌else◌, Option, Some, None, Result, Ok, Err}
+use Rattle.mig_base.specs.declared.refusal.Refusal.{Refusal}
+use Rattle.mig_model.specs.Log.{least_of}
+use Rattle.mig_model.specs.Migration.{is_changing, is_used}
+use Rattle.mig_model.specs.Source.{Source, is_precopy, is_source_idle}
+
+-- the next number of a count
+abbrev pub next_count : ℕ → Result ℕ Refusal
+next_count count = if is_used count then Err Refusal.CountUsed else Ok (count + 1)
+
+-- Start: the epoch that begins
+abbrev pub start_answer : Source → Result ℕ Refusal
+start_answer node = if is_source_idle node.phase then next_count node.epoch else Err Refusal.Phase
+
+-- Round: the number of the round
+abbrev pub round_answer : Source → Result ℕ Refusal
+round_answer node = if is_precopy node.phase then (if is_changing node.guest then Err Refusal.Changing else next_count node.rounds) else Err Refusal.Phase
+
+-- Send and SendRun: the page, or the first page of the run
+abbrev pub first_sent : Option ℕ → Bool → Result ℕ Refusal
+first_sent None changing = Err Refusal.NothingThere
+first_sent (Some page) changing = if changing then Err Refusal.Changing else Ok page
+
+abbrev pub send_answer : Source → Result ℕ Refusal
+send_answer node = if is_precopy node.phase then first_sent (least_of node.log.todo) (is_changing node.guest) else Err Refusal.Phase
+
+-- SourceRead and SourceAct
+abbrev pub run_answer : Source → Result (Unit {0}) Refusal
+run_answer node = if not (is_source_idle node.phase) && not node.switched then Ok tt else Err Refusal.Phase

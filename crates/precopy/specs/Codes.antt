@@ -1,0 +1,63 @@
+-- How a proof tells sources apart, for models that contain them.
+use Rattle.std.specs.Prelude.{ℕ, Bool, List, refl}
+use Rattle.std.specs.Ordering.{nat_cmp}
+use Rattle.std.specs.FinSet as set
+use Rattle.std.specs.Coded.{Coded, code_by, coded×, coded_ℕ, coded_bool, coded_list}
+use Rattle.mig_base.specs.declared.cpu_state.CpuState.{CpuState}
+use Rattle.mig_base.specs.declared.phase.SourcePhase.{SourcePhase}
+use Rattle.mig_base.specs.contracts.cpu_state.CpuState as cpu_state
+use Rattle.mig_base.specs.contracts.phase.SourcePhase as phase
+use Rattle.mig_model.specs.Guest.{Guest}
+use Rattle.mig_model.specs.Log.{Log}
+use Rattle.mig_model.specs.Source.{Source}
+use Rattle.mig_model.specs.Space.{Space}
+use Rattle.dirty_log.specs.Codes.{coded_log}
+use Rattle.uffd_ioctl.specs.Spaces.{coded_space}
+
+-- the code of a guest
+abbrev pub coded_guest : Coded Guest
+coded_guest =
+    code_by (Space × List CpuState) (coded× coded_space (coded_list cpu_state.the_row.coded)) (λ guest. (guest.space, guest.cpus)) (λ p. record { space = p.0; cpus = p.1 }) (λ _. refl)
+
+-- how far a source is: its phase, whether it has switched, and its two epochs
+abbrev pub Progress : Type 0
+Progress = SourcePhase × (Bool × (ℕ × ℕ))
+
+abbrev pub coded_progress : Coded Progress
+coded_progress = coded× phase.the_row.coded (coded× coded_bool (coded× coded_ℕ coded_ℕ))
+
+-- what it still has to send
+abbrev pub Left : Type 0
+Left = set.FinSet nat_cmp × List ℕ
+
+abbrev pub coded_left : Coded Left
+coded_left = coded× (set.code coded_ℕ) (coded_list coded_ℕ)
+
+-- its counts
+abbrev pub Counts : Type 0
+Counts = ℕ × (ℕ × (ℕ × (ℕ × ℕ)))
+
+abbrev pub coded_counts : Coded Counts
+coded_counts = coded× coded_ℕ (coded× coded_ℕ (coded× coded_ℕ (coded× coded_ℕ coded_ℕ)))
+
+-- the code of a source
+abbrev pub coded_source : Coded Source
+coded_source =
+    code_by (Progress × (Guest × (Log × (Left × Counts)))) (coded× coded_progress (coded× coded_guest (coded× coded_log (coded× coded_left coded_counts))))
+    (λ node. ((node.phase, (node.switched, (node.epoch, node.end_epoch))), (node.guest, (node.log, ((node.remaining, node.asked), (node.urgent_sent, (node.packaged, (node.rounds, (node.pages_sent, node.faults)))))))))
+    (λ p. record {
+      phase = p.0.0;
+      switched = p.0.1.0;
+      epoch = p.0.1.1.0;
+      end_epoch = p.0.1.1.1;
+      guest = p.1.0;
+      log = p.1.1.0;
+      remaining = p.1.1.1.0.0;
+      asked = p.1.1.1.0.1;
+      urgent_sent = p.1.1.1.1.0;
+      packaged = p.1.1.1.1.1.0;
+      rounds = p.1.1.1.1.1.1.0;
+      pages_sent = p.1.1.1.1.1.1.1.0;
+      faults = p.1.1.1.1.1.1.1.1;
+    })
+    (λ _. refl)

@@ -1,0 +1,22 @@
+-- What every source keeps, whatever calls are made of it.
+use Rattle.std.specs.Prelude.{◌≡◌, ℕ, Bool, true, false}
+use Rattle.std.specs.FinSet.{contains}
+use Rattle.mig_base.specs.declared.phase.SourcePhase.{SourcePhase}
+use Rattle.mig_model.specs.Space.{Space}
+use Rattle.mig_model.specs.Invariant.{is_unread}
+use Rattle.mig_model.specs.Log.{Log}
+use Rattle.mig_model.specs.Source.{is_released, is_stopped}
+use Rattle.dirty_log.specs.Spaces.{AreProtected, IsLent, is_sendable}
+
+-- each page that the round still has to send can be sent, unless an unread event has changed it
+abbrev pub AreSendable : Log → Space → Type 0
+AreSendable log space = (page : ℕ) → contains log.todo page ≡ true → is_unread space.object.events page ≡ false → is_sendable space page ≡ true
+
+-- until the memory is given up the log may be lent the space; clean pages are protected, and pages to be sent can be sent; and the
+-- processors are stopped before the source is
+pub record IsInOrder (phase : SourcePhase) (switched : Bool) (space : Space) (log : Log) : Type 0 where
+  pub lent : is_released phase ≡ false → IsLent space
+  pub clean : AreProtected log space
+  pub todo : AreSendable log space
+  pub stopped : is_stopped phase ≡ true → switched ≡ true
+  pub released : is_released phase ≡ true → switched ≡ true

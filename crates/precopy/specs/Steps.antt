@@ -1,0 +1,20 @@
+-- What a call of a source answers: what the machine's step of its name does in a world that has this source.
+use Rattle.std.specs.Prelude.{◌≡◌, ◌⊎◌, List, Err, IsOk}
+use Rattle.mig_base.specs.declared.effect.Effect.{Effect}
+use Rattle.mig_base.specs.declared.refusal.Refusal.{Refusal}
+use Rattle.mig_base.specs.declared.schedule.Step.{Step}
+use Rattle.mig_model.specs.Migration.{World, answer, first_world, made, outcome, source_sends}
+use Rattle.mig_model.specs.Source.{Source}
+use Rattle.mig_model.specs.Wire.{Frame}
+
+-- a world that has this source, whose link is up, and in which nothing is in flight
+abbrev pub world_of : Source → World
+world_of node = record (first_world 0) { source = node }
+
+-- the step was made: its effect, the frames that the source sends in its epoch, and the source after it
+abbrev pub IsMade : Source → Step → Effect → List Frame → Source → Type 0
+IsMade old step effect frames new = answer (world_of old) step ≡ made effect (source_sends (world_of old) new frames)
+
+-- it was refused: for the machine's reason, or for want of memory where the machine makes the step
+abbrev pub IsRefused : Source → Step → Refusal → Type 0
+IsRefused old step refusal = (outcome (world_of old) step ≡ Err refusal) ⊎ ((refusal ≡ Refusal.NoMemory) × IsOk (outcome (world_of old) step))

@@ -1,0 +1,137 @@
+//! The type that callers see: the source of a migration.
+
+ghost use Rattle.std.specs.Prelude.{◌≡◌, ◌↔◌, false, IfOk, Err};
+ghost use Rattle.mig_model.specs.Source as machine;
+ghost use Rattle.vcpu.specs.Answers.{is_count};
+
+mod handler;
+mod rounds;
+
+use dirty_log::DirtyLog;
+use mig_base::flags::{ALL_FEATURES, API};
+use mig_base::phase::SourcePhase;
+use mig_base::{PageNo, PageSet};
+use std::alloc::Global;
+use std::collections::VecDeque;
+use std::marker::Model;
+use uffd_ioctl::Space;
+use vcpu::{Cpus, NewFault};
+
+/// The source of a migration.
+///
+/// A call that is refused changes nothing. Where several refusals apply the first is given, in the order of
+/// [`mig_base::refusal::Refusal`]; `NoMemory` comes after all others, and the same call may succeed later. That the link is up is
+/// for whoever calls to know: a source sends, and does not see whether what it sends arrives.
+#[derive(Drop)]
+pub struct Source {
+    alloc: Global,
+    phase: SourcePhase,
+    switched: bool,
+    epoch: u32,
+    end_epoch: u32,
+    space: Space,
+    cpus: Cpus,
+    log: DirtyLog,
+    remaining: PageSet,
+    asked: VecDeque<PageNo>,
+    urgent_sent: u32,
+    packaged: u32,
+    rounds: u32,
+    pages_sent: u64,
+    faults: u64,
+}
+
+impl Model for Source {
+    ghost use Rattle.mig_model.specs.Source as machine;
+    ghost use Rattle.precopy.specs.Codes.{coded_source};
+    ghost use Rattle.precopy.specs.Order.{IsInOrder};
+
+    ghost Value = { machine.Source };
+
+    ghost coded = { coded_source };
+
+    ghost view = { λ s. record { phase = s.phase; switched = s.switched; epoch = s.epoch; end_epoch = s.end_epoch; guest = record { space = s.space; cpus = s.cpus }; log = s.log; remaining = s.remaining; asked = s.asked.items; urgent_sent = s.urgent_sent; packaged = s.packaged; rounds = s.rounds; pages_sent = s.pages_sent; faults = s.faults } };
+
+    ghost invariant = { λ s. IsInOrder s.phase s.switched s.space s.log };
+}
+
+impl Source {
+    /// A source of `cpus` idle processors, on which nothing is mapped and no migration has begun, whose counts of epochs and of rounds
+    /// stand at the numbers given. Its userfault object is enabled for all that it has. `NoCpu` unless there are 1 to 16 processors.
+    pub fn new(alloc: Global, cpus: u8, epoch: u32, rounds: u32) -> Result<Self, NewFault>
+        ensures ok { IfOk result (λ source. source ≡ machine.first_source cpus epoch rounds) }
+        ensures no_cpu { (result ≡ Err NewFault.NoCpu) ↔ (is_count cpus ≡ false) }
+    {
+        let cpus = Cpus::new(alloc, cpus)?;
+        let mut space = Space::new(alloc);
+        let Ok(_) = space.handshake(API, ALL_FEATURES) else {
+            unreachable!();
+        };
+        Ok(Source {
+            alloc,
+            phase: SourcePhase::Idle,
+            switched: false,
+            epoch,
+            end_epoch: 0,
+            space,
+            cpus,
+            log: DirtyLog::new(alloc),
+            remaining: PageSet::new(alloc),
+            asked: VecDeque::new(alloc),
+            urgent_sent: 0,
+            packaged: 0,
+            rounds,
+            pages_sent: 0,
+            faults: 0,
+        })
+    }
+
+    /// How far it is.
+    pub fn phase(&self) -> SourcePhase
+        ensures { result ≡ self.now.phase }
+    {
+        self.phase
+    }
+
+    /// Whether it has stopped its processors for good.
+    pub fn has_switched(&self) -> bool
+        ensures { result ≡ self.now.switched }
+    {
+        self.switched
+    }
+
+    /// The epoch of the migration: each resumption begins a new one.
+    pub fn epoch(&self) -> u32
+        ensures { result ≡ self.now.epoch }
+    {
+        self.epoch
+    }
+
+    /// The owed pages that were not sent yet in this epoch.
+    pub fn remaining(&self) -> &PageSet
+        ensures { result.now ≡ self.now.remaining }
+    {
+        &self.remaining
+    }
+
+    /// The address space of its guest.
+    pub fn space(&self) -> &Space
+        ensures { result.now ≡ self.now.guest.space }
+    {
+        &self.space
+    }
+
+    /// The processors of its guest.
+    pub fn cpus(&self) -> &Cpus
+        ensures { result.now ≡ self.now.guest.cpus }
+    {
+        &self.cpus
+    }
+
+    /// What it knows of its pages.
+    pub fn log(&self) -> &DirtyLog
+        ensures { result.now ≡ self.now.log }
+    {
+        &self.log
+    }
+}

@@ -1,0 +1,77 @@
+//! The handler of the source: messages that are read, and faults that are resolved.
+
+ghost use Rattle.std.specs.Prelude.{◌≡◌, [], IfOk, IfErr, OnErr};
+ghost use Rattle.mig_base.specs.declared.schedule.Step.{Step};
+ghost use Rattle.precopy.specs.Answers.{run_answer};
+ghost use Rattle.precopy.specs.Steps.{IsMade, IsRefused};
+ghost use Rattle.precopy.specs.Telling.{act_told, faults_told};
+
+use super::Source;
+use dirty_log::Act;
+use mig_base::Addr;
+use mig_base::effect::Effect;
+use mig_base::phase::SourcePhase;
+use mig_base::refusal::Refusal;
+
+impl Source {
+    /// Reads the next message. A page fault is held. The pages of an event are neither clean nor to be sent, those that sleep on pages that
+    /// are gone are woken, and with the last message of its call the processor is handed its reply. Refused as `Phase` before the start
+    /// and once the processors have stopped, and as `NothingThere` where no message waits.
+    pub fn read(&mut self) -> Result<Effect, Refusal>
+        ensures made { IfOk result (λ effect. IsMade self.old Step.SourceRead effect [] self.new) }
+        ensures refused { IfErr result (λ refusal. IsRefused self.old Step.SourceRead refusal) }
+        ensures err { OnErr result (self.new ≡ self.old) }
+    {
+        self.ensure_running()?;
+        self.space.is_in_order();
+        let effect = self.log.read(&mut self.space, &mut self.cpus)?;
+        self.faults = self.faults.saturating_add(faults_in(effect));
+        Ok(effect)
+    }
+
+    /// Resolves the first fault that is held, by what its page is now, and wakes those that sleep on the page. Refused as `Phase` before the
+    /// start and once the processors have stopped, as `NothingThere` where no fault is held, and as `Changing` while an event is unread.
+    pub fn act(&mut self) -> Result<Effect, Refusal>
+        ensures made { IfOk result (λ effect. IsMade self.old Step.SourceAct effect [] self.new) }
+        ensures refused { IfErr result (λ refusal. IsRefused self.old Step.SourceAct refusal) }
+        ensures err { OnErr result (self.new ≡ self.old) }
+    {
+        self.ensure_running()?;
+        self.space.is_in_order();
+        let (act, addr) = self.log.act(&mut self.space, &mut self.cpus)?;
+        Ok(told_act(act, addr))
+    }
+
+    /// Whether the source runs the processors in a migration.
+    fn ensure_running(&self) -> Result<(), Refusal>
+        ensures { result ≡ run_answer self.now }
+    {
+        match self.phase {
+            SourcePhase::Idle => Err(Refusal::Phase),
+            _ if self.switched => Err(Refusal::Phase),
+            _ => Ok(()),
+        }
+    }
+}
+
+/// 1 for a page fault that was read.
+fn faults_in(effect: Effect) -> u64
+    ensures { result ≡ faults_told effect }
+{
+    match effect {
+        Effect::ReadFault { .. } => 1,
+        _ => 0,
+    }
+}
+
+/// What is told of a fault that was resolved.
+fn told_act(act: Act, addr: Addr) -> Effect
+    ensures { result ≡ act_told act addr }
+{
+    match act {
+        Act::Unprotected => Effect::Unprotected { addr },
+        Act::Zeroed => Effect::Zeroed { addr },
+        Act::Woke => Effect::Woke { addr },
+        Act::Forgot => Effect::Forgot { addr },
+    }
+}

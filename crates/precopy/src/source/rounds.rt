@@ -1,0 +1,144 @@
+//! Pre-copy: the start of a migration, its rounds, and the pages that a round sends.
+
+ghost use Rattle.std.specs.Prelude.{◌≡◌, ◌<◌, [], ◌∷◌, IfOk, IfErr, OnErr};
+ghost use Rattle.mig_base.specs.declared.schedule.Step.{Step};
+ghost use Rattle.dirty_log.specs.Sending as log;
+ghost use Rattle.mig_base.specs.declared.TheConstants.{HIGH_PAGE};
+ghost use Rattle.page_stream.specs.Frames.{frame_of};
+ghost use Rattle.precopy.specs.Answers.{next_count as counted_on, round_answer, send_answer, start_answer};
+ghost use Rattle.precopy.specs.Sending.{sent_effect};
+ghost use Rattle.precopy.specs.Steps.{IsMade, IsRefused};
+
+use super::Source;
+use dirty_log::Sent;
+use mig_base::effect::Effect;
+use mig_base::phase::SourcePhase;
+use mig_base::refusal::Refusal;
+use mig_base::{PageNo, page_address};
+use page_stream::{Frame, PageBytes};
+
+impl Source {
+    /// Begins a migration, in the next epoch: every mapped page is registered for missing faults and for write-protect faults, by areas,
+    /// and the destination is told. Refused as `Phase` where a migration has begun, and as `CountUsed` where no epoch is left.
+    pub fn start(&mut self) -> Result<(Effect, Frame), Refusal>
+        ensures made { IfOk result (λ told. IsMade self.old Step.Start told.0 (frame_of told.1 ∷ []) self.new) }
+        ensures refused { IfErr result (λ refusal. IsRefused self.old Step.Start refusal) }
+        ensures err { OnErr result (self.new ≡ self.old) }
+    {
+        let epoch = self.next_epoch()?;
+        self.space.is_in_order();
+        let Ok(()) = self.log.register_new(&mut self.space) else {
+            return Err(Refusal::NoMemory);
+        };
+        self.phase = SourcePhase::Precopy;
+        self.epoch = epoch;
+        Ok((Effect::Started { epoch }, Frame::Advise))
+    }
+
+    /// Begins the next round of pre-copy: pages that were mapped since the last are registered, by areas, and the round has to send the
+    /// present pages that are not clean. Refused as `Phase` outside pre-copy, as `Changing` while an event is unread, and as
+    /// `CountUsed` where no number is left for the round.
+    pub fn round(&mut self) -> Result<Effect, Refusal>
+        ensures made { IfOk result (λ effect. IsMade self.old Step.Round effect [] self.new) }
+        ensures refused { IfErr result (λ refusal. IsRefused self.old Step.Round refusal) }
+        ensures err { OnErr result (self.new ≡ self.old) }
+    {
+        let round = self.next_round()?;
+        self.space.is_in_order();
+        let Ok(todo) = self.log.dirty(&self.space) else {
+            return Err(Refusal::NoMemory);
+        };
+        let Ok(()) = self.log.register_new(&mut self.space) else {
+            return Err(Refusal::NoMemory);
+        };
+        let pages = todo.len();
+        self.log.begin_round(todo);
+        self.rounds = round;
+        Ok(Effect::RoundMade { round, todo: pages })
+    }
+
+    /// Sends the least page of the round: it is write-protected, then read, and is clean from then on. A page whose bytes are all zero
+    /// is sent as a page of zeros. Refused as `Phase` outside pre-copy, as `NothingThere` where the round has sent all its pages, and as
+    /// `Changing` while an event is unread.
+    pub fn send_next(&mut self) -> Result<(Effect, Frame), Refusal>
+        ensures made { IfOk result (λ told. IsMade self.old Step.Send told.0 (frame_of told.1 ∷ []) self.new) }
+        ensures refused { IfErr result (λ refusal. IsRefused self.old Step.Send refusal) }
+        ensures err { OnErr result (self.new ≡ self.old) }
+    {
+        let page = self.next_to_send()?;
+        self.space.is_in_order();
+        let sent = self.log.send_page(&mut self.space, page)?;
+        self.pages_sent = self.pages_sent.saturating_add(1);
+        Ok(told_page(page, sent))
+    }
+
+    /// The epoch that a migration would begin with.
+    fn next_epoch(&self) -> Result<u32, Refusal>
+        ensures { result ≡ start_answer self.now }
+    {
+        match self.phase {
+            SourcePhase::Idle => next_count(self.epoch),
+            _ => Err(Refusal::Phase),
+        }
+    }
+
+    /// The number that the next round would have.
+    fn next_round(&self) -> Result<u32, Refusal>
+        ensures { result ≡ round_answer self.now }
+    {
+        match self.phase {
+            SourcePhase::Precopy => {}
+            _ => return Err(Refusal::Phase),
+        }
+        if self.space.changing() > 0 {
+            return Err(Refusal::Changing);
+        }
+        next_count(self.rounds)
+    }
+
+    /// The page that the round would send next.
+    fn next_to_send(&self) -> Result<PageNo, Refusal>
+        ensures answer { result ≡ send_answer self.now }
+        ensures below { IfOk result (λ page. page < HIGH_PAGE) }
+    {
+        match self.phase {
+            SourcePhase::Precopy => {}
+            _ => return Err(Refusal::Phase),
+        }
+        let Some(page) = self.log.next_page() else {
+            return Err(Refusal::NothingThere);
+        };
+        if self.space.changing() > 0 {
+            return Err(Refusal::Changing);
+        }
+        Ok(page)
+    }
+}
+
+/// What is told of a page that was sent, and its frame.
+fn told_page(page: PageNo, sent: Sent) -> (Effect, Frame)
+    ensures effect { result.0 ≡ sent_effect page sent }
+    ensures frame { frame_of result.1 ≡ log.frame_of page sent }
+{
+    let addr = page_address(page);
+    match sent {
+        Sent::Page(bytes) => (
+            Effect::SentPage { addr },
+            Frame::Page {
+                page,
+                bytes: PageBytes::new(bytes),
+            },
+        ),
+        Sent::Zero => (Effect::SentZero { addr }, Frame::Zero { page }),
+    }
+}
+
+/// The next number of a count, or `CountUsed` where it is at its greatest value.
+fn next_count(count: u32) -> Result<u32, Refusal>
+    ensures { result ≡ counted_on count }
+{
+    if count == u32::MAX {
+        return Err(Refusal::CountUsed);
+    }
+    Ok(count + 1)
+}

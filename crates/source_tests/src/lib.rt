@@ -1,0 +1,10 @@
+//! Tests of what the nodes of a migration are made of: the frames of `page_stream`.
+//!
+//! A test is a table of cases with the answers that are wanted, worked out by hand, and one loop plays it; where memory is
+//! refused the case is made again. So a test passes whichever allocation is refused.
+#![tactic(auto)]
+
+#[cfg(test)]
+mod frames;
+#[cfg(test)]
+mod ranges;
