@@ -11,7 +11,6 @@ use Rattle.std.proofs.lemmas.Bool.{lt-ltb}
 use Rattle.mig_base.specs.declared.Area.{Area}
 use Rattle.mig_base.specs.declared.Prot.{Prot}
 use Rattle.mig_base.specs.declared.TheConstants.{HIGH_PAGE}
-use Rattle.mig_base.specs.Codes.{prot_number}
 use Rattle.mig_base.specs.PageSets.{in_runs}
 use Rattle.mig_base.specs.Ranges.{in_range}
 use Rattle.mig_base.specs.Sets.{run_length}
@@ -21,8 +20,9 @@ use Rattle.mig_base.proofs.SetLemmas.{same_members, member_below, member_run}
 use Rattle.mig_model.specs.Ioctls.{same_prot}
 use Rattle.mig_model.specs.Lengths.{begins_run, begins_area}
 use Rattle.frame_texts.specs.Texts.{list_below, run_at, runs_of, area_at, areas_of, AreBelow, AreMappedBelow}
-use Rattle.mig_model.proofs.Facts.{none_absurd, eqb-self, either, and_second, below_or_at, or_assoc, and_false}
+use Rattle.mig_model.proofs.Facts.{none_absurd, either, and_second, below_or_at, or_assoc, and_false}
 use Rattle.mig_model.proofs.SourceSending.{present_bytes}
+use Rattle.mig_model.proofs.IoctlLemmas.{same_prot-self}
 
 -- Runs
 
@@ -129,9 +129,6 @@ runs_of-same a b in_a in_b e = same_members a b (λ q. sym (member-runs_of a in_
 
 same_prot_tells : (a b : Option Prot) → same_prot a b ≡ true → (a ≡ b) × (is_some a ≡ true)
 same_prot_tells a b h = grind (arith, nat_tests)
-
-pub same_prot-self : (prot : Prot) → same_prot (Some prot) (Some prot) ≡ true
-same_prot-self prot = eqb-self (prot_number prot)
 
 area_begins : (areas : FinMap nat_cmp Prot) (prot : Prot) (q : ℕ) → get areas q ≡ Some prot → BeginsAt (begins_area areas) (λ j. get areas j ≡ Some prot) q
 area_begins areas prot zero h = begins_here (begins_area areas) (λ j. get areas j ≡ Some prot) 0 (rw h refl) h
