@@ -1,7 +1,7 @@
 //! How long the text of a frame is.
 
 ghost use Rattle.std.specs.Prelude.{◌≡◌, ◌^◌, ◌<◌};
-ghost use Rattle.mig_model.specs.Texts as texts;
+ghost use Rattle.mig_model.specs.Lengths as texts;
 ghost use Rattle.page_stream.specs.Frames.{frame_of};
 
 use crate::frame::Frame;

@@ -14,15 +14,15 @@ use Rattle.mig_base.specs.declared.Run.{Run as PageRun}
 use Rattle.mig_base.specs.declared.phase.Received.{Received}
 use Rattle.mig_base.proofs.SetLemmas.{member_inserted}
 use Rattle.mig_model.specs.Log.{no_pages}
-use Rattle.mig_model.specs.Texts.{areas_of, areas_text, commands_text, header_text, runs_of, runs_text}
-use Rattle.mig_model.specs.Texts.Version.{One}
+use Rattle.frame_texts.specs.Texts.{areas_of, areas_text, commands_text, header_text, runs_of, runs_text}
+use Rattle.frame_texts.specs.Texts.Version.{One}
 use Rattle.mig_model.specs.Wire.Frame.{Discard, Package, Recv}
 use Rattle.mig_model.proofs.Facts.{no_page, only_one, either}
-use Rattle.mig_model.proofs.OneArea.{one_area}
-use Rattle.mig_model.proofs.OneText.{text-is}
-use Rattle.mig_model.proofs.RunsInOrder.{runs_of-only}
+use Rattle.frame_texts.proofs.OneArea.{one_area}
+use Rattle.frame_texts.proofs.OneText.{text-is}
+use Rattle.frame_texts.proofs.RunsInOrder.{runs_of-only}
 use Rattle.mig_model.proofs.SpaceLemmas.{no_member}
-use Rattle.mig_model.proofs.frames.some_texts.Goals as goal
+use Rattle.frame_texts.proofs.frames.some_texts.Goals as goal
 
 -- the runs of one page, and of none
 one_run : (page : ℕ) → page < 0x100000 → record { first = page; count = 1 } ∷ [] ≡ runs_of (insert no_pages page)

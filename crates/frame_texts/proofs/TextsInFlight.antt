@@ -7,8 +7,9 @@ use Rattle.std.specs.FinMap.{FinMap, get}
 use Rattle.mig_base.specs.declared.phase.DestPhase.{DestPhase}
 use Rattle.mig_base.specs.declared.phase.SourcePhase.{SourcePhase}
 use Rattle.mig_base.specs.Tests.{is_empty}
-use Rattle.mig_model.specs.Texts.{HasWholePages, AreCounted}
-use Rattle.mig_model.specs.Texts.Version.{Two}
+use Rattle.frame_texts.specs.Texts.{HasWholePages}
+use Rattle.frame_texts.specs.Flight.{AreCounted}
+use Rattle.frame_texts.specs.Texts.Version.{Two}
 use Rattle.mig_model.specs.Wire.{Frame, Sent, Copy, copies_in, run_copies}
 use Rattle.mig_model.specs.Migration.{World}
 use Rattle.mig_model.specs.Invariant.{AreWhole, AreFaithful, IsSoundWorld, copies_of, is_request, is_done, are_requests, are_requests_and_done}
@@ -16,7 +17,7 @@ use Rattle.mig_model.specs.Promises.{IsReached}
 use Rattle.mig_model.proofs.Delivery.{whole_parts}
 use Rattle.mig_model.proofs.EveryStep.{kept-reached, urgent-reached}
 use Rattle.mig_model.proofs.Facts.{none_absurd}
-use Rattle.mig_model.proofs.TextLemmas.{length-text}
+use Rattle.frame_texts.proofs.TextLemmas.{length-text}
 
 -- Whole copies
 

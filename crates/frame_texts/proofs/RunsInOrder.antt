@@ -13,9 +13,10 @@ use Rattle.mig_base.specs.Sets.{run_length}
 use Rattle.mig_base.proofs.RangeLemmas.{in_range-true, in_range-false_below, in_range-false_above}
 use Rattle.mig_base.proofs.RunLemmas.{end_from, end_push, runs_push}
 use Rattle.mig_base.proofs.SetLemmas.{member_run}
-use Rattle.mig_model.specs.Texts.{AreBelow, begins_run, list_below, run_at, runs_of}
+use Rattle.mig_model.specs.Lengths.{begins_run}
+use Rattle.frame_texts.specs.Texts.{AreBelow, list_below, run_at, runs_of}
 use Rattle.mig_model.proofs.Facts.{and_left, and_second}
-use Rattle.mig_model.proofs.RunsAndAreas.{run_length-covers, member-runs_of}
+use Rattle.frame_texts.proofs.RunsAndAreas.{run_length-covers, member-runs_of}
 
 -- The runs of a set
 

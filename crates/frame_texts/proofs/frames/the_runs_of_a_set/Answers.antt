@@ -1,6 +1,6 @@
-use Rattle.mig_model.proofs.RunsAndAreas.{member-runs_of}
-use Rattle.mig_model.proofs.RunsInOrder.{runs_of-ordered, runs_of-only}
-use Rattle.mig_model.proofs.frames.the_runs_of_a_set.Goals as goal
+use Rattle.frame_texts.proofs.RunsAndAreas.{member-runs_of}
+use Rattle.frame_texts.proofs.RunsInOrder.{runs_of-ordered, runs_of-only}
+use Rattle.frame_texts.proofs.frames.the_runs_of_a_set.Goals as goal
 
 pub returns-clause-pages : goal.returns-clause-pages
 returns-clause-pages c set page below = member-runs_of set below page

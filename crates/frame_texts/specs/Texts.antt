@@ -1,6 +1,6 @@
--- The text of a frame, which is its bytes on a wire, and how long it is. A text is a header and a body. The header has the version,
--- the tag of the frame, two zeros, the epoch and the length of the body. Numbers are big-endian.
-use Rattle.std.specs.Prelude.{◌≡◌, ℕ, zero, suc, ◌+◌, ◌-◌, ◌*◌, ◌^◌, ◌<◌, ◌&&◌, Bool, true, false, not, nat_lt, if◌then◌else◌, Option, Some, None, unwrap_or, List, [], ◌∷◌, ◌++◌, length, map}
+-- The text of a frame, which is its bytes on a wire. A text is a header and a body. The header has the version, the tag of the frame,
+-- two zeros, the epoch and the length of the body. Numbers are big-endian.
+use Rattle.std.specs.Prelude.{◌≡◌, ℕ, zero, suc, ◌^◌, ◌<◌, Bool, true, false, if◌then◌else◌, Option, Some, None, unwrap_or, List, [], ◌∷◌, ◌++◌, length, map}
 use Rattle.std.specs.List.{flat_map, AllByRecursion}
 use Rattle.std.specs.Int.{w32, w64, to_be_bytes}
 use Rattle.std.specs.Ordering.{nat_cmp}
@@ -15,10 +15,10 @@ use Rattle.mig_base.specs.declared.command.Command.{Command}
 use Rattle.mig_base.specs.declared.command.Command.TheVariants.{Load, Store}
 use Rattle.mig_base.specs.declared.phase.Received.{Received}
 use Rattle.mig_base.specs.Codes.{prot_number}
-use Rattle.mig_base.specs.Ranges.{count_below}
 use Rattle.mig_base.specs.Sets.{pages_where, run_length}
 use Rattle.mig_model.specs.Ioctls.{same_prot}
-use Rattle.mig_model.specs.Wire.{Frame, Sent}
+use Rattle.mig_model.specs.Lengths.{begins_run, begins_area}
+use Rattle.mig_model.specs.Wire.{Frame}
 use Rattle.mig_model.specs.Wire.Frame.{Advise, Page, Zero, Run, Discard, Package, End, Resume, Request, Recv, Done}
 
 -- Runs of pages
@@ -28,10 +28,6 @@ unfoldable pub list_below : (ℕ → Bool) → ℕ → List ℕ
 list_below test zero = []
 list_below test (suc bound) = list_below test bound ++ (if test bound then bound ∷ [] else [])
 
--- whether a run begins at a page: the set has it, and not the page before it
-abbrev pub begins_run : FinSet nat_cmp → ℕ → Bool
-begins_run pages page = contains pages page && not (nat_lt 0 page && contains pages (page - 1))
-
 -- the run that begins at a page
 abbrev pub run_at : FinSet nat_cmp → ℕ → PageRun
 run_at pages first = record { first = first; count = run_length pages first HIGH_PAGE }
@@ -39,10 +35,6 @@ run_at pages first = record { first = first; count = run_length pages first HIGH
 -- the maximal runs of neighbours in a set, ascending
 abbrev pub runs_of : FinSet nat_cmp → List PageRun
 runs_of pages = map (run_at pages) (list_below (begins_run pages) HIGH_PAGE)
-
--- whether an area begins at a page: it is mapped, and the page before it does not have its protection
-abbrev pub begins_area : FinMap nat_cmp Prot → ℕ → Bool
-begins_area areas page = contains_key areas page && not (nat_lt 0 page && same_prot (get areas page) (get areas (page - 1)))
 
 -- the area that begins at a page: the pages from there on that have its protection
 abbrev pub area_at : FinMap nat_cmp Prot → ℕ → Area
@@ -138,63 +130,13 @@ header_text version tag epoch len = version_code version ∷ tag ∷ 0 ∷ 0 ∷
 unfoldable pub text : Version → (epoch : ℕ) → Frame → List ℕ
 text version epoch frame = if has_frame version frame then header_text version (tag_code frame) epoch (length (body_text frame)) ++ body_text frame else []
 
--- Its length
+-- Which frames can be read back from their texts
 
--- how many runs of neighbours the pages of a set make
-unfoldable pub run_count : FinSet nat_cmp → ℕ
-run_count pages = count_below (begins_run pages) HIGH_PAGE
-
--- how many runs of neighbours with one protection the mapped pages make
-unfoldable pub area_count : FinMap nat_cmp Prot → ℕ
-area_count areas = count_below (begins_area areas) HIGH_PAGE
-
-abbrev pub runs_len : FinSet nat_cmp → ℕ
-runs_len pages = 4 + 8 * run_count pages
-
-abbrev pub areas_len : FinMap nat_cmp Prot → ℕ
-areas_len areas = 4 + 9 * area_count areas
-
-abbrev pub command_len : Option Command → ℕ
-command_len None = 1
-command_len (Some (Load addr width)) = 10
-command_len (Some (Store addr width value)) = 18
-command_len (Some command) = 0
-
-abbrev pub commands_len : List (Option Command) → ℕ
-commands_len [] = 0
-commands_len (command ∷ commands) = command_len command + commands_len commands
-
-abbrev pub header_len : ℕ
-header_len = 12
-
-abbrev pub body_len : Frame → ℕ
-body_len Advise = 0
-body_len (Page page bytes) = 4 + PAGE_SIZE
-body_len (Zero page) = 4
-body_len (Run first pages) = 8 + PAGE_SIZE * length pages
-body_len (Discard pages) = runs_len pages
-body_len (Package areas owed commands) = areas_len areas + runs_len owed + (1 + commands_len commands)
-body_len (End urgent) = 4
-body_len Resume = 0
-body_len (Request page) = 4
-body_len (Recv state owed) = 1 + runs_len owed
-body_len Done = 0
-
--- how many bytes complete a frame
-abbrev pub text_len : Frame → ℕ
-text_len frame = header_len + body_len frame
-
--- each page that a frame carries is whole: then that is the length of its text
+-- each page that a frame carries is whole: then its text has as many bytes as complete it
 abbrev pub HasWholePages : Frame → Type 0
 HasWholePages (Page page bytes) = length bytes ≡ PAGE_SIZE
 HasWholePages (Run first pages) = AllByRecursion (λ bytes. length bytes ≡ PAGE_SIZE) pages
 HasWholePages frame = Unit {0}
-
--- the text of each frame has as many bytes as complete it
-abbrev pub AreCounted : List Sent → Type 0
-AreCounted frames = AllByRecursion (λ sent. length (text Two sent.epoch sent.frame) ≡ text_len sent.frame) frames
-
--- Which frames can be read back from their texts
 
 -- each page of a set lies below the end of the address space
 abbrev pub AreBelow : FinSet nat_cmp → Type 0

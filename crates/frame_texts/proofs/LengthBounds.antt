@@ -14,7 +14,8 @@ use Rattle.mig_base.specs.declared.phase.Received.{Received}
 use Rattle.mig_base.specs.Ranges.{count_below}
 use Rattle.mig_base.proofs.PageLemmas.{count_below-contains_key}
 use Rattle.mig_base.proofs.RangeLemmas.{count_below-append, count_below-constant}
-use Rattle.mig_model.specs.Texts.{begins_run, begins_area, run_count, area_count, command_len, commands_len, body_len, text_len, AreBelow, AreMappedBelow}
+use Rattle.mig_model.specs.Lengths.{begins_run, begins_area, run_count, area_count, command_len, commands_len, body_len, text_len}
+use Rattle.frame_texts.specs.Texts.{AreBelow, AreMappedBelow}
 use Rattle.mig_model.specs.Bounds.{IsFrame}
 use Rattle.mig_model.specs.Wire.{Frame}
 use Rattle.mig_model.specs.Wire.Frame.{Discard, Package, Recv}

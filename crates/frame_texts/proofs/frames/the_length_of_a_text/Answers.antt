@@ -1,6 +1,6 @@
-use Rattle.mig_model.proofs.TextLemmas.{length-text}
-use Rattle.mig_model.proofs.TextsInFlight.{forward_counted, back_counted, urgent_counted}
-use Rattle.mig_model.proofs.frames.the_length_of_a_text.Goals as goal
+use Rattle.frame_texts.proofs.TextLemmas.{length-text}
+use Rattle.frame_texts.proofs.TextsInFlight.{forward_counted, back_counted, urgent_counted}
+use Rattle.frame_texts.proofs.frames.the_length_of_a_text.Goals as goal
 
 pub returns-clause-text : goal.returns-clause-text
 returns-clause-text c version epoch frame has whole = length-text version epoch frame has whole

@@ -11,7 +11,6 @@ use Rattle.std.proofs.lemmas.Bool.{lt-ltb}
 use Rattle.mig_base.specs.declared.Area.{Area}
 use Rattle.mig_base.specs.declared.Prot.{Prot}
 use Rattle.mig_base.specs.declared.TheConstants.{HIGH_PAGE}
-use Rattle.mig_base.specs.Codes.{prot_number}
 use Rattle.mig_base.specs.PageSets.{in_runs}
 use Rattle.mig_base.specs.Ranges.{in_range}
 use Rattle.mig_base.specs.Sets.{run_length}
@@ -19,9 +18,11 @@ use Rattle.mig_base.proofs.PageLemmas.{same_pages}
 use Rattle.mig_base.proofs.RangeLemmas.{in_range-true}
 use Rattle.mig_base.proofs.SetLemmas.{same_members, member_below, member_run}
 use Rattle.mig_model.specs.Ioctls.{same_prot}
-use Rattle.mig_model.specs.Texts.{list_below, begins_run, run_at, runs_of, begins_area, area_at, areas_of, AreBelow, AreMappedBelow}
-use Rattle.mig_model.proofs.Facts.{none_absurd, eqb-self, either, and_second, below_or_at, or_assoc, and_false}
+use Rattle.mig_model.specs.Lengths.{begins_run, begins_area}
+use Rattle.frame_texts.specs.Texts.{list_below, run_at, runs_of, area_at, areas_of, AreBelow, AreMappedBelow}
+use Rattle.mig_model.proofs.Facts.{none_absurd, either, and_second, below_or_at, or_assoc, and_false}
 use Rattle.mig_model.proofs.SourceSending.{present_bytes}
+use Rattle.mig_model.proofs.IoctlLemmas.{same_prot-self}
 
 -- Runs
 
@@ -129,9 +130,6 @@ runs_of-same a b in_a in_b e = same_members a b (λ q. sym (member-runs_of a in_
 same_prot_tells : (a b : Option Prot) → same_prot a b ≡ true → (a ≡ b) × (is_some a ≡ true)
 same_prot_tells a b h = grind (arith, nat_tests)
 
-pub same_prot-self : (prot : Prot) → same_prot (Some prot) (Some prot) ≡ true
-same_prot-self prot = eqb-self (prot_number prot)
-
 area_begins : (areas : FinMap nat_cmp Prot) (prot : Prot) (q : ℕ) → get areas q ≡ Some prot → BeginsAt (begins_area areas) (λ j. get areas j ≡ Some prot) q
 area_begins areas prot zero h = begins_here (begins_area areas) (λ j. get areas j ≡ Some prot) 0 (rw h refl) h
 area_begins areas prot (suc q) h =
@@ -163,12 +161,9 @@ in_areas_of areas prot q below h =
     let low = begins.low in
     covered-listed (λ first q. in_range first (area_at areas first).count q) (begins_area areas) HIGH_PAGE begins.first q (omega (arith, low)) begins.is (area_covers areas prot begins.first q low below begins.all)
 
-all_shown : (b : Bool) (o : Option Prot) → ((prot : Prot) → o ≡ Some prot → b ≡ true) → cond b o None ≡ o
-all_shown b o h = grind (arith, nat_tests)
-
 -- mapped pages have the protections of their areas
 pub prot_in-areas_of : (areas : FinMap nat_cmp Prot) → AreMappedBelow areas → (q : ℕ) → prot_in (areas_of areas) q ≡ get areas q
-prot_in-areas_of areas below q = grind (arith, nat_tests, prots_covered, all_shown, covered, in_areas_of)
+prot_in-areas_of areas below q = grind (arith, nat_tests, prots_covered, in_areas_of)
 
 pub areas_of-same : (a b : FinMap nat_cmp Prot) → AreMappedBelow a → AreMappedBelow b → areas_of a ≡ areas_of b → a ≡ b
 areas_of-same a b in_a in_b e = same_pages a b (λ q. sym (prot_in-areas_of a in_a q) ∙ ap (λ areas. prot_in areas q) e ∙ prot_in-areas_of b in_b q)

@@ -1,7 +1,7 @@
 //! What holds of the texts of frames, which are their bytes on the wires of a whole migration. Each law is a function with an empty
 //! body, whose contract is the law.
 
-ghost use Rattle.std.specs.Prelude.{◌≡◌, ℕ, ◌+◌, ◌-◌, ◌*◌, ◌≤◌, true, length, Option, Some, None, List, [], ◌∷◌, ◌++◌};
+ghost use Rattle.std.specs.Prelude.{◌≡◌, ◌≢◌, ℕ, ◌+◌, ◌-◌, ◌*◌, ◌^◌, ◌<◌, ◌≤◌, true, length, Option, Some, None, List, [], ◌∷◌, ◌++◌};
 ghost use Rattle.std.specs.Ordering.{nat_cmp};
 ghost use Rattle.std.specs.FinMap as map;
 ghost use Rattle.std.specs.FinMap.{FinMap, empty};
@@ -12,14 +12,19 @@ ghost use Rattle.mig_base.specs.declared.Run.{Run as PageRun};
 ghost use Rattle.mig_base.specs.declared.TheConstants.{HIGH_PAGE, LOW_PAGE, MAX_CPUS, MAX_PAGES, MAX_RUN, PAGE_SIZE};
 ghost use Rattle.mig_base.specs.declared.command.Command.{Command};
 ghost use Rattle.mig_base.specs.declared.command.Command.TheVariants.{Load};
+ghost use Rattle.mig_base.specs.declared.command.Reply.TheVariants.{BadAccess};
 ghost use Rattle.mig_base.specs.declared.phase.Received.{Received};
+ghost use Rattle.mig_base.specs.Flat.{Memory, reply_of};
 ghost use Rattle.mig_base.specs.Pages.{set_range};
 ghost use Rattle.mig_base.specs.PageSets.{in_runs, AreRunsFrom};
 ghost use Rattle.mig_model.specs.Log.{no_pages};
 ghost use Rattle.mig_model.specs.Migration.{World};
 ghost use Rattle.mig_model.specs.Promises.{IsReached};
-ghost use Rattle.mig_model.specs.Texts.{Version, has_frame, text, text_len, body_len, HasWholePages, AreCounted, IsEncodable, AreBelow, AreMappedBelow, runs_of};
-ghost use Rattle.mig_model.specs.Texts.Version.{One, Two};
+ghost use Rattle.mig_model.specs.Bounds.{IsCpuCount, IsFrame, IsRightAccess};
+ghost use Rattle.mig_model.specs.Lengths.{text_len, body_len};
+ghost use Rattle.frame_texts.specs.Texts.{Version, has_frame, text, HasWholePages, IsEncodable, AreBelow, AreMappedBelow, runs_of};
+ghost use Rattle.frame_texts.specs.Flight.{AreCounted, HasGoodFrames};
+ghost use Rattle.frame_texts.specs.Texts.Version.{One, Two};
 ghost use Rattle.mig_model.specs.Wire.{Frame};
 ghost use Rattle.mig_model.specs.Wire.Frame.{Advise, Zero, Run, Discard, Package, End, Request, Recv, Done};
 
@@ -30,6 +35,17 @@ pub fn the_length_of_a_text()
     ensures forward { (world : World) → IsReached world → AreCounted world.forward.frames }
     ensures back { (world : World) → IsReached world → AreCounted world.back.frames }
     ensures urgent { (world : World) → IsReached world → AreCounted world.urgent.frames }
+{}
+
+/// Every frame in flight has a text, on each of the three wires: its pages may be mapped, its counts and its epoch have 32 bits, its bytes
+/// are those of a page, and of a Package the pages are no more than may be mapped, and the commands are loads and stores that can be
+/// made, one for each processor. A guest has as many processors as a new world may have. Each can be read back from its
+/// text, whose length has 32 bits, and no memory answers such a load or store by BadAccess.
+pub fn frames_have_texts()
+    ensures in_flight { (world : World) → IsReached world → IsCpuCount (length world.source.guest.cpus) → HasGoodFrames world }
+    ensures encodable { (epoch : ℕ) (frame : Frame) → epoch < 2 ^ 32 → IsFrame frame → IsEncodable Two epoch frame }
+    ensures short { (frame : Frame) → IsFrame frame → text_len frame < 2 ^ 32 }
+    ensures accesses { (memory : Memory) (command : Command) → IsRightAccess command → reply_of memory command ≢ BadAccess }
 {}
 
 /// A set of pages is written as its maximal runs: they have the pages of the set, and no other list of runs has them that ascends, with

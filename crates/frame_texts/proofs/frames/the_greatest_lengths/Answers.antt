@@ -1,5 +1,5 @@
-use Rattle.mig_model.proofs.LengthBounds.{discard-bound, package-bound, recv-bound}
-use Rattle.mig_model.proofs.frames.the_greatest_lengths.Goals as goal
+use Rattle.frame_texts.proofs.LengthBounds.{discard-bound, package-bound, recv-bound}
+use Rattle.frame_texts.proofs.frames.the_greatest_lengths.Goals as goal
 
 pub returns-clause-discard : goal.returns-clause-discard
 returns-clause-discard c pages low = discard-bound pages low

@@ -1,29 +1,30 @@
 -- Every frame that a node sends has a text: what its pages, counts and commands rest on, and the frames themselves.
-use Rattle.std.proofs.Common.{◌≡◌, ℕ, zero, suc, ◌+◌, ◌^◌, ◌<◌, ◌≤◌, ◌||◌, Bool, true, false, not, eqb, ltb, Option, Some, None, is_some, List, [], ◌∷◌, ◌++◌, refl, sym, ap, ◌∙◌, subst, arith, length, if◌then◌else◌}
+use Rattle.std.proofs.lemmas.Bool.Decides.{nat_tests}
+use Rattle.std.proofs.Common.{◌≡◌, ℕ, zero, suc, ◌+◌, ◌^◌, ◌<◌, ◌≤◌, Bool, true, false, not, eqb, ltb, Option, Some, is_some, List, [], ◌∷◌, ◌++◌, refl, sym, ap, ◌∙◌, subst, arith, length, if◌then◌else◌}
 use Rattle.std.specs.Prelude.{map}
 use Rattle.std.specs.Ordering.{nat_cmp}
 use Rattle.std.specs.FinMap.{contains_key, get}
-use Rattle.std.specs.FinSet.{FinSet, contains, contains-retain, len, len-empty, nat_cmp-IsAntisymmetric}
-use Rattle.std.proofs.lemmas.Bool.{false≢true, and_parts}
+use Rattle.std.specs.FinSet.{FinSet, contains, contains-retain, len-empty, nat_cmp-IsAntisymmetric}
+use Rattle.std.proofs.lemmas.Bool.{and_parts}
 use lib.ListN.{length-map}
-use Rattle.mig_base.specs.declared.TheConstants.{LOW_PAGE, HIGH_PAGE, MAX_PAGES}
+use Rattle.mig_base.specs.declared.TheConstants.{LOW_PAGE, HIGH_PAGE}
 use Rattle.mig_base.specs.declared.phase.Received.{Received}
 use Rattle.mig_base.proofs.PageLemmas.{count_below-contains_key}
 use Rattle.mig_base.proofs.SetLemmas.{member_below}
 use Rattle.mig_model.specs.Host.{Host, IsSound}
 use Rattle.mig_model.specs.Guest.{Act, is_present}
-use Rattle.mig_model.specs.Guest.Act.{Zeroed, Woke, Forgot, Requested}
+use Rattle.mig_model.specs.Guest.Act.{Requested}
 use Rattle.mig_model.specs.Log.{less, no_pages, present}
-use Rattle.mig_model.specs.Owed.{origins, is_requested, requesting, without_request}
+use Rattle.mig_model.specs.Owed.{origins, without_request}
 use Rattle.mig_model.specs.Space.{Space}
-use Rattle.mig_model.specs.Wire.{Frame, Sent, is_zeros, page_frame, sending, sending_if}
-use Rattle.mig_model.specs.Wire.Frame.{Page, Zero, Run, End, Resume, Request}
+use Rattle.mig_model.specs.Wire.{Frame, Sent, page_frame, sending, sending_if}
+use Rattle.mig_model.specs.Wire.Frame.{Run, End, Resume, Request}
 use Rattle.mig_model.specs.Cpus.{outstanding}
 use Rattle.mig_model.specs.Source.{Source, bytes_of, is_released, not_clean, package_frames, rebuild_frames, run_of, space_of, switch_frames}
-use Rattle.mig_model.specs.Destination.{Destination, act_frames, destination_act_by, destination_acted_by, destination_answers, is_running, received_of, recv_by}
+use Rattle.mig_model.specs.Destination.{Destination, act_frames, destination_act_by, destination_acted_by, destination_answers, received_of, recv_by}
 use Rattle.mig_model.specs.Migration.{World}
 use Rattle.mig_model.specs.Bounds.{AreFewPages, ArePageBytes, ArePages, AreUrgentFew, IsCpuCount, IsFrame, IsMapping, IsPage}
-use Rattle.mig_model.proofs.PageBytes.{AreBytes, HasBytes, contents_bytes}
+use Rattle.frame_texts.proofs.PageBytes.{HasBytes, contents_bytes}
 use Rattle.mig_model.proofs.CommandLemmas.{length-contents}
 use Rattle.mig_model.proofs.Facts.{owed_is_present, no_page}
 use Rattle.mig_model.proofs.RightCommands.{AllRight, right_commands}
@@ -47,12 +48,10 @@ bodies-push (first ∷ wire) sent are is = (are.0, bodies-push wire sent are.1 i
 
 pub bodies-sending : (wire : List Sent) (epoch : ℕ) (frames : List Frame) → AreBodies wire → AllFrames frames → AreBodies (sending wire epoch frames)
 bodies-sending wire epoch [] are all = are
-bodies-sending wire epoch (frame ∷ frames) are all =
-    bodies-sending (wire ++ record { epoch = epoch; frame = frame } ∷ []) epoch frames (bodies-push wire (record { epoch = epoch; frame = frame }) are all.0) all.1
+bodies-sending wire epoch (frame ∷ frames) are all = grind (arith, nat_tests, bodies-push, bodies-sending (wire ++ record { epoch = epoch; frame = frame } ∷ []) epoch frames (bodies-push wire (record { epoch = epoch; frame = frame }) are all.0) all.1)
 
 pub bodies-sending_if : (up : Bool) (wire : List Sent) (epoch : ℕ) (frames : List Frame) → AreBodies wire → AllFrames frames → AreBodies (sending_if up wire epoch frames)
-bodies-sending_if true wire epoch frames are all = bodies-sending wire epoch frames are all
-bodies-sending_if false wire epoch frames are all = are
+bodies-sending_if up wire epoch frames are all = grind (arith, nat_tests, bodies-sending)
 
 -- each page of a list may be mapped
 abbrev pub AreListed : List ℕ → Type 0
@@ -64,15 +63,10 @@ listed-push [] page are is = (is, tt)
 listed-push (first ∷ pages) page are is = (are.0, listed-push pages page are.1 is)
 
 listed_or_more : (asked : Bool) (requests : List ℕ) (origin : ℕ) → AreListed requests → IsPage origin → AreListed (if asked then requests else requests ++ origin ∷ [])
-listed_or_more true requests origin are is = are
-listed_or_more false requests origin are is = listed-push requests origin are is
-
-pub listed-requesting : (requests : List ℕ) (origin : ℕ) → AreListed requests → IsPage origin → AreListed (requesting requests origin)
-listed-requesting requests origin are is = listed_or_more (is_requested requests origin) requests origin are is
+listed_or_more asked requests origin are is = grind (arith, nat_tests, listed-push)
 
 without_first : (here : Bool) (request : ℕ) (requests less : List ℕ) → IsPage request → AreListed requests → AreListed less → AreListed (if here then requests else request ∷ less)
-without_first true request requests less is are left = are
-without_first false request requests less is are left = (is, left)
+without_first here request requests less is are left = grind (arith, nat_tests)
 
 pub listed-without : (requests : List ℕ) (origin : ℕ) → AreListed requests → AreListed (without_request requests origin)
 listed-without [] origin are = tt
@@ -85,11 +79,7 @@ frames-requests (request ∷ requests) are = (are.0, frames-requests requests ar
 -- Pages of the source
 
 has_areas : (host : Host) (page : ℕ) → IsSound host → contains_key host.bytes page ≡ true → contains_key host.areas page ≡ true
-has_areas host page sound h =
-    elim (get host.areas page) as (λ o. get host.areas page ≡ o → is_some o ≡ true) [
-      | None ↦ λ e. absurd (false≢true (sym (ap is_some (sound.mapped page e)) ∙ h))
-      | Some prot ↦ λ e. refl
-    ] refl
+has_areas host page sound h = grind (arith, nat_tests)
 
 pub present_page : (host : Host) (page : ℕ) → IsSound host → IsMapping host.areas → contains_key host.bytes page ≡ true → IsPage page
 present_page host page sound mapping h = mapping.pages page (has_areas host page sound h)
@@ -103,14 +93,9 @@ present_pages host set sound mapping h =
     let count = count_below-contains_key HIGH_PAGE host.areas sound.bound in
     let most = mapping.few in (λ page m. mapping.pages page (mapped page m), omega (arith, all, few, count, most))
 
-page_or_zero : (zeros : Bool) (page : ℕ) (bytes : List ℕ) → IsPage page → length bytes ≡ 4096 → AreBytes bytes → IsFrame (if zeros then Zero page else Page page bytes)
-page_or_zero true page bytes is whole are = is
-page_or_zero false page bytes is whole are = (is, (whole, are))
-
 -- the frame of a present page
 pub page_good : (source : Source) (page : ℕ) → IsSound (space_of source).host → IsMapping (space_of source).host.areas → HasBytes (space_of source).host.bytes → is_present (space_of source) page ≡ true → IsFrame (page_frame page (bytes_of source page))
-page_good source page sound mapping bytes h =
-    page_or_zero (is_zeros (bytes_of source page)) page (bytes_of source page) (present_page (space_of source).host page sound mapping h) (length-contents (space_of source).host page sound) (contents_bytes (space_of source).host.bytes page bytes)
+page_good source page sound mapping bytes h = grind (arith, nat_tests, present_page, length-contents, contents_bytes)
 
 -- the frame of a run of them
 length-run_of : (source : Source) (first number : ℕ) → length (run_of source first number) ≡ number
@@ -119,12 +104,10 @@ length-run_of source first (suc number) = ap suc (length-run_of source (1 + firs
 
 run_bytes : (source : Source) (first number : ℕ) → IsSound (space_of source).host → HasBytes (space_of source).host.bytes → ArePageBytes (run_of source first number)
 run_bytes source first zero sound bytes = tt
-run_bytes source first (suc number) sound bytes =
-    ((length-contents (space_of source).host first sound, contents_bytes (space_of source).host.bytes first bytes), run_bytes source (1 + first) number sound bytes)
+run_bytes source first (suc number) sound bytes = grind (arith, nat_tests, length-contents, contents_bytes, run_bytes source (1 + first) number sound bytes)
 
 pub run_good : (source : Source) (first number : ℕ) → IsSound (space_of source).host → HasBytes (space_of source).host.bytes → 0 < number → number ≤ 64 → LOW_PAGE ≤ first → first + number ≤ HIGH_PAGE → IsFrame (Run first (run_of source first number))
-run_good source first number sound bytes some few low end =
-    let many = length-run_of source first number in (omega (arith, many, some), omega (arith, many, few), low, omega (arith, many, end), run_bytes source first number sound bytes)
+run_good source first number sound bytes some few low end = grind (arith, nat_tests, length-run_of, run_bytes)
 
 -- Discard and Package
 
@@ -149,13 +132,10 @@ member_present space page h = (and_parts (ltb page HIGH_PAGE) (is_present space 
 
 rebuilt_by : (switched : Bool) (source : Source) → IsSound (space_of source).host → IsMapping (space_of source).host.areas → (switched ≡ true → AllRight source.guest.cpus) → IsCpuCount (length source.guest.cpus) →
     AllFrames (if switched then package_frames source no_pages (present (space_of source)) else [])
-rebuilt_by true source sound mapping right count = package_good source no_pages (present (space_of source)) sound mapping few_none.0 (λ page h. member_present (space_of source) page h) (right refl) count
-rebuilt_by false source sound mapping right count = tt
+rebuilt_by switched source sound mapping right count = grind (arith, nat_tests, package_good, few_none, member_present)
 
 pub rebuilt_good : (state : Received) (source : Source) → IsSound (space_of source).host → IsMapping (space_of source).host.areas → (state ≡ Received.NotRun → AllRight source.guest.cpus) → IsCpuCount (length source.guest.cpus) → AllFrames (rebuild_frames state source)
-rebuilt_good Received.NotRun source sound mapping right count = rebuilt_by source.switched source sound mapping (λ s. right refl) count
-rebuilt_good Received.Running source sound mapping right count = tt
-rebuilt_good Received.Ended source sound mapping right count = tt
+rebuilt_good state source sound mapping right count = grind (arith, nat_tests, rebuilt_by)
 
 -- The answers of the destination
 
@@ -175,31 +155,17 @@ answers_good (End urgent) world sound mapping here asked = (tt, tt)
 answers_good Resume world sound mapping here asked = recv_good (received_of world.destination) world sound mapping here asked
 answers_good _ world sound mapping here asked = tt
 
-asked_or_not : (quiet : Bool) (origin : ℕ) → IsPage origin → AllFrames (if quiet then [] else Request origin ∷ [])
-asked_or_not true origin is = tt
-asked_or_not false origin is = (is, tt)
-
 pub act_good : (act : Act) (node : Destination) → ((origin : ℕ) → act ≡ Requested origin → IsPage origin) → AllFrames (act_frames act node)
-act_good (Requested origin) node h = asked_or_not (is_requested node.requests origin || not (is_running node.phase)) origin (h origin refl)
-act_good _ node h = tt
+act_good act node h = grind (arith, nat_tests)
 
 pub act_listed : (act : Act) (node : Destination) (page : ℕ) → ((origin : ℕ) → act ≡ Requested origin → IsPage origin) → AreListed node.requests → AreListed (destination_acted_by act node page).requests
-act_listed (Requested origin) node page h asked = listed-requesting node.requests origin asked (h origin refl)
-act_listed _ node page h asked = asked
+act_listed act node page h asked = grind (arith, nat_tests, listed_or_more)
 
 -- what is asked for is owed
 pub requested_owed : (gone here : Bool) (owed : Option ℕ) (origin : ℕ) → destination_act_by gone here owed ≡ Requested origin → owed ≡ Some origin
-requested_owed true here owed origin h = absurd (let other : Forgot ≡ Requested origin = h in cc)
-requested_owed false true owed origin h = absurd (let other : Woke ≡ Requested origin = h in cc)
-requested_owed false false None origin h = absurd (let other : Zeroed ≡ Requested origin = h in cc)
-requested_owed false false (Some other) origin h = let same : Requested other ≡ Requested origin = h in cc
+requested_owed gone here owed origin h = grind (arith, nat_tests)
 
 -- The count that End tells
 
-end_count : (count left all limit : ℕ) → count + left ≤ all → all ≤ limit → limit < 4294967296 → count < 4294967296
-end_count count left all limit h k l = omega (arith, h, k, l)
-
 pub end_good : (world : World) → IsSound (space_of world.source).host → IsMapping (space_of world.source).host.areas → world.source.switched ≡ true → is_released world.source.phase ≡ false → AreUrgentFew world → world.source.urgent_sent < 2 ^ 32
-end_good world sound mapping switched unreleased few =
-    end_count world.source.urgent_sent (len world.source.remaining) (len (present (space_of world.source))) MAX_PAGES (few.few switched unreleased)
-    (present_pages (space_of world.source).host (present (space_of world.source)) sound mapping (λ page h. member_present (space_of world.source) page h)).1 (omega arith)
+end_good world sound mapping switched unreleased few = grind (arith, nat_tests, present_pages, member_present)

@@ -1,5 +1,5 @@
-use Rattle.mig_model.proofs.OneText.{same_text}
-use Rattle.mig_model.proofs.frames.one_text.Goals as goal
+use Rattle.frame_texts.proofs.OneText.{same_text}
+use Rattle.frame_texts.proofs.frames.one_text.Goals as goal
 
 pub returns-clause-version : goal.returns-clause-version
 returns-clause-version c v w d e f g s r hf hg eq = (same_text v w d e f g s r hf hg eq).version

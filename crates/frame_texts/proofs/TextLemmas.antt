@@ -14,7 +14,8 @@ use Rattle.mig_base.specs.declared.Run.{Run as PageRun}
 use Rattle.mig_base.specs.declared.TheConstants.{HIGH_PAGE}
 use Rattle.mig_base.specs.declared.command.Command.{Command}
 use Rattle.mig_base.specs.Ranges.{count_below}
-use Rattle.mig_model.specs.Texts.{list_below, begins_run, run_at, runs_of, begins_area, area_at, areas_of, Version, has_frame, run_text, runs_text, area_text, areas_text, command_text, body_text, text, run_count, area_count, runs_len, areas_len, command_len, commands_len, body_len, text_len, HasWholePages}
+use Rattle.mig_model.specs.Lengths.{begins_run, begins_area, run_count, area_count, runs_len, areas_len, command_len, commands_len, text_len}
+use Rattle.frame_texts.specs.Texts.{list_below, run_at, runs_of, area_at, areas_of, Version, has_frame, run_text, runs_text, area_text, areas_text, command_text, text, HasWholePages}
 use Rattle.mig_model.specs.Wire.{Frame}
 
 one_if : (b : Bool) (n : ℕ) → length (cond b (n ∷ []) []) ≡ cond b 1 0
@@ -59,9 +60,6 @@ length-commands : (commands : List (Option Command)) → length (flat_map comman
 length-commands [] = refl
 length-commands (command ∷ commands) = grind (arith, nat_tests, flat_map-cons, length-append, length-command_text, length-commands commands)
 
-length-body_text : (frame : Frame) → HasWholePages frame → length (body_text frame) ≡ body_len frame
-length-body_text frame whole = grind (arith, nat_tests, length-append, length-flat_map_same, length-runs_text, length-areas_text, length-commands)
-
 pub length-text : (version : Version) (epoch : ℕ) (frame : Frame) → has_frame version frame ≡ true → HasWholePages frame → length (text version epoch frame) ≡ text_len frame
 unfolding text
-length-text version epoch frame has whole = rw has (omega (arith, length-body_text frame whole))
+length-text version epoch frame has whole = grind (arith, nat_tests, length-append, length-flat_map_same, length-runs_text, length-areas_text, length-commands)

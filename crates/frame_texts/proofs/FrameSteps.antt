@@ -1,5 +1,5 @@
 -- What frames rest on is kept by every step, so every frame in flight has a text.
-use Rattle.std.proofs.Common.{◌≡◌, ◌≢◌, ℕ, ◌+◌, ◌-◌, ◌^◌, ◌<◌, ◌≤◌, ◌||◌, Bool, true, false, eqb, Option, Some, None, List, [], ◌∷◌, refl, sym, ap, ◌∙◌, subst, arith, length}
+use Rattle.std.proofs.Common.{◌≡◌, ℕ, ◌+◌, ◌-◌, ◌^◌, ◌<◌, ◌≤◌, ◌||◌, Bool, true, false, eqb, Option, Some, List, [], ◌∷◌, refl, sym, ◌∙◌, subst, arith, length}
 use Rattle.std.specs.Ordering.{nat_cmp}
 use Rattle.std.specs.FinMap as finmap
 use Rattle.std.specs.FinMap.{get, get-empty}
@@ -8,13 +8,9 @@ use Rattle.std.specs.FinSet.{FinSet, contains}
 use Rattle.std.proofs.lemmas.Bool.{false≢true, eqb-true, not-true}
 use Rattle.std.proofs.lemmas.Bool.Decides.{nat_tests}
 use Rattle.std.proofs.lemmas.Option.{none-some}
-use Rattle.mig_base.specs.declared.TheConstants.{HIGH_PAGE}
-use Rattle.mig_base.specs.declared.phase.DestPhase.{DestPhase}
 use Rattle.mig_base.specs.declared.phase.Received.{Received}
 use Rattle.mig_base.specs.declared.phase.SourcePhase.{SourcePhase}
 use Rattle.mig_base.specs.declared.command.Command.{Command}
-use Rattle.mig_base.specs.declared.message.Message.{Message}
-use Rattle.mig_base.specs.declared.message.Message.TheVariants.{PageFault}
 use Rattle.mig_base.specs.declared.schedule.Side.{Side}
 use Rattle.mig_base.specs.declared.schedule.Step.{Step}
 use Rattle.mig_base.specs.Commands.{is_access}
@@ -23,27 +19,29 @@ use Rattle.mig_base.proofs.SetLemmas.{member_inserted, member_run, member_with_r
 use Rattle.mig_base.specs.Ranges.{in_range}
 use Rattle.mig_base.specs.Sets.{run_length, with_range}
 use Rattle.mig_model.specs.Host.{Host, bare_host}
-use Rattle.mig_model.specs.Guest.{Act, Fault, Guest, is_forgotten, is_present, read_guest, tried}
-use Rattle.mig_model.specs.Guest.Act.{Zeroed, Requested}
+use Rattle.mig_model.specs.Guest.{Act, Fault, Guest, is_forgotten, is_present, tried}
+use Rattle.mig_model.specs.Guest.Act.{Requested}
 use Rattle.mig_model.specs.Userfault.{Noted}
 use Rattle.mig_model.specs.Log.{least_of, no_pages}
 use Rattle.mig_model.specs.Owed.{home}
 use Rattle.mig_model.specs.Wire.{Copy, Frame, Sent, page_frame, wire_behind}
-use Rattle.mig_model.specs.Wire.Frame.{Package, Advise, Run, End, Resume, Request, Recv, Done}
-use Rattle.mig_model.specs.Source.{Source, bytes_of, is_precopy, is_released, is_source_idle, is_source_paused, is_stopped, rebuild_frames, run_of, source_act, source_acted_by, source_rebuilt, space_of, switch_frames}
-use Rattle.mig_model.specs.Destination.{Destination, act_frames, destination_act, destination_acted_by, destination_answers, destination_took, install_by, urgent_took}
+use Rattle.mig_model.specs.Wire.Frame.{Advise, Run, End, Resume, Request, Recv, Done}
+use Rattle.mig_model.specs.Source.{bytes_of, is_precopy, is_released, is_source_idle, is_source_paused, is_stopped, rebuild_frames, run_of, source_act, source_acted_by, source_rebuilt, space_of, switch_frames}
+use Rattle.mig_model.specs.Destination.{act_frames, destination_act, destination_acted_by, install_by}
 use Rattle.mig_model.specs.Migration.{World, after_break, after_command, after_deliver, after_deliver_back, after_deliver_urgent, after_dest_act, after_end, after_notice, after_push, after_push_urgent, after_resume, after_run, after_send, after_source_read, after_start, after_switch, first_world_with, guest_by, guest_of, has_started, is_changing, is_used, next, run_bound, source_sends, with_guest_by}
-use Rattle.mig_model.specs.Invariant.{IsSoundWorld, PausedWires, Wires, is_unread}
+use Rattle.mig_model.specs.Invariant.{IsSoundWorld}
 use Rattle.mig_model.proofs.Taken.{IsInPlaceBack}
-use Rattle.mig_model.specs.Bounds.{ArePages, AreUrgentFew, IsCpuCount, IsMapping, IsPage}
-use Rattle.mig_model.proofs.PageBytes.{HasBytes, changed_bytes, zeroed_bytes}
-use Rattle.mig_model.proofs.WokenSteps.{stopped_switched, takes, takes_urgent}
+use Rattle.mig_model.specs.Bounds.{ArePages, IsCpuCount, IsMapping, IsPage}
+use Rattle.frame_texts.proofs.PageBytes.{HasBytes, changed_bytes, zeroed_bytes}
+use Rattle.mig_model.proofs.WokenSteps.{stopped_switched, takes_urgent}
 use Rattle.mig_model.proofs.Facts.{no_event, no_page}
-use Rattle.mig_model.proofs.FirstFrame.{empty_not}
-use Rattle.mig_model.proofs.FrameBounds.{AreBodies, AreListed, act_good, act_listed, answers_good, bodies-sending, bodies-sending_if, end_good, listed-without, page_good, present_page, rebuilt_good, run_good, requested_owed, switch_good}
+use Rattle.frame_texts.proofs.FrameBounds.{AreBodies, AreListed, act_good, act_listed, answers_good, bodies-sending, bodies-sending_if, end_good, listed-without, page_good, present_page, rebuilt_good, run_good, requested_owed, switch_good}
 use Rattle.mig_model.proofs.FramesTaken.{is_taken_back}
 use Rattle.mig_model.proofs.MappingLemmas.{IsMapping-after, IsMapping-empty, host_tried}
-use Rattle.mig_model.proofs.RightCommands.{AllRight, AreRight, right_source}
+use Rattle.mig_model.proofs.Bounded.{IsReady}
+use Rattle.mig_model.proofs.HandlerCalls.{end_below, first_in, last_in, some_bound}
+use Rattle.mig_model.proofs.SourceMapped.{read_host}
+use Rattle.mig_model.proofs.RightCommands.{AllRight, right_source}
 use Rattle.mig_model.proofs.SourceKept.{source_holds}
 use Rattle.mig_model.proofs.SourceRounds.{precopy_unswitched, precopy_started}
 use Rattle.mig_model.proofs.StepCases.{MakesWorld, made-next}
@@ -66,13 +64,6 @@ abbrev pub AreLimited : ℕ → World → Type 0
 AreLimited cpus world =
     IsLimited cpus world.source.phase world.source.epoch (space_of world.source).host world.source.log.sent world.destination.requests world.forward.frames world.back.frames world.urgent.frames
 
--- what else is kept, on which that rests
-pub record IsReady (cpus : ℕ) (world : World) : Type 0 where
-  pub kept : IsSoundWorld world
-  pub few : AreUrgentFew world
-  pub right : AreRight world
-  pub many : length world.source.guest.cpus ≡ cpus
-
 none_bytes : HasBytes finmap.empty
 none_bytes page bytes h = absurd (none-some bytes (sym (get-empty nat_cmp page) ∙ h))
 
@@ -80,17 +71,7 @@ none_pages : ArePages no_pages
 none_pages page h = no_page page h
 
 pub limited-first : (cpus epoch rounds : ℕ) → AreLimited cpus (first_world_with cpus epoch rounds)
-limited-first cpus epoch rounds =
-    record {
-      areas = IsMapping-empty;
-      bytes = none_bytes;
-      sent_pages = none_pages;
-      started = λ h. absurd (false≢true (sym h));
-      requested = tt;
-      to_destination = λ c. tt;
-      to_source = λ c. tt;
-      on_urgent = λ c. tt;
-    }
+limited-first cpus epoch rounds = grind (arith, nat_tests, IsMapping-empty, none_bytes, none_pages)
 
 -- The source
 
@@ -102,24 +83,20 @@ with_host new areas bytes h = assumption
 -- other frames on the wire to the destination
 with_forward : {cpus : ℕ} {from : SourcePhase} {epoch : ℕ} {host : Host} {sent : FinSet nat_cmp} {requests : List ℕ} {forward back urgent : List Sent} (new : List Sent) → (IsCpuCount cpus → AreBodies new) →
     IsLimited cpus from epoch host sent requests forward back urgent → IsLimited cpus from epoch host sent requests new back urgent
-with_forward new bodies h =
-    assumption
+with_forward new bodies h = grind (arith, nat_tests)
 
 -- other requests, and other frames on the wire back
 with_requests : {cpus : ℕ} {from : SourcePhase} {epoch : ℕ} {host : Host} {sent : FinSet nat_cmp} {requests : List ℕ} {forward back urgent : List Sent} (new : List ℕ) (frames : List Sent) → AreListed new → (IsCpuCount cpus → AreBodies frames) →
     IsLimited cpus from epoch host sent requests forward back urgent → IsLimited cpus from epoch host sent new forward frames urgent
-with_requests new frames listed bodies h =
-    assumption
+with_requests new frames listed bodies h = grind (arith, nat_tests)
 
 -- other frames on the urgent wire
 with_urgent : {cpus : ℕ} {from : SourcePhase} {epoch : ℕ} {host : Host} {sent : FinSet nat_cmp} {requests : List ℕ} {forward back urgent : List Sent} (new : List Sent) → (IsCpuCount cpus → AreBodies new) →
     IsLimited cpus from epoch host sent requests forward back urgent → IsLimited cpus from epoch host sent requests forward back new
-with_urgent new bodies h =
-    assumption
+with_urgent new bodies h = grind (arith, nat_tests)
 
 guest_limited : {cpus : ℕ} → (ran : Bool) (world : World) (guest : Guest) → (ran ≡ false → IsMapping guest.space.host.areas × HasBytes guest.space.host.bytes) → AreLimited cpus world → AreLimited cpus (with_guest_by ran world guest)
-guest_limited true world guest new h = h
-guest_limited false world guest new h = with_host guest.space.host (new refl).0 (new refl).1 h
+guest_limited ran world guest new h = grind (arith, nat_tests, with_host)
 
 -- the source's guest after a command: it holds the flat memory until the destination has run
 command_host : {cpus : ℕ} → (ran : Bool) (world : World) (cpu : ℕ) (command : Command) → world.destination.has_run ≡ ran → IsSoundWorld world → AreLimited cpus world → ran ≡ false →
@@ -147,13 +124,10 @@ start_limited {cpus = cpus} world unused h =
 
 -- the page that is sent is present
 sendable : (world : World) (page : ℕ) → IsSoundWorld world → least_of world.source.log.todo ≡ Some page → is_precopy world.source.phase ≡ true → is_changing world.source.guest ≡ false → is_present (space_of world.source) page ≡ true
-sendable world page kept found precopy quiet =
-    (kept.precopy.todo_sendable (precopy_unswitched world.source.phase world.source.switched precopy kept.phases.source_phase) page (least_below_tells (contains world.source.log.todo) HIGH_PAGE page found)
-    (ap (λ events. is_unread events page) (no_event (space_of world.source).object.events quiet))).0
+sendable world page kept found precopy quiet = grind (arith, nat_tests, precopy_unswitched, least_below_tells, no_event)
 
 one_more : (here there : Bool) {A : Type 0} → (here ≡ true → A) → (there ≡ true → A) → (here || there) ≡ true → A
-one_more true there h k is = h refl
-one_more false there h k is = k is
+one_more here there h k is = grind (arith, nat_tests)
 
 inserted_pages : (set : FinSet nat_cmp) (page : ℕ) → ArePages set → IsPage page → ArePages (finset.insert set page)
 inserted_pages set page are is q h = one_more (eqb q page) (contains set q) (λ e. subst IsPage (sym (eqb-true q page e)) is) (λ old. are q old) (sym (member_inserted set page q) ∙ h)
@@ -172,37 +146,15 @@ record IsSendable (world : World) (first number : ℕ) : Type 0 where
   few : number ≤ 64
   present : (q : ℕ) → in_range first number q ≡ true → is_present (space_of world.source) q ≡ true
 
-pub some_bound : (count : ℕ) → 0 < run_bound count
-some_bound count = grind (arith, nat_tests)
-
 most_bound : (count : ℕ) → run_bound count ≤ 64
 most_bound count = grind (arith, nat_tests)
 
 run_sendable : (world : World) (first number bound : ℕ) → IsSoundWorld world → least_of world.source.log.todo ≡ Some first → number ≡ run_length world.source.log.todo first bound → 0 < bound → bound ≤ 64 → is_precopy world.source.phase ≡ true →
     is_changing world.source.guest ≡ false → IsSendable world first number
-run_sendable world first number bound kept found many some most precopy quiet =
-    let todo = world.source.log.todo in
-    let more = run_length-some todo first bound (least_below_tells (contains todo) HIGH_PAGE first found) some in
-    let less = run_length-most todo first bound in
-    record {
-      some = omega (arith, many, more);
-      few = omega (arith, many, less, most);
-      present = λ q h.
-          (kept.precopy.todo_sendable (precopy_unswitched world.source.phase world.source.switched precopy kept.phases.source_phase) q
-          (member_run todo first bound q (subst (λ n. in_range first n q ≡ true) many h)) (ap (λ events. is_unread events q) (no_event (space_of world.source).object.events quiet))).0;
-    }
+run_sendable world first number bound kept found many some most precopy quiet = grind (arith, nat_tests, run_length-some, least_below_tells, run_length-most, precopy_unswitched, member_run, no_event)
 
 ranged_pages : (set : FinSet nat_cmp) (first number : ℕ) → ArePages set → ((q : ℕ) → in_range first number q ≡ true → IsPage q) → ArePages (with_range set first number)
 ranged_pages set first number are is q h = one_more (in_range first number q) (contains set q) (is q) (are q) (sym (member_with_range set first number q) ∙ h)
-
-pub last_in : (first number : ℕ) → 0 < number → in_range first number (first + (number - 1)) ≡ true
-last_in first number h = grind (arith, nat_tests, h)
-
-pub first_in : (first number : ℕ) → 0 < number → in_range first number first ≡ true
-first_in first number h = grind (arith, nat_tests, h)
-
-pub end_below : (first number : ℕ) → 0 < number → first + (number - 1) < HIGH_PAGE → first + number ≤ HIGH_PAGE
-end_below first number h l = omega (arith, h, l)
 
 run_limited : {cpus : ℕ} → (world : World) (first number : ℕ) → IsSoundWorld world → IsSendable world first number → AreLimited cpus world → AreLimited cpus (after_run world first number)
 run_limited {cpus = cpus} world first number kept are h =
@@ -215,22 +167,14 @@ run_limited {cpus = cpus} world first number kept are h =
       λ (c : IsCpuCount cpus). bodies-sending world.forward.frames world.source.epoch (Run first (run_of world.source first number) ∷ []) (h.to_destination c) (frame, tt),
     )
 
-read_host : (guest : Guest) (cpu : ℕ) (message : Message) → (read_guest guest cpu message).space.host ≡ guest.space.host
-read_host guest cpu (PageFault addr write wp tid) = refl
-read_host guest cpu _ = refl
-
 read_limited : {cpus : ℕ} → (world : World) (noted : Noted) → AreLimited cpus world → AreLimited cpus (after_source_read world noted)
-read_limited world noted h =
-    let same = sym (read_host world.source.guest noted.cpu noted.message) in
-    with_host (read_guest world.source.guest noted.cpu noted.message).space.host (subst (λ host. IsMapping host.areas) same h.areas) (subst (λ host. HasBytes host.bytes) same h.bytes) h
+read_limited world noted h = grind (arith, nat_tests, read_host, with_host, HasBytes)
 
 acted_limited : {cpus : ℕ} → (act : Act) (world : World) (page : ℕ) → AreLimited cpus world → AreLimited cpus (record world { source = source_acted_by act world.source page })
-acted_limited Zeroed world page h = with_host _ h.areas (zeroed_bytes (space_of world.source).host.bytes page h.bytes) h
-acted_limited _ world page h = h
+acted_limited act world page h = grind (arith, nat_tests, with_host, zeroed_bytes)
 
 stopped_unreleased : (phase : SourcePhase) → is_stopped phase ≡ true → is_released phase ≡ false
-stopped_unreleased SourcePhase.Released h = sym h
-stopped_unreleased _ h = refl
+stopped_unreleased phase h = grind (arith, nat_tests)
 
 switch_limited : {cpus : ℕ} → (world : World) → IsReady cpus world → is_precopy world.source.phase ≡ true → AreLimited cpus world → AreLimited cpus (after_switch world)
 switch_limited {cpus = cpus} world ready precopy h =
@@ -259,22 +203,11 @@ end_limited world ready stopped h =
 
 -- Frames that the destination takes
 
-took_requests : (frame : Frame) (epoch : ℕ) (node : Destination) → (destination_took node epoch frame).requests ≡ node.requests
-took_requests (Package areas owed commands) epoch node = refl
-took_requests frame epoch node = (takes frame node epoch refl).requests
-
 deliver_limited : {cpus : ℕ} → (world : World) (sent : Sent) (rest : List Sent) → IsSoundWorld world → world.forward.frames ≡ sent ∷ rest → AreLimited cpus world → AreLimited cpus (after_deliver world sent rest)
-deliver_limited {cpus = cpus} world sent rest kept first h =
-    let bodies = λ (c : IsCpuCount cpus). subst AreBodies first (h.to_destination c) in
-    let node = destination_took world.destination sent.epoch sent.frame in
-    with_forward rest (λ c. (bodies c).1)
-    (with_requests node.requests _ (subst AreListed (sym (took_requests sent.frame sent.epoch world.destination)) h.requested)
-    (λ c. bodies-sending_if world.up world.back.frames node.epoch (destination_answers world.destination sent.frame) (h.to_source c) (answers_good sent.frame world kept.spaces.source_space.host h.areas kept.owing.origins_present h.requested)) h)
+deliver_limited {cpus = cpus} world sent rest kept first h = grind (arith, nat_tests, AreBodies, with_forward, with_requests, AreListed, bodies-sending_if, answers_good)
 
 urgent_limited : {cpus : ℕ} → (world : World) (sent : Sent) (rest : List Sent) → world.urgent.frames ≡ sent ∷ rest → AreLimited cpus world → AreLimited cpus (after_deliver_urgent world sent rest)
-urgent_limited {cpus = cpus} world sent rest first h =
-    let bodies = λ (c : IsCpuCount cpus). subst AreBodies first (h.on_urgent c) in
-    with_urgent rest (λ c. (bodies c).1) (with_requests (urgent_took world.destination sent.frame).requests world.back.frames (subst AreListed (sym (takes_urgent sent.frame world.destination).requests) h.requested) h.to_source h)
+urgent_limited {cpus = cpus} world sent rest first h = grind (arith, nat_tests, AreBodies, with_urgent, with_requests, AreListed, takes_urgent)
 
 -- Its handler, and Install
 
@@ -289,42 +222,19 @@ handled_limited world fault kept h =
     (λ c. bodies-sending_if world.up world.back.frames (destination_acted_by act node fault.page).epoch (act_frames act node) (h.to_source c) (act_good act node page)) h
 
 installed_limited : {cpus : ℕ} → (o : Option ℕ) (world : World) (copy : Copy) (rest : List Copy) → AreLimited cpus world → AreLimited cpus (record world { destination = install_by o world.destination copy rest })
-installed_limited None world copy rest h = h
-installed_limited (Some page) world copy rest h = with_requests _ world.back.frames (listed-without world.destination.requests copy.page h.requested) h.to_source h
+installed_limited o world copy rest h = grind (arith, nat_tests, with_requests, listed-without)
 
 -- Frames that the source takes
 
-abbrev first_frame : List Sent → Frame
-first_frame [] = Done
-first_frame (sent ∷ rest) = sent.frame
-
--- a destination that has not run says so
-recv_differs : (owed other : FinSet nat_cmp) (epoch at : ℕ) (state : Received) (rest more : List Sent) → state ≢ Received.NotRun →
-    record { epoch = epoch; frame = Recv Received.NotRun owed } ∷ rest ≡ record { epoch = at; frame = Recv state other } ∷ more → ⊥
-recv_differs owed other epoch at state rest more differs h = differs (let same : Recv Received.NotRun owed ≡ Recv state other = ap first_frame h in cc)
-
-bare_paused : (to : DestPhase) (source : Source) (node : Destination) (forward rest : List Sent) (epoch : ℕ) (owed : FinSet nat_cmp) →
-    PausedWires source (record node { phase = to }) forward (record { epoch = epoch; frame = Recv Received.NotRun owed } ∷ rest) → node.has_run ≡ false
-bare_paused DestPhase.Advised source node forward rest epoch owed w = w.3
-bare_paused DestPhase.Running source node forward rest epoch owed w = absurd (recv_differs owed w.1.owed epoch w.1.epoch Received.Running rest w.1.rest (λ e. cc) w.1.first)
-bare_paused DestPhase.Ended source node forward rest epoch owed w = absurd (recv_differs owed w.1.owed epoch w.1.epoch Received.Ended rest w.1.rest (λ e. cc) w.1.first)
-bare_paused DestPhase.Paused source node forward rest epoch owed w = absurd (empty_not _ rest w.1)
-bare_paused DestPhase.Idle source node forward rest epoch owed w = absurd w
-bare_paused DestPhase.Discarding source node forward rest epoch owed w = absurd w
-
 bare_notrun : (world : World) (rest : List Sent) (epoch : ℕ) (owed : FinSet nat_cmp) → IsSoundWorld world → world.up ≡ true → world.back.frames ≡ record { epoch = epoch; frame = Recv Received.NotRun owed } ∷ rest →
     is_source_paused world.source.phase ≡ true → world.destination.has_run ≡ false
-bare_notrun world rest epoch owed kept up first paused =
-    let w = subst (λ b. Wires world.source world.destination world.forward.frames b world.urgent.frames) first (kept.flight.wires up) in
-    bare_paused world.destination.phase (record world.source { phase = SourcePhase.Paused }) world.destination world.forward.frames rest epoch owed
-    (subst (λ p. Wires (record world.source { phase = p }) world.destination world.forward.frames (record { epoch = epoch; frame = Recv Received.NotRun owed } ∷ rest) world.urgent.frames) (is_paused world.source.phase paused) w)
+bare_notrun world rest epoch owed kept up first paused = grind (arith, nat_tests, is_paused)
 
 rebuilt_limited : {cpus : ℕ} → (switched : Bool) (world : World) (rest : List Sent) (owed : FinSet nat_cmp) → IsSoundWorld world → AllRight world.source.guest.cpus → length world.source.guest.cpus ≡ cpus → world.source.epoch < 2 ^ 32 → (IsCpuCount cpus → AreBodies rest) → AreLimited cpus world →
     AreLimited cpus (source_sends (record world { back = wire_behind rest }) (source_rebuilt Received.NotRun owed (record world.source { switched = switched })) (rebuild_frames Received.NotRun (record world.source { switched = switched })))
 rebuilt_limited {cpus = cpus} true world rest owed kept right many epoch bodies h =
     assumption (λ (c : IsCpuCount cpus). bodies-sending world.forward.frames world.source.epoch (rebuild_frames Received.NotRun (record world.source { switched = true })) (h.to_destination c) (rebuilt_good Received.NotRun (record world.source { switched = true }) kept.spaces.source_space.host h.areas (λ s. right) (subst IsCpuCount (sym many) c)))
-rebuilt_limited {cpus = cpus} false world rest owed kept right many epoch bodies h =
-    assumption none_pages
+rebuilt_limited {cpus = cpus} false world rest owed kept right many epoch bodies h = grind (arith, nat_tests, none_pages)
 
 released_limited : {cpus : ℕ} → (world : World) (rest : List Sent) → world.source.epoch < 2 ^ 32 → (IsCpuCount cpus → AreBodies rest) → AreLimited cpus world →
     IsLimited cpus SourcePhase.Released world.source.epoch bare_host no_pages world.destination.requests world.forward.frames rest world.urgent.frames
@@ -335,8 +245,7 @@ back_limited : {cpus : ℕ} → (frame : Frame) (epoch : ℕ) (rest : List Sent)
 back_limited (Recv Received.NotRun owed) epoch rest world ready up below first place bodies h =
     rebuilt_limited world.source.switched world rest owed ready.kept
     (right_source world.destination.has_run world.source.guest world.destination.guest (bare_notrun world rest epoch owed ready.kept up first place.0) ready.right) ready.many below bodies h
-back_limited (Recv Received.Running owed) epoch rest world ready up below first place bodies h =
-    assumption
+back_limited (Recv Received.Running owed) epoch rest world ready up below first place bodies h = grind (arith, nat_tests)
 back_limited (Recv Received.Ended owed) epoch rest world ready up below first place bodies h = released_limited world rest below bodies h
 back_limited Done epoch rest world ready up below first place bodies h = released_limited world rest below bodies h
 back_limited (Request page) epoch rest world ready up below first place bodies h = with_requests world.destination.requests rest h.requested bodies h
@@ -353,8 +262,7 @@ break_limited : {cpus : ℕ} → (world : World) → AreLimited cpus world → A
 break_limited world h = with_forward [] (λ c. tt) (with_urgent [] (λ c. tt) (with_requests world.destination.requests [] h.requested (λ c. tt) h))
 
 notices_limited : {cpus : ℕ} → (world : World) → has_started world ≡ true → AreLimited cpus world → AreLimited cpus (after_notice world Side.Source)
-notices_limited {cpus = cpus} world started h =
-    assumption (h.started (not-true (is_source_idle world.source.phase) started))
+notices_limited {cpus = cpus} world started h = grind (arith, nat_tests, not-true)
 
 resume_limited : {cpus : ℕ} → (world : World) → is_used world.source.epoch ≡ false → AreLimited cpus world → AreLimited cpus (after_resume world)
 resume_limited {cpus = cpus} world unused h =

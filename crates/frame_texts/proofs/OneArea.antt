@@ -12,9 +12,11 @@ use Rattle.mig_base.specs.Sets.{pages_where, run_length}
 use Rattle.mig_base.proofs.RangeLemmas.{in_range-true, in_range-false_below, in_range-false_above}
 use Rattle.mig_base.proofs.SetLemmas.{member_below, member_run}
 use Rattle.mig_model.specs.Ioctls.{same_prot}
-use Rattle.mig_model.specs.Texts.{list_below, begins_area, area_at, areas_of}
+use Rattle.mig_model.specs.Lengths.{begins_area}
+use Rattle.frame_texts.specs.Texts.{list_below, area_at, areas_of}
 use Rattle.mig_model.proofs.Facts.{and_false, and_second, below_or_at, none_absurd}
-use Rattle.mig_model.proofs.RunsAndAreas.{run_length-covers, same_prot-self}
+use Rattle.mig_model.proofs.IoctlLemmas.{same_prot-self}
+use Rattle.frame_texts.proofs.RunsAndAreas.{run_length-covers}
 
 none_listed : (test : ℕ → Bool) (bound : ℕ) → ((j : ℕ) → j < bound → test j ≡ false) → list_below test bound ≡ []
 unfolding list_below

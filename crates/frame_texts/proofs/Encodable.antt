@@ -1,12 +1,12 @@
 -- A frame of the machine can be read back from its text.
 use Rattle.std.proofs.lemmas.Bool.Decides.{nat_tests}
-use Rattle.std.proofs.Common.{◌≡◌, ℕ, ◌^◌, ◌<◌, true, Option, Some, None, List, [], ◌∷◌, length, refl, arith}
+use Rattle.std.proofs.Common.{◌≡◌, ℕ, ◌^◌, ◌<◌, true, Option, Some, None, List, [], ◌∷◌, length, arith}
 use Rattle.std.specs.List.{AllByRecursion}
 use Rattle.mig_base.specs.declared.command.Command.{Command}
 use Rattle.mig_base.specs.declared.command.Command.TheVariants.{Load, Store}
 use Rattle.mig_base.specs.Flat.{is_width}
-use Rattle.mig_model.specs.Texts.{IsEncodable, FitsCommand, FitsText, HasWholePages}
-use Rattle.mig_model.specs.Texts.Version.{Two}
+use Rattle.frame_texts.specs.Texts.{IsEncodable, FitsCommand}
+use Rattle.frame_texts.specs.Texts.Version.{Two}
 use Rattle.mig_model.specs.Bounds.{IsFrame, AreRightAccesses, ArePageBytes}
 use Rattle.mig_model.specs.Wire.{Frame}
 use Rattle.mig_model.proofs.Facts.{and_left}
@@ -25,11 +25,5 @@ whole_run : (pages : List (List ℕ)) → ArePageBytes pages → AllByRecursion 
 whole_run [] h = tt
 whole_run (bytes ∷ pages) h = (h.0.0, whole_run pages h.1)
 
-whole_frame : (frame : Frame) → IsFrame frame → HasWholePages frame
-whole_frame frame h = grind (arith, nat_tests, whole_run)
-
-fits_frame : (frame : Frame) → IsFrame frame → FitsText frame
-fits_frame frame h = grind (arith, nat_tests, fits_commands)
-
 pub encodable : (epoch : ℕ) (frame : Frame) → epoch < 2 ^ 32 → IsFrame frame → IsEncodable Two epoch frame
-encodable epoch frame small h = record { has = refl; epoch_fits = small; whole = whole_frame frame h; fits = fits_frame frame h }
+encodable epoch frame small h = grind (arith, nat_tests, whole_run, fits_commands)

@@ -1,6 +1,6 @@
 -- The bytes of the present pages are numbers below 256, whatever is stored.
 use Rattle.std.proofs.lemmas.Bool.Decides.{nat_tests}
-use Rattle.std.proofs.Common.{◌≡◌, ℕ, zero, suc, ◌+◌, ◌/◌, ◌%◌, ◌<◌, Bool, cond, eqb, Option, Some, None, List, ◌++◌, take, drop, sym, ◌∙◌, arith, unwrap_or, length}
+use Rattle.std.proofs.Common.{◌≡◌, ℕ, zero, suc, ◌+◌, ◌/◌, ◌%◌, ◌<◌, Bool, cond, eqb, Option, Some, None, List, ◌++◌, take, drop, sym, ◌∙◌, arith, length}
 use Rattle.std.specs.Int.{byte_at, bytes_low_first}
 use Rattle.std.specs.List.{All}
 use Rattle.std.specs.Ordering.{nat_cmp}
@@ -40,11 +40,8 @@ pub zero_bytes : AreBytes zero_page
 unfolding zero_page
 zero_bytes = All-replicate (λ byte. byte < 256) PAGE_SIZE 0 (omega arith)
 
-bytes_or_zero : (o : Option (List ℕ)) → ((bytes : List ℕ) → o ≡ Some bytes → AreBytes bytes) → AreBytes (unwrap_or o zero_page)
-bytes_or_zero o h = grind (arith, nat_tests, zero_bytes)
-
 pub contents_bytes : (pages : FinMap nat_cmp (List ℕ)) (page : ℕ) → HasBytes pages → AreBytes (contents pages page)
-contents_bytes pages page h = bytes_or_zero (get pages page) (h page)
+contents_bytes pages page h = grind (arith, nat_tests, zero_bytes)
 
 written_bytes : (held bytes : List ℕ) (offset : ℕ) → AreBytes held → AreBytes bytes → AreBytes (overwrite held offset bytes)
 unfolding overwrite

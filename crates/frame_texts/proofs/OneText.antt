@@ -18,13 +18,14 @@ use Rattle.mig_base.specs.declared.phase.Received.{Received}
 use Rattle.mig_base.specs.Sets.{pages_where}
 use Rattle.mig_base.proofs.RangeLemmas.{count_below-few}
 use Rattle.mig_base.proofs.SetLemmas.{run_length-most}
-use Rattle.mig_model.specs.Texts.{list_below, begins_run, run_at, runs_of, begins_area, area_at, areas_of, Version, version_code, has_frame, tag_code, run_text, runs_text, area_text, areas_text, commands_text, state_code, body_text, header_text, text, HasWholePages, AreBelow, AreMappedBelow, FitsCommand, FitsText, IsEncodable}
+use Rattle.mig_model.specs.Lengths.{begins_run, begins_area}
+use Rattle.frame_texts.specs.Texts.{list_below, run_at, runs_of, area_at, areas_of, Version, has_frame, tag_code, runs_text, areas_text, commands_text, state_code, body_text, header_text, text, HasWholePages, AreBelow, AreMappedBelow, FitsCommand, FitsText, IsEncodable}
 use Rattle.mig_model.specs.Ioctls.{same_prot}
 use Rattle.std.specs.FinMap.{get}
 use Rattle.mig_model.specs.Wire.{Frame}
 use Rattle.mig_model.specs.Wire.Frame.{Advise, Page, Zero, Run, Discard, Package, End, Resume, Request, Recv, Done}
-use Rattle.mig_model.proofs.RunsAndAreas.{all_listed, runs_of-same, areas_of-same}
-use Rattle.mig_model.proofs.TextLemmas.{length-list_below}
+use Rattle.frame_texts.proofs.RunsAndAreas.{all_listed, runs_of-same, areas_of-same}
+use Rattle.frame_texts.proofs.TextLemmas.{length-list_below}
 
 -- Numbers
 
@@ -76,22 +77,16 @@ few_listed f test = omega (arith, length-map (list_below test HIGH_PAGE) f, leng
 abbrev FitsRun : PageRun → Type 0
 FitsRun run = (run.first < 2 ^ 32) × (run.count < 2 ^ 32)
 
-same_run : (x y : PageRun) (s r : List ℕ) → FitsRun x → FitsRun y → run_text x ++ s ≡ run_text y ++ r → x ≡ y
-same_run x y s r hx hy e = grind (arith, nat_tests)
-
 runs_fit : (set : FinSet nat_cmp) → AllByRecursion FitsRun (runs_of set)
 runs_fit set =
     all-map FitsRun (run_at set) (list_below (begins_run set) HIGH_PAGE)
     (all_listed (λ k. FitsRun (run_at set k)) (begins_run set) HIGH_PAGE (λ k l. (omega arith, omega (arith, run_length-most set k HIGH_PAGE))))
 
 same_set : (a b : FinSet nat_cmp) (s r : List ℕ) → AreBelow a → AreBelow b → runs_text (runs_of a) ++ s ≡ runs_text (runs_of b) ++ r → a ≡ b
-same_set a b s r ha hb e = grind (arith, nat_tests, runs_of-same, same_counted, same_run, runs_fit, few_listed)
+same_set a b s r ha hb e = grind (arith, nat_tests, runs_of-same, same_counted, runs_fit, few_listed)
 
 abbrev FitsArea : Area → Type 0
 FitsArea area = (area.first < 2 ^ 32) × (area.count < 2 ^ 32)
-
-same_area : (x y : Area) (s r : List ℕ) → FitsArea x → FitsArea y → area_text x ++ s ≡ area_text y ++ r → x ≡ y
-same_area x y s r hx hy e = grind (arith, nat_tests)
 
 areas_fit : (areas : FinMap nat_cmp Prot) → AllByRecursion FitsArea (areas_of areas)
 areas_fit areas =
@@ -99,7 +94,7 @@ areas_fit areas =
     (all_listed (λ k. FitsArea (area_at areas k)) (begins_area areas) HIGH_PAGE (λ k l. (omega arith, omega (arith, run_length-most (pages_where (λ page. same_prot (get areas k) (get areas page))) k HIGH_PAGE))))
 
 same_map : (a b : FinMap nat_cmp Prot) (s r : List ℕ) → AreMappedBelow a → AreMappedBelow b → areas_text (areas_of a) ++ s ≡ areas_text (areas_of b) ++ r → a ≡ b
-same_map a b s r ha hb e = grind (arith, nat_tests, areas_of-same, same_counted, same_area, areas_fit, few_listed)
+same_map a b s r ha hb e = grind (arith, nat_tests, areas_of-same, same_counted, areas_fit, few_listed)
 
 -- Commands
 
@@ -148,9 +143,6 @@ same_body f g s r tags wf wg hf hg e = absurd (omega (arith, tags))
 
 -- Texts
 
-same_version : (v w : Version) → version_code v ≡ version_code w → v ≡ w
-same_version v w e = grind (arith, nat_tests)
-
 pub text-is : (v : Version) (epoch : ℕ) (frame : Frame) → has_frame v frame ≡ true → text v epoch frame ≡ header_text v (tag_code frame) epoch (length (body_text frame)) ++ body_text frame
 unfolding text
 text-is v epoch frame has = rw has refl
@@ -163,4 +155,4 @@ pub record IsSameText (v w : Version) (d e : ℕ) (f g : Frame) (s r : List ℕ)
   pub rest : s ≡ r
 
 pub same_text : (v w : Version) (d e : ℕ) (f g : Frame) (s r : List ℕ) → IsEncodable v d f → IsEncodable w e g → text v d f ++ s ≡ text w e g ++ r → IsSameText v w d e f g s r
-same_text v w d e f g s r hf hg eq = grind (arith, nat_tests, text-is, same_version, same_w32, same_body, same_rest)
+same_text v w d e f g s r hf hg eq = grind (arith, nat_tests, text-is, same_w32, same_body, same_rest)

@@ -1,8 +1,8 @@
-use Rattle.mig_model.proofs.Bounded.{frames_good}
-use Rattle.mig_model.proofs.LengthBounds.{text_short}
+use Rattle.frame_texts.proofs.GoodFrames.{frames_good}
+use Rattle.frame_texts.proofs.LengthBounds.{text_short}
 use Rattle.mig_model.proofs.ReplyOfLemmas.{right_answered}
-use Rattle.mig_model.proofs.Encodable.{encodable}
-use Rattle.mig_model.proofs.bounds.frames_have_texts.Goals as goal
+use Rattle.frame_texts.proofs.Encodable.{encodable}
+use Rattle.frame_texts.proofs.frames.frames_have_texts.Goals as goal
 
 pub returns-clause-in_flight : goal.returns-clause-in_flight
 returns-clause-in_flight c world reached count = frames_good world reached count
