@@ -7,6 +7,7 @@ ghost use Rattle.vcpu.specs.Answers.{is_count};
 mod back;
 mod commands;
 mod handler;
+mod laws;
 mod pushes;
 mod recovery;
 mod rounds;

@@ -1,12 +1,16 @@
 //! Pre-copy: the start of a migration, its rounds, and the pages that a round sends.
 
-ghost use Rattle.std.specs.Prelude.{◌≡◌, ◌<◌, [], ◌∷◌, IfOk, IfErr, OnErr};
+ghost use Rattle.std.specs.Prelude.{◌≡◌, ◌↔◌, ◌<◌, [], ◌∷◌, true, Some, IfOk, IfErr, OnErr};
+ghost use Rattle.std.specs.FinMap.{get};
+ghost use Rattle.std.specs.FinSet.{contains};
+ghost use Rattle.mig_base.specs.Bytes.{zero_page};
+ghost use Rattle.mig_model.specs.Wire as wire;
 ghost use Rattle.mig_base.specs.declared.schedule.Step.{Step};
 ghost use Rattle.dirty_log.specs.Sending as log;
 ghost use Rattle.mig_base.specs.declared.TheConstants.{HIGH_PAGE};
 ghost use Rattle.page_stream.specs.Frames.{frame_of};
 ghost use Rattle.precopy.specs.Answers.{next_count as counted_on, round_answer, send_answer, start_answer};
-ghost use Rattle.precopy.specs.Sending.{sent_effect};
+ghost use Rattle.precopy.specs.Sending.{SendsPage, sent_effect};
 ghost use Rattle.precopy.specs.Steps.{IsMade, IsRefused};
 
 use super::Source;
@@ -64,6 +68,11 @@ impl Source {
         ensures made { IfOk result (λ told. IsMade self.old Step.Send told.0 (frame_of told.1 ∷ []) self.new) }
         ensures refused { IfErr result (λ refusal. IsRefused self.old Step.Send refusal) }
         ensures err { OnErr result (self.new ≡ self.old) }
+
+        // The same in the words of a reader: what is sent is what the page has when it is protected.
+        ensures bytes { IfOk result (λ told. SendsPage (frame_of told.1) (λ page bytes. get self.new.guest.space.host.bytes page ≡ Some bytes)) }
+        ensures protected { IfOk result (λ told. SendsPage (frame_of told.1) (λ page bytes. contains self.new.guest.space.protected page ≡ true)) }
+        ensures zero { IfOk result (λ told. SendsPage (frame_of told.1) (λ page bytes. (frame_of told.1 ≡ wire.Frame.Zero page) ↔ (get self.new.guest.space.host.bytes page ≡ Some zero_page))) }
     {
         let page = self.next_to_send()?;
         self.space.is_in_order();
