@@ -16,7 +16,7 @@ use Rattle.mig_model.specs.Owed.{home}
 use Rattle.mig_model.specs.Source.{bytes_of, is_precopy, is_released, is_source_idle, is_source_paused, is_stopped, not_clean, space_of}
 use Rattle.mig_model.specs.Destination.{is_dest_paused}
 use Rattle.mig_model.specs.Wire.{Copy, Sent}
-use Rattle.mig_model.specs.Texts.{text_len}
+use Rattle.mig_model.specs.Lengths.{text_len}
 use Rattle.mig_model.specs.Migration.{World, Answer, answer, unless, made, next, next_by, outcome, outcome_by, after_steps, is_changing, is_early, is_end, is_paused_at, is_used, page_effect, read_effect, frame_effect, install_effect, deliver_first, deliver_back_first, deliver_urgent_first, destination_read_next, install_first, source_read_next, after_start, after_source_read, after_switch, after_deliver, after_deliver_back, after_deliver_urgent, after_dest_read, after_install, after_push, after_end, after_notice, after_resume, after_move, after_move_back, after_move_urgent}
 use Rattle.mig_model.specs.Invariant.{IsSoundWorld, AreSoundUrgent}
 use Rattle.mig_model.specs.Promises.{CanComplete, AreAccepted, IsComplete}

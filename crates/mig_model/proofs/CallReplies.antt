@@ -1,10 +1,11 @@
 -- A processor in a call has the reply of its last entry, until its last message is read.
+use Rattle.std.proofs.lemmas.Bool.Decides.{nat_tests}
 use Rattle.std.proofs.Common.{◌≡◌, ℕ, zero, suc, Bool, true, false, eqb, Option, Some, None, List, [], ◌∷◌, ◌++◌, refl, sym, ap, ◌∙◌, subst, ◌⊎◌, inl, inr, ⊎_elim, arith, if◌then◌else◌, not, append-nil}
-use Rattle.std.specs.Prelude.{set, map, Ok, Err}
+use Rattle.std.specs.Prelude.{set, map, Ok}
 use Rattle.std.specs.Ordering.{nat_cmp}
 use Rattle.std.specs.FinMap.{FinMap}
 use Rattle.std.specs.FinSet.{FinSet}
-use Rattle.std.proofs.lemmas.Bool.{false≢true, cases_eq, ne_eqb}
+use Rattle.std.proofs.lemmas.Bool.{false≢true, cases_eq}
 use Rattle.std.proofs.lemmas.Option.{none-some}
 use Rattle.mig_base.specs.declared.Prot.{Prot}
 use Rattle.mig_base.specs.declared.command.Command.{Command}
@@ -15,45 +16,38 @@ use Rattle.mig_base.specs.declared.effect.Effect.{Effect}
 use Rattle.mig_base.specs.declared.message.Message.{Message}
 use Rattle.mig_base.specs.declared.message.Message.TheVariants.{PageFault}
 use Rattle.mig_base.specs.declared.schedule.Step.{Step}
-use Rattle.mig_base.specs.Commands.{is_access, page_of}
+use Rattle.mig_base.specs.Commands.{is_access}
 use Rattle.mig_model.specs.Cpus.{Took, all_woken, entries_of, handed_over, is_idle, is_woken, message_less, processor_after, processor_at, taken_over, woken_if}
 use Rattle.mig_model.specs.Cpus.Took.{Sleep, Call}
 use Rattle.mig_model.specs.Guest.{Guest, is_left_by, read_guest, took_by}
 use Rattle.mig_model.specs.Wire.{Frame, Sent}
 use Rattle.mig_model.specs.Wire.Frame.{Package}
-use Rattle.mig_model.specs.Migration.{Answer, Made, World, after_command, after_deliver, answer, event_effect, guest_by, guest_of, next, next_by, outcome, outcome_by, read_effect, try_effect}
-use Rattle.mig_model.specs.Invariant.{CallFits, AreSoundCalls, IsSoundWorld, unread_of}
+use Rattle.mig_model.specs.Migration.{Made, World, after_command, after_deliver, answer, event_effect, guest_by, guest_of, next, outcome, read_effect, try_effect}
+use Rattle.mig_model.specs.Invariant.{AreSoundCalls, IsSoundWorld}
 use Rattle.mig_model.specs.Promises.{IsReached}
 use Rattle.mig_model.specs.Replies.{HandsOver, call_reply, last_reply}
 use Rattle.mig_model.proofs.Calls.{are_sound_calls, calls-first, calls_next}
 use Rattle.mig_model.proofs.EveryStep.{by_reached, kept-reached}
-use Rattle.mig_model.proofs.Facts.{by_test, eqb-self}
+use Rattle.mig_model.proofs.Facts.{by_test}
 use Rattle.mig_model.proofs.FirstFrame.{delivered}
 use Rattle.mig_model.proofs.StepCases.{Makes, holds-made}
-use Rattle.mig_model.proofs.WokenSteps.{IsQuiet, IsWoken, frame_not_last, guest_woken, is_last_read, quiet, stopped_switched, wakes-taken}
+use Rattle.mig_model.proofs.WokenSteps.{IsQuiet, IsWoken, frame_not_last, guest_woken, is_last_read, quiet, wakes-taken}
 use Rattle.mig_model.proofs.StepLemmas.{Holds, Leaves, holds-effect, holds-map, leaves-next}
-use Rattle.mig_model.proofs.WaitingCommands.{idle_at, is_try, map_at, package_next, set_other, tried_guest}
+use Rattle.mig_model.proofs.WaitingCommands.{idle_at, is_try, map_at, set_other, tried_guest}
 use Rattle.mig_model.proofs.SourceKept.{has_not_run}
 
 -- The last entry of a processor
 
 behind_first : (here : Bool) (reply : Reply) (old first : Option Reply) →
     elim (if here then Some reply else old) [ Some r ↦ Some r | None ↦ first ] ≡ (if here then Some reply else elim old [ Some r ↦ Some r | None ↦ first ])
-behind_first true reply old first = refl
-behind_first false reply old first = refl
+behind_first here reply old first = grind (arith, nat_tests)
 
 last_reply-push : (entries : List Entry) (entry : Entry) (k : ℕ) → last_reply (entries ++ entry ∷ []) k ≡ (if eqb entry.cpu k then Some entry.reply else last_reply entries k)
 last_reply-push [] entry k = refl
-last_reply-push (first ∷ entries) entry k =
-    ap (λ o. elim o [ Some r ↦ Some r | None ↦ if eqb first.cpu k then Some first.reply else None ]) (last_reply-push entries entry k)
-    ∙ behind_first (eqb entry.cpu k) entry.reply (last_reply entries k) (if eqb first.cpu k then Some first.reply else None)
-
-own_entry : (entries : List Entry) (cpu : ℕ) (command : Command) (reply : Reply) → last_reply (entries ++ record { cpu = cpu; command = command; reply = reply } ∷ []) cpu ≡ Some reply
-own_entry entries cpu command reply = last_reply-push entries (record { cpu = cpu; command = command; reply = reply }) cpu ∙ ap (λ b. if b then Some reply else last_reply entries cpu) (eqb-self cpu)
+last_reply-push (first ∷ entries) entry k = grind (arith, nat_tests, behind_first, last_reply-push entries entry k)
 
 other_entry : (entries : List Entry) (cpu : ℕ) (command : Command) (reply : Reply) (k : ℕ) → (cpu ≡ k → ⊥) → last_reply (entries ++ record { cpu = cpu; command = command; reply = reply } ∷ []) k ≡ last_reply entries k
-other_entry entries cpu command reply k other =
-    last_reply-push entries (record { cpu = cpu; command = command; reply = reply }) k ∙ ap (λ b. if b then Some reply else last_reply entries k) (ne_eqb cpu k other)
+other_entry entries cpu command reply k other = grind (arith, nat_tests, last_reply-push)
 
 -- what a command enters is not of another processor
 entered_other : (took : Took) (entries : List Entry) (cpu : ℕ) (command : Command) (k : ℕ) → (cpu ≡ k → ⊥) → last_reply (entries ++ entries_of cpu command took) k ≡ last_reply entries k
@@ -63,9 +57,7 @@ entered_other (Call reply left) entries cpu command k other = other_entry entrie
 
 -- a call has entered the reply that it will give
 entered_call : (took : Took) (entries : List Entry) (cpu : ℕ) (command : Command) (reply : Reply) → call_reply (processor_after command took) ≡ Some reply → last_reply (entries ++ entries_of cpu command took) cpu ≡ Some reply
-entered_call (Took.Answer other) entries cpu command reply h = absurd (none-some reply h)
-entered_call Sleep entries cpu command reply h = absurd (none-some reply h)
-entered_call (Call other left) entries cpu command reply h = own_entry entries cpu command other ∙ h
+entered_call took entries cpu command reply h = grind (arith, nat_tests, last_reply-push)
 
 -- Processors
 
@@ -73,38 +65,18 @@ entered_call (Call other left) entries cpu command reply h = own_entry entries c
 abbrev reply_at : List CpuState → ℕ → Option Reply
 reply_at processors k = call_reply (processor_at processors k)
 
-woken_call : (here : Bool) (command : Command) → call_reply (if here then CpuState.Woken command else CpuState.Asleep command) ≡ None
-woken_call true command = refl
-woken_call false command = refl
-
-woken_reply : (test : ℕ → Bool) (p : CpuState) → call_reply (woken_if test p) ≡ call_reply p
-woken_reply test (CpuState.Asleep command) = woken_call (test (page_of command)) command
-woken_reply test _ = refl
-
 -- waking leaves calls
 woken_replies : (test : ℕ → Bool) (ps : List CpuState) (k : ℕ) → reply_at (all_woken test ps) k ≡ reply_at ps k
-woken_replies test ps k = ap call_reply (map_at (woken_if test) ps k refl) ∙ woken_reply test (processor_at ps k)
+woken_replies test ps k = grind (arith, nat_tests, map_at)
 
 woken_idle : (test : ℕ → Bool) (ps : List CpuState) (k : ℕ) → processor_at ps k ≡ CpuState.Idle → processor_at (all_woken test ps) k ≡ CpuState.Idle
 woken_idle test ps k idle = map_at (woken_if test) ps k refl ∙ ap (woken_if test) idle
 
 idle_reply : (p : CpuState) → is_idle p ≡ true → call_reply p ≡ None
-idle_reply CpuState.Idle h = refl
-idle_reply _ h = absurd (false≢true h)
+idle_reply p h = grind (arith, nat_tests)
 
 woken_none : (p : CpuState) → is_woken p ≡ true → call_reply p ≡ None
-woken_none (CpuState.InCall reply left) h = absurd (false≢true h)
-woken_none _ h = refl
-
--- a processor with no unread event is in no call
-quiet_reply : (p : CpuState) → CallFits p 0 → call_reply p ≡ None
-quiet_reply CpuState.Idle h = refl
-quiet_reply (CpuState.Asleep command) h = refl
-quiet_reply (CpuState.Woken command) h = refl
-quiet_reply (CpuState.InCall reply left) h =
-    let is = h.0 in
-    let some = h.1 in
-    absurd (omega (arith, is, some))
+woken_none p h = grind (arith, nat_tests)
 
 taken_reply : (commands : List (Option Command)) (k : ℕ) → reply_at (map taken_over commands) k ≡ None
 taken_reply [] k = refl
@@ -115,16 +87,13 @@ taken_reply (command ∷ commands) (suc k) = taken_reply commands k
 -- one message less
 
 less_goes_on : (p : CpuState) (reply : Reply) → call_reply p ≡ Some reply → (call_reply (message_less p) ≡ Some reply) ⊎ (handed_over p ≡ Some reply)
-less_goes_on (CpuState.InCall other (suc zero)) reply h = inr h
-less_goes_on _ reply h = inl h
+less_goes_on p reply h = grind (arith, nat_tests)
 
 less_was : (p : CpuState) (reply : Reply) → call_reply (message_less p) ≡ Some reply → call_reply p ≡ Some reply
-less_was (CpuState.InCall other (suc zero)) reply h = absurd (none-some reply h)
-less_was _ reply h = h
+less_was p reply h = grind (arith, nat_tests)
 
 last_message : (p : CpuState) (reply : Reply) → handed_over p ≡ Some reply → p ≡ CpuState.InCall reply 1
-last_message (CpuState.InCall other (suc zero)) reply h = ap (λ o. elim o [ None ↦ CpuState.InCall other 1 | Some r ↦ CpuState.InCall r 1 ]) h
-last_message _ reply h = absurd (none-some reply h)
+last_message p reply h = grind (arith, nat_tests)
 
 set_reply : (processors : List CpuState) (i k : ℕ) (new : CpuState) (reply : Reply) → (call_reply new ≡ Some reply → reply_at processors i ≡ Some reply) → reply_at (set processors i new) k ≡ Some reply → reply_at processors k ≡ Some reply
 set_reply [] i k new reply was h = h
@@ -160,25 +129,13 @@ not_last : {A : Type 0} (effect : Effect) (event : Message) (k : ℕ) (reply : R
 not_last effect event k reply not is = absurd (false≢true (sym not ∙ ap is_last_read is))
 
 all_go_on : (old new : Guest) (effect : Effect) → SameCalls old new → is_last_read effect ≡ false → GoOn old new effect
-all_go_on old new effect same not =
-    record {
-      kept = λ k reply h. inl (same k ∙ h);
-      was = λ k reply h. sym (same k) ∙ h;
-      last = λ event k reply is. not_last effect event k reply not is;
-    }
+all_go_on old new effect same not = grind (arith, nat_tests)
 
 -- Messages
 
-other_event : {A : Type 0} (message event : Message) (cpu k : ℕ) (reply : Reply) → Effect.ReadEvent message ≡ Effect.ReadLast event k reply → A
-other_event message event cpu k reply h = absurd (cc)
-
-same_event : (message event : Message) (cpu k : ℕ) (one reply : Reply) → Effect.ReadLast message cpu one ≡ Effect.ReadLast event k reply → (cpu ≡ k) × (one ≡ reply)
-same_event message event cpu k one reply h = (cc, cc)
-
 -- the processor whose last message it is
 told_last : (o : Option Reply) (message event : Message) (cpu k : ℕ) (reply : Reply) → event_effect message cpu o ≡ Effect.ReadLast event k reply → (cpu ≡ k) × (o ≡ Some reply)
-told_last None message event cpu k reply h = other_event message event cpu k reply h
-told_last (Some one) message event cpu k reply h = let same = same_event message event cpu k one reply h in (same.0, ap (λ r. Some r) same.1)
+told_last o message event cpu k reply h = grind (arith, nat_tests)
 
 -- the processors once an event of one of them is read
 abbrev event_read : List CpuState → ℕ → (ℕ → Bool) → List CpuState
@@ -219,16 +176,13 @@ read_goes_on guest cpu message = event_goes_on guest _ message cpu (is_left_by m
 
 -- where the guest runs, by the node that changes
 source_goes_on : (ran : Bool) (old new to : Guest) (effect : Effect) → ran ≡ false → GoOn old new effect → GoOn (guest_by ran old to) (guest_by ran new to) effect
-source_goes_on true old new to effect is on = absurd (false≢true (sym is))
-source_goes_on false old new to effect is on = on
+source_goes_on ran old new to effect is on = grind (arith, nat_tests)
 
 destination_goes_on : (ran : Bool) (from old new : Guest) (effect : Effect) → ran ≡ true → GoOn old new effect → GoOn (guest_by ran from old) (guest_by ran from new) effect
-destination_goes_on true from old new effect is on = on
-destination_goes_on false from old new effect is on = absurd (false≢true is)
+destination_goes_on ran from old new effect is on = grind (arith, nat_tests)
 
 try_not_last : (took : Took) (cpu : ℕ) → is_last_read (try_effect cpu took) ≡ false
-try_not_last (Took.Answer reply) cpu = refl
-try_not_last _ cpu = refl
+try_not_last took cpu = grind (arith, nat_tests)
 
 -- Steps that try no command
 
@@ -243,12 +197,7 @@ quietly world new effect same not entered = record { calls = all_go_on (guest_of
 -- a Package is taken where no processor is in a call, and none is then
 package_calls : (epoch : ℕ) (areas : FinMap nat_cmp Prot) (owed : FinSet nat_cmp) (commands : List (Option Command)) (rest : List Sent) (world : World) → world.up ≡ true → world.forward.frames ≡ record { epoch = epoch; frame = Package areas owed commands } ∷ rest → IsSoundWorld world →
     AreSoundCalls world → SameCalls (guest_of world) (guest_of (delivered world (record { epoch = epoch; frame = Package areas owed commands } ∷ rest)))
-package_calls epoch areas owed commands rest world up first kept all k =
-    let told = package_next epoch areas owed commands rest world up first kept in
-    let switched = stopped_switched world.source.phase world.source.switched told.2 kept.phases.source_phase in
-    taken_reply commands k
-    ∙ sym (quiet_reply (processor_at world.source.guest.cpus k) (subst (λ e. CallFits (processor_at world.source.guest.cpus k) (unread_of e k)) (kept.phases.source_quiet switched) (all.source.fits k)))
-    ∙ ap (λ b. reply_at (guest_by b world.source.guest world.destination.guest).cpus k) (sym told.1)
+package_calls epoch areas owed commands rest world up first kept all k = grind (arith, nat_tests, taken_reply)
 
 -- waking leaves calls
 woken_calls : (old new : List CpuState) → IsWoken old new → (k : ℕ) → reply_at new k ≡ reply_at old k
@@ -256,8 +205,7 @@ woken_calls old new w k = ap (λ ps. reply_at ps k) w.is ∙ woken_replies w.tes
 
 taken_calls : (frame : Frame) (epoch : ℕ) (rest : List Sent) (world : World) → world.up ≡ true → world.forward.frames ≡ record { epoch = epoch; frame = frame } ∷ rest → IsSoundWorld world → AreSoundCalls world →
     SameCalls (guest_of world) (guest_of (after_deliver world (record { epoch = epoch; frame = frame }) rest))
-taken_calls (Package areas owed commands) epoch rest world up first kept all k = package_calls epoch areas owed commands rest world up first kept all k
-taken_calls frame epoch rest world up first kept all k = woken_calls _ _ (guest_woken world _ (wakes-taken world (record { epoch = epoch; frame = frame }) rest refl)) k
+taken_calls frame epoch rest world up first kept all k = grind (arith, nat_tests, package_calls, guest_woken, wakes-taken)
 
 goes_on : (world : World) (step : Step) → IsSoundWorld world → AreSoundCalls world → is_try step ≡ false → Holds (GoesOn world) (answer world step)
 goes_on world (Step.Issue cpu command) kept all other = absurd (false≢true (sym other))
@@ -289,10 +237,8 @@ record Tries (world : World) (made : Made) : Type 0 where
   is : made.world ≡ after_command world cpu command
 
 is_tried : (world : World) (step : Step) → is_try step ≡ true → Makes (Tries world) world step
-is_tried world (Step.Issue cpu command) h =
-    λ there idle may. record { cpu = cpu; command = command; free = idle_reply (processor_at (guest_of world).cpus cpu) idle; effect = refl; is = refl }
-is_tried world (Step.Retry cpu) h =
-    λ command is woken may. record { cpu = cpu; command = command; free = woken_none (processor_at (guest_of world).cpus cpu) woken; effect = refl; is = refl }
+is_tried world (Step.Issue cpu command) h = grind (arith, nat_tests, idle_reply)
+is_tried world (Step.Retry cpu) h = grind (arith, nat_tests, woken_none)
 is_tried world _ h = absurd (false≢true h)
 
 -- the processors once one has tried a command
@@ -301,9 +247,7 @@ tried_at : (world : World) (cpu : ℕ) (command : Command) (k : ℕ) →
 tried_at world cpu command k = ap (λ g. processor_at g.cpus k) (tried_guest world cpu command)
 
 tried_keeps : (world : World) (cpu : ℕ) (command : Command) (k : ℕ) (reply : Reply) → reply_at (guest_of world).cpus cpu ≡ None → reply_at (guest_of world).cpus k ≡ Some reply → reply_at (guest_of (after_command world cpu command)).cpus k ≡ Some reply
-tried_keeps world cpu command k reply free h =
-    let other = λ (same : cpu ≡ k). none-some reply (sym free ∙ ap (λ j. reply_at (guest_of world).cpus j) same ∙ h) in
-    ap call_reply (tried_at world cpu command k ∙ set_other (guest_of world).cpus cpu k (processor_after command (took_by (is_access command) (guest_of world).space command)) other) ∙ h
+tried_keeps world cpu command k reply free h = grind (arith, nat_tests, set_other)
 
 -- every processor in a call has entered its reply
 abbrev HasReplies : World → Type 0
@@ -316,9 +260,7 @@ set_either [] i k new reply free h = absurd (none-some reply h)
 set_either (p ∷ ps) zero zero new reply free h = inl (refl, h)
 set_either (p ∷ ps) zero (suc k) new reply free h = inr (λ e. absurd (omega (arith, e)), h)
 set_either (p ∷ ps) (suc i) zero new reply free h = inr (λ e. absurd (omega (arith, e)), h)
-set_either (p ∷ ps) (suc i) (suc k) new reply free h =
-    ⊎_elim (λ (one : (i ≡ k) × (call_reply new ≡ Some reply)). inl (ap suc one.0, one.1))
-    (λ (two : (i ≡ k → ⊥) × (reply_at ps k ≡ Some reply)). inr (λ e. two.0 (omega (arith, e)), two.1)) (set_either ps i k new reply free h)
+set_either (p ∷ ps) (suc i) (suc k) new reply free h = grind (arith, nat_tests, set_either ps i k new reply free h)
 
 tried_replies : (world : World) (cpu : ℕ) (command : Command) → reply_at (guest_of world).cpus cpu ≡ None → HasReplies world → HasReplies (after_command world cpu command)
 tried_replies world cpu command free has k reply h =
@@ -351,19 +293,10 @@ call_answer world step k reply kept all h =
     (λ tries. holds-map (Tries world) _ (answer world step) (λ made t. inl (ap (λ w. reply_at (guest_of w).cpus k) t.is ∙ tried_keeps world t.cpu t.command k reply t.free h)) (holds-made _ world step (is_tried world step tries)))
     (λ other. holds-map (GoesOn world) _ (answer world step) (λ made g. g.calls.kept k reply h) (goes_on world step kept all other))
 
-outcome_last : (world : World) (result : Answer) (k : ℕ) (reply : Reply) → reply_at (guest_of world).cpus k ≡ Some reply → Holds (GoesOnOr k reply) result →
-    (reply_at (guest_of (next_by world result)).cpus k ≡ Some reply) ⊎ ((event : Message) × (outcome_by result ≡ Ok (Effect.ReadLast event k reply)))
-outcome_last world (Ok made) k reply h goes =
-    ⊎_elim (λ (on : reply_at (guest_of made.world).cpus k ≡ Some reply). inl on) (λ (last : IsLast made.effect k reply). inr (last.event, ap (λ e. Ok e) last.is)) goes
-outcome_last world (Err refusal) k reply h goes = inl h
-
 pub reply_kept : (world : World) (step : Step) (cpu : ℕ) (reply : Reply) → IsReached world → call_reply (processor_at (guest_of world).cpus cpu) ≡ Some reply →
     (call_reply (processor_at (guest_of (next world step)).cpus cpu) ≡ Some reply) ⊎ HandsOver world step cpu reply
 unfolding next outcome
-reply_kept world step cpu reply reached h =
-    ⊎_elim (λ (on : reply_at (guest_of (next_by world (answer world step))).cpus cpu ≡ Some reply). inl on)
-    (λ (last : (event : Message) × (outcome_by (answer world step) ≡ Ok (Effect.ReadLast event cpu reply))). inr (record { event = last.0; is = last.1 }))
-    (outcome_last world (answer world step) cpu reply h (call_answer world step cpu reply (kept-reached world reached) (are_sound_calls world reached) h))
+reply_kept world step cpu reply reached h = grind (arith, nat_tests, call_answer, kept-reached, are_sound_calls)
 
 -- what is handed over is that reply
 abbrev LastTold : World → Effect → World → Type 0

@@ -60,11 +60,8 @@ pages_apart : (addr old_len target new_len : ℕ) → addr % 4096 ≡ 0 → targ
     (addr / 4096 + pages_of old_len ≤ target / 4096) ⊎ (target / 4096 + pages_of new_len ≤ addr / 4096)
 pages_apart addr old_len target new_len a b h = grind (arith, nat_tests)
 
-not_same : (from count to new_count : ℕ) → 0 < count → 0 < new_count → (from + count ≤ to) ⊎ (to + new_count ≤ from) → eqb to from ≡ false
-not_same from count to new_count a b h = grind (arith, nat_tests)
-
 goes : (here : Host) (from count to new_count : ℕ) → 0 < count → 0 < new_count → (from + count ≤ to) ⊎ (to + new_count ≤ from) → IsLaid here from count to new_count
-goes here from count to new_count a b apart = Goes (not_same from count to new_count a b apart) apart
+goes here from count to new_count a b apart = grind (arith, nat_tests)
 
 some_pages : (len : ℕ) → 0 < len → 0 < pages_of len
 some_pages len h = omega arith

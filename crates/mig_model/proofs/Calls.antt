@@ -1,20 +1,19 @@
 -- A processor is in a call exactly as long as it has unread events there, and counts them: every step keeps it.
-use Rattle.std.proofs.Common.{◌≡◌, ℕ, zero, suc, ◌+◌, Bool, true, false, not, eqb, ltb, Option, Some, None, List, [], ◌∷◌, ◌++◌, length, refl, sym, ap, ◌∙◌, subst, ⊎_elim, arith, if◌then◌else◌}
+use Rattle.std.proofs.Common.{◌≡◌, ℕ, zero, suc, ◌+◌, Bool, true, false, not, eqb, ltb, Option, Some, None, List, [], ◌∷◌, ◌++◌, length, refl, sym, ap, ◌∙◌, subst, arith, if◌then◌else◌}
 use Rattle.std.specs.Prelude.{set, map}
 use Rattle.std.proofs.lemmas.Bool.Decides.{nat_tests}
-use Rattle.std.proofs.lemmas.Bool.{false≢true, cases_eq, ne_eqb}
+use Rattle.std.proofs.lemmas.Bool.{false≢true, ne_eqb}
 use Rattle.mig_base.specs.declared.command.Access.{Access}
-use Rattle.mig_base.specs.declared.command.Access.TheVariants.{Answered}
 use Rattle.mig_base.specs.declared.command.Command.{Command}
 use Rattle.mig_base.specs.declared.command.Reply.{Reply}
 use Rattle.mig_base.specs.declared.cpu_state.CpuState.{CpuState}
 use Rattle.mig_base.specs.declared.message.Message.{Message}
 use Rattle.mig_base.specs.declared.message.Message.TheVariants.{PageFault, Remap, Remove, Unmap}
 use Rattle.mig_base.specs.declared.schedule.Step.{Step}
-use Rattle.mig_base.specs.Commands.{is_access, page_of}
+use Rattle.mig_base.specs.Commands.{is_access}
 use Rattle.mig_base.specs.Flat.{reply_of}
 use Rattle.mig_model.specs.Host.{memory}
-use Rattle.mig_model.specs.Userfault.{Noted, next_of, next_message}
+use Rattle.mig_model.specs.Userfault.{Noted, next_message}
 use Rattle.mig_model.specs.Space.{access_of, call_messages, modes_after}
 use Rattle.mig_model.specs.Wire.{Frame}
 use Rattle.mig_model.specs.Wire.Frame.{Package}
@@ -23,16 +22,15 @@ use Rattle.mig_model.proofs.SourceMessages.{noted_all, events_queued}
 use Rattle.mig_model.proofs.SettledPromises.{accessed_events}
 use Rattle.mig_model.proofs.FaultLemmas.{AreFaults-tried}
 use Rattle.mig_model.proofs.WaitingCommands.{idle_at, map_at, set_there, set_other}
-use Rattle.mig_model.proofs.DestinationRead.{none_is}
 use Rattle.mig_model.proofs.EveryStep.{by_reached}
-use Rattle.mig_model.specs.Cpus.{access_took, all_woken, call_took, idle_processors, is_idle, is_woken, message_less, processor_after, processor_at, taken_over, woken_if}
+use Rattle.mig_model.specs.Cpus.{access_took, all_woken, call_took, is_idle, is_woken, message_less, processor_after, processor_at, taken_over}
 use Rattle.mig_model.specs.Guest.{Guest, read_guest, tried, is_left_by}
 use Rattle.mig_model.specs.Destination.{Destination, destination_took}
 use Rattle.mig_model.specs.Migration.{first_world_with, World, after_command, guest_by, guest_of, has_no_cpu, next, start, with_guest_by}
 use Rattle.mig_model.specs.Promises.{IsReached}
 use Rattle.mig_model.proofs.StepCases.{made-next}
 use Rattle.mig_model.proofs.WokenSteps.{Wakes, takes, wakes-next}
-use Rattle.mig_model.proofs.Facts.{eqb-self, some_is, modes_events}
+use Rattle.mig_model.proofs.Facts.{eqb-self, modes_events}
 
 -- Numbers of events
 
@@ -41,12 +39,10 @@ unread-append [] more k = omega arith
 unread-append (noted ∷ events) more k = let rest = unread-append events more k in omega (arith, rest)
 
 one_more : (here : Bool) (count : ℕ) → (if here then 1 else 0) + (if here then count else 0) ≡ (if here then suc count else 0)
-one_more true count = omega arith
-one_more false count = omega arith
+one_more here count = grind (arith, nat_tests)
 
 none_noted : (here : Bool) (n : ℕ) → n ≡ (if here then n else n)
-none_noted true n = refl
-none_noted false n = refl
+none_noted here n = grind (arith, nat_tests)
 
 unread-noted : (messages : List Message) (cpu k : ℕ) → unread_of (noted_all messages cpu) k ≡ (if eqb cpu k then length messages else 0)
 unread-noted [] cpu k = none_noted (eqb cpu k) 0
@@ -54,44 +50,28 @@ unread-noted (message ∷ messages) cpu k = ap (λ n. (if eqb cpu k then 1 else 
 
 -- Processors
 
-woken_fits : (here : Bool) (command : Command) (unread : ℕ) → unread ≡ 0 → CallFits (if here then CpuState.Woken command else CpuState.Asleep command) unread
-woken_fits true command unread h = h
-woken_fits false command unread h = h
-
-fits_woken : (test : ℕ → Bool) (p : CpuState) (unread : ℕ) → CallFits p unread → CallFits (woken_if test p) unread
-fits_woken test (CpuState.Asleep command) unread h = woken_fits (test (page_of command)) command unread h
-fits_woken test _ unread h = h
-
 -- waking leaves calls
 fits_all : (test : ℕ → Bool) (cpus : List CpuState) (k unread : ℕ) → CallFits (processor_at cpus k) unread → CallFits (processor_at (all_woken test cpus) k) unread
-fits_all test cpus k unread h = subst (λ p. CallFits p unread) (sym (map_at (woken_if test) cpus k refl)) (fits_woken test (processor_at cpus k) unread h)
+fits_all test cpus k unread h = grind (arith, nat_tests, map_at)
 
 idle_unread : (p : CpuState) (unread : ℕ) → is_idle p ≡ true → CallFits p unread → unread ≡ 0
-idle_unread CpuState.Idle unread is h = h
-idle_unread _ unread is h = absurd (false≢true is)
+idle_unread p unread is h = grind (arith, nat_tests)
 
 woken_unread : (p : CpuState) (unread : ℕ) → is_woken p ≡ true → CallFits p unread → unread ≡ 0
-woken_unread (CpuState.Woken command) unread is h = h
-woken_unread _ unread is h = absurd (false≢true is)
+woken_unread p unread is h = grind (arith, nat_tests)
 
 -- a processor that is there changes, and the others stay
 fits_set : (cpus : List CpuState) (i : ℕ) (new : CpuState) (before now : ℕ → ℕ) → not (ltb i (length cpus)) ≡ false → ((k : ℕ) → CallFits (processor_at cpus k) (before k)) → ((k : ℕ) → (i ≡ k → ⊥) → now k ≡ before k) → CallFits new (now i) → (k : ℕ) →
     CallFits (processor_at (set cpus i new) k) (now k)
-fits_set cpus i new before now there fits others here k =
-    ⊎_elim
-    (λ (same : i ≡ k). subst (λ j. CallFits (processor_at (set cpus i new) j) (now j)) same (subst (λ p. CallFits p (now i)) (sym (set_there cpus i new there)) here))
-    (λ (other : i ≡ k → ⊥). subst (λ p. CallFits p (now k)) (sym (set_other cpus i k new other)) (subst (λ n. CallFits (processor_at cpus k) n) (sym (others k other)) (fits k)))
-    (cases_eq i k)
+fits_set cpus i new before now there fits others here k = grind (arith, nat_tests, set_there, set_other)
 
 -- Commands
 
 answered_fits : (access : Access) (command : Command) (unread : ℕ) → unread ≡ 0 → CallFits (processor_after command (access_took access)) unread
-answered_fits (Answered reply) command unread h = h
-answered_fits _ command unread h = h
+answered_fits access command unread h = grind (arith, nat_tests)
 
 called_fits : (reply : Reply) (count : ℕ) (command : Command) (unread : ℕ) → unread ≡ count → CallFits (processor_after command (call_took reply count)) unread
-called_fits reply zero command unread h = h
-called_fits reply (suc left) command unread h = (sym h, omega arith)
+called_fits reply count command unread h = grind (arith, nat_tests)
 
 plus_none : (n : ℕ) → n + 0 ≡ n
 plus_none n = omega arith
@@ -139,10 +119,7 @@ woken_there (p ∷ ps) (suc k) h = more_there k (length ps) (woken_there ps k h)
 -- Messages
 
 less_fits : (p : CpuState) (unread : ℕ) → CallFits p (1 + unread) → CallFits (message_less p) unread
-less_fits (CpuState.InCall reply zero) unread h = let no = h.1 in absurd (omega (arith, no))
-less_fits (CpuState.InCall reply (suc zero)) unread h = let is = h.0 in omega (arith, is)
-less_fits (CpuState.InCall reply (suc (suc left))) unread h = let is = h.0 in (omega (arith, is), omega arith)
-less_fits _ unread h = absurd (omega (arith, h))
+less_fits p unread h = grind (arith, nat_tests)
 
 -- a processor that has unread events is there
 call_there : (cpus : List CpuState) (k unread : ℕ) → CallFits (processor_at cpus k) (1 + unread) → not (ltb k (length cpus)) ≡ false
@@ -172,18 +149,10 @@ event_calls (Unmap start end) cpu events guest right calls = record { fits = eve
 
 fault_calls : (message : Message) (cpu : ℕ) (faults events : List Noted) (guest : Guest) → HasSoundCalls (with_queues (record { message = message; cpu = cpu } ∷ faults) events guest) →
     HasSoundCalls (read_guest (with_queues (record { message = message; cpu = cpu } ∷ faults) events guest) cpu message)
-fault_calls (PageFault addr write wp tid) cpu faults events guest calls = record { fits = calls.fits; faults = calls.faults.1 }
-fault_calls _ cpu faults events guest calls = absurd calls.faults.0
-
-read_in : (faults events : List Noted) (noted : Noted) (guest : Guest) → next_of faults events ≡ Some noted → AreRight events → HasSoundCalls (with_queues faults events guest) → HasSoundCalls (read_guest (with_queues faults events guest) noted.cpu noted.message)
-read_in [] [] noted guest is right calls = absurd (none_is noted is)
-read_in [] (first ∷ events) noted guest is right calls =
-    subst (λ m. HasSoundCalls (read_guest (with_queues [] (first ∷ events) guest) m.cpu m.message)) (some_is first noted is) (event_calls first.message first.cpu events guest right calls)
-read_in (first ∷ faults) events noted guest is right calls =
-    subst (λ m. HasSoundCalls (read_guest (with_queues (first ∷ faults) events guest) m.cpu m.message)) (some_is first noted is) (fault_calls first.message first.cpu faults events guest calls)
+fault_calls message cpu faults events guest calls = grind (arith, nat_tests)
 
 read_calls : (guest : Guest) (noted : Noted) → next_message guest.space.object ≡ Some noted → AreRight guest.space.object.events → HasSoundCalls guest → HasSoundCalls (read_guest guest noted.cpu noted.message)
-read_calls guest noted is right calls = read_in guest.space.object.faults guest.space.object.events noted guest is right calls
+read_calls guest noted is right calls = grind (arith, nat_tests, event_calls, fault_calls)
 
 -- a processor that is taken over is in no call
 taken_fits : (commands : List (Option Command)) (k : ℕ) → CallFits (processor_at (map taken_over commands) k) 0
@@ -208,8 +177,7 @@ woken_calls old new w calls =
 by_guest : (ran : Bool) (world : World) (cpu : ℕ) (command : Command) → not (ltb cpu (length (guest_by ran world.source.guest world.destination.guest).cpus)) ≡ false →
     (HasSoundCalls (guest_by ran world.source.guest world.destination.guest) → unread_of (guest_by ran world.source.guest world.destination.guest).space.object.events cpu ≡ 0) → AreSoundCalls world →
     AreSoundCalls (with_guest_by ran world (tried (is_access command) (guest_by ran world.source.guest world.destination.guest) cpu command))
-by_guest true world cpu command there none all = record { source = all.source; destination = tried_calls (is_access command) world.destination.guest cpu command there (none all.destination) all.destination }
-by_guest false world cpu command there none all = record { source = tried_calls (is_access command) world.source.guest cpu command there (none all.source) all.source; destination = all.destination }
+by_guest ran world cpu command there none all = grind (arith, nat_tests, tried_calls)
 
 command_calls : (world : World) (cpu : ℕ) (command : Command) → has_no_cpu world cpu ≡ false → (HasSoundCalls (guest_of world) → unread_of (guest_of world).space.object.events cpu ≡ 0) → AreSoundCalls world → AreSoundCalls (after_command world cpu command)
 command_calls world cpu command there none all = let new = by_guest world.destination.has_run world cpu command there none all in record { source = new.source; destination = new.destination }
@@ -236,11 +204,8 @@ calls_next world step kept all =
     let wakes = wakes-next world step kept refl in
     record { source = woken_calls _ _ wakes.source all.source; destination = woken_calls _ _ wakes.node.guest all.destination }
 
-idle_calls : (count k : ℕ) → CallFits (processor_at (idle_processors count) k) 0
-idle_calls count k = subst (λ p. CallFits p 0) (sym (idle_at count k)) refl
-
 pub calls-first : (cpus epoch rounds : ℕ) → AreSoundCalls (first_world_with cpus epoch rounds)
-calls-first cpus epoch rounds = let fits = idle_calls cpus in record { source = record { fits = fits; faults = tt }; destination = record { fits = fits; faults = tt } }
+calls-first cpus epoch rounds = grind (arith, nat_tests, idle_at)
 
 pub are_sound_calls : (world : World) → IsReached world → AreSoundCalls world
 are_sound_calls world reached = by_reached AreSoundCalls (λ old step kept urgent all. calls_next old step kept all) calls-first world reached

@@ -102,4 +102,4 @@ put_seen here there owed page held sound mapped new_sound =
 pub accessed_seen : (here there : Host) (owed : ℕ → Option ℕ) (command : Command) (reply : Reply) → is_access command ≡ true → IsSound here → AreMapped here owed → IsSound (host_changed here command reply) →
     (is_made reply ≡ true → get (seen_host here there owed).bytes (page_of command) ≡ get here.bytes (page_of command)) →
     seen_host (host_changed here command reply) there owed ≡ host_changed (seen_host here there owed) command reply
-accessed_seen here there owed command reply access sound mapped new_sound own = grind (arith, nat_tests, put_seen, none_absurd)
+accessed_seen here there owed command reply access sound mapped new_sound own = grind (arith, nat_tests, put_seen)

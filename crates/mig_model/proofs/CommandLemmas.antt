@@ -1,6 +1,6 @@
 -- A command changes the pages of a host as it changes the flat memory that they mean.
 use Rattle.std.proofs.lemmas.Bool.Decides.{nat_tests}
-use Rattle.std.proofs.Common.{◌≡◌, ℕ, ◌+◌, ◌-◌, ◌*◌, ◌/◌, ◌%◌, ◌^◌, ◌≤◌, ◌&&◌, Bool, true, cond, ltb, Option, Some, None, List, [], refl, sym, ap, ◌∙◌, arith, length, is_some, unwrap_or}
+use Rattle.std.proofs.Common.{◌≡◌, ℕ, ◌+◌, ◌-◌, ◌/◌, ◌%◌, ◌^◌, ◌≤◌, ◌&&◌, Bool, true, cond, ltb, Option, None, List, [], refl, sym, ap, ◌∙◌, arith, length, is_some, unwrap_or}
 use Rattle.std.specs.FinMap.{get, contains_key}
 use Rattle.std.proofs.lemmas.Bool.{leb-true}
 use Rattle.std.proofs.lemmas.List.{get_or-take, length-take}
@@ -13,14 +13,14 @@ use Rattle.mig_base.specs.declared.command.Command.TheVariants.{Store, Mmap, Mun
 use Rattle.mig_base.specs.declared.command.Reply.{Reply}
 use Rattle.mig_base.specs.declared.command.Reply.TheVariants.{Done, At, BadAccess, Refused}
 use Rattle.mig_base.specs.Ranges.{rounded, pages_of}
-use Rattle.mig_base.specs.Bytes.{zero_page, contents, overwrite, low_bytes}
+use Rattle.mig_base.specs.Bytes.{zero_page, contents, low_bytes}
 use Rattle.mig_base.specs.Flat.{Memory, Cell, is_mapped, fill, zeros_with, clear, zeroed, moved, write, is_aligned, allows_store, access_reply, reply_of, changed}
 use Rattle.mig_base.proofs.ReplyLemmas.{IsRemapped, found_inside, mmap_inside, munmap_whole, dontneed_done, dontneed_hole, mremap_told}
 use Rattle.mig_base.proofs.ReplyLemmas.IsWhere.{Shrunk, Grew, Moved, Told}
 use Rattle.mig_base.proofs.ByteLemmas.{get_or-zero_page, length-zero_page, length-overwrite}
 use Rattle.mig_base.proofs.BoundLemmas.{one_prot_some, high_or}
 use Rattle.mig_model.specs.Host.{Host, memory, host_changed, host_moved, host_dropped, IsSound}
-use Rattle.mig_model.proofs.NumberLemmas.{aligned_inside, get_or-bytes_low_first}
+use Rattle.mig_model.proofs.NumberLemmas.{aligned_inside}
 use Rattle.mig_model.proofs.HostLemmas.{AreDigits, ReadsAs, is_mapped-memory, memory-none, memory-write, memory-map, memory-unmap, memory-dropped, memory-moved, IsSound-put, IsSound-map, IsSound-unmap, IsSound-dropped, IsSound-moved}
 use Rattle.mig_model.proofs.Facts.{and_second}
 
@@ -45,16 +45,13 @@ stored_mapped host addr width value h =
     sym (ap (λ f. f addr) (is_mapped-memory host)) ∙ here
 
 pub digits_low_bytes : (value width : ℕ) → width ≤ 8 → AreDigits (low_bytes value width) width value
-digits_low_bytes value width few = grind (arith, nat_tests, length-take, get_or-take, get_or-bytes_low_first)
+digits_low_bytes value width few = grind (arith, nat_tests, length-take, get_or-take)
 
 reads_or_zero : (o : Option (List ℕ)) → ReadsAs (unwrap_or o zero_page) (unwrap_or o [])
 reads_or_zero o = grind (arith, nat_tests, get_or-zero_page)
 
-length_or_zero : (o : Option (List ℕ)) → ((bytes : List ℕ) → o ≡ Some bytes → length bytes ≡ 4096) → length (unwrap_or o zero_page) ≡ 4096
-length_or_zero o h = grind (arith, nat_tests, length-zero_page)
-
 pub length-contents : (host : Host) (page : ℕ) → IsSound host → length (contents host.bytes page) ≡ 4096
-length-contents host page sound = length_or_zero (get host.bytes page) (sound.whole page)
+length-contents host page sound = grind (arith, nat_tests, length-zero_page)
 
 memory-stored : (host : Host) (addr width value : ℕ) → IsSound host → is_aligned addr width ≡ true → memory (host_changed host (Store addr width value) Done) ≡ write (memory host) addr width value
 memory-stored host addr width value sound form =
@@ -62,33 +59,22 @@ memory-stored host addr width value sound form =
     memory-write host addr width value (contents host.bytes (addr / 4096)) (low_bytes value width) (reads_or_zero (get host.bytes (addr / 4096))) (length-contents host (addr / 4096) sound) (digits_low_bytes value width is.few) is.inside
 
 IsSound-stored : (host : Host) (addr width value : ℕ) → IsSound host → contains_key host.areas (addr / 4096) ≡ true → is_aligned addr width ≡ true → IsSound (host_changed host (Store addr width value) Done)
-IsSound-stored host addr width value sound mapped form =
-    let is = aligned_inside addr width form in
-    let inside = is.inside in
-    let digits = digits_low_bytes value width is.few in
-    let count = digits.count in
-    let whole = length-contents host (addr / 4096) sound in
-    IsSound-put host (addr / 4096) (overwrite (contents host.bytes (addr / 4096)) (addr % 4096) (low_bytes value width)) sound mapped
-    (length-overwrite (contents host.bytes (addr / 4096)) (low_bytes value width) (addr % 4096) (omega arith) ∙ whole)
+IsSound-stored host addr width value sound mapped form = grind (arith, nat_tests, length-contents, IsSound-put, length-overwrite)
 
 -- Ranges
 
--- an address that is the first of a page
-page_start : (addr : ℕ) → addr % 4096 ≡ 0 → addr / 4096 * 4096 ≡ addr
-page_start addr h = omega arith
-
 memory-mapped : (host : Host) (len start : ℕ) (prot : Prot) (place : Place) → start % 4096 ≡ 0 → memory (host_changed host (Mmap len prot place) (At start)) ≡ fill (memory host) start (rounded len) (zeros_with prot)
-memory-mapped host len start prot place whole = grind (arith, nat_tests, memory-map, page_start)
+memory-mapped host len start prot place whole = grind (arith, nat_tests, memory-map)
 
 memory-unmapped : (host : Host) (addr len : ℕ) → addr % 4096 ≡ 0 → memory (host_changed host (Munmap addr len) Done) ≡ clear (memory host) addr (rounded len)
-memory-unmapped host addr len whole = grind (arith, nat_tests, memory-unmap, page_start)
+memory-unmapped host addr len whole = grind (arith, nat_tests, memory-unmap)
 
 memory-zeroed : (host : Host) (addr len : ℕ) → addr % 4096 ≡ 0 → memory (host_dropped host (addr / 4096) (pages_of len)) ≡ zeroed (memory host) addr (rounded len)
-memory-zeroed host addr len whole = grind (arith, nat_tests, memory-dropped, page_start)
+memory-zeroed host addr len whole = grind (arith, nat_tests, memory-dropped)
 
 memory-remapped : (host : Host) (addr old_len new_len target : ℕ) → addr % 4096 ≡ 0 → target % 4096 ≡ 0 →
     memory (host_moved host (addr / 4096) (pages_of old_len) (target / 4096) (pages_of new_len)) ≡ moved (memory host) addr (rounded old_len) target (rounded new_len)
-memory-remapped host addr old_len new_len target old new = grind (arith, nat_tests, memory-moved, page_start)
+memory-remapped host addr old_len new_len target old new = grind (arith, nat_tests, memory-moved)
 
 -- The place of an mremap
 
@@ -131,9 +117,7 @@ pub IsSound-changed : (host : Host) (command : Command) (reply : Reply) → IsSo
 IsSound-changed host (Store addr width value) Done sound h = IsSound-stored host addr width value sound (stored_mapped host addr width value h) (stored_form (memory host) addr width value h)
 IsSound-changed host (Mmap len prot place) (At start) sound h = IsSound-map host (start / 4096) (pages_of len) prot sound (high_pages start len (mmap_inside (memory host) len prot place start h).high)
 IsSound-changed host (Munmap addr len) Done sound h = IsSound-unmap host (addr / 4096) (pages_of len) sound
-IsSound-changed host (Mremap addr old_len new_len may_move fixed) (At target) sound h =
-    let told = mremap_told (memory host) addr old_len new_len may_move fixed target h in
-    IsSound-moved host (addr / 4096) (pages_of old_len) (target / 4096) (pages_of new_len) sound (high_pages target new_len (remapped_place host addr old_len new_len target sound told).high)
+IsSound-changed host (Mremap addr old_len new_len may_move fixed) (At target) sound h = grind (arith, nat_tests, mremap_told, IsSound-moved, high_pages, remapped_place)
 IsSound-changed host (DontNeed addr len) Done sound h = IsSound-dropped host (addr / 4096) (pages_of len) sound
 IsSound-changed host (DontNeed addr len) (Refused Enomem) sound h = IsSound-dropped host (addr / 4096) (pages_of len) sound
 IsSound-changed host _ _ sound h = sound

@@ -1,91 +1,35 @@
 -- A complete migration, and which parts of a world each step changes.
-use Rattle.std.proofs.Common.{◌≡◌, ℕ, ◌==◌, ◌^◌, ◌-◌, Bool, true, false, not, List, [], ◌∷◌, refl, sym, ap, ◌∙◌}
-use Rattle.std.proofs.lemmas.Bool.{false≢true, not-false}
+use Rattle.std.proofs.lemmas.Bool.Decides.{nat_tests}
+use Rattle.std.proofs.Common.{◌≡◌, ℕ, List, [], ◌∷◌, refl, arith}
 use Rattle.mig_base.specs.declared.command.Command.{Command}
 use Rattle.mig_base.specs.declared.step.Step.{Step}
 use Rattle.mig_base.specs.declared.step.Step.TheVariants as step
-use Rattle.mig_base.specs.declared.step.Refusal.TheVariants.{Phase, CountUsed}
-use Rattle.mig_base.specs.declared.step.SourcePhase.{SourcePhase}
 use Rattle.mig_base.specs.declared.step.SourcePhase.TheVariants as source
-use Rattle.mig_base.specs.declared.step.DestinationPhase.{DestinationPhase}
-use Rattle.mig_base.specs.declared.step.DestinationPhase.TheVariants as destination
 use Rattle.mig_base.specs.declared.step.WorldPhase.TheVariants as phase
 use Rattle.mig_base.specs.Flat.{memory_of}
-use Rattle.mig_model.specs.Host.{Host, bare_host, memory, host_after}
-use Rattle.mig_model.specs.Frame.{Frame, Sent}
-use Rattle.mig_model.specs.Frame.Frame.{Done}
-use Rattle.mig_model.specs.Node.{Source, is_idle, is_precopy, has_run, source_took}
-use Rattle.mig_model.specs.World.{World, active_host, with_active, refusal_of, issued, started, switched, delivered, delivered_back, end_sent, next, after_steps, phase_by, phase_of}
+use Rattle.mig_model.specs.Host.{bare_host, memory}
+use Rattle.mig_model.specs.World.{World, refusal_of, started, switched, end_sent, next, after_steps, phase_of}
 use Rattle.mig_model.specs.Kept.{IsKept}
-use Rattle.mig_model.proofs.WorldLemmas.{at_stage}
-use Rattle.mig_model.proofs.Every.{by_refusal, first_test}
-
-complete_released : (from : SourcePhase) (runs : Bool) → phase_by from runs ≡ phase.Complete → from ≡ source.Released
-complete_released source.Released runs h = refl
-complete_released source.Idle runs h = absurd (cc)
-complete_released source.Precopy runs h = absurd (cc)
-complete_released source.Stopped false h = absurd (cc)
-complete_released source.Stopped true h = absurd (cc)
-
-pub released : (world : World) → phase_of world ≡ phase.Complete → world.source.phase ≡ source.Released
-released world h = complete_released world.source.phase (has_run world.destination.phase) h
-
-pub complete : (world : World) → world.source.phase ≡ source.Released → phase_of world ≡ phase.Complete
-complete world h = ap (λ from. phase_by from (has_run world.destination.phase)) h
-
--- the destination holds the memory of the transcript, and the source has no page
-alone_in : (from : SourcePhase) (to : DestinationPhase) (ends : Bool) (world : World) → from ≡ source.Released → IsKept (at_stage from to ends world) →
-    (memory world.destination.host ≡ memory_of world.transcript) × (world.source.host ≡ bare_host)
-alone_in source.Released destination.Ended ends world is kept = let w = kept.wires in (kept.holds, w.2)
-alone_in source.Released _ ends world is kept = absurd kept.wires
-alone_in _ _ ends world is kept = absurd (cc)
+use Rattle.mig_model.proofs.Every.{by_refusal}
 
 pub alone : (world : World) → phase_of world ≡ phase.Complete → IsKept world → (memory world.destination.host ≡ memory_of world.transcript) × (world.source.host ≡ bare_host)
-alone world h kept = alone_in world.source.phase world.destination.phase world.source.end_sent world (released world h) kept
+alone world h kept = grind (arith, nat_tests)
 
 -- It stays complete
 
 abbrev IsReleased : World → Type 0
 IsReleased world = world.source.phase ≡ source.Released
 
-with_active-released : (runs : Bool) (world : World) (host : Host) → IsReleased world → IsReleased (with_active runs world host)
-with_active-released true world host h = h
-with_active-released false world host h = h
-
-source_took-released : (node : Source) (frame : Frame) → node.phase ≡ source.Released → (source_took node frame).phase ≡ source.Released
-source_took-released node Done h = refl
-source_took-released node _ h = h
-
-delivered-released : (world : World) (wire : List Sent) → IsReleased world → IsReleased (delivered world wire)
-delivered-released world [] h = h
-delivered-released world (sent ∷ rest) h = h
-
-delivered_back-released : (world : World) (wire : List Sent) → IsReleased world → IsReleased (delivered_back world wire)
-delivered_back-released world [] h = h
-delivered_back-released world (sent ∷ rest) h = source_took-released world.source sent.frame h
-
 next-released : (world : World) (step : Step) → IsReleased world → IsReleased (next world step)
 unfolding next
-next-released world (step.Issue cpu command) h =
-    by_refusal IsReleased (refusal_of world (step.Issue cpu command)) world (issued world cpu command) h
-    (λ _. with_active-released (has_run world.destination.phase) world (host_after (active_host world) command) h)
-next-released world step.Start h =
-    by_refusal IsReleased (refusal_of world step.Start) world (started world) h
-    (λ none. let idle = first_test (not (is_idle world.source.phase)) Phase ((world.source.epoch == 2 ^ 32 - 1, CountUsed) ∷ []) none in
-    absurd (false≢true (sym (ap is_idle h) ∙ not-false (is_idle world.source.phase) idle)))
-next-released world step.Switch h =
-    by_refusal IsReleased (refusal_of world step.Switch) world (switched world) h
-    (λ none. absurd (false≢true (sym (ap is_precopy h) ∙ not-false (is_precopy world.source.phase) (first_test (not (is_precopy world.source.phase)) Phase [] none))))
-next-released world step.Deliver h = by_refusal IsReleased (refusal_of world step.Deliver) world (delivered world world.forward) h (λ _. delivered-released world world.forward h)
-next-released world step.DeliverBack h = by_refusal IsReleased (refusal_of world step.DeliverBack) world (delivered_back world world.back) h (λ _. delivered_back-released world world.back h)
-next-released world step.End h = by_refusal IsReleased (refusal_of world step.End) world (end_sent world) h (λ _. h)
+next-released world step h = grind (arith, nat_tests)
 
 after_steps-released : (world : World) (steps : List Step) → IsReleased world → IsReleased (after_steps world steps)
 after_steps-released world [] h = h
 after_steps-released world (step ∷ steps) h = after_steps-released (next world step) steps (next-released world step h)
 
 pub stays_complete : (world : World) (steps : List Step) → phase_of world ≡ phase.Complete → phase_of (after_steps world steps) ≡ phase.Complete
-stays_complete world steps h = complete (after_steps world steps) (after_steps-released world steps (released world h))
+stays_complete world steps h = grind (arith, nat_tests, after_steps-released)
 
 -- Which parts each step changes
 
@@ -117,29 +61,14 @@ pub end_changes : (world : World) → AtSource world (next world step.End)
 unfolding next
 end_changes world = by_refusal (AtSource world) (refusal_of world step.End) world (end_sent world) (refl, refl, refl) (λ _. (refl, refl, refl))
 
-delivered-changes : (world : World) (wire : List Sent) → AtDestination world (delivered world wire)
-delivered-changes world [] = (refl, refl)
-delivered-changes world (sent ∷ rest) = (refl, refl)
-
 pub deliver_changes : (world : World) → AtDestination world (next world step.Deliver)
 unfolding next
-deliver_changes world = by_refusal (AtDestination world) (refusal_of world step.Deliver) world (delivered world world.forward) (refl, refl) (λ _. delivered-changes world world.forward)
-
-delivered_back-changes : (world : World) (wire : List Sent) → AtSourceBack world (delivered_back world wire)
-delivered_back-changes world [] = (refl, refl, refl)
-delivered_back-changes world (sent ∷ rest) = (refl, refl, refl)
+deliver_changes world = grind (arith, nat_tests)
 
 pub deliver_back_changes : (world : World) → AtSourceBack world (next world step.DeliverBack)
 unfolding next
-deliver_back_changes world =
-    by_refusal (AtSourceBack world) (refusal_of world step.DeliverBack) world (delivered_back world world.back) (refl, refl, refl) (λ _. delivered_back-changes world world.back)
-
-with_active-changes : (runs : Bool) (world : World) (host : Host) → OffWires world (with_active runs world host)
-with_active-changes true world host = (refl, refl)
-with_active-changes false world host = (refl, refl)
+deliver_back_changes world = grind (arith, nat_tests)
 
 pub issue_changes : (world : World) (cpu : ℕ) (command : Command) → OffWires world (next world (step.Issue cpu command))
 unfolding next
-issue_changes world cpu command =
-    by_refusal (OffWires world) (refusal_of world (step.Issue cpu command)) world (issued world cpu command) (refl, refl)
-    (λ _. with_active-changes (has_run world.destination.phase) world (host_after (active_host world) command))
+issue_changes world cpu command = grind (arith, nat_tests)

@@ -1,5 +1,6 @@
 -- A migration can be completed from every world in which it can go on: each phase of the source leads to a later one.
-use Rattle.std.proofs.Common.{◌≡◌, ℕ, zero, suc, ◌<◌, Bool, true, false, ltb, List, [], ◌∷◌, length, refl, sym, ap, subst, arith}
+use Rattle.std.proofs.lemmas.Bool.Decides.{nat_tests}
+use Rattle.std.proofs.Common.{◌≡◌, ℕ, zero, suc, ◌<◌, Bool, true, false, List, [], ◌∷◌, refl, sym, ap, subst, arith}
 use Rattle.std.specs.Ordering.{nat_cmp}
 use Rattle.std.specs.FinSet.{FinSet}
 use Rattle.std.proofs.lemmas.Bool.{not-true}
@@ -8,24 +9,23 @@ use Rattle.mig_base.specs.declared.phase.Received.{Received}
 use Rattle.mig_base.specs.declared.phase.SourcePhase.{SourcePhase}
 use Rattle.mig_base.specs.declared.schedule.Side.{Side}
 use Rattle.mig_model.specs.Userfault.{Noted}
-use Rattle.mig_model.specs.Source.{Source, is_precopy, is_released, is_source_idle, is_source_paused, source_rebuilt, space_of}
+use Rattle.mig_model.specs.Source.{Source, is_released, is_source_idle, is_source_paused, source_rebuilt, space_of}
 use Rattle.mig_model.specs.Destination.{is_dest_paused}
 use Rattle.mig_model.specs.Wire.{Sent}
 use Rattle.mig_model.specs.Wire.Frame.{Recv, Resume}
-use Rattle.mig_model.specs.Migration.{World, has_started, is_used, after_deliver, after_deliver_back, after_notice, after_resume, after_source_read, after_start, after_switch}
+use Rattle.mig_model.specs.Migration.{World, has_started, is_used, after_deliver, after_deliver_back, after_notice, after_source_read, after_start}
 use Rattle.mig_model.specs.Invariant.{SwitchedAt}
 use Rattle.mig_model.specs.Promises.{CanComplete, IsReached}
 use Rattle.mig_model.proofs.Facts.{none_absurd}
 use Rattle.mig_model.proofs.FirstFrame.{empty_not}
 use Rattle.mig_model.proofs.EveryStep.{kept-reached, urgent-reached}
-use Rattle.mig_model.proofs.AcceptedSteps.{IsInOrder, complete_now, by_deliver, by_deliver_back, by_notice, by_resume, by_source_read, by_start, by_switch}
+use Rattle.mig_model.proofs.AcceptedSteps.{IsInOrder, by_deliver, by_deliver_back, by_notice, by_resume, by_source_read, by_start, by_switch}
 use Rattle.mig_model.proofs.CompletionStopped.{IsUpAt, next_some, read-less, read_object, stopped_completes, unread, wires_at}
 
 -- Pre-copy: the messages are read, until no event is unread, and the source switches
 
 switch_step : (world : World) → (space_of world.source).object.events ≡ [] → IsUpAt SourcePhase.Precopy world → CanComplete world
-switch_step world quiet at =
-    by_switch world (ap is_precopy at.phase) at.up (ap (λ events. ltb 0 (length events)) quiet) at.order (λ order. stopped_completes (after_switch world) (record { order = order; up = at.up; phase = refl }))
+switch_step world quiet at = grind (arith, nat_tests, by_switch, stopped_completes)
 
 precopy_by : (n : ℕ) (events : List Noted) (world : World) → (space_of world.source).object.events ≡ events → unread (space_of world.source).object < n → IsUpAt SourcePhase.Precopy world → CanComplete world
 precopy_by n [] world quiet few at = switch_step world quiet at
@@ -48,17 +48,10 @@ is_going SourcePhase.Released = true
 is_going phase = false
 
 going_by : (from : SourcePhase) (world : World) → world.source.phase ≡ from → is_going from ≡ true → world.up ≡ true → IsInOrder world → CanComplete world
-going_by SourcePhase.Precopy world is going up order =
-    precopy_by (suc (unread (space_of world.source).object)) (space_of world.source).object.events world refl (omega arith) (record { order = order; up = up; phase = is })
-going_by SourcePhase.Stopped world is going up order = stopped_completes world (record { order = order; up = up; phase = is })
-going_by SourcePhase.Released world is going up order = complete_now world (ap is_released is)
-going_by _ world is going up order = none_absurd going
+going_by from world is going up order = grind (arith, nat_tests, precopy_by, stopped_completes, none_absurd)
 
 rebuilt_going : (state : Received) (owed : FinSet nat_cmp) (node : Source) → is_going (source_rebuilt state owed node).phase ≡ true
-rebuilt_going Received.NotRun owed node =
-    elim node.switched as (λ switched. is_going (source_rebuilt Received.NotRun owed (record node { switched = switched })).phase ≡ true) [ true ↦ refl | false ↦ refl ]
-rebuilt_going Received.Running owed node = refl
-rebuilt_going Received.Ended owed node = refl
+rebuilt_going state owed node = grind (arith, nat_tests)
 
 recv_step : (world : World) (state : Received) (owed : FinSet nat_cmp) (epoch : ℕ) (rest : List Sent) → world.back.frames ≡ record { epoch = epoch; frame = Recv state owed } ∷ rest → IsUpAt SourcePhase.Paused world → CanComplete world
 recv_step world state owed epoch rest first at =
@@ -68,12 +61,7 @@ recv_step world state owed epoch rest first at =
 
 -- where the destination has noticed too, it takes Resume first
 paused_by : (to : DestPhase) (world : World) → world.destination.phase ≡ to → (to ≡ DestPhase.Paused → CanComplete world) → IsUpAt SourcePhase.Paused world → CanComplete world
-paused_by DestPhase.Advised world is resumes at = let w = wires_at SourcePhase.Paused DestPhase.Advised world is at in recv_step world Received.NotRun _ _ _ w.1 at
-paused_by DestPhase.Running world is resumes at = let w = wires_at SourcePhase.Paused DestPhase.Running world is at in recv_step world Received.Running w.1.owed w.1.epoch w.1.rest w.1.first at
-paused_by DestPhase.Ended world is resumes at = let w = wires_at SourcePhase.Paused DestPhase.Ended world is at in recv_step world Received.Ended w.1.owed w.1.epoch w.1.rest w.1.first at
-paused_by DestPhase.Paused world is resumes at = resumes refl
-paused_by DestPhase.Idle world is resumes at = absurd (wires_at SourcePhase.Paused DestPhase.Idle world is at)
-paused_by DestPhase.Discarding world is resumes at = absurd (wires_at SourcePhase.Paused DestPhase.Discarding world is at)
+paused_by to world is resumes at = grind (arith, nat_tests, recv_step)
 
 resume_taken : (world : World) → world.destination.phase ≡ DestPhase.Paused → IsUpAt SourcePhase.Paused world → CanComplete world
 resume_taken world is at =
@@ -87,11 +75,7 @@ resume_taken world is at =
 -- The link is up, and the migration has begun
 
 link_up_by : (from : SourcePhase) (world : World) → world.source.phase ≡ from → is_source_idle from ≡ false → world.up ≡ true → IsInOrder world → CanComplete world
-link_up_by SourcePhase.Idle world is started up order = none_absurd (sym started)
-link_up_by SourcePhase.Paused world is started up order =
-    let at : IsUpAt SourcePhase.Paused world = record { order = order; up = up; phase = is } in
-    paused_by world.destination.phase world refl (λ both. resume_taken world both at) at
-link_up_by from world is started up order = going_by from world is refl up order
+link_up_by from world is started up order = grind (arith, nat_tests, paused_by, resume_taken, going_by)
 
 -- The link is down: both sides notice it, and the source resumes in its next epoch
 
@@ -101,8 +85,7 @@ record IsDown (world : World) : Type 0 where
   free : is_used world.source.epoch ≡ false
 
 resume_step : (world : World) → world.source.phase ≡ SourcePhase.Paused → is_dest_paused world.destination.phase ≡ true → IsDown world → CanComplete world
-resume_step world from to at =
-    by_resume world (ap is_source_paused from) to at.down at.free at.order (λ order. link_up_by SourcePhase.Paused (after_resume world) from refl refl order)
+resume_step world from to at = grind (arith, nat_tests, by_resume, link_up_by)
 
 notice_destination : (paused : Bool) (world : World) → is_dest_paused world.destination.phase ≡ paused → world.source.phase ≡ SourcePhase.Paused → IsDown world → CanComplete world
 notice_destination true world is from at = resume_step world from is at
@@ -123,17 +106,12 @@ link_down_by from world is at =
 start_step : (world : World) → is_source_idle world.source.phase ≡ true → is_used world.source.epoch ≡ false → world.up ≡ true → IsInOrder world → CanComplete world
 start_step world idle free up order = by_start world idle free order (λ new. link_up_by SourcePhase.Precopy (after_start world) refl refl up new)
 
-epoch_left_by : (idle up : Bool) (world : World) → is_source_idle world.source.phase ≡ idle → world.up ≡ up → is_used world.source.epoch ≡ false → IsInOrder world → CanComplete world
-epoch_left_by idle false world begun down free order = link_down_by world.source.phase world refl (record { order = order; down = down; free = free })
-epoch_left_by true true world idle up free order = start_step world idle free up order
-epoch_left_by false true world started up free order = link_up_by world.source.phase world refl started up order
-
 in_order : (world : World) → IsReached world → IsInOrder world
 in_order world reached = record { kept = kept-reached world reached; urgent = urgent-reached world reached }
 
 -- while the epoch of the source is not its last
 pub epoch_left-completes : (world : World) → IsReached world → is_used world.source.epoch ≡ false → CanComplete world
-epoch_left-completes world reached free = epoch_left_by (is_source_idle world.source.phase) world.up world refl refl free (in_order world reached)
+epoch_left-completes world reached free = grind (arith, nat_tests, in_order, link_down_by, start_step, link_up_by)
 
 -- while the link is up and the migration has begun
 pub link_up-completes : (world : World) → IsReached world → has_started world ≡ true → world.up ≡ true → CanComplete world

@@ -7,29 +7,25 @@ use Rattle.std.specs.FinSet.{FinSet, contains, contains-empty, empty_of_len, len
 use Rattle.std.proofs.lemmas.Cmp.{nat_cmp_total}
 use Rattle.std.proofs.lemmas.Bool.{false≢true}
 use Rattle.std.proofs.lemmas.Bool.Decides.{nat_tests}
-use Rattle.std.proofs.lemmas.Option.{none-some, same_Some}
 use Rattle.mig_base.specs.declared.TheConstants.{HIGH_PAGE}
 use Rattle.mig_base.specs.declared.message.Message.{Message}
-use Rattle.mig_base.specs.declared.message.Message.TheVariants.{PageFault}
 use Rattle.mig_base.specs.declared.phase.DestPhase.{DestPhase}
 use Rattle.mig_base.specs.declared.phase.SourcePhase.{SourcePhase}
 use Rattle.mig_base.specs.Tests.{is_empty}
-use Rattle.mig_base.specs.Bytes.{zero_page}
 use Rattle.mig_base.proofs.RangeLemmas.{least_below_tells}
-use Rattle.mig_model.specs.Userfault.{Noted, Object, first_noted, message_read, next_message, next_of, read_by}
+use Rattle.mig_model.specs.Userfault.{Noted, Object, first_noted, message_read, next_message, next_of}
 use Rattle.mig_model.specs.Guest.{Guest, read_guest}
 use Rattle.mig_model.specs.Log.{least_of}
 use Rattle.mig_model.specs.Owed.{home}
-use Rattle.mig_model.specs.Source.{Source, is_released, is_source_idle, is_source_paused, is_stopped, source_took}
-use Rattle.mig_model.specs.Destination.{Destination, copy_came, destination_took, install_by, urgent_took}
+use Rattle.mig_model.specs.Source.{Source, is_released, is_source_idle, is_stopped, source_took}
+use Rattle.mig_model.specs.Destination.{Destination, destination_took, install_by, urgent_took}
 use Rattle.mig_model.specs.Wire.{Copy, Frame, Sent}
-use Rattle.mig_model.specs.Wire.Frame.{Page, Zero, End, Request, Recv, Done}
-use Rattle.mig_model.specs.Migration.{World, is_changing, is_early, is_end, after_deliver, after_deliver_back, after_deliver_urgent, after_dest_read, after_end, after_install, after_push}
-use Rattle.mig_model.specs.Invariant.{AreTold, Flow, IsTold, RanAt, Wires, are_requests_and_done, flow_after, flow_next, flow_of}
+use Rattle.mig_model.specs.Migration.{World, is_changing, is_early, is_end, after_deliver, after_deliver_back, after_deliver_urgent, after_dest_read, after_install, after_push}
+use Rattle.mig_model.specs.Invariant.{AreTold, Flow, IsTold, RanAt, Wires, flow_after, flow_next, flow_of}
 use Rattle.mig_model.specs.Invariant.Flow.{BeforeAdvise, Copies, BeforePackage, Pushed, AfterEnd}
 use Rattle.mig_model.specs.Promises.{CanComplete}
 use Rattle.mig_model.proofs.Taken.{IsInPlaceBack}
-use Rattle.mig_model.proofs.Facts.{and_false, eqb-self, none_absurd}
+use Rattle.mig_model.proofs.Facts.{and_false}
 use Rattle.mig_model.proofs.FirstFrame.{comes}
 use Rattle.mig_model.proofs.FramesTaken.{is_taken_back}
 use Rattle.mig_model.proofs.UrgentWire.{placed}
@@ -51,14 +47,10 @@ wires_at from to world is at =
 -- The destination has ended: its requests are taken, and then Done
 
 took_back : (node : Source) (frame : Frame) → node.phase ≡ SourcePhase.Stopped → IsInPlaceBack node frame → ((source_took node frame).phase ≡ SourcePhase.Stopped) ⊎ ((source_took node frame).phase ≡ SourcePhase.Released)
-took_back node (Request page) stopped in_place = inl stopped
-took_back node Done stopped in_place = inr refl
-took_back node (Recv state owed) stopped in_place = absurd (false≢true (ap is_source_paused (sym stopped) ∙ in_place.0))
-took_back node _ stopped in_place = absurd in_place
+took_back node frame stopped in_place = grind (arith, nat_tests)
 
 ended_by : (frames : List Sent) (world : World) → world.back.frames ≡ frames → IsUpAt SourcePhase.Stopped world → world.destination.phase ≡ DestPhase.Ended → CanComplete world
-ended_by [] world first at ended =
-    absurd (false≢true (sym (ap are_requests_and_done first) ∙ (wires_at SourcePhase.Stopped DestPhase.Ended world ended at).1))
+ended_by [] world first at ended = grind (arith, nat_tests, wires_at)
 ended_by (sent ∷ rest) world first at ended =
     by_deliver_back world sent rest first (ap is_source_idle at.phase) at.up at.order (λ order.
     ⊎_elim
@@ -77,20 +69,13 @@ unread object = length object.faults + length object.events
 work : World → ℕ
 work world = 2 * (length world.forward.frames + length world.urgent.frames) + (length world.destination.arrivals + unread world.destination.guest.space.object)
 
-read_by-less : (faults events : List Noted) (object : Object) (noted : Noted) → next_of faults events ≡ Some noted → unread (read_by faults (record object { faults = faults; events = events })) + 1 ≡ length faults + length events
-unfolding unread
-read_by-less [] [] object noted is = absurd (none-some noted is)
-read_by-less [] (event ∷ events) object noted is = omega arith
-read_by-less (fault ∷ faults) events object noted is = omega arith
-
 -- a message that is read is unread no longer
 pub read-less : (object : Object) (noted : Noted) → next_message object ≡ Some noted → unread (message_read object) + 1 ≡ unread object
 unfolding unread
-read-less object noted is = read_by-less object.faults object.events object noted is
+read-less object noted is = grind (arith, nat_tests)
 
 pub read_object : (guest : Guest) (cpu : ℕ) (message : Message) → (read_guest guest cpu message).space.object ≡ message_read guest.space.object
-read_object guest cpu (PageFault addr write wp tid) = refl
-read_object guest cpu _ = refl
+read_object guest cpu message = grind (arith, nat_tests)
 
 first_of : (faults events : List Noted) (event : Noted) (more : List Noted) → events ≡ event ∷ more → (noted : Noted) × (next_of faults events ≡ Some noted)
 first_of [] events event more is = (event, ap first_noted is)
@@ -112,20 +97,11 @@ one_more arrivals copy = let more = length-append arrivals (copy ∷ []) in omeg
 none_more : (arrivals : List Copy) → length arrivals ≤ length arrivals + 1
 none_more arrivals = omega arith
 
-copy_came-next : (ran : Bool) (node : Destination) (copy : Copy) → IsNext node (copy_came ran node copy)
-copy_came-next true node copy = record { arrived = one_more node.arrivals copy; guest = refl; phase = inl refl }
-copy_came-next false node copy = record { arrived = none_more node.arrivals; guest = refl; phase = inl refl }
-
 pushed-next : (node : Destination) (epoch : ℕ) (frame : Frame) → is_some (flow_next Pushed frame) ≡ true → IsNext node (destination_took node epoch frame)
-pushed-next node epoch (Page page bytes) in_place = copy_came-next node.has_run node (record { page = page; bytes = bytes })
-pushed-next node epoch (Zero page) in_place = copy_came-next node.has_run node (record { page = page; bytes = zero_page })
-pushed-next node epoch (End urgent) in_place = record { arrived = none_more node.arrivals; guest = refl; phase = inr refl }
-pushed-next node epoch _ in_place = none_absurd in_place
+pushed-next node epoch frame in_place = grind (arith, nat_tests, one_more, none_more)
 
 urgent_took-next : (node : Destination) (frame : Frame) → IsNext node (urgent_took node frame)
-urgent_took-next node (Page page bytes) = record { arrived = one_more node.arrivals (record { page = page; bytes = bytes }); guest = refl; phase = inl refl }
-urgent_took-next node (Zero page) = record { arrived = one_more node.arrivals (record { page = page; bytes = zero_page }); guest = refl; phase = inl refl }
-urgent_took-next node _ = record { arrived = none_more node.arrivals; guest = refl; phase = inl refl }
+urgent_took-next node frame = grind (arith, nat_tests, one_more)
 
 -- a copy that is installed or given up waits no longer, and no message is read by it
 record IsInstalled (old new : Destination) (rest : List Copy) : Type 0 where
@@ -134,8 +110,7 @@ record IsInstalled (old new : Destination) (rest : List Copy) : Type 0 where
   phase : new.phase ≡ old.phase
 
 install_by-next : (page : Option ℕ) (node : Destination) (copy : Copy) (rest : List Copy) → IsInstalled node (install_by page node copy rest) rest
-install_by-next (Some page) node copy rest = record { arrivals = refl; object = refl; phase = refl }
-install_by-next None node copy rest = record { arrivals = refl; object = refl; phase = refl }
+install_by-next page node copy rest = grind (arith, nat_tests)
 
 -- the destination runs, and End was sent in this epoch
 record IsDraining (world : World) : Type 0 where
@@ -183,8 +158,7 @@ install_step world copy rest first quiet draining again =
 
 -- End does not come before an urgent frame
 none_early : (node : Destination) (epoch end_epoch count : ℕ) (frame : Frame) → IsTold epoch end_epoch count frame → count ≡ node.urgent_taken + 0 → is_early node frame ≡ false
-none_early node epoch end_epoch count (End urgent) told all = let same = told.1 in grind (arith, nat_tests, same, all)
-none_early node epoch end_epoch count _ told all = refl
+none_early node epoch end_epoch count frame told all = grind (arith, nat_tests)
 
 deliver_step : (world : World) (sent : Sent) (rest : List Sent) → world.forward.frames ≡ sent ∷ rest → world.urgent.frames ≡ [] → world.destination.arrivals ≡ [] → IsDraining world → Again world → CanComplete world
 unfolding Again work
@@ -204,13 +178,10 @@ deliver_step world sent rest first none free draining again =
 
 -- the wire is not empty as long as End was not taken
 not_at_end : (flow : Flow) (source : Source) (frames : List Sent) → flow ≢ AfterEnd → flow_of source ≡ AfterEnd → flow_after flow frames ≡ Some (flow_of source) → frames ≢ []
-not_at_end flow source frames other told h none =
-    other (same_Some flow AfterEnd (sym (ap (flow_after flow) none) ∙ h ∙ ap (λ f. Some f) told))
+not_at_end flow source frames other told h none = grind (arith, nat_tests)
 
 forward_step : (frames : List Sent) (world : World) → world.forward.frames ≡ frames → world.urgent.frames ≡ [] → world.destination.arrivals ≡ [] → IsDraining world → Again world → CanComplete world
-forward_step [] world first none free draining again =
-    absurd (not_at_end Pushed world.source world.forward.frames (λ h. cc) draining.told (wires_at SourcePhase.Stopped DestPhase.Running world draining.runs draining.at).0 first)
-forward_step (sent ∷ rest) world first none free draining again = deliver_step world sent rest first none free draining again
+forward_step frames world first none free draining again = grind (arith, nat_tests, deliver_step)
 
 quiet_step : (copy : Copy) (rest : List Copy) (events : List Noted) (world : World) → world.destination.arrivals ≡ copy ∷ rest → world.destination.guest.space.object.events ≡ events → IsDraining world → Again world → CanComplete world
 quiet_step copy rest [] world first quiet draining again = install_step world copy rest first (ap (λ events. ltb 0 (length events)) quiet) draining again
@@ -224,8 +195,7 @@ arrivals_step (copy ∷ rest) world first none draining again = quiet_step copy 
 
 -- one step that leaves less
 one_step : (urgent : List Sent) (world : World) → world.urgent.frames ≡ urgent → IsDraining world → Again world → CanComplete world
-one_step [] world none draining again = arrivals_step world.destination.arrivals world refl none draining again
-one_step (sent ∷ rest) world first draining again = urgent_step world sent rest first draining again
+one_step urgent world none draining again = grind (arith, nat_tests, arrivals_step, urgent_step)
 
 running_by : (n : ℕ) (world : World) → work world < n → IsUpAt SourcePhase.Stopped world → flow_of world.source ≡ AfterEnd → (world.destination.phase ≡ DestPhase.Running) ⊎ (world.destination.phase ≡ DestPhase.Ended) → CanComplete world
 unfolding Again
@@ -245,22 +215,6 @@ is_waiting DestPhase.Advised = true
 is_waiting DestPhase.Discarding = true
 is_waiting phase = false
 
--- what comes to it is not End
-waiting-not_early : (to : DestPhase) (node : Destination) (frame : Frame) → is_waiting to ≡ true → comes SourcePhase.Stopped to frame ≡ true → is_early node frame ≡ false
-waiting-not_early DestPhase.Idle node (End urgent) waits h = none_absurd h
-waiting-not_early DestPhase.Advised node (End urgent) waits h = none_absurd h
-waiting-not_early DestPhase.Discarding node (End urgent) waits h = none_absurd h
-waiting-not_early DestPhase.Running node (End urgent) waits h = none_absurd waits
-waiting-not_early DestPhase.Paused node (End urgent) waits h = none_absurd waits
-waiting-not_early DestPhase.Ended node (End urgent) waits h = none_absurd waits
-waiting-not_early to node _ waits h = refl
-
-waiting-not_run : (to : DestPhase) (ran ended : Bool) → is_waiting to ≡ true → RanAt to ran ended → ran ≡ false
-waiting-not_run DestPhase.Idle ran ended waits h = h
-waiting-not_run DestPhase.Advised ran ended waits h = h
-waiting-not_run DestPhase.Discarding ran ended waits h = h
-waiting-not_run _ ran ended waits h = none_absurd waits
-
 -- where the wire to it begins
 waiting_flow : DestPhase → Flow
 waiting_flow DestPhase.Idle = BeforeAdvise
@@ -269,48 +223,30 @@ waiting_flow phase = BeforePackage
 
 waiting-not_ended : (to : DestPhase) → waiting_flow to ≢ AfterEnd
 unfolding waiting_flow
-waiting-not_ended DestPhase.Advised h = cc
-waiting-not_ended _ h = cc
+waiting-not_ended to h = grind (arith, nat_tests)
 
 waiting_wire : (to : DestPhase) (world : World) → is_waiting to ≡ true → world.destination.phase ≡ to → IsUpAt SourcePhase.Stopped world → flow_after (waiting_flow to) world.forward.frames ≡ Some (flow_of world.source)
 unfolding waiting_flow
-waiting_wire DestPhase.Idle world waits is at = (wires_at SourcePhase.Stopped DestPhase.Idle world is at).0
-waiting_wire DestPhase.Advised world waits is at = (wires_at SourcePhase.Stopped DestPhase.Advised world is at).0
-waiting_wire DestPhase.Discarding world waits is at = (wires_at SourcePhase.Stopped DestPhase.Discarding world is at).0
-waiting_wire _ world waits is at = none_absurd waits
+waiting_wire to world waits is at = grind (arith, nat_tests)
 
 -- a destination that has taken no End waits, runs or has ended
 by_phase : (to : DestPhase) (world : World) → world.destination.phase ≡ to → IsUpAt SourcePhase.Stopped world → flow_of world.source ≡ AfterEnd → (is_waiting to ≡ true → CanComplete world) → CanComplete world
-by_phase DestPhase.Running world is at told waiting = running_by (suc (work world)) world (omega arith) at told (inl is)
-by_phase DestPhase.Ended world is at told waiting = running_by (suc (work world)) world (omega arith) at told (inr is)
-by_phase DestPhase.Paused world is at told waiting = absurd (wires_at SourcePhase.Stopped DestPhase.Paused world is at)
-by_phase _ world is at told waiting = waiting refl
+by_phase to world is at told waiting = grind (arith, nat_tests, running_by)
 
 waiting_step : (world : World) (sent : Sent) (rest : List Sent) → world.forward.frames ≡ sent ∷ rest → IsUpAt SourcePhase.Stopped world → is_waiting world.destination.phase ≡ true →
     (IsUpAt SourcePhase.Stopped (after_deliver world sent rest) → CanComplete (after_deliver world sent rest)) → CanComplete world
-waiting_step world sent rest first at waits can =
-    let kept = at.order.kept in
-    let comes_so = subst (λ p. comes p world.destination.phase sent.frame ≡ true) at.phase (placed world sent rest kept first at.up) in
-    let ran = waiting-not_run world.destination.phase world.destination.has_run world.destination.ended waits kept.phases.destination_phase in
-    let free = (kept.owing.not_run ran).2 in
-    by_deliver world sent rest first (ap is_source_idle at.phase) at.up (ap (λ arrivals. is_end sent.frame && not (is_empty arrivals)) free ∙ and_false (is_end sent.frame))
-    (waiting-not_early world.destination.phase world.destination sent.frame waits comes_so) at.order (λ order. can (record { order = order; up = at.up; phase = at.phase }))
+waiting_step world sent rest first at waits can = grind (arith, nat_tests, by_deliver, and_false)
 
 -- once End is sent, until it is taken
 told_by : (frames : List Sent) (world : World) → world.forward.frames ≡ frames → IsUpAt SourcePhase.Stopped world → flow_of world.source ≡ AfterEnd → CanComplete world
-told_by [] world none at told =
-    by_phase world.destination.phase world refl at told (λ waits.
-    absurd (not_at_end (waiting_flow world.destination.phase) world.source world.forward.frames (waiting-not_ended world.destination.phase) told (waiting_wire world.destination.phase world waits refl at) none))
+told_by [] world none at told = grind (arith, nat_tests, by_phase, not_at_end, waiting_flow, waiting-not_ended, waiting_wire)
 told_by (first ∷ rest) world is at told =
     by_phase world.destination.phase world refl at told (λ waits. waiting_step world first rest is at waits (λ new. told_by rest (after_deliver world first rest) refl new told))
 
 -- The source: what remains is pushed, and End is sent
 
 end_by : (ended : Bool) (world : World) → eqb world.source.end_epoch world.source.epoch ≡ ended → least_of world.source.remaining ≡ None → IsUpAt SourcePhase.Stopped world → CanComplete world
-end_by true world is none at = told_by world.forward.frames world refl at (ap (λ b. cond b AfterEnd Pushed) is)
-end_by false world is none at =
-    by_end world (ap is_stopped at.phase) at.up is none at.order (λ order.
-    told_by (after_end world).forward.frames (after_end world) refl (record { order = order; up = at.up; phase = at.phase }) (ap (λ b. cond b AfterEnd Pushed) (eqb-self world.source.epoch)))
+end_by ended world is none at = grind (arith, nat_tests, told_by, by_end)
 
 some_member : (pages : FinSet nat_cmp) (page : ℕ) → contains pages page ≡ true → finset.len pages ≢ 0
 some_member pages page there none = false≢true (sym (ap (λ s. contains s page) (empty_of_len pages none) ∙ contains-empty nat_cmp page) ∙ there)

@@ -1,18 +1,19 @@
 -- The destination takes a frame: Advise, a copy, a Discard, End, Resume.
-use Rattle.std.proofs.Common.{◌≡◌, ◌≢◌, ℕ, ◌||◌, Bool, true, false, cond, eqb, Option, Some, None, List, [], ◌∷◌, refl, sym, ap, ◌∙◌, ◌<◌, ◌≤◌, ltb, is_some, map, subst, arith, length, ◌&&◌, not, ◌++◌}
+use Rattle.std.proofs.lemmas.Bool.Decides.{nat_tests}
+use Rattle.std.proofs.Common.{◌≡◌, ◌≢◌, ℕ, ◌||◌, Bool, true, false, cond, eqb, Option, Some, None, List, [], ◌∷◌, refl, sym, ap, ◌∙◌, ◌<◌, ltb, is_some, map, subst, arith, length, ◌&&◌, not, ◌++◌}
 use Rattle.std.specs.Ordering.{nat_cmp}
 use Rattle.std.specs.FinMap as finmap
 use Rattle.std.specs.FinMap.{get, get-empty, FinMap, insert, get-retain_keys, nat_cmp-IsAntisymmetric}
 use Rattle.std.specs.FinSet.{FinSet, contains-empty, contains}
-use Rattle.std.proofs.lemmas.Bool.{false≢true, eqb-true, and_from, lt-ltb}
+use Rattle.std.proofs.lemmas.Bool.{false≢true, lt-ltb}
 use Rattle.mig_base.specs.declared.phase.DestPhase.{DestPhase}
 use Rattle.mig_base.specs.declared.phase.SourcePhase.{SourcePhase}
 use Rattle.mig_base.proofs.PageLemmas.{same_pages}
 use Rattle.mig_model.specs.Wire.{Sent, Copy, Frame, sending, wire_behind, copies_in, kept_after, kept_with}
-use Rattle.mig_model.specs.Wire.Frame.{End, Done, Resume, Request, Recv, Advise, Page, Zero, Run, Discard, Package}
+use Rattle.mig_model.specs.Wire.Frame.{End, Done, Resume, Request, Recv, Advise, Page, Zero, Run, Discard}
 use Rattle.mig_model.specs.Migration.{World, is_end, after_deliver}
 use Rattle.mig_model.specs.Invariant.{Wires, IsSoundWorld, IsFlowing, AreOf, copies_of, has_copy, flow_of, RanAt, is_urgent_or_left, EpochAt, IsSwitching, flow_after, are_requests, behind, kept_by, package_in, AreWhole, AreFaithful}
-use Rattle.mig_model.specs.Invariant.Flow.{Pushed, AfterEnd, Copies}
+use Rattle.mig_model.specs.Invariant.Flow.{Pushed, AfterEnd}
 use Rattle.mig_model.proofs.WireLemmas.{flight_up, AreOf-append, are_requests_and_done-push, sending-behind, AreOf-sending, are_requests-sending, has_copy-append, fits-append, fits-none, fits-more}
 use Rattle.mig_model.proofs.FirstFrame.{at_state, nothing_behind, delivered, first_in_place, ends_late}
 use Rattle.mig_model.specs.Log.{no_pages}
@@ -27,17 +28,13 @@ use Rattle.mig_model.proofs.SettledLemmas.{home-some, home_tells}
 use Rattle.mig_model.proofs.Stopping.{present_below}
 use Rattle.mig_base.specs.Bytes.{zero_page}
 use Rattle.mig_base.specs.Tests.{is_empty}
-use Rattle.mig_model.specs.Space.{fresh_space}
 use Rattle.mig_model.proofs.HostLemmas.{get-put}
 use Rattle.mig_model.proofs.PackageTaken.{package_taken}
 use Rattle.mig_base.proofs.TestLemmas.{never_some}
 
-ends_by : (test : Bool) → cond test AfterEnd Pushed ≡ AfterEnd → test ≡ true
-ends_by test h = grind arith
-
 -- a wire that gets past End is that of a source that has sent it in this epoch
 pub ended_now : (source : Source) → flow_of source ≡ AfterEnd → source.end_epoch ≡ source.epoch
-ended_now source h = eqb-true source.end_epoch source.epoch (ends_by (eqb source.end_epoch source.epoch) h)
+ended_now source h = grind (arith, nat_tests)
 
 -- no page remains, none is in flight and none waits
 pub nowhere : (remaining : FinSet nat_cmp) (rest urgent : List Sent) (arrivals : List Copy) (origin : ℕ) → remaining ≡ no_pages → rest ≡ [] → urgent ≡ [] → arrivals ≡ [] →
@@ -71,8 +68,7 @@ end_taken epoch count rest world free came kept =
 
 -- each origin of the table is among them
 pub origins-pair : (owed : FinMap nat_cmp ℕ) (page origin : ℕ) → get owed page ≡ Some origin → page < HIGH_PAGE → ltb origin HIGH_PAGE ≡ true → contains (origins owed) origin ≡ true
-origins-pair owed page origin h low high =
-    member_below _ HIGH_PAGE origin ∙ and_from (ltb origin HIGH_PAGE) (is_some (home owed origin)) high (home-some owed origin page low h)
+origins-pair owed page origin h low high = grind (arith, nat_tests, member_below, home-some)
 
 -- and each of them is an origin of the table
 pub pair-origins : (owed : FinMap nat_cmp ℕ) (origin : ℕ) → contains (origins owed) origin ≡ true → (page : ℕ) × (get owed page ≡ Some origin)
@@ -101,31 +97,13 @@ goes_on : (to : DestPhase) (ran : Bool) (epoch : ℕ) (keeps : FinMap nat_cmp (L
     } in
     IsSoundWorld old → to ≢ DestPhase.Idle → RanAt to ran world.destination.ended → (epoch ≡ world.source.epoch → EpochAt to epoch world.source.epoch) → (ran ≡ true → keeps ≡ finmap.empty) →
     ((page : ℕ) (bytes : List ℕ) → get keeps page ≡ Some bytes → length bytes ≡ 4096) → Wires new.source new.destination new.forward.frames new.back.frames new.urgent.frames → IsSoundWorld new
-goes_on to ran epoch keeps frames rest world kept advised phase at kept_none kept_whole on_wires =
-    let old : World = at_state SourcePhase.Paused DestPhase.Paused ran true (record { epoch = epoch; frame = Resume } ∷ rest) world in
-    let new : World = record old {
-      destination = record old.destination { phase = to; epoch = epoch; kept = keeps; urgent_taken = 0 };
-      forward = wire_behind rest;
-      back = record world.back { frames = sending world.back.frames epoch frames };
-    } in
-    let same : epoch ≡ world.source.epoch = kept.epochs.forward_epoch.0 in
-    let kept_advised : to ≡ DestPhase.Idle → keeps ≡ finmap.empty = λ h. absurd (advised h) in
-    let flight = flight_up new refl kept.flight.flight_faithful on_wires in
-    let forward_epoch : AreOf world.source.epoch rest = kept.epochs.forward_epoch.1 in
-    let back_epoch = subst (λ e. AreOf e new.back.frames) same (AreOf-sending epoch world.back.frames frames (subst (λ e. AreOf e world.back.frames) (sym same) kept.epochs.back_epoch)) in
-    let not_ahead : epoch ≤ world.source.epoch = omega (arith, same) in
-    let epoch_at = at same in
-    assumption (fits-none rest, fits-more world.back.frames world.back.held epoch frames kept.held.back_held)
+goes_on to ran epoch keeps frames rest world kept advised phase at kept_none kept_whole on_wires = grind (arith, nat_tests, AreOf-sending, fits-none, fits-more)
 
 -- it has not run: what it kept is given up
 resume_waiting : (epoch : ℕ) (rest : List Sent) (world : World) →
     let old : World = at_state SourcePhase.Paused DestPhase.Paused false true (record { epoch = epoch; frame = Resume } ∷ rest) world in
     IsSoundWorld old → IsSoundWorld (delivered old old.forward.frames)
-resume_waiting epoch rest world kept =
-    let w = kept.flight.wires refl in
-    let answered = answer_first world.back.frames epoch (Recv Received.NotRun no_pages) [] w.1 ∙ ap (λ e. record { epoch = e; frame = Recv Received.NotRun no_pages } ∷ []) kept.epochs.forward_epoch.0 in
-    goes_on DestPhase.Advised false epoch finmap.empty (Recv Received.NotRun no_pages ∷ []) rest world kept (λ h. cc) refl (λ same. same) (λ h. refl)
-    (λ page bytes h. absurd (none-some bytes (sym (get-empty nat_cmp page) ∙ h))) (resume_alone epoch world.source.epoch rest w.0, answered, refl, refl)
+resume_waiting epoch rest world kept = grind (arith, nat_tests)
 
 -- it runs: it still needs what it is owed, and asks again for what it has asked
 resume_running : (epoch : ℕ) (rest : List Sent) (world : World) →
@@ -195,24 +173,14 @@ taken_before : (from : SourcePhase) (to next : DestPhase) (ran : Bool) (epoch ow
     let new : World = record old { destination = record old.destination { phase = next; epoch = own; kept = keeps; urgent_taken = count }; forward = wire_behind rest } in
     IsSoundWorld old → ran ≡ false → next ≢ DestPhase.Idle → RanAt next ran world.destination.ended → own ≡ world.source.epoch → EpochAt next own world.source.epoch →
     ((page : ℕ) (bytes : List ℕ) → get keeps page ≡ Some bytes → length bytes ≡ 4096) → AreWhole (copies_of rest) → Wires new.source new.destination new.forward.frames new.back.frames new.urgent.frames → IsSoundWorld new
-taken_before from to next ran epoch own count frame keeps rest world kept bare advised phase same at whole copies on_wires =
-    let old : World = at_state from to ran true (record { epoch = epoch; frame = frame } ∷ rest) world in
-    let new : World = record old { destination = record old.destination { phase = next; epoch = own; kept = keeps; urgent_taken = count }; forward = wire_behind rest } in
-    let kept_none : ran ≡ true → keeps ≡ finmap.empty = λ h. absurd (false≢true (sym bare ∙ h)) in
-    let kept_advised : next ≡ DestPhase.Idle → keeps ≡ finmap.empty = λ h. absurd (advised h) in
-    let flight = flight_up new refl (λ h. absurd (false≢true (sym bare ∙ h))) on_wires in
-    let forward_epoch : AreOf new.source.epoch rest = kept.epochs.forward_epoch.1 in
-    let not_ahead : own ≤ world.source.epoch = omega (arith, same) in
-    assumption (fits-none rest)
+taken_before from to next ran epoch own count frame keeps rest world kept bare advised phase same at whole copies on_wires = grind (arith, nat_tests)
 
 -- Advise: the wires are what they were
 advise_taken : (from : SourcePhase) (ran : Bool) (epoch : ℕ) (rest : List Sent) (world : World) →
     let old : World = at_state from DestPhase.Idle ran true (record { epoch = epoch; frame = Advise } ∷ rest) world in
     let new : World = delivered old old.forward.frames in
     IsSoundWorld old → Wires new.source new.destination new.forward.frames new.back.frames new.urgent.frames → IsSoundWorld new
-advise_taken from ran epoch rest world kept on_wires =
-    let same = kept.epochs.forward_epoch.0 in
-    taken_before from DestPhase.Idle DestPhase.Advised ran epoch epoch 0 Advise world.destination.kept rest world kept kept.phases.destination_phase (λ h. cc) kept.phases.destination_phase same same kept.copies.kept_whole kept.copies.copies_whole on_wires
+advise_taken from ran epoch rest world kept on_wires = grind (arith, nat_tests)
 
 -- Copies while the destination does not run
 
@@ -224,19 +192,14 @@ whole_parts (copy ∷ a) b h = let rest = whole_parts a b h.1 in ((h.0, rest.0),
 whole_with : (copies : List Copy) (kept : FinMap nat_cmp (List ℕ)) → AreWhole copies → ((q : ℕ) (held : List ℕ) → get kept q ≡ Some held → length held ≡ 4096) →
     (q : ℕ) (held : List ℕ) → get (kept_with kept copies) q ≡ Some held → length held ≡ 4096
 whole_with [] kept are whole = whole
-whole_with (copy ∷ copies) kept are whole =
-    whole_with copies (insert kept copy.page copy.bytes) are.1 (λ q held h. put_whole (eqb q copy.page) copy.bytes held (get kept q) are.0 (whole q held) (sym (get-put kept copy.page q copy.bytes) ∙ h))
+whole_with (copy ∷ copies) kept are whole = grind (arith, nat_tests, put_whole, get-put, whole_with copies (insert kept copy.page copy.bytes) are.1 (λ q held h. put_whole (eqb q copy.page) copy.bytes held (get kept q) are.0 (whole q held) (sym (get-put kept copy.page q copy.bytes) ∙ h)))
 
 -- the kept table is folded over the wire as before
 copies_kept : (from : SourcePhase) (epoch : ℕ) (frame : Frame) (rest : List Sent) (world : World) →
     let old : World = at_state from DestPhase.Advised false true (record { epoch = epoch; frame = frame } ∷ rest) world in
     let new : World = record old { destination = record old.destination { kept = kept_with world.destination.kept (copies_in frame) }; forward = wire_behind rest } in
     IsSoundWorld old → Wires new.source new.destination new.forward.frames new.back.frames new.urgent.frames → IsSoundWorld new
-copies_kept from epoch frame rest world kept on_wires =
-    let both = whole_parts (copies_in frame) (copies_of rest) kept.copies.copies_whole in
-    let same = kept.epochs.epoch_at refl in
-    taken_before from DestPhase.Advised DestPhase.Advised false epoch world.destination.epoch world.destination.urgent_taken frame (kept_with world.destination.kept (copies_in frame)) rest world kept refl (λ h. cc) refl same same
-    (whole_with (copies_in frame) world.destination.kept both.0 kept.copies.kept_whole) both.1 on_wires
+copies_kept from epoch frame rest world kept on_wires = grind (arith, nat_tests, whole_parts, whole_with)
 
 -- A Discard
 
@@ -268,32 +231,14 @@ copy_arrives : (epoch : ℕ) (frame : Frame) (copy : Copy) (rest : List Sent) (w
     ((page origin : ℕ) → get world.destination.owed page ≡ Some origin →
     (is_urgent_or_left world.source.remaining world.urgent.frames origin || has_copy (copy ∷ copies_of rest) origin || has_copy world.destination.arrivals origin) ≡ true) →
     IsSoundWorld (record old { destination = record old.destination { arrivals = world.destination.arrivals ++ copy ∷ [] }; forward = wire_behind rest })
-copy_arrives epoch frame copy rest world kept faithful whole flow requests whereabouts =
-    let old : World = at_state SourcePhase.Stopped DestPhase.Running true true (record { epoch = epoch; frame = frame } ∷ rest) world in
-    let new : World = record old { destination = record old.destination { arrivals = world.destination.arrivals ++ copy ∷ [] }; forward = wire_behind rest } in
-    let not_run : new.destination.has_run ≡ false → (new.destination.owed ≡ finmap.empty) × (new.destination.guest.space ≡ fresh_space) × (new.destination.arrivals ≡ []) = λ h. absurd (not_up h) in
-    let arrivals_faithful = AreFaithful-append new.source.guest.space.host.bytes world.destination.arrivals (copy ∷ []) (kept.owing.arrivals_faithful refl) (faithful.0, tt) in
-    let ended_empty : new.destination.ended ≡ true → (new.destination.owed ≡ finmap.empty) × (new.destination.arrivals ≡ []) = λ h. absurd (false≢true (sym kept.phases.destination_phase.1 ∙ h)) in
-    let flowing : IsFlowing new.source new.destination rest world.urgent.frames =
-    record {
-      -- it is no longer in flight, and has arrived
-      whereabouts = λ q origin h.
-          let there = whereabouts q origin h in
-          rw (has_copy-append world.destination.arrivals (copy ∷ []) origin) (grind arith);
-    } in
-    let flight = flight_up new refl (λ r. faithful.1) (flow, requests, flowing) in
-    let forward_epoch : AreOf new.source.epoch rest = kept.epochs.forward_epoch.1 in
-    assumption (fits-none rest)
+copy_arrives epoch frame copy rest world kept faithful whole flow requests whereabouts = grind (arith, nat_tests, AreFaithful-append, has_copy-append, flight_up, fits-none)
 
 -- The frames in their phases
 
 precopy_unadvised : (ran : Bool) (epoch : ℕ) (frame : Frame) (rest : List Sent) (world : World) →
     let old : World = at_state SourcePhase.Precopy DestPhase.Idle ran true (record { epoch = epoch; frame = frame } ∷ rest) world in
     IsSoundWorld old → IsSoundWorld (delivered old old.forward.frames)
-precopy_unadvised ran epoch Advise rest world kept =
-    let w = kept.flight.wires refl in
-    advise_taken SourcePhase.Precopy ran epoch rest world kept (w.0, w.1, record { clean_copy = w.2.clean_copy; copies_sent = w.2.copies_sent })
-precopy_unadvised ran epoch _ rest world kept = absurd (none-some Copies (kept.flight.wires refl).0)
+precopy_unadvised ran epoch frame rest world kept = grind (arith, nat_tests)
 
 stopped_unadvised : (ran : Bool) (epoch : ℕ) (frame : Frame) (rest : List Sent) (world : World) →
     let old : World = at_state SourcePhase.Stopped DestPhase.Idle ran true (record { epoch = epoch; frame = frame } ∷ rest) world in
@@ -307,11 +252,7 @@ stopped_unadvised ran epoch _ rest world kept = absurd (none-some (flow_of (reco
 precopy_advised : (epoch : ℕ) (frame : Frame) (rest : List Sent) (world : World) →
     let old : World = at_state SourcePhase.Precopy DestPhase.Advised false true (record { epoch = epoch; frame = frame } ∷ rest) world in
     IsSoundWorld old → IsSoundWorld (delivered old old.forward.frames)
-precopy_advised epoch (Page page bytes) rest world kept = let w = kept.flight.wires refl in copies_kept _ epoch (Page page bytes) rest world kept (w.0, w.1, record { clean_copy = w.2.clean_copy; copies_sent = w.2.copies_sent })
-precopy_advised epoch (Zero page) rest world kept = let w = kept.flight.wires refl in copies_kept _ epoch (Zero page) rest world kept (w.0, w.1, record { clean_copy = w.2.clean_copy; copies_sent = w.2.copies_sent })
-precopy_advised epoch (Run first pages) rest world kept = let w = kept.flight.wires refl in copies_kept _ epoch (Run first pages) rest world kept (w.0, w.1, record { clean_copy = w.2.clean_copy; copies_sent = w.2.copies_sent })
-precopy_advised epoch (Discard pages) rest world kept = absurd (ends_late rest (kept.flight.wires refl).0)
-precopy_advised epoch _ rest world kept = absurd (none-some Copies (kept.flight.wires refl).0)
+precopy_advised epoch frame rest world kept = grind (arith, nat_tests, copies_kept, ends_late)
 
 -- the Package and the pages behind it are the same
 switching_on : (source : Source) (kept keeps : FinMap nat_cmp (List ℕ)) (wire rest urgent : List Sent) → package_in wire ≡ package_in rest → kept_by kept wire ≡ kept_by keeps rest → behind wire ≡ behind rest →
@@ -338,8 +279,7 @@ stopped_advised epoch _ rest world kept = absurd (none-some (flow_of (record wor
 stopped_discarding : (epoch : ℕ) (frame : Frame) (rest : List Sent) (world : World) →
     let old : World = at_state SourcePhase.Stopped DestPhase.Discarding false true (record { epoch = epoch; frame = frame } ∷ rest) world in
     IsSoundWorld old → IsSoundWorld (delivered old old.forward.frames)
-stopped_discarding epoch (Package areas owed commands) rest world kept = package_taken epoch areas owed commands rest world kept
-stopped_discarding epoch _ rest world kept = absurd (none-some (flow_of (record world.source { phase = SourcePhase.Stopped })) (kept.flight.wires refl).0)
+stopped_discarding epoch frame rest world kept = grind (arith, nat_tests, package_taken)
 
 -- whether the frame is one before which all that came has to be installed
 abbrev IsFree : Frame → World → Type 0
@@ -350,8 +290,7 @@ abbrev pub AllCame : Frame → World → Type 0
 AllCame frame world = (count : ℕ) → frame ≡ End count → world.urgent.frames ≡ []
 
 none_waits : (arrivals : List Copy) → not (is_empty arrivals) ≡ false → arrivals ≡ []
-none_waits [] h = refl
-none_waits (copy ∷ arrivals) h = absurd (not_up h)
+none_waits arrivals h = grind (arith, nat_tests)
 
 stopped_running : (epoch : ℕ) (frame : Frame) (rest : List Sent) (world : World) → IsFree frame world → AllCame frame world →
     let old : World = at_state SourcePhase.Stopped DestPhase.Running true true (record { epoch = epoch; frame = frame } ∷ rest) world in

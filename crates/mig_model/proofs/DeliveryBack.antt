@@ -1,5 +1,6 @@
 -- The source takes a frame of the wire back: a request, a Recv, and Done, with which it is released.
-use Rattle.std.proofs.Common.{◌≡◌, ◌≢◌, ℕ, ◌/◌, ◌&&◌, ◌||◌, Bool, true, false, cond, ltb, Option, Some, None, is_some, List, [], ◌∷◌, refl, sym, ap, ◌∙◌, inl, subst, arith}
+use Rattle.std.proofs.lemmas.Bool.Decides.{nat_tests}
+use Rattle.std.proofs.Common.{◌≡◌, ◌≢◌, ℕ, ◌&&◌, ◌||◌, Bool, true, false, cond, ltb, Option, Some, None, is_some, List, [], ◌∷◌, refl, sym, ap, ◌∙◌, subst, arith}
 use Rattle.std.specs.Ordering.{nat_cmp}
 use Rattle.std.specs.FinMap as finmap
 use Rattle.std.specs.FinMap.{FinMap, get, contains_key, get-empty}
@@ -11,18 +12,16 @@ use Rattle.mig_base.specs.declared.phase.Received.{Received}
 use Rattle.mig_base.specs.declared.phase.SourcePhase.{SourcePhase}
 use Rattle.mig_base.specs.declared.TheConstants.{HIGH_PAGE}
 use Rattle.mig_base.specs.declared.message.Message.{Message}
-use Rattle.mig_base.specs.declared.message.Message.TheVariants.{PageFault, Remap, Remove, Unmap}
 use Rattle.mig_base.specs.Flat.{memory_of}
-use Rattle.mig_base.specs.Ranges.{in_range}
 use Rattle.mig_base.proofs.SetLemmas.{member_below}
 use Rattle.mig_model.specs.Host.{Host, memory, IsSound}
 use Rattle.mig_model.specs.Userfault.{Noted}
 use Rattle.mig_model.specs.Space.{fresh_space}
-use Rattle.mig_model.specs.Guest.{is_present, is_changed_by}
+use Rattle.mig_model.specs.Guest.{is_present}
 use Rattle.mig_model.specs.Wire.{Frame, Sent, kept_after, wire_behind}
-use Rattle.mig_model.specs.Wire.Frame.{Discard, Request, Recv, Done}
+use Rattle.mig_model.specs.Wire.Frame.{Discard, Recv}
 use Rattle.mig_model.specs.Migration.{World, after_deliver_back}
-use Rattle.mig_model.specs.Invariant.{Wires, IsSoundWorld, IsSoundPushing, IsSoundLog, IsReceiving, are_requests_and_done, IsPrecopying, IsSwitching, IsFlowing, AreOf, AreFaithful, copies_of, has_copy, are_requests, seen_host, current_host}
+use Rattle.mig_model.specs.Invariant.{IsSoundWorld, IsSoundPushing, IsSoundLog, IsSwitching, AreOf, AreFaithful, copies_of, has_copy, seen_host, current_host}
 use Rattle.mig_model.proofs.FrameLemmas.{discard_none}
 use Rattle.mig_model.proofs.SpaceLemmas.{IsSoundSpace-fresh}
 use Rattle.mig_model.proofs.FirstFrame.{empty_not, delivered_back}
@@ -33,36 +32,16 @@ use Rattle.mig_model.specs.Destination.{settled}
 use Rattle.mig_model.proofs.WireLemmas.{fits-more, fits-none, flight_up}
 use Rattle.mig_model.proofs.Facts.{and_second, not_up, no_page}
 use Rattle.mig_model.proofs.Stopping.{flow_open, log_stopped, pushing_stopped}
-use Rattle.mig_base.specs.Tests.{is_empty}
 
 -- a world with these phases and this wire back, whose link is up
 abbrev at_back : SourcePhase → DestPhase → (ran switched : Bool) → (forward back : List Sent) → World → World
 at_back from to ran switched forward back world =
     record world { source = record world.source { phase = from; switched = switched }; destination = record world.destination { phase = to; has_run = ran }; forward = record world.forward { frames = forward }; back = record world.back { frames = back }; up = true }
 
--- A request
-
-request_taken : (to : DestPhase) (ran switched : Bool) (epoch page : ℕ) (rest : List Sent) (world : World) →
-    let old : World = at_back SourcePhase.Stopped to ran switched world.forward.frames (record { epoch = epoch; frame = Request page } ∷ rest) world in
-    let new : World = delivered_back old old.back.frames in
-    IsSoundWorld old → Wires new.source new.destination new.forward.frames new.back.frames new.urgent.frames → IsSoundWorld new
-request_taken to ran switched epoch page rest world kept on_wires =
-    let old : World = at_back SourcePhase.Stopped to ran switched world.forward.frames (record { epoch = epoch; frame = Request page } ∷ rest) world in
-    let new : World = delivered_back old old.back.frames in
-    let back_epoch : AreOf new.source.epoch new.back.frames = kept.epochs.back_epoch.1 in
-    assumption (flight_up new refl kept.flight.flight_faithful on_wires, fits-none rest)
-
 -- A source that is released
 
--- where nothing is owed, nothing is owed once the events are read
-cond_same : (b c : Bool) (x : Option ℕ) → cond b x (cond c x x) ≡ x
-cond_same b c x = grind arith
-
 nothing_after : (message : Message) → owed_after message (λ _. None) ≡ (λ _. None)
-nothing_after (Remap from to len) = λ i page. cond_same (in_range (to / 4096) (len / 4096) page) (in_range (from / 4096) (len / 4096) page) None i
-nothing_after (Remove start end) = λ i page. cond_same false (is_changed_by (Remove start end) page) None i
-nothing_after (Unmap start end) = λ i page. cond_same false (is_changed_by (Unmap start end) page) None i
-nothing_after (PageFault addr write wp tid) = refl
+nothing_after message = grind (arith, nat_tests)
 
 pub settled_by-none : (events : List Noted) → settled_by events (λ _. None) ≡ (λ _. None)
 settled_by-none [] = refl
@@ -114,28 +93,7 @@ no_copy page kept h = ap (λ k. contains_key k page) h ∙ ap is_some (get-empty
 recv_precopy : (owed : FinSet nat_cmp) (epoch : ℕ) (rest : List Sent) (world : World) →
     let old : World = at_back SourcePhase.Paused DestPhase.Advised false false [] (record { epoch = epoch; frame = Recv Received.NotRun owed } ∷ rest) world in
     IsSoundWorld old → rest ≡ [] → IsSoundWorld (delivered_back old old.back.frames)
-recv_precopy owed epoch rest world kept last =
-    let old : World = at_back SourcePhase.Paused DestPhase.Advised false false [] (record { epoch = epoch; frame = Recv Received.NotRun owed } ∷ rest) world in
-    let new : World = delivered_back old old.back.frames in
-    let w = kept.flight.wires refl in
-    let pushing : IsSoundPushing new.source.phase new.source.switched new.up new.source.epoch new.source.end_epoch (space_of new.source) new.source.remaining =
-    record {
-      before_switch = λ h. ((kept.pushing.before_switch refl).0, inl (kept.pushing.paused_fresh refl refl));
-      end_sent = kept.pushing.end_sent;
-      remaining_present = kept.pushing.remaining_present;
-      ended_before = kept.pushing.ended_before;
-      paused_fresh = λ u h. kept.pushing.paused_fresh refl refl;
-      released_empty = λ h. absurd (let e : SourcePhase.Precopy ≡ SourcePhase.Released = h in cc);
-    } in
-    let log : IsSoundLog new.source.phase new.source.switched (space_of new.source) new.source.log.clean new.source.log.todo new.source.log.sent =
-    record { idle_source = λ h. absurd (let e : SourcePhase.Precopy ≡ SourcePhase.Idle = h in cc); clean_protected = λ s page h. no_page page h; todo_sendable = λ s page h. no_page page h } in
-    let precopying : IsPrecopying new.source new.destination.kept new.forward.frames =
-    record {
-      clean_copy = λ page h unread. no_page page h;
-      copies_sent = λ page h. absurd (false≢true (sym (no_copy page world.destination.kept w.2) ∙ h));
-    } in
-    let back_epoch : AreOf new.source.epoch new.back.frames = kept.epochs.back_epoch.1 in
-    assumption (flight_up new refl kept.flight.flight_faithful (refl, last, precopying), fits-none rest)
+recv_precopy owed epoch rest world kept last = grind (arith, nat_tests, no_copy, flight_up, fits-none)
 
 -- where End was not sent in this epoch
 all_owed : (low : Bool) (o : Option (List ℕ)) → (low ≡ false → o ≡ None) → None ≡ cond (low && is_some o) None o
@@ -176,90 +134,32 @@ recv_switched owed epoch rest world kept last =
     let forward_held = fits-more [] world.forward.held world.source.epoch (rebuild_frames Received.NotRun old.source) kept.held.forward_held in
     assumption (log_stopped new.source refl, fits-none rest)
 
--- it runs: what it still needs is to be pushed
-recv_running : (owed : FinSet nat_cmp) (epoch : ℕ) (rest : List Sent) (world : World) →
-    let old : World = at_back SourcePhase.Paused DestPhase.Running true true [] (record { epoch = epoch; frame = Recv Received.Running owed } ∷ rest) world in
-    IsSoundWorld old → are_requests rest ≡ true → ((page origin : ℕ) → get world.destination.owed page ≡ Some origin → contains owed origin ≡ true) →
-    ((page : ℕ) → contains owed page ≡ true → is_present world.source.guest.space page ≡ true) → IsSoundWorld (delivered_back old old.back.frames)
-recv_running owed epoch rest world kept requests needed owed_present =
-    let old : World = at_back SourcePhase.Paused DestPhase.Running true true [] (record { epoch = epoch; frame = Recv Received.Running owed } ∷ rest) world in
-    let new : World = delivered_back old old.back.frames in
-    let fresh : world.source.end_epoch ≢ world.source.epoch = kept.pushing.paused_fresh refl refl in
-    let flowing : IsFlowing new.source new.destination new.forward.frames new.urgent.frames = record { whereabouts = λ page origin h. ap (λ b. (b || has_copy (copies_of world.urgent.frames) origin) || false || has_copy world.destination.arrivals origin) (needed page origin h) } in
-    let pushing = pushing_stopped new.source true refl (λ h. absurd (fresh h)) owed_present kept.pushing.ended_before in
-    let flight = flight_up new refl kept.flight.flight_faithful (ap Some (sym (flow_open world.source fresh)), requests, flowing) in
-    let back_epoch : AreOf new.source.epoch new.back.frames = kept.epochs.back_epoch.1 in
-    assumption (log_stopped new.source refl, fits-none rest)
-
 -- The frames in their phases
-
-recv_not_run : (switched : Bool) (owed : FinSet nat_cmp) (epoch : ℕ) (rest : List Sent) (world : World) → rest ≡ [] →
-    let old : World = at_back SourcePhase.Paused DestPhase.Advised false switched [] (record { epoch = epoch; frame = Recv Received.NotRun owed } ∷ rest) world in
-    IsSoundWorld old → IsSoundWorld (delivered_back old old.back.frames)
-recv_not_run false owed epoch rest world last kept = recv_precopy owed epoch rest world kept last
-recv_not_run true owed epoch rest world last kept = recv_switched owed epoch rest world kept last
 
 -- with what is known of the wires put in their place
 abbrev Takes : DestPhase → (ran switched : Bool) → World → List Sent → List Sent → Type 0
 Takes to ran switched world forward back = IsSoundWorld (at_back SourcePhase.Paused to ran switched forward back world) → IsSoundWorld (delivered_back (at_back SourcePhase.Paused to ran switched forward back world) back)
 
-paused_takes : (to : DestPhase) (ran switched : Bool) (world : World) (forward back wire : List Sent) → forward ≡ [] → back ≡ wire → Takes to ran switched world [] wire → Takes to ran switched world forward back
-paused_takes to ran switched world forward back wire none is takes = subst (λ f. Takes to ran switched world f back) (sym none) (subst (λ b. Takes to ran switched world [] b) (sym is) takes)
-
 at_advised : (ran switched : Bool) (forward back : List Sent) (world : World) → Takes DestPhase.Advised ran switched world forward back
-at_advised true switched forward back world kept = absurd (not_up kept.phases.destination_phase)
-at_advised false switched forward back world kept =
-    let w = kept.flight.wires refl in
-    paused_takes DestPhase.Advised false switched world forward back _ w.0 w.1 (recv_not_run switched no_pages world.source.epoch [] world refl) kept
+at_advised ran switched forward back world kept = grind (arith, nat_tests, recv_precopy, recv_switched)
 
 at_runs : (ran switched : Bool) (forward back : List Sent) (world : World) → Takes DestPhase.Running ran switched world forward back
-at_runs false switched forward back world kept = absurd (false≢true kept.phases.destination_phase.0)
-at_runs true false forward back world kept = absurd (false≢true (kept.phases.ran_after_switch refl))
-at_runs true true forward back world kept =
-    let w = kept.flight.wires refl in
-    let old : World = at_back SourcePhase.Paused DestPhase.Running true true forward back world in
-    let r : IsReceiving old.source old.destination Received.Running back = w.1 in
-    paused_takes DestPhase.Running true true world forward back _ w.0 r.first (λ k. recv_running r.owed r.epoch r.rest world k r.requests r.needed r.owed_present) kept
+at_runs ran switched forward back world kept = grind (arith, nat_tests)
 
 at_ended : (ran switched : Bool) (forward back : List Sent) (world : World) → Takes DestPhase.Ended ran switched world forward back
-at_ended false switched forward back world kept = absurd (false≢true (kept.phases.ended_after_run kept.phases.destination_phase))
-at_ended true false forward back world kept = absurd (false≢true (kept.phases.ran_after_switch refl))
-at_ended true true forward back world kept =
-    let w = kept.flight.wires refl in
-    let old : World = at_back SourcePhase.Paused DestPhase.Ended true true forward back world in
-    let r : IsReceiving old.source old.destination Received.Ended back = w.1 in
-    paused_takes DestPhase.Ended true true world forward back _ w.0 r.first
-    (λ k. released_kept SourcePhase.Paused [] (record { epoch = r.epoch; frame = Recv Received.Ended r.owed } ∷ r.rest) r.rest world k refl (r.alone (λ e. cc))) kept
-
-or_none : (b : Bool) → (b || false) ≡ true → b ≡ true
-or_none b h = grind arith
-
-is_last : (rest : List Sent) → is_empty rest ≡ true → rest ≡ []
-is_last [] h = refl
-is_last (sent ∷ rest) h = absurd (false≢true h)
+at_ended ran switched forward back world kept = grind (arith, nat_tests, released_kept)
 
 -- a request, while the destination runs
 stopped_runs : (ran switched : Bool) (epoch : ℕ) (frame : Frame) (rest : List Sent) (world : World) →
     let old : World = at_back SourcePhase.Stopped DestPhase.Running ran switched world.forward.frames (record { epoch = epoch; frame = frame } ∷ rest) world in
     IsSoundWorld old → IsSoundWorld (delivered_back old old.back.frames)
-stopped_runs ran switched epoch (Request page) rest world kept =
-    let w = kept.flight.wires refl in
-    request_taken DestPhase.Running ran switched epoch page rest world kept (w.0, w.1, record { whereabouts = w.2.whereabouts })
-stopped_runs ran switched epoch _ rest world kept = absurd (false≢true (kept.flight.wires refl).1)
+stopped_runs ran switched epoch frame rest world kept = grind (arith, nat_tests)
 
 -- a request or Done, once it has ended
 stopped_ended : (ran switched : Bool) (epoch : ℕ) (frame : Frame) (rest : List Sent) (world : World) →
     let old : World = at_back SourcePhase.Stopped DestPhase.Ended ran switched world.forward.frames (record { epoch = epoch; frame = frame } ∷ rest) world in
     IsSoundWorld old → IsSoundWorld (delivered_back old old.back.frames)
-stopped_ended ran switched epoch (Request page) rest world kept =
-    let w = kept.flight.wires refl in
-    request_taken DestPhase.Ended ran switched epoch page rest world kept (w.0, or_none (are_requests_and_done rest) w.1, w.2)
-stopped_ended false switched epoch Done rest world kept = absurd (false≢true (kept.phases.ended_after_run kept.phases.destination_phase))
-stopped_ended true false epoch Done rest world kept = absurd (false≢true kept.phases.source_phase)
-stopped_ended true true epoch Done rest world kept =
-    let w = kept.flight.wires refl in
-    released_kept SourcePhase.Stopped world.forward.frames (record { epoch = epoch; frame = Done } ∷ rest) rest world kept w.0 (is_last rest w.1)
-stopped_ended ran switched epoch _ rest world kept = absurd (false≢true (kept.flight.wires refl).1)
+stopped_ended ran switched epoch frame rest world kept = grind (arith, nat_tests, released_kept)
 
 back_in : (from : SourcePhase) (to : DestPhase) (ran switched : Bool) (sent : Sent) (rest : List Sent) (world : World) →
     let old : World = at_back from to ran switched world.forward.frames (sent ∷ rest) world in

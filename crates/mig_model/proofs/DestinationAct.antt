@@ -1,6 +1,6 @@
 -- A copy that is installed, and a fault that the handler of the destination works, keep what every world keeps.
-use Rattle.std.proofs.Common.{◌≡◌, ℕ, suc, ◌+◌, ◌*◌, ◌/◌, ◌||◌, Bool, true, false, cond, eqb, ltb, Option, Some, None, List, [], ◌∷◌, refl, sym, ap, ◌∙◌, subst, arith, Ok, is_some, length, ◌%◌, not, ◌++◌, get_or, unwrap_or, if◌then◌else◌}
-use Rattle.std.specs.Option.{option_and_then, option_map}
+use Rattle.std.proofs.Common.{◌≡◌, ℕ, suc, ◌+◌, ◌*◌, ◌/◌, ◌||◌, Bool, true, false, cond, eqb, ltb, Option, Some, None, List, [], ◌∷◌, refl, sym, ap, ◌∙◌, subst, arith, Ok, is_some, length, not, ◌++◌, get_or, unwrap_or, if◌then◌else◌}
+use Rattle.std.specs.Option.{option_and_then}
 use Rattle.std.specs.Ordering.{nat_cmp}
 use Rattle.std.specs.Cmp.{nat_cmp_total, unsigned_tied}
 use Rattle.std.specs.FinMap as finmap
@@ -14,13 +14,13 @@ use Rattle.mig_base.specs.declared.TheConstants.{HIGH_PAGE}
 use Rattle.mig_base.specs.Pages.{map_below}
 use Rattle.mig_base.proofs.SetLemmas.{member_below}
 use Rattle.mig_model.specs.Host.{Host, memory}
-use Rattle.mig_model.specs.Userfault.{Noted, is_registered}
+use Rattle.mig_model.specs.Userfault.{Noted}
 use Rattle.mig_model.specs.Space.{Space, IsSoundSpace}
 use Rattle.mig_model.specs.Ioctls.{put_pages, installed as pages_installed}
 use Rattle.mig_model.specs.Guest.{Guest, counted, is_present, Fault, is_forgotten, zero_installed, resolved}
 use Rattle.mig_model.specs.Wire.{Copy, Sent, wire_if}
 use Rattle.mig_model.specs.Migration.{World, outcome, next, after_install, install_effect, is_changing, runs, destination_sends, after_dest_act}
-use Rattle.mig_model.specs.Invariant.{IsSoundWorld, AreFaithful, has_copy, seen_host, seen_bytes, Wires, AreOf, EpochAt, are_requests, is_request, HeldFits}
+use Rattle.mig_model.specs.Invariant.{IsSoundWorld, AreFaithful, has_copy, seen_host, seen_bytes, Wires, are_requests, is_request}
 use Rattle.mig_model.specs.Promises.{IsPut}
 use Rattle.mig_model.proofs.IoctlLemmas.{IsSoundSpace-installed, get-put_pages}
 use Rattle.mig_model.proofs.SettledLemmas.{home_tells, home-none}
@@ -41,9 +41,9 @@ use Rattle.mig_base.proofs.ByteLemmas.{length-zero_page, get_or-zero_page}
 use Rattle.mig_base.proofs.PageLemmas.{get-map_below}
 use Rattle.mig_model.specs.Wire.Frame.{Request}
 use Rattle.mig_model.specs.Guest.Act.{Zeroed, Woke, Forgot, Requested}
-use Rattle.mig_model.proofs.HostLemmas.{memory-at, same_memory}
+use Rattle.mig_model.proofs.HostLemmas.{memory-at}
 use Rattle.mig_model.specs.Log.{present}
-use Rattle.mig_model.proofs.WireLemmas.{fits-append, AreOf-append, are_requests-append, flight_up}
+use Rattle.mig_model.proofs.WireLemmas.{AreOf-append, are_requests-append}
 
 -- One page put
 
@@ -75,25 +75,9 @@ put-missing space page q bytes other h = ap is_some (get-put_one space.host.byte
 abbrev pub seen_by : Option (List ℕ) → Option (List ℕ) → Option (List ℕ)
 seen_by own other = elim own [ Some bytes ↦ Some bytes | None ↦ other ]
 
-seen_there : (here : Bool) (bytes : List ℕ) (own : Option (List ℕ)) (owed : Option ℕ) (there : ℕ → Option (List ℕ)) → (here ≡ true → own ≡ None) → (here ≡ true → option_and_then there owed ≡ Some bytes) →
-    seen_by (cond here (Some bytes) own) (option_and_then there (cond here None owed)) ≡ seen_by own (option_and_then there owed)
-seen_there here bytes own owed there none same = grind arith
-
--- the page that is put there is the one that was read through to the source
-seen-put : (here there : Host) (owed : FinMap nat_cmp ℕ) (page origin q : ℕ) (bytes : List ℕ) → get here.bytes page ≡ None → get owed page ≡ Some origin → get there.bytes origin ≡ Some bytes →
-    seen_bytes (record here { bytes = put_pages here.bytes page 1 (λ i. bytes) }) there (get (finmap.remove owed page)) q ≡ seen_bytes here there (get owed) q
-seen-put here there owed page origin q bytes none pair same =
-    ap (λ o. seen_by o (option_and_then (get there.bytes) (get (finmap.remove owed page) q))) (get-put_one here.bytes page q bytes)
-    ∙ ap (λ o. seen_by (cond (eqb q page) (Some bytes) (get here.bytes q)) (option_and_then (get there.bytes) o)) (get-without owed page q)
-    ∙ seen_there (eqb q page) bytes (get here.bytes q) (get owed q) (get there.bytes)
-    (λ e. ap (get here.bytes) (eqb-true q page e) ∙ none)
-    (λ e. ap (λ k. option_and_then (get there.bytes) (get owed k)) (eqb-true q page e) ∙ ap (option_and_then (get there.bytes)) pair ∙ same)
-
 memory-put : (here there : Host) (owed : FinMap nat_cmp ℕ) (page origin : ℕ) (bytes : List ℕ) → get here.bytes page ≡ None → get owed page ≡ Some origin → get there.bytes origin ≡ Some bytes →
     memory (seen_host (record here { bytes = put_pages here.bytes page 1 (λ i. bytes) }) there (get (finmap.remove owed page))) ≡ memory (seen_host here there (get owed))
-memory-put here there owed page origin bytes none pair same =
-    let all : seen_bytes (record here { bytes = put_pages here.bytes page 1 (λ i. bytes) }) there (get (finmap.remove owed page)) ≡ seen_bytes here there (get owed) = λ i q. seen-put here there owed page origin q bytes none pair same i in
-    ap (λ f. memory (record { areas = here.areas; bytes = map_below f HIGH_PAGE })) all
+memory-put here there owed page origin bytes none pair same = grind (arith, nat_tests, get-put_one, get-without)
 
 -- The pairs that are left
 
@@ -249,15 +233,10 @@ byte_of o i = get_or (unwrap_or o []) i 0
 -- pages that read alike mean one memory: it does not tell a page of zeros from a missing one
 pub memory-reads : (areas : FinMap nat_cmp Prot) (old new : FinMap nat_cmp (List ℕ)) → ((page i : ℕ) → byte_of (get new page) i ≡ byte_of (get old page) i) →
     memory (record { areas = areas; bytes = new }) ≡ memory (record { areas = areas; bytes = old })
-memory-reads areas old new same =
-    same_memory (memory (record { areas = areas; bytes = new })) (memory (record { areas = areas; bytes = old })) (λ addr.
-    memory-at (record { areas = areas; bytes = new }) addr
-    ∙ ap (λ byte. option_map (λ prot. record { byte = byte; prot = prot }) (get areas (addr / 4096))) (same (addr / 4096) (addr % 4096))
-    ∙ sym (memory-at (record { areas = areas; bytes = old }) addr))
+memory-reads areas old new same = grind (arith, nat_tests, memory-at)
 
 zero_reads : (here : Bool) (own other : Option (List ℕ)) (i : ℕ) → (here ≡ true → own ≡ None) → (here ≡ true → other ≡ None) → byte_of (seen_by (cond here (Some zero_page) own) other) i ≡ byte_of (seen_by own other) i
-zero_reads true own other i none nothing = get_or-zero_page i ∙ sym (ap (λ o. byte_of (seen_by o other) i) (none refl) ∙ ap (λ o. byte_of o i) (nothing refl))
-zero_reads false own other i none nothing = refl
+zero_reads here own other i none nothing = grind (arith, nat_tests, get_or-zero_page)
 
 below_reads : (low : Bool) (a b : Option (List ℕ)) (i : ℕ) → byte_of a i ≡ byte_of b i → byte_of (cond low a None) i ≡ byte_of (cond low b None) i
 below_reads low a b i h = grind arith
@@ -303,33 +282,14 @@ request_wires SourcePhase.Precopy DestPhase.Running source node forward back urg
 request_wires SourcePhase.Released DestPhase.Running source node forward back urgent sent is runs w = absurd (let e : DestPhase.Running ≡ DestPhase.Ended = w.0 in cc)
 request_wires from _ source node forward back urgent sent is runs w = none_absurd runs
 
-running_epoch : (to : DestPhase) (epoch source_epoch : ℕ) → is_running to ≡ true → EpochAt to epoch source_epoch → epoch ≡ source_epoch
-running_epoch DestPhase.Running epoch source_epoch runs at = at
-running_epoch _ epoch source_epoch runs at = none_absurd runs
-
--- only the wire back has changed
-pub kept-back : (world : World) (back : List Sent) → world.up ≡ true → AreOf world.source.epoch back → Wires world.source world.destination world.forward.frames back world.urgent.frames → HeldFits back world.back.held → IsSoundWorld world → IsSoundWorld (record world { back = record world.back { frames = back } })
-kept-back world back up epoch wires fits kept =
-    let new : World = record world { back = record world.back { frames = back } } in
-    assumption (flight_up new up kept.flight.flight_faithful wires)
-
 -- a request is sent where the destination runs and the page was not asked for yet, and is lost where the link is down
 sent_back : (up asked runs : Bool) (world : World) (source : ℕ) → world.up ≡ up → is_running world.destination.phase ≡ runs → IsSoundWorld world →
     IsSoundWorld (record world { back = wire_if up world.back world.destination.epoch (if asked || not runs then [] else Request source ∷ []) })
-sent_back false asked runs world source up running kept = kept
-sent_back true true runs world source up running kept = kept
-sent_back true false false world source up running kept = kept
-sent_back true false true world source up running kept =
-    let sent : Sent = record { epoch = world.destination.epoch; frame = Request source } in
-    kept-back world (world.back.frames ++ sent ∷ []) up
-    (AreOf-append world.source.epoch world.back.frames (sent ∷ []) kept.epochs.back_epoch (running_epoch world.destination.phase world.destination.epoch world.source.epoch running (kept.epochs.epoch_at up), tt))
-    (request_wires world.source.phase world.destination.phase world.source world.destination world.forward.frames world.back.frames world.urgent.frames sent refl running (kept.flight.wires up))
-    (fits-append world.back.frames (sent ∷ []) world.back.held kept.held.back_held) kept
+sent_back up asked runs world source up_ running kept = grind (arith, nat_tests, AreOf-append, request_wires)
 
 -- nothing is sent
 nothing_sent : (up : Bool) (world : World) → world.up ≡ up → IsSoundWorld world → IsSoundWorld (record world { back = wire_if up world.back world.destination.epoch [] })
-nothing_sent false world up kept = kept
-nothing_sent true world up kept = kept
+nothing_sent up world up_ kept = grind (arith, nat_tests)
 
 -- The step
 
@@ -346,9 +306,7 @@ at_held events held world =
 -- only the processors, the held faults and the requests have changed
 only_woken : (world : World) (processors : List CpuState) (held : List Fault) (requests : List ℕ) → IsSoundWorld world → world.destination.has_run ≡ true →
     IsSoundWorld (record world { destination = record world.destination { guest = record world.destination.guest { cpus = processors }; held = held; requests = requests } })
-only_woken world processors held requests kept runs =
-    kept-handled world (record world.destination.guest { cpus = processors }) held world.destination.owed requests world.destination.arrivals world.destination.installed world.destination.dropped world.destination.faults kept runs
-    (assumption (same_pairs world.destination.owed, kept.owing.arrivals_faithful runs))
+only_woken world processors held requests kept runs = grind (arith, nat_tests, kept-handled)
 
 other_page : (here : Bool) (o : Option ℕ) (origin : ℕ) → (here ≡ true → o ≡ None) → o ≡ Some origin → here ≡ false
 other_page here o origin none h = grind arith
@@ -390,10 +348,7 @@ act_in false false (Some source) fault rest world kept runs f p h =
     let new : World = record old { destination = destination_acted_by (Requested source) old.destination fault.page } in
     sent_back world.up (is_requested world.destination.requests source) (is_running world.destination.phase) new source refl refl
     (only_woken old world.destination.guest.cpus rest (requesting world.destination.requests source) kept runs)
-act_in false false None fault rest world kept runs f p h =
-    let old : World = at_held [] (fault ∷ rest) world in
-    let new : World = record old { destination = destination_acted_by Zeroed old.destination fault.page } in
-    nothing_sent world.up new refl (zeros_put fault rest world kept runs (not_or (contains_key world.destination.guest.space.host.areas fault.page) (is_registered world.destination.guest.space.object fault.page) f) p h)
+act_in false false None fault rest world kept runs f p h = grind (arith, nat_tests, nothing_sent, zeros_put, not_or)
 
 acted_in : (events : List Noted) (fault : Fault) (rest : List Fault) (world : World) → IsSoundWorld (at_held events (fault ∷ rest) world) → world.destination.has_run ≡ true → ltb 0 (length events) ≡ false →
     IsSoundWorld (after_dest_act (at_held events (fault ∷ rest) world) fault)

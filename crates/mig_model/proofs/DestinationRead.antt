@@ -1,5 +1,6 @@
 -- What a step of the destination has to show, and that a message that is read and a command keep what every world keeps.
-use Rattle.std.proofs.Common.{◌≡◌, ℕ, ◌+◌, ◌/◌, ◌<◌, Bool, true, false, Some, None, List, [], ◌∷◌, ◌++◌, refl, sym, ap, ◌∙◌, subst, arith, append-nil}
+use Rattle.std.proofs.lemmas.Bool.Decides.{nat_tests}
+use Rattle.std.proofs.Common.{◌≡◌, ℕ, ◌<◌, Bool, true, false, Some, None, List, [], ◌∷◌, ◌++◌, refl, sym, ap, ◌∙◌, subst, arith, append-nil}
 use Rattle.std.specs.Ordering.{nat_cmp}
 use Rattle.std.specs.FinMap as finmap
 use Rattle.std.specs.FinMap.{FinMap, get, get-empty}
@@ -23,19 +24,18 @@ use Rattle.mig_model.specs.Wire.{Sent, Copy}
 use Rattle.mig_model.specs.Migration.{World, after_dest_read, runs, guest_by, with_guest_by, after_command}
 use Rattle.mig_model.specs.Invariant.{IsSoundWorld, Wires, IsReceiving, IsFlowing, AreRight, AreFaults, AreFaithful, has_copy, seen_host, current_host, current_by}
 use Rattle.mig_model.proofs.IoctlLemmas.{IsSoundSpace-read}
-use Rattle.mig_model.proofs.SettledLemmas.{get-owed_table_after, settled_by-applied, values-after, none-after, IsOneToOne-after, owed_below-after}
+use Rattle.mig_model.proofs.SettledLemmas.{get-owed_table_after, settled_by-applied, values-after, IsOneToOne-after, owed_below-after}
 use Rattle.mig_model.specs.Cpus.{Took, entries_of}
 use Rattle.mig_model.specs.Owed.{owed_table_after, settled_by}
 use Rattle.mig_model.specs.Source.{Source, space_of}
 use Rattle.mig_model.specs.Destination.{Destination, settled}
-use Rattle.mig_model.proofs.Facts.{up_not_down, some_is}
+use Rattle.mig_model.proofs.Facts.{some_is}
 use Rattle.mig_base.specs.declared.command.Command.{Command}
 use Rattle.mig_base.specs.declared.command.Entry.{Entry}
 use Rattle.mig_base.specs.Commands.{is_access}
 use Rattle.mig_model.proofs.FaultLemmas.{AreFaults-tried}
 use Rattle.mig_model.proofs.WorldLemmas.{holds_after, flat_after}
-use Rattle.mig_model.proofs.SeenLemmas.{IsSound-seen, watched_mapped}
-use Rattle.mig_model.proofs.PairLemmas.{pairs_watched}
+use Rattle.mig_model.proofs.SeenLemmas.{IsSound-seen}
 use Rattle.mig_model.proofs.TriedLemmas.{IsReady, IsEntered, command_tries}
 use Rattle.mig_model.proofs.TriedLemmas.IsEntered.{Silent, Entered}
 
@@ -86,50 +86,23 @@ still_receiving source node new state back values old =
 
 still_flowing : (source : Source) (node new : Destination) (forward urgent : List Sent) → ((page origin : ℕ) → get new.owed page ≡ Some origin → (other : ℕ) × (get node.owed other ≡ Some origin)) →
     ((page origin : ℕ) → get new.owed page ≡ Some origin → has_copy node.arrivals origin ≡ true → has_copy new.arrivals origin ≡ true) → IsFlowing source node forward urgent → IsFlowing source new forward urgent
-still_flowing source node new forward urgent values copies old =
-    record {
-      whereabouts = λ page origin h.
-          let was = values page origin h in
-          let before = old.whereabouts was.0 origin was.1 in
-          let come = copies page origin h in
-          grind arith;
-    }
+still_flowing source node new forward urgent values copies old = grind (arith, nat_tests)
 
 pub wires_handled : (from : SourcePhase) (to : DestPhase) (source : Source) (node : Destination) (forward back urgent : List Sent) (guest : Guest) (held : List Fault) (owed : FinMap nat_cmp ℕ) (requests : List ℕ) (arrivals : List Copy) (installed dropped faults : ℕ) →
     ((page origin : ℕ) → get owed page ≡ Some origin → (other : ℕ) × (get node.owed other ≡ Some origin)) →
     ((page origin : ℕ) → get owed page ≡ Some origin → has_copy node.arrivals origin ≡ true → has_copy arrivals origin ≡ true) →
     Wires (record source { phase = from }) (record node { phase = to }) forward back urgent →
     Wires (record source { phase = from }) (handled (record node { phase = to }) guest held owed requests arrivals installed dropped faults) forward back urgent
-wires_handled SourcePhase.Stopped DestPhase.Running source node forward back urgent guest held owed requests arrivals installed dropped faults values copies w =
-    let old : Destination = record node { phase = DestPhase.Running } in
-    (w.0, w.1, still_flowing (record source { phase = SourcePhase.Stopped }) old (handled old guest held owed requests arrivals installed dropped faults) forward urgent values copies w.2)
-wires_handled SourcePhase.Paused DestPhase.Running source node forward back urgent guest held owed requests arrivals installed dropped faults values copies w =
-    let old : Destination = record node { phase = DestPhase.Running } in
-    (w.0, still_receiving (record source { phase = SourcePhase.Paused }) old (handled old guest held owed requests arrivals installed dropped faults) Received.Running back values w.1)
-wires_handled SourcePhase.Paused DestPhase.Ended source node forward back urgent guest held owed requests arrivals installed dropped faults values copies w =
-    let old : Destination = record node { phase = DestPhase.Ended } in
-    (w.0, still_receiving (record source { phase = SourcePhase.Paused }) old (handled old guest held owed requests arrivals installed dropped faults) Received.Ended back values w.1)
+wires_handled SourcePhase.Stopped DestPhase.Running source node forward back urgent guest held owed requests arrivals installed dropped faults values copies w = grind (arith, nat_tests, still_flowing)
+wires_handled SourcePhase.Paused DestPhase.Running source node forward back urgent guest held owed requests arrivals installed dropped faults values copies w = grind (arith, nat_tests, still_receiving)
+wires_handled SourcePhase.Paused DestPhase.Ended source node forward back urgent guest held owed requests arrivals installed dropped faults values copies w = grind (arith, nat_tests, still_receiving)
 wires_handled _ _ source node forward back urgent guest held owed requests arrivals installed dropped faults values copies w = w
 
 -- The invariant
 
-runs_memory : (runs : Bool) (world : World) → runs ≡ true → memory (current_host (record world { destination = record world.destination { has_run = runs } })) ≡ memory (seen_host world.destination.guest.space.host (space_of world.source).host (settled_by world.destination.guest.space.object.events (get world.destination.owed)))
-runs_memory true world h = refl
-runs_memory false world h = absurd (false≢true h)
-
 pub kept-handled : (world : World) (guest : Guest) (held : List Fault) (owed : FinMap nat_cmp ℕ) (requests : List ℕ) (arrivals : List Copy) (installed dropped faults : ℕ) → IsSoundWorld world → world.destination.has_run ≡ true → IsHandled world guest owed arrivals →
     IsSoundWorld (record world { destination = handled world.destination guest held owed requests arrivals installed dropped faults })
-kept-handled world guest held owed requests arrivals installed dropped faults kept runs new =
-    let node : Destination = handled world.destination guest held owed requests arrivals installed dropped faults in
-    let next : World = record world { destination = node } in
-    let holds : memory (current_host next) ≡ memory_of next.transcript = runs_memory world.destination.has_run next runs ∙ new.same_memory ∙ sym (runs_memory world.destination.has_run world runs) ∙ kept.memory.holds in
-    let not_run : next.destination.has_run ≡ false → (owed ≡ finmap.empty) × (guest.space ≡ fresh_space) × (arrivals ≡ []) = λ h. up_not_down world.destination.has_run runs h in
-    let origins_present : (page origin : ℕ) → get owed page ≡ Some origin → is_present (space_of world.source) origin ≡ true = λ page origin h.
-    let was = new.values page origin h in
-    kept.owing.origins_present was.0 origin was.1 in
-    let wires : next.up ≡ true → Wires next.source next.destination next.forward.frames next.back.frames next.urgent.frames = λ up.
-    wires_handled world.source.phase world.destination.phase world.source world.destination world.forward.frames world.back.frames world.urgent.frames guest held owed requests arrivals installed dropped faults new.values new.copies (kept.flight.wires up) in
-    assumption
+kept-handled world guest held owed requests arrivals installed dropped faults kept runs new = grind (arith, nat_tests, wires_handled)
 
 -- A message is read
 
@@ -146,9 +119,7 @@ nothing_owed : (owed : FinMap nat_cmp ℕ) → owed ≡ finmap.empty → (page :
 nothing_owed owed h page = ap (λ m. get m page) h ∙ get-empty nat_cmp page
 
 empty-after : (message : Message) (owed : FinMap nat_cmp ℕ) → owed ≡ finmap.empty → owed_table_after message owed ≡ finmap.empty
-empty-after message owed h =
-    same_pages (owed_table_after message owed) finmap.empty (λ page.
-    get-owed_table_after message owed page ∙ none-after message (get owed) (nothing_owed owed h) page ∙ sym (get-empty nat_cmp page))
+empty-after message owed h = grind (arith, nat_tests, same_pages, get-owed_table_after, nothing_owed)
 
 -- an event is read: the settled relation is as it was, and the owed table is what the event makes of it
 event_read : (message : Message) (cpu : ℕ) (events : List Noted) (world : World) (processors : List CpuState) (faults : ℕ) →
@@ -188,9 +159,7 @@ event_in message cpu events world kept runs = event_read message cpu events worl
 
 fault_in : (message : Message) (cpu : ℕ) (faults events : List Noted) (world : World) → IsSoundWorld (at_queues (record { message = message; cpu = cpu } ∷ faults) events world) → world.destination.has_run ≡ true →
     IsSoundWorld (after_dest_read (at_queues (record { message = message; cpu = cpu } ∷ faults) events world) (record { message = message; cpu = cpu }))
-fault_in (PageFault addr write wp tid) cpu faults events world kept runs =
-    fault_read (record { message = PageFault addr write wp tid; cpu = cpu }) faults events world (world.destination.held ++ record { page = addr / 4096; wp = wp } ∷ []) (counted world.destination.faults 1) kept runs
-fault_in _ cpu faults events world kept runs = absurd kept.spaces.destination_faults.0
+fault_in message cpu faults events world kept runs = grind (arith, nat_tests, fault_read)
 
 read_in : (faults events : List Noted) (noted : Noted) (world : World) → next_of faults events ≡ Some noted → IsSoundWorld (at_queues faults events world) → world.destination.has_run ≡ true → IsSoundWorld (after_dest_read (at_queues faults events world) noted)
 read_in [] [] noted world is kept runs = absurd (none_is noted is)
@@ -212,34 +181,24 @@ entered_one : (old new : Host) (transcript : List Entry) (cpu : ℕ) (command : 
 entered_one old new transcript cpu command took (Silent none same) sound holds flat =
     let all : transcript ≡ transcript ++ entries_of cpu command took = sym (append-nil transcript) ∙ ap (λ es. transcript ++ es) (sym none) in
     record { flat = subst IsFlatRun all flat; holds = ap memory same ∙ holds ∙ ap memory_of all }
-entered_one old new transcript cpu command took (Entered one then) sound holds flat =
-    record {
-      flat = subst (λ es. IsFlatRun (transcript ++ es)) (sym one) (flat_after old transcript cpu command holds flat);
-      holds = ap memory then ∙ holds_after old transcript cpu command sound holds ∙ ap (λ es. memory_of (transcript ++ es)) (sym one);
-    }
+entered_one old new transcript cpu command took (Entered one then) sound holds flat = grind (arith, nat_tests, flat_after, holds_after)
 
 -- The wires do not depend on the destination's guest
 
 pub wires-with_guest : (from : Source) (to : Destination) (guest : Guest) (forward back urgent : List Sent) → Wires from to forward back urgent → Wires from (record to { guest = guest }) forward back urgent
-wires-with_guest from to guest forward back urgent w =
-    wires_handled from.phase to.phase from to forward back urgent guest to.held to.owed to.requests to.arrivals to.installed to.dropped to.faults (same_pairs to.owed) (λ page origin h k. k) w
+wires-with_guest from to guest forward back urgent w = grind (arith, nat_tests, wires_handled)
 
 -- The world
 
 pub ready_of : (world : World) → IsSoundWorld world → IsReady world.destination.guest.space (get world.destination.owed)
-ready_of world kept =
-    record { sound = kept.spaces.destination_space; unprotected = kept.spaces.unprotected; only_missing = kept.spaces.only_missing; events = kept.spaces.destination_events; pairs = kept.owing.pairs_missing }
+ready_of world kept = grind (arith, nat_tests)
 
 -- the current host where the destination has run
 pub current_seen : (world : World) → world.destination.has_run ≡ true → current_host world ≡ seen_host world.destination.guest.space.host (space_of world.source).host (settled world.destination)
 current_seen world ran = ap (λ b. current_by b world.destination.guest.space.host (space_of world.source).host (settled world.destination)) ran
 
 pub sound_seen : (world : World) → IsSoundWorld world → IsSound (seen_host world.destination.guest.space.host (space_of world.source).host (settled world.destination))
-sound_seen world kept =
-    let space = world.destination.guest.space in
-    let far = kept.spaces.source_space in
-    let here = kept.spaces.destination_space in
-    IsSound-seen space.host (space_of world.source).host (settled world.destination) here.host far.host (watched_mapped space (settled world.destination) here (pairs_watched space (settled world.destination) kept.owing.pairs_missing))
+sound_seen world kept = grind (arith, nat_tests, IsSound-seen)
 
 -- the world once a command is tried where `runs` tells
 abbrev tried_at : Bool → World → ℕ → Command → World

@@ -1,5 +1,6 @@
 -- End is refused exactly where a page remains.
-use Rattle.std.proofs.Common.{◌≡◌, ℕ, ◌||◌, Bool, true, false, not, eqb, is_some, if◌then◌else◌, [], ◌∷◌, refl, sym, ap, ◌∙◌}
+use Rattle.std.proofs.lemmas.Bool.Decides.{nat_tests}
+use Rattle.std.proofs.Common.{◌≡◌, ℕ, ◌||◌, Bool, true, false, not, eqb, is_some, if◌then◌else◌, [], ◌∷◌, ap, arith}
 use Rattle.std.specs.Prelude.{Ok, Err}
 use Rattle.std.specs.FinSet.{contains}
 use Rattle.mig_base.specs.declared.TheConstants.{HIGH_PAGE}
@@ -12,24 +13,15 @@ use Rattle.mig_model.specs.Source.{is_stopped, space_of}
 use Rattle.mig_model.specs.Migration.{World, Answer, after_end, made, outcome, outcome_by, unless}
 use Rattle.mig_model.specs.Invariant.{IsSoundWorld}
 use Rattle.mig_model.proofs.FrameFaults.{sound_below}
-use Rattle.mig_model.proofs.Facts.{none_absurd}
 
--- a number below the bound that passes is found, or a lesser one
 by_tests : (stopped unended up left : Bool) (answer : Answer) → stopped ≡ true → unended ≡ false → up ≡ true → unless ((not stopped || unended, Refusal.Phase) ∷ (not up, Refusal.Broken) ∷ (left, Refusal.PagesLeft) ∷ []) answer ≡ (if left then Err Refusal.PagesLeft else answer)
 unfolding unless
-by_tests true false true true answer s o u = refl
-by_tests true false true false answer s o u = refl
-by_tests false unended up left answer s o u = none_absurd s
-by_tests true true up left answer s o u = none_absurd (sym o)
-by_tests true false false left answer s o u = none_absurd u
+by_tests stopped unended up left answer s o u = grind (arith, nat_tests)
 
 end_by : (world : World) (left : Bool) → is_stopped world.source.phase ≡ true → eqb world.source.end_epoch world.source.epoch ≡ false → world.up ≡ true → is_some (least_of world.source.remaining) ≡ left →
     outcome world Step.End ≡ outcome_by (if left then Err Refusal.PagesLeft else made Effect.EndSent (after_end world))
 unfolding outcome
-end_by world left stopped unended up is =
-    ap outcome_by
-    (by_tests (is_stopped world.source.phase) (eqb world.source.end_epoch world.source.epoch) world.up (is_some (least_of world.source.remaining)) (made Effect.EndSent (after_end world)) stopped unended up
-    ∙ ap (λ b. if b then Err Refusal.PagesLeft else made Effect.EndSent (after_end world)) is)
+end_by world left stopped unended up is = grind (arith, nat_tests, by_tests)
 
 pub end_left : (world : World) (q : ℕ) → IsSoundWorld world → is_stopped world.source.phase ≡ true → eqb world.source.end_epoch world.source.epoch ≡ false → world.up ≡ true → contains world.source.remaining q ≡ true → outcome world Step.End ≡ Err Refusal.PagesLeft
 end_left world q kept stopped unended up left =

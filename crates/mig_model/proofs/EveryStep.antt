@@ -1,5 +1,6 @@
 -- What every world of the whole migration keeps is kept by every step, and by every list of them.
-use Rattle.std.proofs.Common.{◌≡◌, ℕ, ◌||◌, Bool, true, false, not, List, [], ◌∷◌, refl, sym, subst}
+use Rattle.std.proofs.lemmas.Bool.Decides.{nat_tests}
+use Rattle.std.proofs.Common.{◌≡◌, ℕ, ◌||◌, Bool, true, false, not, List, [], ◌∷◌, refl, sym, subst, arith}
 use Rattle.mig_base.specs.declared.schedule.Side.{Side}
 use Rattle.mig_base.specs.declared.schedule.Step.{Step}
 use Rattle.mig_base.specs.declared.command.Command.{Command}
@@ -19,7 +20,6 @@ use Rattle.mig_model.proofs.DestinationAct.{kept-dest_act, kept-install}
 use Rattle.mig_model.proofs.StaysComplete.{complete-next}
 use Rattle.mig_model.proofs.StepCases.{MakesWorld, made-next}
 use Rattle.mig_model.specs.Wire.{Sent}
-use Rattle.mig_model.proofs.Facts.{none_absurd}
 use Rattle.mig_model.proofs.UrgentSteps.{urgent-first, urgent-next}
 use Rattle.mig_model.proofs.UrgentKept.{kept-deliver_urgent, kept-push_urgent}
 use Rattle.mig_model.proofs.UrgentWire.{all_came}
@@ -29,9 +29,7 @@ use Rattle.mig_model.proofs.SourceKept.{kept-source_read, kept-source_act}
 -- Commands: the node that runs the guest makes them
 
 pub runs_source : (switched ran : Bool) → (not switched || ran) ≡ true → ran ≡ false → switched ≡ false
-runs_source false ran h none = refl
-runs_source true true h none = none_absurd (sym none)
-runs_source true false h none = none_absurd h
+runs_source switched ran h none = grind (arith, nat_tests)
 
 command_by : (ran : Bool) (world : World) (cpu : ℕ) (command : Command) → world.destination.has_run ≡ ran → runs world ≡ true → IsSoundWorld world → IsSoundWorld (after_command world cpu command)
 command_by true world cpu command is may kept = kept-command_at_destination world cpu command is kept

@@ -25,12 +25,11 @@ pub use Rattle.mig_base.proofs.TestLemmas.{and_second, and_first as and_left, eq
 use Rattle.mig_model.specs.Userfault.{Noted, Object, event_queued}
 use Rattle.mig_model.specs.Space.{all_queued, modes_after}
 use Rattle.mig_model.specs.Cpus.{call_took, entries_of}
-use Rattle.mig_model.specs.Guest.{Guest, is_present}
+use Rattle.mig_model.specs.Guest.{is_present}
 use Rattle.mig_model.specs.Wire.{Copy, Frame, Sent, Wire, copies_in, kept_after}
 use Rattle.mig_model.specs.Log.{no_pages, present}
 use Rattle.mig_model.specs.Owed.{owed_after, settled_by}
 use Rattle.mig_model.specs.Source.{Source, not_clean, space_of}
-use Rattle.mig_model.specs.Migration.{World, with_guest_by}
 use Rattle.mig_model.specs.Invariant.{AreFaithful, AreOf, AreWhole, copies_of}
 use Rattle.mig_model.specs.Parts.{Grows}
 
@@ -44,7 +43,7 @@ pub no_page : {A : Type 0} (page : ℕ) → contains no_pages page ≡ true → 
 no_page page h = absurd (false≢true (sym (contains-empty nat_cmp page) ∙ h))
 
 pub low_or : {page : ℕ} → (HIGH_PAGE ≤ page → ⊥) → page < HIGH_PAGE
-low_or h = grind (arith, nat_tests, h)
+low_or h = grind (arith, nat_tests)
 
 pub queued_missing : (object : Object) (messages : List Message) (cpu : ℕ) → (all_queued object messages cpu).missing ≡ object.missing
 queued_missing object [] cpu = refl
@@ -90,9 +89,6 @@ dropped_not a c d h = cc
 
 pub as_it_was : (wire : Wire) → Grows wire wire
 as_it_was wire = record { more = []; is = ap (λ f. record wire { frames = f }) (sym (append-nil wire.frames)) }
-
-pub tried_up : (ran : Bool) (world : World) (guest : Guest) → (with_guest_by ran world guest).up ≡ world.up
-tried_up ran world guest = grind (arith, nat_tests)
 
 pub copies_of-append : (a b : List Sent) → copies_of (a ++ b) ≡ copies_of a ++ copies_of b
 copies_of-append [] b = refl

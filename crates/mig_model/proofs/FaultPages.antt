@@ -1,37 +1,28 @@
 -- The pages of faults, unread and held, are pages that may be mapped.
-use Rattle.std.proofs.Common.{◌≡◌, ℕ, ◌*◌, ◌/◌, Bool, true, false, Option, Some, None, List, [], ◌∷◌, ◌++◌, refl, sym, ap, ◌∙◌, subst, if◌then◌else◌}
-use Rattle.std.specs.Ordering.{nat_cmp}
-use Rattle.std.specs.FinSet.{FinSet}
-use Rattle.std.proofs.lemmas.Option.{none-some, same_Some}
+use Rattle.std.proofs.lemmas.Bool.Decides.{nat_tests}
+use Rattle.std.proofs.Common.{◌≡◌, ℕ, ◌*◌, ◌/◌, Bool, true, Option, Some, List, [], ◌∷◌, ◌++◌, refl, sym, ap, ◌∙◌, arith}
 use Rattle.mig_base.specs.declared.TheConstants.{PAGE_SIZE}
 use Rattle.mig_base.specs.declared.command.Access.{Access}
 use Rattle.mig_base.specs.declared.command.Access.TheVariants.{Answered, Missing, Protected}
 use Rattle.mig_base.specs.declared.command.Command.{Command}
-use Rattle.mig_base.specs.declared.command.Command.TheVariants.{Load, Store, Mmap, Munmap, Mremap, DontNeed}
 use Rattle.mig_base.specs.declared.message.Message.{Message}
-use Rattle.mig_base.specs.declared.message.Message.TheVariants.{PageFault, Remap, Remove, Unmap}
-use Rattle.mig_base.specs.declared.phase.Received.{Received}
+use Rattle.mig_base.specs.declared.message.Message.TheVariants.{PageFault}
 use Rattle.mig_base.specs.declared.schedule.Side.{Side}
 use Rattle.mig_base.specs.declared.schedule.Step.{Step}
 use Rattle.mig_base.specs.Commands.{is_access, page_of}
-use Rattle.mig_base.specs.Flat.{reply_of}
-use Rattle.mig_model.specs.Host.{memory}
-use Rattle.mig_model.specs.Userfault.{Noted, Object, fault_queued, next_message, next_of, read_by, thread_id, waits_fault}
+use Rattle.mig_model.specs.Userfault.{Noted, Object, fault_queued, next_message, next_of}
 use Rattle.mig_model.specs.Space.{Space, access_of, accessed_by}
 use Rattle.mig_model.specs.Cpus.{access_took}
-use Rattle.mig_model.specs.Guest.{Act, Fault, Guest, held_after, read_guest, rest_held, space_by, tried}
-use Rattle.mig_model.specs.Guest.Act.{Unprotected, Zeroed, Woke, Forgot, Requested}
+use Rattle.mig_model.specs.Guest.{Act, Fault, held_after, space_by, tried}
 use Rattle.mig_model.specs.Owed.{home}
 use Rattle.mig_model.specs.Wire.{Copy, Frame}
-use Rattle.mig_model.specs.Wire.Frame.{Page, Zero, Package, Resume, Request, Recv, Done as Finished}
-use Rattle.mig_model.specs.Source.{source_act, source_acted_by, source_rebuilt, source_took, space_of}
-use Rattle.mig_model.specs.Destination.{copy_came, destination_act, destination_acted_by, destination_took, install_by, received_of, resumed_by, urgent_took}
-use Rattle.mig_model.specs.Migration.{World, after_dest_read, after_source_read, after_steps, answer, first_world_with, guest_by, next, with_guest_by}
-use Rattle.mig_model.specs.Invariant.{AreRight, IsRight, IsSoundWorld}
+use Rattle.mig_model.specs.Source.{source_act, source_acted_by, source_took, space_of}
+use Rattle.mig_model.specs.Destination.{destination_act, destination_acted_by, destination_took, install_by, urgent_took}
+use Rattle.mig_model.specs.Migration.{World, after_dest_read, after_source_read, after_steps, answer, guest_by, next, with_guest_by}
+use Rattle.mig_model.specs.Invariant.{AreRight, IsSoundWorld}
 use Rattle.mig_model.specs.Promises.{IsReached}
 use Rattle.mig_model.specs.Bounds.{IsMapping, IsPage}
 use Rattle.mig_model.proofs.Bounded.{IsBounded, bounded-first, bounded-next, has_memory}
-use Rattle.mig_model.proofs.FaultLemmas.{called_faults}
 use Rattle.mig_model.proofs.Registering.{pages_again}
 use Rattle.mig_model.proofs.RightCommands.{right_slept, IsInside}
 use Rattle.mig_model.proofs.StepCases.{holds-made}
@@ -54,24 +45,14 @@ AreHeldPages (fault ∷ rest) = IsPage fault.page × AreHeldPages rest
 -- Commands
 
 access_page : (command : Command) → IsInside command → IsPage (page_of command)
-access_page (Load addr width) is = is.1
-access_page (Store addr width value) is = is.2
-access_page (Mmap len prot place) is = absurd is
-access_page (Munmap addr len) is = absurd is
-access_page (Mremap addr old_len new_len may_move fixed) is = absurd is
-access_page (DontNeed addr len) is = absurd is
+access_page command is = grind (arith, nat_tests)
 
 pages-push : (faults : List Noted) (noted : Noted) → AreFaultPages faults → IsFaultPage noted.message → AreFaultPages (faults ++ noted ∷ [])
 pages-push [] noted are is = (is, tt)
 pages-push (first ∷ faults) noted are is = (are.0, pages-push faults noted are.1 is)
 
-waits_or_more : (waits : Bool) (object more : Object) → AreFaultPages object.faults → AreFaultPages more.faults → AreFaultPages (if waits then object else more).faults
-waits_or_more true object more old new = old
-waits_or_more false object more old new = new
-
 fault_pages : (object : Object) (page : ℕ) (write wp : Bool) (cpu : ℕ) → IsPage page → AreFaultPages object.faults → AreFaultPages (fault_queued object (4096 * page) write wp cpu).faults
-fault_pages object page write wp cpu is are =
-    waits_or_more (waits_fault object.faults (4096 * page) wp) object _ are (pages-push object.faults (record { message = PageFault (4096 * page) write wp (thread_id object cpu); cpu = cpu }) are (subst IsPage (sym (pages_again page)) is))
+fault_pages object page write wp cpu is are = grind (arith, nat_tests, pages-push, pages_again)
 
 slept_page : (space : Space) (command : Command) (access : Access) → access_of space command ≡ access → access_took access ≡ access_took Missing → is_access command ≡ true → IsMapping space.host.areas → IsPage (page_of command)
 slept_page space command access is sleeps accesses mapping = access_page command (right_slept true space command (sym accesses) mapping (ap access_took is ∙ sleeps))
@@ -83,10 +64,7 @@ accessed_pages Missing space cpu command is accesses mapping are = fault_pages s
 accessed_pages Protected space cpu command is accesses mapping are = fault_pages space.object (page_of command) _ _ cpu (slept_page space command Protected is refl accesses mapping) are
 
 tried_pages : (access : Bool) (space : Space) (cpu : ℕ) (command : Command) → is_access command ≡ access → IsMapping space.host.areas → AreFaultPages space.object.faults → AreFaultPages (space_by access space cpu command).object.faults
-tried_pages true space cpu command is mapping are = accessed_pages (access_of space command) space cpu command refl is mapping are
-tried_pages false space cpu command is mapping are =
-    let reply = reply_of (memory space.host) command in
-    subst AreFaultPages (sym (called_faults space cpu command)) are
+tried_pages access space cpu command is mapping are = grind (arith, nat_tests, accessed_pages)
 
 -- Messages that are read
 
@@ -95,36 +73,11 @@ held-push [] fault are is = (is, tt)
 held-push (first ∷ held) fault are is = (are.0, held-push held fault are.1 is)
 
 held_pages : (message : Message) (held : List Fault) → IsFaultPage message → AreHeldPages held → AreHeldPages (held_after held message)
-held_pages (PageFault addr write wp tid) held is are = held-push held (record { page = addr / 4096; wp = wp }) are is
-held_pages (Remap from to len) held is are = are
-held_pages (Remove start end) held is are = are
-held_pages (Unmap start end) held is are = are
-
-event_page : (message : Message) → IsRight message → IsFaultPage message
-event_page (PageFault addr write wp tid) right = absurd right
-event_page (Remap from to len) right = tt
-event_page (Remove start end) right = tt
-event_page (Unmap start end) right = tt
+held_pages message held is are = grind (arith, nat_tests, held-push)
 
 -- the message that is read next is of a page that may be mapped, if it is of a fault
 next_page : (faults events : List Noted) (noted : Noted) → next_of faults events ≡ Some noted → AreFaultPages faults → AreRight events → IsFaultPage noted.message
-next_page (fault ∷ faults) events noted is are right = subst (λ n. IsFaultPage n.message) (same_Some fault noted is) are.0
-next_page [] (event ∷ events) noted is are right = subst (λ n. IsFaultPage n.message) (same_Some event noted is) (event_page event.message right.0)
-next_page [] [] noted is are right = absurd (none-some noted is)
-
-left_pages : (faults : List Noted) (object : Object) → AreFaultPages faults → AreFaultPages object.faults → AreFaultPages (read_by faults object).faults
-left_pages [] object are all = all
-left_pages (fault ∷ faults) object are all = are.1
-
-read_pages : (guest : Guest) (cpu : ℕ) (message : Message) → AreFaultPages guest.space.object.faults → AreFaultPages (read_guest guest cpu message).space.object.faults
-read_pages guest cpu (PageFault addr write wp tid) are = left_pages guest.space.object.faults guest.space.object are are
-read_pages guest cpu (Remap from to len) are = left_pages guest.space.object.faults guest.space.object are are
-read_pages guest cpu (Remove start end) are = left_pages guest.space.object.faults guest.space.object are are
-read_pages guest cpu (Unmap start end) are = left_pages guest.space.object.faults guest.space.object are are
-
-rest_pages : (held : List Fault) → AreHeldPages held → AreHeldPages (rest_held held)
-rest_pages [] are = tt
-rest_pages (fault ∷ rest) are = are.1
+next_page faults events noted is are right = grind (arith, nat_tests)
 
 -- Both nodes
 
@@ -141,82 +94,39 @@ with_source : {from : List Noted} {from_held : List Fault} {to : List Noted} {to
     AreInside from from_held to to_held → AreInside faults held to to_held
 with_source faults held queued read h = record { source = queued; source_held = read; destination = h.destination; destination_held = h.destination_held }
 
-with_destination : {from : List Noted} {from_held : List Fault} {to : List Noted} {to_held : List Fault} (faults : List Noted) (held : List Fault) → AreFaultPages faults → AreHeldPages held →
-    AreInside from from_held to to_held → AreInside from from_held faults held
-with_destination faults held queued read h = record { source = h.source; source_held = h.source_held; destination = queued; destination_held = read }
-
 guest_inside : (ran : Bool) (world : World) (cpu : ℕ) (command : Command) → IsMapping (space_of world.source).host.areas → IsMapping world.destination.guest.space.host.areas → HasFaultsInside world →
     HasFaultsInside (with_guest_by ran world (tried (is_access command) (guest_by ran world.source.guest world.destination.guest) cpu command))
-guest_inside true world cpu command from to h = with_destination _ world.destination.held (tried_pages (is_access command) world.destination.guest.space cpu command refl to h.destination) h.destination_held h
-guest_inside false world cpu command from to h = with_source _ world.source.log.held (tried_pages (is_access command) (space_of world.source) cpu command refl from h.source) h.source_held h
+guest_inside ran world cpu command from to h = grind (arith, nat_tests, tried_pages)
 
 acted_inside : (act : Act) (world : World) (page : ℕ) → HasFaultsInside world → HasFaultsInside (record world { source = source_acted_by act world.source page })
-acted_inside Unprotected world page h = with_source _ _ h.source (rest_pages world.source.log.held h.source_held) h
-acted_inside Zeroed world page h = with_source _ _ h.source (rest_pages world.source.log.held h.source_held) h
-acted_inside Woke world page h = with_source _ _ h.source (rest_pages world.source.log.held h.source_held) h
-acted_inside Forgot world page h = with_source _ _ h.source (rest_pages world.source.log.held h.source_held) h
-acted_inside (Requested origin) world page h = with_source _ _ h.source (rest_pages world.source.log.held h.source_held) h
+acted_inside act world page h = grind (arith, nat_tests)
 
 handled_inside : (act : Act) (world : World) (page : ℕ) → HasFaultsInside world → HasFaultsInside (record world { destination = destination_acted_by act world.destination page })
-handled_inside Unprotected world page h = with_destination _ _ h.destination (rest_pages world.destination.held h.destination_held) h
-handled_inside Zeroed world page h = with_destination _ _ h.destination (rest_pages world.destination.held h.destination_held) h
-handled_inside Woke world page h = with_destination _ _ h.destination (rest_pages world.destination.held h.destination_held) h
-handled_inside Forgot world page h = with_destination _ _ h.destination (rest_pages world.destination.held h.destination_held) h
-handled_inside (Requested origin) world page h = with_destination _ _ h.destination (rest_pages world.destination.held h.destination_held) h
+handled_inside act world page h = grind (arith, nat_tests)
 
 installed_inside : (o : Option ℕ) (world : World) (copy : Copy) (rest : List Copy) → HasFaultsInside world → HasFaultsInside (record world { destination = install_by o world.destination copy rest })
-installed_inside None world copy rest h = h
-installed_inside (Some page) world copy rest h = h
-
-came_inside : (ran : Bool) (world : World) (copy : Copy) → HasFaultsInside world → HasFaultsInside (record world { destination = copy_came ran world.destination copy })
-came_inside true world copy h = h
-came_inside false world copy h = h
-
-resumed_inside : (state : Received) (world : World) (epoch : ℕ) → HasFaultsInside world → HasFaultsInside (record world { destination = resumed_by state (record world.destination { epoch = epoch; urgent_taken = 0 }) })
-resumed_inside Received.NotRun world epoch h = h
-resumed_inside Received.Running world epoch h = h
-resumed_inside Received.Ended world epoch h = h
+installed_inside o world copy rest h = grind (arith, nat_tests)
 
 took_inside : (frame : Frame) (epoch : ℕ) (world : World) → HasFaultsInside world → HasFaultsInside (record world { destination = destination_took world.destination epoch frame })
-took_inside (Package areas owed commands) epoch world h = with_destination [] [] tt tt h
-took_inside (Page page bytes) epoch world h = came_inside world.destination.has_run world _ h
-took_inside (Zero page) epoch world h = came_inside world.destination.has_run world _ h
-took_inside Resume epoch world h = resumed_inside (received_of world.destination) world epoch h
-took_inside _ epoch world h = h
+took_inside frame epoch world h = grind (arith, nat_tests)
 
 urgent_inside : (frame : Frame) (world : World) → HasFaultsInside world → HasFaultsInside (record world { destination = urgent_took world.destination frame })
-urgent_inside (Page page bytes) world h = h
-urgent_inside (Zero page) world h = h
-urgent_inside _ world h = h
-
-rebuilt_inside : (switched : Bool) (world : World) (owed : FinSet nat_cmp) → HasFaultsInside world → HasFaultsInside (record world { source = source_rebuilt Received.NotRun owed (record world.source { switched = switched }) })
-rebuilt_inside true world owed h = h
-rebuilt_inside false world owed h = h
+urgent_inside frame world h = grind (arith, nat_tests)
 
 back_inside : (frame : Frame) (world : World) → HasFaultsInside world → HasFaultsInside (record world { source = source_took world.source frame })
-back_inside (Recv Received.NotRun owed) world h = rebuilt_inside world.source.switched world owed h
-back_inside (Recv Received.Running owed) world h = h
-back_inside (Recv Received.Ended owed) world h = with_source [] [] tt tt h
-back_inside Finished world h = with_source [] [] tt tt h
-back_inside (Request page) world h = h
-back_inside _ world h = h
+back_inside frame world h = grind (arith, nat_tests)
 
 source_read_inside : (world : World) (noted : Noted) → IsSoundWorld world → next_message (space_of world.source).object ≡ Some noted → HasFaultsInside world → HasFaultsInside (after_source_read world noted)
-source_read_inside world noted kept is h =
-    let object = (space_of world.source).object in
-    with_source _ _ (read_pages world.source.guest noted.cpu noted.message h.source) (held_pages noted.message world.source.log.held (next_page object.faults object.events noted is h.source kept.spaces.source_events) h.source_held) h
+source_read_inside world noted kept is h = grind (arith, nat_tests, held_pages, next_page)
 
 dest_read_inside : (world : World) (noted : Noted) → IsSoundWorld world → next_message world.destination.guest.space.object ≡ Some noted → HasFaultsInside world → HasFaultsInside (after_dest_read world noted)
-dest_read_inside world noted kept is h =
-    let object = world.destination.guest.space.object in
-    with_destination _ _ (read_pages world.destination.guest noted.cpu noted.message h.destination)
-    (held_pages noted.message world.destination.held (next_page object.faults object.events noted is h.destination kept.spaces.destination_events) h.destination_held) h
+dest_read_inside world noted kept is h = grind (arith, nat_tests, held_pages, next_page)
 
 -- Steps
 
 inside-answer : (cpus : ℕ) (world : World) (step : Step) → IsBounded cpus world → HasFaultsInside world → Leaves HasFaultsInside (answer world step)
-inside-answer cpus world (Step.Issue cpu command) all h = holds-made _ world (Step.Issue cpu command) (λ there idle may. guest_inside world.destination.has_run world cpu command all.limited.areas (has_memory cpus world all).destination h)
-inside-answer cpus world (Step.Retry cpu) all h = holds-made _ world (Step.Retry cpu) (λ command waits woken may. guest_inside world.destination.has_run world cpu command all.limited.areas (has_memory cpus world all).destination h)
+inside-answer cpus world (Step.Issue cpu command) all h = holds-made _ world (Step.Issue cpu command) (λ there idle may. guest_inside world.destination.has_run world cpu command all.mapped (has_memory cpus world all).destination h)
+inside-answer cpus world (Step.Retry cpu) all h = holds-made _ world (Step.Retry cpu) (λ command waits woken may. guest_inside world.destination.has_run world cpu command all.mapped (has_memory cpus world all).destination h)
 inside-answer cpus world Step.Start all h = holds-made _ world Step.Start (λ idle unused. h)
 inside-answer cpus world Step.Round all h = holds-made _ world Step.Round (λ precopy quiet. h)
 inside-answer cpus world Step.Send all h = holds-made _ world Step.Send (λ page is precopy up quiet. h)
@@ -241,11 +151,7 @@ inside-answer cpus world Step.Resume all h = holds-made _ world Step.Resume (λ 
 
 inside-after_steps : (cpus : ℕ) (world : World) (steps : List Step) → IsBounded cpus world → HasFaultsInside world → HasFaultsInside (after_steps world steps)
 inside-after_steps cpus world [] all h = h
-inside-after_steps cpus world (step ∷ steps) all h =
-    inside-after_steps cpus (next world step) steps (bounded-next cpus world step all) (leaves-next HasFaultsInside world step h (inside-answer cpus world step all h))
+inside-after_steps cpus world (step ∷ steps) all h = grind (arith, nat_tests, bounded-next, leaves-next, inside-answer, inside-after_steps cpus (next world step) steps (bounded-next cpus world step all) (leaves-next HasFaultsInside world step h (inside-answer cpus world step all h)))
 
 pub inside-reached : (world : World) → IsReached world → HasFaultsInside world
-inside-reached world reached =
-    subst HasFaultsInside (sym reached.is)
-    (inside-after_steps reached.cpus (first_world_with reached.cpus reached.epoch reached.rounds) reached.steps (bounded-first reached.cpus reached.epoch reached.rounds)
-    (record { source = tt; source_held = tt; destination = tt; destination_held = tt }))
+inside-reached world reached = grind (arith, nat_tests, inside-after_steps, bounded-first)

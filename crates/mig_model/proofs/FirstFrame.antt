@@ -1,12 +1,13 @@
 -- Which frame can be the first of the wire to the destination: one that is in place.
-use Rattle.std.proofs.Common.{◌≡◌, ℕ, Bool, true, false, Option, Some, None, is_some, List, [], ◌∷◌, refl, sym, ap, ◌∙◌}
+use Rattle.std.proofs.lemmas.Bool.Decides.{nat_tests}
+use Rattle.std.proofs.Common.{◌≡◌, Bool, true, false, Some, None, is_some, List, [], ◌∷◌, refl, sym, ap, ◌∙◌, arith}
 use Rattle.std.specs.Option.{option_and_then}
 use Rattle.std.proofs.lemmas.Bool.{false≢true}
 use Rattle.std.proofs.lemmas.Option.{none-some}
 use Rattle.mig_base.specs.declared.phase.DestPhase.{DestPhase}
 use Rattle.mig_base.specs.declared.phase.SourcePhase.{SourcePhase}
 use Rattle.mig_model.specs.Wire.{Frame, Sent}
-use Rattle.mig_model.specs.Wire.Frame.{Page, Zero, Run, Discard, Package, End, Resume}
+use Rattle.mig_model.specs.Wire.Frame.{Page, Zero, Run, Resume}
 use Rattle.mig_model.specs.Migration.{World, after_deliver, after_deliver_back, next}
 use Rattle.mig_model.specs.Invariant.{Flow, flow_next, flow_after, Wires}
 use Rattle.mig_model.specs.Invariant.Flow.{BeforeAdvise, Copies, BeforePackage, Pushed, AfterEnd}
@@ -32,14 +33,6 @@ delivered_back world (sent ∷ rest) = after_deliver_back world sent rest
 pub empty_not : {A : Type 0} (x : A) (xs : List A) → x ∷ xs ≡ [] → ⊥
 empty_not x xs h = cc
 
-some_first : (o : Option Flow) (rest : List Sent) (flow : Flow) → option_and_then (λ next. flow_after next rest) o ≡ Some flow → is_some o ≡ true
-some_first None rest flow h = absurd (none-some flow h)
-some_first (Some next) rest flow h = refl
-
--- the first frame of a wire that is in order may come there
-pub first_flows : (flow : Flow) (sent : Sent) (rest : List Sent) (end : Flow) → flow_after flow (sent ∷ rest) ≡ Some end → is_some (flow_next flow sent.frame) ≡ true
-first_flows flow sent rest end h = some_first (flow_next flow sent.frame) rest end h
-
 -- whether the Discard was on the wire
 abbrev is_late : Flow → Bool
 is_late BeforeAdvise = false
@@ -47,15 +40,7 @@ is_late Copies = false
 is_late flow = true
 
 late_next : (flow next : Flow) (frame : Frame) → is_late flow ≡ true → flow_next flow frame ≡ Some next → is_late next ≡ true
-late_next BeforeAdvise next frame late h = absurd (false≢true late)
-late_next Copies next frame late h = absurd (false≢true late)
-late_next BeforePackage next (Package areas owed commands) late h = ap (λ o. elim o [ None ↦ true | Some flow ↦ is_late flow ]) (sym h)
-late_next BeforePackage next _ late h = absurd (none-some next h)
-late_next Pushed next (Page page bytes) late h = ap (λ o. elim o [ None ↦ true | Some flow ↦ is_late flow ]) (sym h)
-late_next Pushed next (Zero page) late h = ap (λ o. elim o [ None ↦ true | Some flow ↦ is_late flow ]) (sym h)
-late_next Pushed next (End count) late h = ap (λ o. elim o [ None ↦ true | Some flow ↦ is_late flow ]) (sym h)
-late_next Pushed next _ late h = absurd (none-some next h)
-late_next AfterEnd next frame late h = absurd (none-some next h)
+late_next flow next frame late h = grind (arith, nat_tests)
 
 -- behind a Discard the wire does not come back to copies that are kept
 pub stays_late : (flow : Flow) (wire : List Sent) → is_late flow ≡ true → flow_after flow wire ≡ Some Copies → ⊥
@@ -94,33 +79,9 @@ comes SourcePhase.Stopped DestPhase.Running frame = is_some (flow_next Pushed fr
 comes SourcePhase.Paused DestPhase.Paused Resume = true
 comes from to frame = false
 
-copy_first : (frame : Frame) (rest : List Sent) → option_and_then (λ next. flow_after next rest) (flow_next Copies frame) ≡ Some Copies → has_copies frame ≡ true
-copy_first (Page page bytes) rest h = refl
-copy_first (Zero page) rest h = refl
-copy_first (Run first pages) rest h = refl
-copy_first (Discard pages) rest h = absurd (ends_late rest h)
-copy_first _ rest h = absurd (none-some Copies h)
-
-resume_first : (sent : Sent) (rest : List Sent) (epoch : ℕ) → sent ∷ rest ≡ record { epoch = epoch; frame = Resume } ∷ [] → comes SourcePhase.Paused DestPhase.Paused sent.frame ≡ true
-resume_first sent rest epoch h = ap (λ (wire : List Sent). elim wire [ [] ↦ false | s ∷ _ ↦ comes SourcePhase.Paused DestPhase.Paused s.frame ]) h
-
 in_place_by : (from : SourcePhase) (to : DestPhase) (source : Source) (destination : Destination) (sent : Sent) (rest back urgent : List Sent)
     → Wires (record source { phase = from }) (record destination { phase = to }) (sent ∷ rest) back urgent → comes from to sent.frame ≡ true
-in_place_by SourcePhase.Precopy DestPhase.Idle source destination sent rest back urgent w = first_flows BeforeAdvise sent rest Copies w.0
-in_place_by SourcePhase.Precopy DestPhase.Advised source destination sent rest back urgent w = copy_first sent.frame rest w.0
-in_place_by SourcePhase.Precopy _ source destination sent rest back urgent w = absurd w
-in_place_by SourcePhase.Stopped DestPhase.Idle source destination sent rest back urgent w = first_flows BeforeAdvise sent rest _ w.0
-in_place_by SourcePhase.Stopped DestPhase.Advised source destination sent rest back urgent w = first_flows Copies sent rest _ w.0
-in_place_by SourcePhase.Stopped DestPhase.Discarding source destination sent rest back urgent w = first_flows BeforePackage sent rest _ w.0
-in_place_by SourcePhase.Stopped DestPhase.Running source destination sent rest back urgent w = first_flows Pushed sent rest _ w.0
-in_place_by SourcePhase.Stopped DestPhase.Paused source destination sent rest back urgent w = absurd w
-in_place_by SourcePhase.Stopped DestPhase.Ended source destination sent rest back urgent w = absurd (empty_not sent rest w.0)
-in_place_by SourcePhase.Paused DestPhase.Advised source destination sent rest back urgent w = absurd (empty_not sent rest w.0)
-in_place_by SourcePhase.Paused DestPhase.Running source destination sent rest back urgent w = absurd (empty_not sent rest w.0)
-in_place_by SourcePhase.Paused DestPhase.Paused source destination sent rest back urgent w = resume_first sent rest source.epoch w.0
-in_place_by SourcePhase.Paused DestPhase.Ended source destination sent rest back urgent w = absurd (empty_not sent rest w.0)
-in_place_by SourcePhase.Paused _ source destination sent rest back urgent w = absurd w
-in_place_by _ to source destination sent rest back urgent w = absurd (empty_not sent rest w.1)
+in_place_by from to source destination sent rest back urgent w = grind (arith, nat_tests, empty_not, ends_late)
 
 -- while the link is up the first frame is never out of place
 pub first_in_place : (source : Source) (destination : Destination) (sent : Sent) (rest back urgent : List Sent) → Wires source destination (sent ∷ rest) back urgent → comes source.phase destination.phase sent.frame ≡ true

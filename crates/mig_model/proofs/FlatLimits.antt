@@ -12,8 +12,8 @@ use Rattle.mig_base.specs.declared.command.Reply.{Reply}
 use Rattle.mig_base.specs.declared.command.Reply.TheVariants.{At}
 use Rattle.mig_base.specs.declared.command.Entry.{Entry}
 use Rattle.mig_base.specs.Ranges.{count_below, in_range, rounded, free_place}
-use Rattle.mig_base.specs.Flat.{Cell, Memory, no_memory, is_mapped, mapped_count, fill, moved, zeros_with, is_page_start, is_bad_target, has_one_prot, at_place, mmap_reply, mremap_reply, mremap_target, written, reply_of, changed, after, memory_from, memory_of}
-use Rattle.mig_base.proofs.RangeLemmas.{count_below-append, count_below-constant, ranges, in_range-true, in_range-false_above, in_range-false_below}
+use Rattle.mig_base.specs.Flat.{Cell, Memory, no_memory, is_mapped, mapped_count, fill, moved, zeros_with, is_page_start, is_bad_target, has_one_prot, at_place, mmap_reply, mremap_reply, mremap_target, reply_of, changed, after, memory_from, memory_of}
+use Rattle.mig_base.proofs.RangeLemmas.{count_below-append, count_below-constant, in_range-true, in_range-false_above, in_range-false_below}
 use Rattle.mig_base.proofs.ReplyLemmas.{at_passed, mmap_inside, mremap_told, same_at}
 use Rattle.mig_base.proofs.BoundLemmas.{IsBounded, changed_bounded, remapped_inside, high_or}
 use Rattle.mig_base.proofs.BoundLemmas.{one_prot_some}
@@ -97,7 +97,7 @@ moved_or_was : (target old : Bool) (put here : Option Cell) → is_some (cond ta
 moved_or_was target old put here h = grind (arith, nat_tests)
 
 in_range_at : (first count n : ℕ) → in_range first count n ≡ true → (first + (n - first) ≡ n) × (n - first < count)
-in_range_at first count n h = grind (arith, ranges)
+in_range_at first count n h = grind arith
 
 sum_moved : (new target kept old all size add limit : ℕ) → new ≤ target + kept → kept + old ≡ all → old ≡ size → target ≡ add → all - size + add ≤ limit → new ≤ limit
 sum_moved new target kept old all size add limit h k o t l = omega (arith, h, k, o, t, l)
@@ -120,7 +120,7 @@ remapped_few memory addr old_size target new_size bounded some one high room =
 
 target_few : (memory : Memory) (addr old_size new_size : ℕ) (may_move : Bool) (fixed : Option ℕ) (target : ℕ) → IsBounded memory → 0 < old_size → has_one_prot memory addr old_size ≡ true → target + new_size ≤ HIGH →
     At target ≡ mremap_target memory addr old_size new_size may_move fixed → IsFew (moved memory addr old_size target new_size)
-target_few memory addr old_size new_size may_move fixed target bounded some one high h = grind (arith, nat_tests, at_passed, remapped_few, ltb-false, same_at)
+target_few memory addr old_size new_size may_move fixed target bounded some one high h = grind (arith, nat_tests, remapped_few, same_at)
 
 mremap_few : (memory : Memory) (addr old_len new_len : ℕ) (may_move : Bool) (fixed : Option ℕ) (target : ℕ) → IsBounded memory → At target ≡ mremap_reply memory addr old_len new_len may_move fixed →
     IsFew (moved memory addr (rounded old_len) target (rounded new_len))
@@ -133,14 +133,8 @@ mremap_few memory addr old_len new_len may_move fixed target bounded h =
 
 -- Every command
 
-written_was : (here : Bool) (o : Option Cell) (byte : ℕ) → is_some (cond here (written o byte) o) ≡ true → is_some o ≡ true
-written_was here o byte h = grind (arith, nat_tests)
-
-cleared_was : (here : Bool) (o : Option Cell) → is_some (cond here None o) ≡ true → is_some o ≡ true
-cleared_was here o h = grind (arith, nat_tests)
-
 few_changed : (memory : Memory) (command : Command) (reply : Reply) → IsBounded memory → reply ≡ reply_of memory command → IsFew memory → IsFew (changed memory command reply)
-few_changed memory command reply bounded h few = grind (arith, nat_tests, less_few, written_was, mapped_few, cleared_was, mremap_few)
+few_changed memory command reply bounded h few = grind (arith, nat_tests, less_few, mapped_few, mremap_few)
 
 few_from : (memory : Memory) (entries : List Entry) → IsBounded memory → IsFew memory → IsFew (memory_from memory entries)
 few_from memory [] bounded few = few

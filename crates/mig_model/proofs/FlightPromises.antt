@@ -1,30 +1,26 @@
 -- What a Package or a Recv that is in flight tells, whatever the phases are; and what a Switch owes.
-use Rattle.std.proofs.Common.{◌≡◌, ℕ, ◌&&◌, Bool, true, false, not, ltb, Option, Some, None, is_some, List, [], ◌∷◌, refl, sym, ap, ◌∙◌, subst, arith, IsOk, ◌⊎◌, ⊎_elim, ◌≤◌, if◌then◌else◌}
+use Rattle.std.proofs.Common.{◌≡◌, ℕ, ◌&&◌, Bool, true, false, not, Option, Some, None, is_some, List, [], ◌∷◌, refl, sym, ap, ◌∙◌, subst, arith, IsOk, if◌then◌else◌}
 use Rattle.std.specs.Option.{option_and_then}
-use Rattle.std.specs.FinMap.{get}
 use Rattle.std.specs.FinSet.{contains}
 use Rattle.std.proofs.lemmas.Bool.Decides.{nat_tests}
 use Rattle.std.proofs.lemmas.Bool.{false≢true, true_from_ne_false, and_parts, or_from}
 use Rattle.std.proofs.lemmas.Option.{none-some}
-use Rattle.mig_base.specs.declared.TheConstants.{HIGH_PAGE}
 use Rattle.mig_base.specs.declared.phase.DestPhase.{DestPhase}
 use Rattle.mig_base.specs.declared.phase.Received.{Received}
 use Rattle.mig_base.specs.declared.phase.SourcePhase.{SourcePhase}
 use Rattle.mig_base.specs.declared.schedule.Step.{Step}
 use Rattle.mig_base.specs.Tests.{is_empty}
-use Rattle.mig_base.proofs.TestLemmas.{none_is_some}
 use Rattle.mig_model.specs.Wire.{Frame, Sent, wire_with}
-use Rattle.mig_model.specs.Wire.Frame.{Page, Zero, Package, End, Request, Done}
 use Rattle.mig_model.specs.Guest.{is_present}
 use Rattle.mig_model.specs.Source.{not_clean, space_of, switch_frames}
 use Rattle.mig_model.specs.Migration.{World, outcome, next}
 use Rattle.mig_model.specs.Invariant.{IsSoundWorld, IsSwitching, IsReceiving, Flow, flow_next, flow_after, package_in, is_package, is_request, is_done, are_requests, are_requests_and_done}
-use Rattle.mig_model.specs.Invariant.Flow.{BeforeAdvise, Copies, BeforePackage, Pushed, AfterEnd}
+use Rattle.mig_model.specs.Invariant.Flow.{BeforeAdvise, Copies, Pushed, AfterEnd}
 use Rattle.mig_model.specs.Promises.{has_recv, is_running_recv}
 use Rattle.mig_model.proofs.FirstFrame.{stays_late}
 use Rattle.mig_model.proofs.Stopping.{in_phases, member_not_clean}
 use Rattle.mig_model.proofs.StepCases.{made-ok}
-use Rattle.mig_model.proofs.Facts.{either, and_false}
+use Rattle.mig_model.proofs.Facts.{either}
 
 -- A Package in flight
 
@@ -35,16 +31,10 @@ is_past AfterEnd = true
 is_past flow = false
 
 past_next : (flow next : Flow) (frame : Frame) → is_past flow ≡ true → flow_next flow frame ≡ Some next → (is_past next ≡ true) × (is_package frame ≡ false)
-past_next Pushed next (Page page bytes) past h = (ap (λ o. elim o [ None ↦ true | Some flow ↦ is_past flow ]) (sym h), refl)
-past_next Pushed next (Zero page) past h = (ap (λ o. elim o [ None ↦ true | Some flow ↦ is_past flow ]) (sym h), refl)
-past_next Pushed next (End count) past h = (ap (λ o. elim o [ None ↦ true | Some flow ↦ is_past flow ]) (sym h), refl)
-past_next Pushed next _ past h = absurd (none-some next h)
-past_next AfterEnd next frame past h = absurd (none-some next h)
-past_next _ next frame past h = absurd (false≢true past)
+past_next flow next frame past h = grind (arith, nat_tests)
 
 not_here : (here : Bool) (frame : Frame) (rest : Option Frame) → here ≡ false → is_some (if here then Some frame else rest) ≡ true → is_some rest ≡ true
-not_here true frame rest h there = absurd (false≢true (sym h))
-not_here false frame rest h there = there
+not_here here frame rest h there = grind (arith, nat_tests)
 
 -- no Package comes any more
 pub none_past : (flow end : Flow) (wire : List Sent) → is_past flow ≡ true → flow_after flow wire ≡ Some end → is_some (package_in wire) ≡ true → ⊥
@@ -59,16 +49,10 @@ none_past flow end (sent ∷ rest) past h there =
 
 -- a Package goes to a later place, from which the wire does not come back
 package_next : (flow next : Flow) (frame : Frame) → is_package frame ≡ true → flow_next flow frame ≡ Some next → next ≡ Pushed
-package_next BeforePackage next (Package areas owed commands) is h = sym (ap (λ o. elim o [ None ↦ Pushed | Some flow ↦ flow ]) h)
-package_next BeforeAdvise next (Package areas owed commands) is h = absurd (none-some next h)
-package_next Copies next (Package areas owed commands) is h = absurd (none-some next h)
-package_next Pushed next (Package areas owed commands) is h = absurd (none-some next h)
-package_next AfterEnd next (Package areas owed commands) is h = absurd (none-some next h)
-package_next flow next _ is h = absurd (false≢true is)
+package_next flow next frame is h = grind (arith, nat_tests)
 
 here_or_later : {A : Type 0} (here : Bool) (frame : Frame) (rest : Option Frame) → is_some (if here then Some frame else rest) ≡ true → (here ≡ true → A) → (is_some rest ≡ true → A) → A
-here_or_later true frame rest there now later = now refl
-here_or_later false frame rest there now later = later there
+here_or_later here frame rest there now later = grind (arith, nat_tests)
 
 pub none_precopy : (flow : Flow) (wire : List Sent) → flow_after flow wire ≡ Some Copies → is_some (package_in wire) ≡ true → ⊥
 none_precopy flow [] h there = false≢true there
@@ -114,12 +98,10 @@ package_tells world kept there =
 -- A Recv in flight
 
 request_not : (frame : Frame) → is_request frame ≡ true → is_running_recv frame ≡ false
-request_not (Request page) h = refl
-request_not _ h = absurd (false≢true h)
+request_not frame h = grind (arith, nat_tests)
 
 done_not : (frame : Frame) → is_done frame ≡ true → is_running_recv frame ≡ false
-done_not Done h = refl
-done_not _ h = absurd (false≢true h)
+done_not frame h = grind (arith, nat_tests)
 
 requests_no_recv : (wire : List Sent) → are_requests wire ≡ true → has_recv wire ≡ false
 requests_no_recv [] h = refl
@@ -128,8 +110,7 @@ requests_no_recv (sent ∷ rest) h =
     or_from (is_running_recv sent.frame) (has_recv rest) (request_not sent.frame both.0) (requests_no_recv rest both.1)
 
 empty_no_recv : (wire : List Sent) → is_empty wire ≡ true → has_recv wire ≡ false
-empty_no_recv [] h = refl
-empty_no_recv (sent ∷ rest) h = absurd (false≢true h)
+empty_no_recv wire h = grind (arith, nat_tests)
 
 ended_no_recv : (wire : List Sent) → are_requests_and_done wire ≡ true → has_recv wire ≡ false
 ended_no_recv [] h = absurd (false≢true h)
@@ -143,28 +124,7 @@ no_recv wire none there = absurd (false≢true (sym none ∙ there))
 
 recv_in_phases : (from : SourcePhase) (to : DestPhase) (world : World) → world.up ≡ true → IsSoundWorld (in_phases from to world) → has_recv world.back.frames ≡ true →
     IsReceiving (in_phases from to world).source (in_phases from to world).destination Received.Running world.back.frames
-recv_in_phases SourcePhase.Idle to world up kept there = no_recv world.back.frames (ap has_recv (kept.flight.wires up).2) there
-recv_in_phases SourcePhase.Precopy DestPhase.Idle world up kept there = no_recv world.back.frames (ap has_recv (kept.flight.wires up).1) there
-recv_in_phases SourcePhase.Precopy DestPhase.Advised world up kept there = no_recv world.back.frames (ap has_recv (kept.flight.wires up).1) there
-recv_in_phases SourcePhase.Precopy DestPhase.Discarding world up kept there = absurd (kept.flight.wires up)
-recv_in_phases SourcePhase.Precopy DestPhase.Running world up kept there = absurd (kept.flight.wires up)
-recv_in_phases SourcePhase.Precopy DestPhase.Paused world up kept there = absurd (kept.flight.wires up)
-recv_in_phases SourcePhase.Precopy DestPhase.Ended world up kept there = absurd (kept.flight.wires up)
-recv_in_phases SourcePhase.Stopped DestPhase.Idle world up kept there = no_recv world.back.frames (ap has_recv (kept.flight.wires up).1) there
-recv_in_phases SourcePhase.Stopped DestPhase.Advised world up kept there = no_recv world.back.frames (ap has_recv (kept.flight.wires up).1) there
-recv_in_phases SourcePhase.Stopped DestPhase.Discarding world up kept there = no_recv world.back.frames (ap has_recv (kept.flight.wires up).1) there
-recv_in_phases SourcePhase.Stopped DestPhase.Running world up kept there = no_recv world.back.frames (requests_no_recv world.back.frames (kept.flight.wires up).1) there
-recv_in_phases SourcePhase.Stopped DestPhase.Paused world up kept there = absurd (kept.flight.wires up)
-recv_in_phases SourcePhase.Stopped DestPhase.Ended world up kept there = no_recv world.back.frames (ended_no_recv world.back.frames (kept.flight.wires up).1) there
-recv_in_phases SourcePhase.Paused DestPhase.Idle world up kept there = absurd (kept.flight.wires up)
-recv_in_phases SourcePhase.Paused DestPhase.Advised world up kept there = no_recv world.back.frames (ap has_recv (kept.flight.wires up).1) there
-recv_in_phases SourcePhase.Paused DestPhase.Discarding world up kept there = absurd (kept.flight.wires up)
-recv_in_phases SourcePhase.Paused DestPhase.Running world up kept there = (kept.flight.wires up).1
-recv_in_phases SourcePhase.Paused DestPhase.Paused world up kept there = no_recv world.back.frames (ap has_recv (kept.flight.wires up).1) there
-recv_in_phases SourcePhase.Paused DestPhase.Ended world up kept there =
-    let receiving = (kept.flight.wires up).1 in
-    no_recv world.back.frames (ap has_recv receiving.first ∙ requests_no_recv receiving.rest receiving.requests) there
-recv_in_phases SourcePhase.Released to world up kept there = no_recv world.back.frames (ap has_recv (kept.flight.wires up).2) there
+recv_in_phases from to world up kept there = grind (arith, nat_tests, requests_no_recv, ended_no_recv)
 
 pub recv_tells : (world : World) → IsSoundWorld world → has_recv world.back.frames ≡ true → IsReceiving world.source world.destination Received.Running world.back.frames
 recv_tells world kept there =
@@ -172,20 +132,8 @@ recv_tells world kept there =
 
 -- Switch
 
-below_or_not : (page : ℕ) → (ltb page HIGH_PAGE ≡ true) ⊎ (HIGH_PAGE ≤ page)
-below_or_not page = grind (arith, nat_tests)
-
-present_low : (world : World) (page : ℕ) → IsSoundWorld world → (ltb page HIGH_PAGE && is_present (space_of world.source) page) ≡ is_present (space_of world.source) page
-present_low world page kept =
-    elim (is_present (space_of world.source) page) as (λ b. is_present (space_of world.source) page ≡ b → (ltb page HIGH_PAGE && b) ≡ b) [
-      | true ↦ λ is.
-          ⊎_elim (λ (low : ltb page HIGH_PAGE ≡ true). ap (λ b. b && true) low)
-          (λ (high : HIGH_PAGE ≤ page). absurd (none_is_some (get (space_of world.source).host.bytes page) (kept.spaces.source_space.host.mapped page (kept.spaces.source_space.host.bound page high)) is)) (below_or_not page)
-      | false ↦ λ is. and_false (ltb page HIGH_PAGE)
-    ] refl
-
 pub owed_at : (world : World) (page : ℕ) → IsSoundWorld world → contains (not_clean world.source) page ≡ (is_present (space_of world.source) page && not (contains world.source.log.clean page))
-owed_at world page kept = member_not_clean world.source page ∙ ap (λ b. b && not (contains world.source.log.clean page)) (present_low world page kept)
+owed_at world page kept = grind (arith, nat_tests, member_not_clean)
 
 pub switch_owes : (world : World) (page : ℕ) → IsSoundWorld world → IsOk (outcome world Step.Switch) → contains (next world Step.Switch).source.remaining page ≡ (is_present (space_of world.source) page && not (contains world.source.log.clean page))
 switch_owes world page kept ok =

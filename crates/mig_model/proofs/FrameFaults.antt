@@ -1,16 +1,13 @@
 -- A frame that is taken has no fault, but for having to wait.
-use Rattle.std.proofs.Common.{◌≡◌, ℕ, ◌≤◌, ◌&&◌, ◌||◌, Bool, true, false, not, eqb, leb, ltb, Option, Some, None, List, [], ◌∷◌, refl, sym, ap, ◌∙◌, length, arith, cond, is_some, subst, ◌<◌, if◌then◌else◌}
+use Rattle.std.proofs.Common.{◌≡◌, ℕ, ◌≤◌, ◌&&◌, ◌||◌, Bool, true, false, not, eqb, leb, ltb, Option, Some, None, List, [], ◌∷◌, refl, sym, ap, ◌∙◌, arith, cond, is_some, ◌<◌}
 use Rattle.std.specs.Prelude.{Ok, Err, Result}
 use Rattle.std.specs.Ordering.{nat_cmp}
 use Rattle.std.specs.FinMap as finmap
 use Rattle.std.specs.FinMap.{FinMap, contains_key, retain_keys, get, get-empty, get-retain_keys}
 use Rattle.std.specs.FinSet as finset
 use Rattle.std.specs.FinSet.{FinSet, contains, contains-empty, contains-retain, len-empty, nat_cmp-IsAntisymmetric}
-use Rattle.std.proofs.lemmas.Bool.{false≢true, and_from, eq-eqb, leb-true, lt-ltb, not_from_true, or_from}
+use Rattle.std.proofs.lemmas.Bool.{false≢true, eq-eqb, leb-true, not_from_true, or_from}
 use Rattle.std.proofs.lemmas.Bool.Decides.{nat_tests}
-use Rattle.mig_base.specs.declared.Prot.{Prot}
-use Rattle.mig_base.specs.declared.fault.BackFault.{BackFault}
-use Rattle.mig_base.specs.declared.fault.RebuildFault.{RebuildFault}
 use Rattle.mig_base.specs.declared.fault.TakeFault.{TakeFault}
 use Rattle.mig_base.specs.declared.phase.Received.{Received}
 use Rattle.mig_base.specs.Tests.{first_holding, is_empty}
@@ -21,30 +18,17 @@ use Rattle.mig_base.specs.declared.effect.Effect.{Effect}
 use Rattle.mig_base.specs.declared.refusal.Refusal.{Refusal}
 use Rattle.mig_base.specs.declared.schedule.Step.{Step}
 use Rattle.mig_model.specs.Space.{Space, IsSoundSpace}
-use Rattle.mig_model.specs.Migration.{World, Made, Answer, after_deliver, after_move, deliver_first, frame_effect, has_started, is_early, is_end, is_short, made, outcome, outcome_by, unless}
+use Rattle.mig_model.specs.Migration.{World, Made, Answer, after_deliver, frame_effect, has_started, is_early, is_end, is_short, made, outcome, outcome_by, unless}
 use Rattle.mig_model.specs.Invariant.{IsSoundWorld}
-use Rattle.mig_model.proofs.SourceRounds.{idle_forward}
-use Rattle.mig_model.specs.Wire.{Frame, Sent, Copy, is_copy}
-use Rattle.mig_model.specs.Wire.Frame.{Advise, Package, End, Resume, Request, Recv, Done}
+use Rattle.mig_model.specs.Wire.{Frame, Sent, Copy}
+use Rattle.mig_model.specs.Wire.Frame.{Advise, End, Recv}
 use Rattle.mig_model.specs.Guest.{is_present}
-use Rattle.mig_model.specs.Log.{less, no_pages, present}
-use Rattle.mig_model.specs.Source.{Source, is_source_idle, is_stopped, space_of}
-use Rattle.mig_model.specs.Destination.{Destination, is_running}
-use Rattle.mig_model.specs.Faults.{frame_fault, back_fault, rebuild_fault, take_fault, urgent_fault, wait_fault, is_bad, is_bad_owed, is_in_place, is_in_place_back, is_of_epoch, is_too_soon, is_torn}
-use Rattle.mig_model.proofs.Taken.{IsTaken, IsTakenUrgent, IsGood, IsOwnEpoch, IsInPlaceBack}
-use Rattle.mig_model.proofs.Facts.{low_or, none_absurd}
-
--- Tests that all fail
-
-none_first : {A : Type 0} (test : Bool) (value : A) (rest : Option A) → test ≡ false → rest ≡ None → (if test then Some value else rest) ≡ None
-none_first true value rest h none = none_absurd (sym h)
-none_first false value rest h none = none
-
-three_none : {A : Type 0} (a b c : Bool) (x y z : A) → a ≡ false → b ≡ false → c ≡ false → first_holding ((a, x) ∷ (b, y) ∷ (c, z) ∷ []) ≡ None
-three_none a b c x y z h k l = none_first a x _ h (none_first b y _ k (none_first c z None l refl))
-
-two_none : {A : Type 0} (a b : Bool) (x y : A) → a ≡ false → b ≡ false → first_holding ((a, x) ∷ (b, y) ∷ []) ≡ None
-two_none a b x y h k = none_first a x _ h (none_first b y None k refl)
+use Rattle.mig_model.specs.Log.{no_pages, present}
+use Rattle.mig_model.specs.Source.{Source, space_of}
+use Rattle.mig_model.specs.Destination.{Destination}
+use Rattle.mig_model.specs.Faults.{frame_fault, back_fault, rebuild_fault, take_fault, urgent_fault, wait_fault, is_bad, is_too_soon}
+use Rattle.mig_model.proofs.Taken.{IsTaken, IsTakenUrgent, IsGood, IsInPlaceBack}
+use Rattle.mig_model.proofs.Facts.{low_or}
 
 -- Sets and maps without members
 
@@ -52,17 +36,14 @@ none_empty : (set : FinSet nat_cmp) → ((q : ℕ) → contains set q ≡ false)
 none_empty set h = ap (λ s. not (eqb (finset.len s) 0)) (same_members set finset.empty (λ q. h q ∙ sym (contains-empty nat_cmp q))) ∙ ap (λ n. not (eqb n 0)) (len-empty nat_cmp)
 
 and_none : (a b : Bool) → (a ≡ true → b ≡ false) → (a && b) ≡ false
-and_none true b h = h refl
-and_none false b h = refl
+and_none a b h = grind (arith, nat_tests)
 
 no_member : (set : FinSet nat_cmp) (test : ℕ → Bool) → ((q : ℕ) → contains set q ≡ true → test q ≡ false) → (q : ℕ) → contains (finset.retain set test) q ≡ false
 no_member set test h q =
     contains-retain set test q (λ x e. ap test (sym (nat_cmp-IsAntisymmetric q x e))) ∙ and_none (contains set q) (test q) (h q)
 
 gone : {X : Type 0} (keep : Bool) (o : Option X) → (is_some o ≡ true → keep ≡ false) → cond keep o None ≡ None
-gone true None h = refl
-gone true (Some x) h = none_absurd (sym (h refl))
-gone false o h = refl
+gone keep o h = grind (arith, nat_tests)
 
 none_kept : {X : Type 0} (map : FinMap nat_cmp X) (keep : ℕ → Bool) → ((q : ℕ) → contains_key map q ≡ true → keep q ≡ false) → not (eqb (finmap.len (retain_keys map keep)) 0) ≡ false
 none_kept {X} map keep h =
@@ -73,14 +54,10 @@ none_kept {X} map keep h =
 -- The destination
 
 empty_is : (arrivals : List Copy) → is_empty arrivals ≡ true → arrivals ≡ []
-empty_is [] h = refl
-empty_is (copy ∷ rest) h = none_absurd h
+empty_is arrivals h = grind (arith, nat_tests)
 
 soon_by : (none free all : Bool) → (free ≡ true → all ≡ true → none ≡ true) → (not none && free && all) ≡ false
-soon_by true free all h = refl
-soon_by false true true h = absurd (false≢true (h refl refl))
-soon_by false true false h = refl
-soon_by false false all h = refl
+soon_by none free all h = grind (arith, nat_tests)
 
 not_too_soon : (node : Destination) (frame : Frame) → IsGood node frame → is_too_soon node frame ≡ false
 not_too_soon node (End urgent) good =
@@ -89,53 +66,26 @@ not_too_soon node (End urgent) good =
 not_too_soon node Advise good = refl
 not_too_soon node _ good = refl
 
-of_epoch : (own epoch : ℕ) (node : Destination) (frame : Frame) → own ≡ node.epoch → IsOwnEpoch node epoch frame → is_of_epoch own epoch frame ≡ true
-of_epoch own epoch node Advise is h = refl
-of_epoch own epoch node Resume is h = lt-ltb own epoch (subst (λ e. e < epoch) (sym is) h)
-of_epoch own epoch node _ is h = eq-eqb epoch own (h ∙ sym is)
-
 torn_by : (kept mapped : Bool) → kept ≡ false → mapped ≡ true → (kept || not mapped) ≡ false
 torn_by kept mapped h k = or_from kept (not mapped) h (not_from_true mapped k)
-
-not_torn : (kept : FinMap nat_cmp (List ℕ)) (areas : FinMap nat_cmp Prot) (owed : FinSet nat_cmp) → ((page : ℕ) → contains owed page ≡ true → contains_key kept page ≡ false) →
-    ((page : ℕ) → contains owed page ≡ true → contains_key areas page ≡ true) → ((page : ℕ) → contains_key kept page ≡ true → contains_key areas page ≡ true) → is_torn kept areas owed ≡ false
-not_torn kept areas owed apart mapped kept_mapped =
-    or_from _ _
-    (none_empty _ (no_member owed (λ page. contains_key kept page || not (contains_key areas page)) (λ page h. torn_by (contains_key kept page) (contains_key areas page) (apart page h) (mapped page h))))
-    (none_kept kept (λ page. not (contains_key areas page)) (λ page h. not_from_true (contains_key areas page) (kept_mapped page h)))
 
 pub no_fewer : (came told : ℕ) → came ≤ told → ltb told came ≡ false
 no_fewer came told h = grind (arith, nat_tests)
 
 not_bad : (node : Destination) (frame : Frame) → IsGood node frame → is_bad node frame ≡ false
-not_bad node (Package areas owed commands) good =
-    or_from (is_torn node.kept areas owed) (not (eqb (length commands) (length node.guest.cpus))) (not_torn node.kept areas owed good.0 good.1 good.2) (not_from_true _ (eq-eqb (length commands) (length node.guest.cpus) good.3))
-not_bad node (End urgent) good = no_fewer node.urgent_taken urgent good.0
-not_bad node _ good = refl
+not_bad node frame good = grind (arith, nat_tests, eq-eqb, no_fewer, none_empty, no_member, torn_by, none_kept)
 
 -- a frame that is taken is not wrong
 pub no_frame_fault : (node : Destination) (sent : Sent) → IsTaken node sent → frame_fault node sent.epoch sent.frame ≡ None
-no_frame_fault node sent taken =
-    three_none (not (is_in_place node.phase sent.frame) || is_too_soon node sent.frame) (not (is_of_epoch node.epoch sent.epoch sent.frame)) (is_bad node sent.frame) TakeFault.OutOfPlace TakeFault.StaleEpoch TakeFault.BadFrame
-    (or_from (not (is_in_place node.phase sent.frame)) (is_too_soon node sent.frame) (not_from_true (is_in_place node.phase sent.frame) taken.in_place) (not_too_soon node sent.frame taken.good))
-    (not_from_true (is_of_epoch node.epoch sent.epoch sent.frame) (of_epoch node.epoch sent.epoch node sent.frame refl taken.own_epoch)) (not_bad node sent.frame taken.good)
+no_frame_fault node sent taken = grind (arith, nat_tests, not_from_true, not_too_soon, not_bad)
 
 pub no_urgent_fault : (node : Destination) (sent : Sent) → IsTakenUrgent node sent → urgent_fault node sent.epoch sent.frame ≡ None
-no_urgent_fault node sent taken =
-    two_none (not (is_running node.phase && is_copy sent.frame)) (not (eqb sent.epoch node.epoch)) TakeFault.OutOfPlace TakeFault.StaleEpoch
-    (not_from_true (is_running node.phase && is_copy sent.frame) (and_from (is_running node.phase) (is_copy sent.frame) taken.runs taken.copy)) (not_from_true (eqb sent.epoch node.epoch) (eq-eqb sent.epoch node.epoch taken.own_epoch))
+no_urgent_fault node sent taken = grind (arith, nat_tests)
 
 -- The source
 
-in_place_back : (node : Source) (frame : Frame) → IsInPlaceBack node frame → is_in_place_back node frame ≡ true
-in_place_back node (Request page) place = place
-in_place_back node Done place = and_from (is_stopped node.phase) (eqb node.end_epoch node.epoch) place.0 (eq-eqb node.end_epoch node.epoch place.1)
-in_place_back node (Recv state owed) place = place.0
-in_place_back node _ place = absurd place
-
 pub no_back_fault : (node : Source) (sent : Sent) → IsInPlaceBack node sent.frame → sent.epoch ≡ node.epoch → back_fault node sent.epoch sent.frame ≡ None
-no_back_fault node sent place own =
-    two_none (not (is_in_place_back node sent.frame)) (not (eqb sent.epoch node.epoch)) BackFault.OutOfPlace BackFault.StaleEpoch (not_from_true (is_in_place_back node sent.frame) (in_place_back node sent.frame place)) (not_from_true (eqb sent.epoch node.epoch) (eq-eqb sent.epoch node.epoch own))
+no_back_fault node sent place own = grind (arith, nat_tests)
 
 none_listed : (owed : FinSet nat_cmp) → owed ≡ no_pages → not (eqb (finset.len owed) 0) ≡ false
 none_listed owed none = ap (λ s. not (eqb (finset.len s) 0)) none ∙ ap (λ n. not (eqb n 0)) (len-empty nat_cmp)
@@ -143,22 +93,13 @@ none_listed owed none = ap (λ s. not (eqb (finset.len s) 0)) none ∙ ap (λ n.
 -- a Recv that is taken lists what the source has
 pub no_rebuild_fault : (node : Source) (state : Received) (owed : FinSet nat_cmp) → ((page : ℕ) → is_present (space_of node) page ≡ true → contains (present (space_of node)) page ≡ true) → IsInPlaceBack node (Recv state owed) →
     rebuild_fault node state owed ≡ None
-no_rebuild_fault node Received.NotRun owed below place = none_first (is_bad_owed node Received.NotRun owed) RebuildFault.BadOwed None (none_listed owed (place.2 (λ h. cc))) refl
-no_rebuild_fault node Received.Running owed below place =
-    none_first (is_bad_owed node Received.Running owed) RebuildFault.BadOwed None
-    (or_from (not node.switched) (not (eqb (finset.len (less owed (present (space_of node)))) 0)) (not_from_true node.switched (place.3 (λ h. cc)))
-    (none_empty (less owed (present (space_of node))) (no_member owed (λ page. not (contains (present (space_of node)) page)) (λ page h. not_from_true (contains (present (space_of node)) page) (below page (place.1 page h)))))) refl
-no_rebuild_fault node Received.Ended owed below place =
-    none_first (is_bad_owed node Received.Ended owed) RebuildFault.BadOwed None
-    (or_from (not node.switched) (not (eqb (finset.len owed) 0)) (not_from_true node.switched (place.3 (λ h. cc))) (none_listed owed (place.2 (λ h. cc)))) refl
+no_rebuild_fault node state owed below place = grind (arith, nat_tests, none_listed, not_from_true, none_empty, no_member)
 
 -- A Deliver that completes a frame
 
 passes : (started up : Bool) (answer : Answer) → started ≡ true → up ≡ true → unless ((not started, Refusal.Phase) ∷ (not up, Refusal.Broken) ∷ []) answer ≡ answer
 unfolding unless
-passes true true answer s u = refl
-passes false up answer s u = none_absurd s
-passes true false answer s u = none_absurd u
+passes started up answer s u = grind (arith, nat_tests)
 
 -- the two reasons for which it may be refused
 abbrev waits : World → Sent → List (Bool × Refusal)
@@ -167,9 +108,7 @@ waits world sent = (is_end sent.frame && not (is_empty world.destination.arrival
 completed : (world : World) (n : ℕ) (sent : Sent) (rest : List Sent) → has_started world ≡ true → world.up ≡ true → world.forward.frames ≡ sent ∷ rest → is_short world.forward sent.frame n ≡ false →
     outcome world (Step.Deliver n) ≡ outcome_by (unless (waits world sent) (made (frame_effect sent.frame) (after_deliver world sent rest)))
 unfolding outcome
-completed world n sent rest started up first full =
-    ap outcome_by (passes (has_started world) world.up (deliver_first world n world.forward.frames) started up ∙ ap (deliver_first world n) first
-    ∙ ap (λ b. if b then made (Effect.Moved n) (after_move world n) else unless (waits world sent) (made (frame_effect sent.frame) (after_deliver world sent rest))) full)
+completed world n sent rest started up first full = grind (arith, nat_tests, passes)
 
 abbrev fault_by : (install early : Bool) → Option TakeFault
 fault_by install early = first_holding ((install, TakeFault.InstallFirst) ∷ (early, TakeFault.UrgentFirst) ∷ [])
@@ -185,9 +124,7 @@ answer_to None new = Ok new.effect
 
 told_by : (install early : Bool) (new : Made) → answer_by install early new ≡ answer_to (fault_by install early) new
 unfolding unless
-told_by true early new = refl
-told_by false true new = refl
-told_by false false new = refl
+told_by install early new = grind (arith, nat_tests)
 
 -- a frame that is not wrong has no fault but for having to wait
 only_waits : (node : Destination) (sent : Sent) (fault : Option TakeFault) → frame_fault node sent.epoch sent.frame ≡ None → take_fault node sent.epoch sent.frame ≡ fault → wait_fault node sent.frame ≡ fault
@@ -209,27 +146,12 @@ full_by world n sent rest fault is h =
     ∙ told_by (is_end sent.frame && not (is_empty world.destination.arrivals)) (is_early world.destination sent.frame) new
     ∙ ap (λ f. answer_to f new) (only_waits world.destination sent fault is.right h)
 
--- nothing is in flight before Start
-unstarted : (idle : Bool) (frames : List Sent) (sent : Sent) (rest : List Sent) → (idle ≡ true → frames ≡ []) → frames ≡ sent ∷ rest → not idle ≡ true
-unstarted false frames sent rest none first = refl
-unstarted true frames sent rest none first = absurd (let e : sent ∷ rest ≡ [] = sym first ∙ none refl in cc)
-
 pub is_full : (world : World) (n : ℕ) (sent : Sent) (rest : List Sent) → IsSoundWorld world → world.up ≡ true → world.forward.frames ≡ sent ∷ rest → is_short world.forward sent.frame n ≡ false → IsTaken world.destination sent → IsFull world n sent rest
-is_full world n sent rest kept up first full taken =
-    record {
-      started = unstarted (is_source_idle world.source.phase) world.forward.frames sent rest (idle_forward world kept) first;
-      up = up;
-      first = first;
-      full = full;
-      right = no_frame_fault world.destination sent taken;
-    }
+is_full world n sent rest kept up first full taken = grind (arith, nat_tests, no_frame_fault)
 
 pub sound_below : (space : Space) → IsSoundSpace space → (page : ℕ) → is_present space page ≡ true → page < HIGH_PAGE
 sound_below space sound page h = low_or (λ high. false≢true (sym (ap is_some (sound.host.mapped page (sound.host.bound page high))) ∙ h))
 
-below_high : (page : ℕ) → page < HIGH_PAGE → ltb page HIGH_PAGE ≡ true
-below_high page h = grind (arith, nat_tests)
-
 -- the present pages of a source
 pub present_below : (space : Space) → IsSoundSpace space → (page : ℕ) → is_present space page ≡ true → contains (present space) page ≡ true
-present_below space sound page h = member_below _ HIGH_PAGE page ∙ and_from (ltb page HIGH_PAGE) (is_present space page) (below_high page (sound_below space sound page h)) h
+present_below space sound page h = grind (arith, nat_tests, member_below, sound_below)

@@ -1,5 +1,5 @@
 -- The frames of pages, and what a destination keeps once it has taken them.
-use Rattle.std.proofs.Common.{◌≡◌, ℕ, zero, suc, ◌≤◌, ◌&&◌, Bool, true, cond, not, eqb, ltb, Option, Some, None, List, [], ◌∷◌, ◌++◌, refl, sym, ap, ◌∙◌, arith, length, is_some, if◌then◌else◌}
+use Rattle.std.proofs.Common.{◌≡◌, ℕ, zero, suc, ◌&&◌, Bool, true, cond, not, eqb, ltb, Option, Some, None, List, [], ◌∷◌, ◌++◌, refl, sym, ap, ◌∙◌, arith, length, is_some, if◌then◌else◌}
 use Rattle.std.specs.List.{list_all}
 use Rattle.std.specs.Ordering.{nat_cmp}
 use Rattle.std.specs.Cmp.{nat_cmp_total, unsigned_tied}
@@ -68,23 +68,11 @@ get-page_frames : (pages : FinMap nat_cmp (List ℕ)) (n : ℕ) → ((page : ℕ
     get (kept_by empty (page_frames pages n)) q ≡ cond (ltb q n) (get pages q) None
 unfolding page_frames
 get-page_frames pages zero whole q = get-empty nat_cmp q ∙ none_below q (get pages q)
-get-page_frames pages (suc n) whole q =
-    ap (λ m. get m q) (kept_by-append empty (page_frames pages n) (frame_at pages n))
-    ∙ get-kept_frame (kept_by empty (page_frames pages n)) n (get pages n) (whole n) q
-    ∙ ap (cond (eqb q n && is_some (get pages n)) (get pages n)) (get-page_frames pages n whole q)
-    ∙ one_more (get pages) n q
-
-all_below : (n q : ℕ) (o : Option (List ℕ)) → (n ≤ q → o ≡ None) → cond (ltb q n) o None ≡ o
-all_below n q o h = grind (arith, nat_tests)
-
-kept_by-pages : (pages : FinMap nat_cmp (List ℕ)) (n : ℕ) → ((page : ℕ) (bytes : List ℕ) → get pages page ≡ Some bytes → length bytes ≡ 4096) → ((page : ℕ) → n ≤ page →
-    get pages page ≡ None) → kept_by empty (page_frames pages n) ≡ pages
-kept_by-pages pages n whole above =
-    same_pages (kept_by empty (page_frames pages n)) pages (λ q. get-page_frames pages n whole q ∙ all_below n q (get pages q) (above q))
+get-page_frames pages (suc n) whole q = grind (arith, nat_tests, kept_by-append, get-kept_frame, one_more, get-page_frames pages n whole q)
 
 -- a destination that kept nothing, and takes the frames of all present pages of a host, has its pages
 pub kept_by-page_frames : (host : Host) → IsSound host → kept_by empty (page_frames host.bytes HIGH_PAGE) ≡ host.bytes
-kept_by-page_frames host sound = kept_by-pages host.bytes HIGH_PAGE sound.whole (λ page l. sound.mapped page (sound.bound page l))
+kept_by-page_frames host sound = grind (arith, nat_tests, same_pages, get-page_frames)
 
 -- A Discard of none
 

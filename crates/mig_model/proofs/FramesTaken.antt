@@ -1,17 +1,15 @@
 -- No frame is refused: the first frame of each wire is in place, of the right epoch, and right.
-use Rattle.std.proofs.Common.{◌≡◌, ◌≢◌, ℕ, ◌&&◌, ◌||◌, Bool, true, false, cond, Option, Some, None, List, [], ◌∷◌, refl, sym, ap, ◌∙◌, subst, arith, is_some}
+use Rattle.std.proofs.lemmas.Bool.Decides.{nat_tests}
+use Rattle.std.proofs.Common.{◌≡◌, ℕ, Bool, true, cond, Option, None, List, [], ◌∷◌, refl, sym, ap, ◌∙◌, subst, arith, is_some}
 use Rattle.std.specs.Ordering.{nat_cmp}
 use Rattle.std.specs.FinMap as finmap
 use Rattle.std.specs.FinMap.{FinMap, get, contains_key, get-empty}
 use Rattle.std.specs.FinSet.{FinSet, contains}
-use Rattle.std.proofs.lemmas.Bool.{false≢true}
 use Rattle.mig_base.specs.declared.phase.DestPhase.{DestPhase}
-use Rattle.mig_base.specs.declared.phase.Received.{Received}
 use Rattle.mig_base.specs.declared.phase.SourcePhase.{SourcePhase}
 use Rattle.mig_base.specs.declared.Prot.{Prot}
 use Rattle.mig_base.specs.declared.command.Command.{Command}
 use Rattle.mig_base.proofs.PageLemmas.{same_pages}
-use Rattle.mig_base.specs.Tests.{is_empty}
 use Rattle.mig_base.proofs.TestLemmas.{never_some}
 use Rattle.mig_model.specs.Host.{IsSound}
 use Rattle.std.specs.Prelude.{length}
@@ -22,52 +20,16 @@ use Rattle.mig_model.specs.Space.{Space}
 use Rattle.mig_model.specs.Wire.{Frame, Sent}
 use Rattle.mig_model.specs.Wire.Frame.{Advise, Page, Zero, Run, Discard, Package, End, Resume, Request, Recv, Done}
 use Rattle.mig_model.specs.Migration.{World}
-use Rattle.mig_model.specs.Invariant.{IsSoundWorld, IsSwitching, IsFlowing, IsReceiving, EpochAt, AreOf, flow_of, is_request, is_done, are_requests, are_requests_and_done, AreSoundUrgent}
-use Rattle.mig_model.proofs.Taken.{IsOwnEpoch, IsGood, IsTaken, IsInPlaceBack}
-use Rattle.mig_model.specs.Faults.{is_in_place}
-use Rattle.mig_model.proofs.FirstFrame.{comes, first_in_place, nothing_behind, empty_not}
+use Rattle.mig_model.specs.Invariant.{IsSoundWorld, IsSwitching, IsFlowing, AreOf, flow_of, AreSoundUrgent}
+use Rattle.mig_model.proofs.Taken.{IsGood, IsTaken, IsInPlaceBack}
+use Rattle.mig_model.proofs.FirstFrame.{comes, nothing_behind}
 use Rattle.mig_model.specs.Cpus.{outstanding}
-use Rattle.mig_model.specs.Log.{no_pages, present}
-use Rattle.mig_model.specs.Source.{Source, commands_of, is_source_paused, is_stopped, space_of}
+use Rattle.mig_model.specs.Log.{present}
+use Rattle.mig_model.specs.Source.{Source, commands_of, space_of}
 use Rattle.mig_model.specs.Destination.{Destination}
-use Rattle.mig_model.proofs.Facts.{none_absurd, and_left}
+use Rattle.mig_model.proofs.Facts.{none_absurd}
 use Rattle.mig_model.proofs.UrgentWire.{EndTells, end_tells}
-use Rattle.mig_model.proofs.SpaceLemmas.{no_member}
 use Rattle.mig_model.proofs.Delivery.{ended_now, nowhere}
-
--- In place
-
-place_of : (from : SourcePhase) (to : DestPhase) (frame : Frame) → comes from to frame ≡ true → is_in_place to frame ≡ true
-place_of SourcePhase.Precopy DestPhase.Idle Advise h = refl
-place_of SourcePhase.Precopy DestPhase.Advised (Page page bytes) h = refl
-place_of SourcePhase.Precopy DestPhase.Advised (Zero page) h = refl
-place_of SourcePhase.Precopy DestPhase.Advised (Run first pages) h = refl
-place_of SourcePhase.Stopped DestPhase.Idle Advise h = refl
-place_of SourcePhase.Stopped DestPhase.Advised (Page page bytes) h = refl
-place_of SourcePhase.Stopped DestPhase.Advised (Zero page) h = refl
-place_of SourcePhase.Stopped DestPhase.Advised (Run first pages) h = refl
-place_of SourcePhase.Stopped DestPhase.Advised (Discard pages) h = refl
-place_of SourcePhase.Stopped DestPhase.Discarding (Package areas owed commands) h = refl
-place_of SourcePhase.Stopped DestPhase.Running (Page page bytes) h = refl
-place_of SourcePhase.Stopped DestPhase.Running (Zero page) h = refl
-place_of SourcePhase.Stopped DestPhase.Running (End count) h = refl
-place_of SourcePhase.Paused DestPhase.Paused Resume h = refl
-place_of _ _ _ h = none_absurd h
-
--- Of the right epoch
-
-epoch_of : (to : DestPhase) (node : Destination) (epoch source_epoch : ℕ) (frame : Frame) → is_in_place to frame ≡ true → epoch ≡ source_epoch → EpochAt to node.epoch source_epoch → IsOwnEpoch node epoch frame
-epoch_of DestPhase.Idle node epoch source_epoch Advise h e at = tt
-epoch_of DestPhase.Advised node epoch source_epoch (Page page bytes) h e at = e ∙ sym at
-epoch_of DestPhase.Advised node epoch source_epoch (Zero page) h e at = e ∙ sym at
-epoch_of DestPhase.Advised node epoch source_epoch (Run first pages) h e at = e ∙ sym at
-epoch_of DestPhase.Advised node epoch source_epoch (Discard pages) h e at = e ∙ sym at
-epoch_of DestPhase.Discarding node epoch source_epoch (Package areas owed commands) h e at = e ∙ sym at
-epoch_of DestPhase.Running node epoch source_epoch (Page page bytes) h e at = e ∙ sym at
-epoch_of DestPhase.Running node epoch source_epoch (Zero page) h e at = e ∙ sym at
-epoch_of DestPhase.Running node epoch source_epoch (End count) h e at = e ∙ sym at
-epoch_of DestPhase.Paused node epoch source_epoch Resume h e at = omega (arith, e, at)
-epoch_of _ node epoch source_epoch _ h e at = none_absurd h
 
 -- Right
 
@@ -84,15 +46,10 @@ owed_in (Package areas owed commands) other = owed
 owed_in frame other = other
 
 mapped_of : (space : Space) (page : ℕ) → IsSound space.host → is_present space page ≡ true → contains_key space.host.areas page ≡ true
-mapped_of space page sound present =
-    elim (get space.host.areas page) as (λ o. get space.host.areas page ≡ o → is_some o ≡ true) [
-      | None ↦ λ e. absurd (false≢true (sym (ap is_some (sound.mapped page e)) ∙ present))
-      | Some prot ↦ λ e. refl
-    ] refl
+mapped_of space page sound present = grind (arith, nat_tests)
 
 kept_unless : (owed : Bool) (bytes : Option (List ℕ)) → is_some (cond owed None bytes) ≡ true → is_some bytes ≡ true
-kept_unless true bytes h = none_absurd h
-kept_unless false bytes h = h
+kept_unless owed bytes h = grind (arith, nat_tests)
 
 package_good : (source : Source) (node : Destination) (epoch : ℕ) (areas : FinMap nat_cmp Prot) (owed : FinSet nat_cmp) (commands : List (Option Command)) (rest urgent : List Sent) → IsSound (space_of source).host →
     IsSwitching source node.kept (record { epoch = epoch; frame = Package areas owed commands } ∷ rest) urgent → length node.guest.cpus ≡ length source.guest.cpus → IsGood node (Package areas owed commands)
@@ -128,9 +85,7 @@ end_good epoch count rest world up kept free came =
     ∙ sym (get-empty nat_cmp page))
 
 good_of : (from : SourcePhase) (to : DestPhase) (epoch : ℕ) (frame : Frame) (rest : List Sent) (world : World) → comes from to frame ≡ true → world.up ≡ true → IsSoundWorld (with_first from to epoch frame rest world) → AreAsMany world → EndTells frame world → IsGood (with_first from to epoch frame rest world).destination frame
-good_of SourcePhase.Stopped DestPhase.Discarding epoch (Package areas owed commands) rest world h up kept many tells =
-    let old = with_first SourcePhase.Stopped DestPhase.Discarding epoch (Package areas owed commands) rest world in
-    package_good old.source old.destination epoch areas owed commands rest world.urgent.frames kept.spaces.source_space.host (kept.flight.wires up).2 many
+good_of SourcePhase.Stopped DestPhase.Discarding epoch (Package areas owed commands) rest world h up kept many tells = grind (arith, nat_tests, package_good)
 good_of SourcePhase.Stopped DestPhase.Running epoch (End count) rest world h up kept many tells = let told = tells count refl in (told.0, λ free all. end_good epoch count rest world up kept free (told.1 all))
 good_of SourcePhase.Precopy DestPhase.Idle epoch (End count) rest world h up kept many tells = none_absurd h
 good_of SourcePhase.Precopy DestPhase.Idle epoch (Package areas owed commands) rest world h up kept many tells = none_absurd h
@@ -148,11 +103,7 @@ good_of from to epoch Done rest world h up kept many tells = tt
 good_of _ _ epoch _ rest world h up kept many tells = none_absurd h
 
 taken_in : (from : SourcePhase) (to : DestPhase) (epoch : ℕ) (frame : Frame) (rest : List Sent) (world : World) → world.up ≡ true → IsSoundWorld (with_first from to epoch frame rest world) → AreAsMany world → EndTells frame world → IsTaken (with_first from to epoch frame rest world).destination (record { epoch = epoch; frame = frame })
-taken_in from to epoch frame rest world up kept many tells =
-    let old = with_first from to epoch frame rest world in
-    let is = first_in_place old.source old.destination (record { epoch = epoch; frame = frame }) rest old.back.frames old.urgent.frames (kept.flight.wires up) in
-    let placed = place_of from to frame is in
-    record { in_place = placed; own_epoch = epoch_of to old.destination epoch world.source.epoch frame placed kept.epochs.forward_epoch.0 (kept.epochs.epoch_at up); good = good_of from to epoch frame rest world is up kept many tells }
+taken_in from to epoch frame rest world up kept many tells = grind (arith, nat_tests, good_of)
 
 -- the first frame on the wire to the destination
 pub is_taken : (world : World) (sent : Sent) (rest : List Sent) → IsSoundWorld world → AreSoundUrgent world → AreAsMany world → world.up ≡ true → world.forward.frames ≡ sent ∷ rest → IsTaken world.destination sent
@@ -161,52 +112,9 @@ is_taken world sent rest kept urgent many up first =
 
 -- The wire back
 
-first_is : (sent other : Sent) (rest more : List Sent) → sent ∷ rest ≡ other ∷ more → sent.frame ≡ other.frame
-first_is sent other rest more h = ap (λ (wire : List Sent). elim wire [ [] ↦ sent.frame | s ∷ _ ↦ s.frame ]) h
-
-request_place : (frame : Frame) (node : Source) → is_stopped node.phase ≡ true → is_request frame ≡ true → IsInPlaceBack node frame
-request_place (Request page) node stopped h = stopped
-request_place _ node stopped h = none_absurd h
-
-done_place : (frame : Frame) (node : Source) (more last : Bool) → is_stopped node.phase ≡ true → node.end_epoch ≡ node.epoch → (is_request frame && more || is_done frame && last) ≡ true → IsInPlaceBack node frame
-done_place (Request page) node more last stopped ended h = stopped
-done_place Done node more last stopped ended h = (stopped, ended)
-done_place _ node more last stopped ended h = none_absurd h
-
-recv_place : (frame : Frame) (state : Received) (owed : FinSet nat_cmp) (node : Source) → is_source_paused node.phase ≡ true → ((page : ℕ) → contains owed page ≡ true → is_present (space_of node) page ≡ true) → (state ≢ Received.Running → owed ≡ no_pages) →
-    (state ≢ Received.NotRun → node.switched ≡ true) → frame ≡ Recv state owed → IsInPlaceBack node frame
-recv_place frame state owed node paused present listed switched is = subst (IsInPlaceBack node) (sym is) (paused, present, listed, switched)
-
--- a world in these phases, with this first frame on the wire back
-abbrev with_back : SourcePhase → DestPhase → Sent → List Sent → World → World
-with_back from to sent rest world = record world { source = record world.source { phase = from }; destination = record world.destination { phase = to }; back = record world.back { frames = sent ∷ rest } }
-
-back_in : (from : SourcePhase) (to : DestPhase) (sent : Sent) (rest : List Sent) (world : World) → world.up ≡ true → IsSoundWorld (with_back from to sent rest world) → IsInPlaceBack (with_back from to sent rest world).source sent.frame
-back_in SourcePhase.Stopped DestPhase.Running sent rest world up kept = request_place sent.frame (with_back SourcePhase.Stopped DestPhase.Running sent rest world).source refl (and_left (is_request sent.frame) (are_requests rest) (kept.flight.wires up).1)
-back_in SourcePhase.Stopped DestPhase.Ended sent rest world up kept = done_place sent.frame (with_back SourcePhase.Stopped DestPhase.Ended sent rest world).source (are_requests_and_done rest) (is_empty rest) refl (kept.flight.wires up).2 (kept.flight.wires up).1
-back_in SourcePhase.Stopped DestPhase.Paused sent rest world up kept = absurd (kept.flight.wires up)
-back_in SourcePhase.Stopped _ sent rest world up kept = absurd (empty_not sent rest (kept.flight.wires up).1)
-back_in SourcePhase.Paused DestPhase.Advised sent rest world up kept =
-    recv_place sent.frame Received.NotRun no_pages (with_back SourcePhase.Paused DestPhase.Advised sent rest world).source refl (λ page h. none_absurd (sym (no_member page) ∙ h)) (λ other. refl) (λ other. absurd (other refl)) (first_is sent _ rest [] (kept.flight.wires up).1)
-back_in SourcePhase.Paused DestPhase.Running sent rest world up kept =
-    let told : IsReceiving (with_back SourcePhase.Paused DestPhase.Running sent rest world).source (with_back SourcePhase.Paused DestPhase.Running sent rest world).destination Received.Running (sent ∷ rest) = (kept.flight.wires up).1 in
-    recv_place sent.frame Received.Running told.owed (with_back SourcePhase.Paused DestPhase.Running sent rest world).source refl told.owed_present told.none_listed (λ other. kept.phases.ran_after_switch kept.phases.destination_phase.0) (first_is sent _ rest told.rest told.first)
-back_in SourcePhase.Paused DestPhase.Ended sent rest world up kept =
-    let told : IsReceiving (with_back SourcePhase.Paused DestPhase.Ended sent rest world).source (with_back SourcePhase.Paused DestPhase.Ended sent rest world).destination Received.Ended (sent ∷ rest) = (kept.flight.wires up).1 in
-    recv_place sent.frame Received.Ended told.owed (with_back SourcePhase.Paused DestPhase.Ended sent rest world).source refl told.owed_present told.none_listed (λ other. kept.phases.ran_after_switch (kept.phases.ended_after_run kept.phases.destination_phase)) (first_is sent _ rest told.rest told.first)
-back_in SourcePhase.Paused DestPhase.Idle sent rest world up kept = absurd (kept.flight.wires up)
-back_in SourcePhase.Paused DestPhase.Discarding sent rest world up kept = absurd (kept.flight.wires up)
-back_in SourcePhase.Paused DestPhase.Paused sent rest world up kept = absurd (empty_not sent rest (kept.flight.wires up).1)
-back_in SourcePhase.Precopy DestPhase.Idle sent rest world up kept = absurd (empty_not sent rest (kept.flight.wires up).1)
-back_in SourcePhase.Precopy DestPhase.Advised sent rest world up kept = absurd (empty_not sent rest (kept.flight.wires up).1)
-back_in SourcePhase.Precopy _ sent rest world up kept = absurd (kept.flight.wires up)
-back_in SourcePhase.Idle to sent rest world up kept = absurd (empty_not sent rest (kept.flight.wires up).2)
-back_in SourcePhase.Released to sent rest world up kept = absurd (empty_not sent rest (kept.flight.wires up).2)
-
 -- the first frame on the wire back, and its epoch
 pub is_taken_back : (world : World) (sent : Sent) (rest : List Sent) → IsSoundWorld world → world.up ≡ true → world.back.frames ≡ sent ∷ rest → IsInPlaceBack world.source sent.frame
-is_taken_back world sent rest kept up first =
-    back_in world.source.phase world.destination.phase sent rest world up (subst (λ w. IsSoundWorld (record world { back = record world.back { frames = w } })) first kept)
+is_taken_back world sent rest kept up first = grind (arith, nat_tests)
 
 pub back_epoch : (world : World) (sent : Sent) (rest : List Sent) → IsSoundWorld world → world.back.frames ≡ sent ∷ rest → sent.epoch ≡ world.source.epoch
 back_epoch world sent rest kept first = (subst (λ w. AreOf world.source.epoch w) first kept.epochs.back_epoch).0

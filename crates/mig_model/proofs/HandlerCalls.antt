@@ -1,6 +1,5 @@
 -- Where a step zeroes, unprotects, protects, installs or registers, the call of the userfault object is accepted and does just that.
-use Rattle.mig_model.proofs.FrameSteps.{end_below, first_in, last_in, some_bound}
-use Rattle.std.proofs.Common.{◌≡◌, ℕ, ◌*◌, ◌&&◌, ◌||◌, Bool, true, false, not, ltb, Option, Some, None, List, ◌∷◌, refl, sym, ap, ◌∙◌, subst, length, if◌then◌else◌, IsOk, ◌<◌, ◌-◌, ◌+◌, arith}
+use Rattle.std.proofs.Common.{◌≡◌, ℕ, ◌*◌, ◌&&◌, ◌||◌, Bool, true, false, not, ltb, Option, Some, None, List, ◌∷◌, refl, sym, ap, ◌∙◌, subst, length, if◌then◌else◌, IsOk, ◌<◌, ◌≤◌, ◌-◌, ◌+◌, arith}
 use Rattle.std.proofs.lemmas.Bool.Decides.{nat_tests}
 use Rattle.std.specs.Prelude.{Ok}
 use Rattle.std.specs.Ordering.{nat_cmp}
@@ -10,7 +9,6 @@ use Rattle.std.proofs.lemmas.Bool.{or_left, or_right}
 use Rattle.mig_base.specs.declared.TheConstants.{HIGH_PAGE}
 use Rattle.mig_base.specs.declared.Run.{Run}
 use Rattle.mig_base.specs.declared.effect.Effect.{Effect}
-use Rattle.mig_base.specs.declared.phase.SourcePhase.{SourcePhase}
 use Rattle.mig_base.specs.declared.schedule.Step.{Step}
 use Rattle.mig_base.specs.declared.command.Errno.TheVariants.{Einval}
 use Rattle.mig_base.specs.declared.wake.Wake.TheVariants.{Nobody, Range}
@@ -26,15 +24,14 @@ use Rattle.mig_model.specs.Userfault.{Object, enabled_with, fresh_object, has_mo
 use Rattle.mig_model.specs.Space.{Space, IsSoundSpace, fresh_space}
 use Rattle.mig_model.specs.Ioctls.{all_features, event_features, handshake_error, handshaken, has_unknown, installed, is_feature, mode_of, protected_in, registered_in}
 use Rattle.mig_model.specs.Guest.{Act, is_forgotten, is_present, Guest, resolved, Fault}
-use Rattle.mig_model.specs.Guest.Act.{Unprotected, Zeroed, Woke, Forgot, Requested}
+use Rattle.mig_model.specs.Guest.Act.{Unprotected, Zeroed, Woke, Forgot}
 use Rattle.mig_model.specs.Log.{least_of, no_pages}
 use Rattle.mig_model.specs.Owed.{home, settled_by}
 use Rattle.mig_model.specs.Wire.{Copy, Frame, Sent, is_zeros}
-use Rattle.mig_model.specs.Wire.Frame.{Package}
-use Rattle.mig_model.specs.Source.{bytes_of, for_both, is_precopy, is_released, source_act, source_act_by, source_acted_by, space_of}
+use Rattle.mig_model.specs.Source.{bytes_of, for_both, is_precopy, source_act, source_act_by, source_acted_by, space_of}
 use Rattle.mig_model.specs.Destination.{assembled, destination_act, destination_act_by, destination_acted_by, for_missing, install_by}
 use Rattle.mig_model.specs.Migration.{World, act_effect, after_deliver, after_install, after_source_act, frame_effect, install_effect, next, outcome, run_bound}
-use Rattle.mig_model.specs.Invariant.{AreFaithful, SwitchedAt, is_unread, IsSoundWorld}
+use Rattle.mig_model.specs.Invariant.{AreFaithful, is_unread, IsSoundWorld}
 use Rattle.mig_model.specs.Bounds.{IsMapping, IsPage}
 use Rattle.mig_model.specs.Handlers.{AreRegistered, AreRunsOf, AreWatched, IsCopy, IsWake, IsWriteProtect, IsZeroPage}
 use Rattle.mig_model.proofs.Bounded.{IsBounded, bounded-next, has_memory}
@@ -67,12 +64,9 @@ destination_served gone here owed h = grind (arith, nat_tests)
 told_unprotected : (act : Act) (a b : ℕ) → act_effect act a ≡ Effect.Unprotected b → (act ≡ Unprotected) × (a ≡ b)
 told_unprotected act a b h = grind (arith, nat_tests)
 
-unswitched_unreleased : (phase : SourcePhase) (switched : Bool) → SwitchedAt phase switched → switched ≡ false → is_released phase ≡ false
-unswitched_unreleased phase switched at not = grind (arith, nat_tests)
-
 -- the object of a source that runs its processors
 source_open : (cpus : ℕ) (world : World) → IsBounded cpus world → world.source.switched ≡ false → IsOpen (space_of world.source).object all_features
-source_open cpus world all unswitched = all.opened.source (unswitched_unreleased world.source.phase world.source.switched all.ready.kept.phases.source_phase unswitched)
+source_open cpus world all unswitched = grind (arith, nat_tests)
 
 -- The source's handler
 
@@ -83,7 +77,7 @@ source_zeroes cpus world addr all answered =
     let space = space_of world.source in
     let told = told_zeroed (source_act world.source fault) (4096 * fault.page) addr h in
     let there = not_forgotten space fault.page (source_served (is_forgotten space fault.page) (is_present space fault.page) _ told.0) in
-    let made = zero_page_made world.source.guest fault.page (record { enabled = (source_open cpus world all unswitched).enabled; quiet = quiet; inside = all.limited.areas.pages fault.page there.0 }) there.0 there.1 (source_zero world fault told.0) in
+    let made = zero_page_made world.source.guest fault.page (record { enabled = (source_open cpus world all unswitched).enabled; quiet = quiet; inside = all.mapped.pages fault.page there.0 }) there.0 there.1 (source_zero world fault told.0) in
     subst (λ a. IsZeroPage world.source.guest (after_source_act world fault).source.guest a) told.1
     (subst (λ act. IsZeroPage world.source.guest (source_acted_by act world.source fault.page).guest (4096 * fault.page)) (sym told.0) made))) answered refl
 
@@ -99,24 +93,16 @@ source_unprotects cpus world addr all answered =
     let watched = sound.watched fault.page guarded in
     let mapped = sound.mapped fault.page (or_right (contains space.object.missing fault.page) (contains space.object.protect fault.page) watched) in
     let made = write_protect_made world.source.guest (resolved world.source.guest fault.page (protected_in space fault.page 1 false)) fault.page 0 false
-    (record { enabled = (source_open cpus world all unswitched).enabled; quiet = quiet; inside = all.limited.areas.pages fault.page mapped }) watched refl (zero_is_no_one 0) refl (page_woken world.source.guest fault.page (protected_in space fault.page 1 false)) in
+    (record { enabled = (source_open cpus world all unswitched).enabled; quiet = quiet; inside = all.mapped.pages fault.page mapped }) watched refl (zero_is_no_one 0) refl (page_woken world.source.guest fault.page (protected_in space fault.page 1 false)) in
     subst (λ a. IsWriteProtect world.source.guest (after_source_act world fault).source.guest a 4096 0 (Range a 4096)) told.1
     (subst (λ act. IsWriteProtect world.source.guest (source_acted_by act world.source fault.page).guest (4096 * fault.page) 4096 0 (Range (4096 * fault.page) 4096)) (sym told.0) made))) answered refl
 
 -- a fault for which nothing is to be done: the sleepers of its page are woken
 told_woke : (act : Act) (a b : ℕ) → act_effect act a ≡ Effect.Woke b → (act ≡ Woke) × (a ≡ b)
-told_woke Woke a b h = (refl, cc)
-told_woke Unprotected a b h = absurd (cc)
-told_woke Zeroed a b h = absurd (cc)
-told_woke Forgot a b h = absurd (cc)
-told_woke (Requested origin) a b h = absurd (cc)
+told_woke act a b h = grind (arith, nat_tests)
 
 told_forgot : (act : Act) (a b : ℕ) → act_effect act a ≡ Effect.Forgot b → (act ≡ Forgot) × (a ≡ b)
-told_forgot Forgot a b h = (refl, cc)
-told_forgot Unprotected a b h = absurd (cc)
-told_forgot Zeroed a b h = absurd (cc)
-told_forgot Woke a b h = absurd (cc)
-told_forgot (Requested origin) a b h = absurd (cc)
+told_forgot act a b h = grind (arith, nat_tests)
 
 held_page : (held : List Fault) (fault : Fault) (rest : List Fault) → held ≡ fault ∷ rest → AreHeldPages held → IsPage fault.page
 held_page held fault rest is are = (subst AreHeldPages is are).0
@@ -159,6 +145,18 @@ destination_forgets cpus world addr all faults answered =
 
 -- Send
 
+pub some_bound : (count : ℕ) → 0 < run_bound count
+some_bound count = grind (arith, nat_tests)
+
+pub last_in : (first number : ℕ) → 0 < number → in_range first number (first + (number - 1)) ≡ true
+last_in first number h = grind (arith, nat_tests)
+
+pub first_in : (first number : ℕ) → 0 < number → in_range first number first ≡ true
+first_in first number h = grind (arith, nat_tests)
+
+pub end_below : (first number : ℕ) → 0 < number → first + (number - 1) < HIGH_PAGE → first + number ≤ HIGH_PAGE
+end_below first number h l = omega (arith, h, l)
+
 pub one_is_protect : is_one 1 0 ≡ true
 unfolding is_one
 one_is_protect = refl
@@ -179,7 +177,7 @@ sent_protected cpus world page all found precopy quiet =
     let watched =
     (kept.precopy.todo_sendable unswitched page (least_below_tells (contains world.source.log.todo) HIGH_PAGE page found) (ap (λ events. is_unread events page) (no_event space.object.events quiet))).1 in
     let mapped = kept.spaces.source_space.mapped page (or_right (contains space.object.missing page) (contains space.object.protect page) watched) in
-    write_protect_made world.source.guest (record world.source.guest { space = protected_in space page 1 true }) page 1 true (record { enabled = (source_open cpus world all unswitched).enabled; quiet = quiet; inside = all.limited.areas.pages page mapped }) watched refl one_is_protect refl refl
+    write_protect_made world.source.guest (record world.source.guest { space = protected_in space page 1 true }) page 1 true (record { enabled = (source_open cpus world all unswitched).enabled; quiet = quiet; inside = all.mapped.pages page mapped }) watched refl one_is_protect refl refl
 
 pub page_protected : (cpus : ℕ) (world : World) (addr : ℕ) → IsBounded cpus world → outcome world Step.Send ≡ Ok (Effect.SentPage addr) → IsWriteProtect world.source.guest (next world Step.Send).source.guest addr 4096 1 Nobody
 page_protected cpus world addr all answered =
@@ -198,7 +196,7 @@ zero_protected cpus world addr all answered =
 -- the pages of a run are protected together, as they are found
 run_watched : (world : World) (first bound : ℕ) → IsSoundWorld world → is_precopy world.source.phase ≡ true → ltb 0 (length (space_of world.source).object.events) ≡ false → (q : ℕ) → in_range first (run_length world.source.log.todo first bound) q ≡ true →
     contains (space_of world.source).object.protect q ≡ true
-run_watched world first bound kept precopy quiet q h = grind (arith, nat_tests, precopy_unswitched, member_run, no_event)
+run_watched world first bound kept precopy quiet q h = grind (arith, nat_tests, member_run, no_event)
 
 abbrev run_guest : World → ℕ → ℕ → Guest
 run_guest world first number = record world.source.guest { space = protected_in (space_of world.source) first number true }
@@ -213,7 +211,7 @@ sent_run_protected cpus world first bound all found some precopy quiet =
     let number = run_length todo first bound in
     let more = run_length-some todo first bound (least_below_tells (contains todo) HIGH_PAGE first found) some in
     let watched = run_watched world first bound kept precopy quiet in
-    let inside : (q : ℕ) → in_range first number q ≡ true → IsPage q = λ q h. all.limited.areas.pages q (kept.spaces.source_space.mapped q (or_right (contains space.object.missing q) (contains space.object.protect q) (watched q h))) in
+    let inside : (q : ℕ) → in_range first number q ≡ true → IsPage q = λ q h. all.mapped.pages q (kept.spaces.source_space.mapped q (or_right (contains space.object.missing q) (contains space.object.protect q) (watched q h))) in
     let unswitched = precopy_unswitched world.source.phase world.source.switched precopy kept.phases.source_phase in
     range_protect_made world.source.guest (run_guest world first number) first number 1 true (source_open cpus world all unswitched).enabled quiet more (inside first (first_in first number more)).0
     (end_below first number more (inside (first + (number - 1)) (last_in first number more)).1) watched refl one_is_protect refl refl
@@ -317,13 +315,13 @@ both_registered space runs sound opened mapping are =
 pub start_registers : (cpus : ℕ) (world : World) (runs : List Run) → IsBounded cpus world → IsOk (outcome world Step.Start) → AreRunsOf (space_of world.source).host.areas runs → AreRegistered (space_of world.source) (space_of (next world Step.Start).source) runs 3
 start_registers cpus world runs all ok are =
     leaves-ok (λ new. AreRegistered (space_of world.source) (space_of new.source) runs 3) world Step.Start
-    (holds-made _ world Step.Start (λ idle unused. both_registered (space_of world.source) runs all.ready.kept.spaces.source_space (all.opened.source (idle_unreleased world.source.phase idle)) all.limited.areas are)) ok
+    (holds-made _ world Step.Start (λ idle unused. both_registered (space_of world.source) runs all.ready.kept.spaces.source_space (all.opened.source (idle_unreleased world.source.phase idle)) all.mapped are)) ok
 
 pub round_registers : (cpus : ℕ) (world : World) (runs : List Run) → IsBounded cpus world → IsOk (outcome world Step.Round) → AreRunsOf (space_of world.source).host.areas runs → AreRegistered (space_of world.source) (space_of (next world Step.Round).source) runs 3
 round_registers cpus world runs all ok are =
     leaves-ok (λ new. AreRegistered (space_of world.source) (space_of new.source) runs 3) world Step.Round
     (holds-made _ world Step.Round (λ precopy quiet.
-    both_registered (space_of world.source) runs all.ready.kept.spaces.source_space (source_open cpus world all (precopy_unswitched world.source.phase world.source.switched precopy all.ready.kept.phases.source_phase)) all.limited.areas are)) ok
+    both_registered (space_of world.source) runs all.ready.kept.spaces.source_space (source_open cpus world all (precopy_unswitched world.source.phase world.source.switched precopy all.ready.kept.phases.source_phase)) all.mapped are)) ok
 
 -- The run of the destination
 
@@ -370,8 +368,7 @@ abbrev IsAssembled : World → Type 0
 IsAssembled new = new.destination.guest.space ≡ assembled new.destination.guest.space.host.areas new.destination.guest.space.host.bytes
 
 frame_assembles : (frame : Frame) (epoch : ℕ) (rest : List Sent) (world : World) (count : ℕ) → frame_effect frame ≡ Effect.TookPackage count → IsAssembled (after_deliver world (record { epoch = epoch; frame = frame }) rest)
-frame_assembles (Package areas owed commands) epoch rest world count h = refl
-frame_assembles _ epoch rest world count h = absurd (cc)
+frame_assembles frame epoch rest world count h = grind (arith, nat_tests)
 
 no_package : (n count : ℕ) → Effect.Moved n ≡ Effect.TookPackage count → ⊥
 no_package n count h = cc

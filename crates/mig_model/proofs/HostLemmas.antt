@@ -1,24 +1,23 @@
 -- The memory of a host, and how the changes of its maps change it.
-use Rattle.std.proofs.Common.{◌≡◌, ℕ, ◌+◌, ◌-◌, ◌*◌, ◌/◌, ◌%◌, ◌^◌, ◌<◌, ◌≤◌, Bool, true, cond, eqb, ltb, Option, Some, None, List, [], refl, sym, ap, ◌∙◌, arith, length, get_or, is_some, unwrap_or}
+use Rattle.std.proofs.Common.{◌≡◌, ℕ, ◌+◌, ◌-◌, ◌*◌, ◌/◌, ◌%◌, ◌^◌, ◌<◌, ◌≤◌, Bool, true, cond, eqb, ltb, Option, Some, None, List, [], refl, sym, ap, ◌∙◌, arith, length, get_or, unwrap_or}
 use Rattle.std.specs.Option.{option_map}
 use Rattle.std.specs.Ordering.{nat_cmp}
 use Rattle.std.specs.Cmp.{nat_cmp_total, unsigned_tied}
 use Rattle.std.specs.FinMap.{FinMap, get, insert, empty, len, contains_key, get-insert, get-empty}
 use Rattle.std.proofs.lemmas.Bool.Decides.{nat_tests}
-use Rattle.std.proofs.lemmas.Bool.{eqb-true, eq-eqb, cases_eq}
+use Rattle.std.proofs.lemmas.Bool.{eq-eqb}
 use Rattle.std.proofs.lemmas.Option.{none-some}
 use Rattle.mig_base.specs.declared.TheConstants.{HIGH, HIGH_PAGE}
 use Rattle.mig_base.specs.declared.Prot.{Prot}
 use Rattle.mig_base.specs.Ranges.{in_range, count_below}
 use Rattle.mig_base.specs.Pages.{set_range, remove_range}
 use Rattle.mig_base.specs.Bytes.{page_at, overwrite}
-use Rattle.mig_base.specs.Flat.{Memory, Cell, no_memory, is_mapped, mapped_count, fill, clear, zeroed, moved, grown, write, written}
-use Rattle.mig_base.proofs.RangeLemmas.{count_below-blocks, in_range_tells, in_range-false_above}
+use Rattle.mig_base.specs.Flat.{Memory, Cell, no_memory, is_mapped, mapped_count, fill, clear, zeroed, moved, grown, write}
+use Rattle.mig_base.proofs.RangeLemmas.{count_below-blocks, in_range_tells}
 use Rattle.mig_base.proofs.PageLemmas.{get-set_range, get-remove_range, get-moved_range, count_below-contains_key}
 use Rattle.mig_base.proofs.ByteLemmas.{get_or-overwrite_below, get_or-overwrite_in, get_or-overwrite_above}
-use Rattle.mig_base.proofs.TestLemmas.{cond_none}
 use Rattle.mig_model.specs.Host.{Host, byte_in, memory, host_moved, host_dropped, IsSound}
-use Rattle.mig_model.proofs.Facts.{in_range_first, eqb_other, put_whole, none_or}
+use Rattle.mig_model.proofs.Facts.{in_range_first, eqb_other}
 
 -- two memories that hold the same at each address are one
 pub same_memory : (a b : Memory) → ((addr : ℕ) → a addr ≡ b addr) → a ≡ b
@@ -49,11 +48,8 @@ IsSound-empty =
       whole = λ page bytes h. absurd (none-some bytes (sym (get-empty nat_cmp page) ∙ h));
     }
 
-is_some-cell : (bytes : FinMap nat_cmp (List ℕ)) (addr : ℕ) (o : Option Prot) → is_some (cell_at bytes addr o) ≡ is_some o
-is_some-cell bytes addr o = grind (arith, nat_tests)
-
 pub is_mapped-memory : (host : Host) → is_mapped (memory host) ≡ (λ addr. contains_key host.areas (addr / 4096))
-is_mapped-memory host = λ i addr. (ap is_some (memory-at host addr) ∙ is_some-cell host.bytes addr (get host.areas (addr / 4096))) i
+is_mapped-memory host = grind (arith, nat_tests, memory-at)
 
 -- each mapped page is 4096 mapped addresses
 pub mapped_count-memory : (host : Host) → IsSound host → mapped_count (memory host) ≡ 4096 * len host.areas
@@ -68,7 +64,7 @@ pub get-put : (bytes : FinMap nat_cmp (List ℕ)) (page q : ℕ) (held : List �
 get-put bytes page q held = get-insert nat_cmp_total bytes page held q ∙ ap (λ b. cond b (Some held) (get bytes q)) (unsigned_tied q page)
 
 pub IsSound-put : (host : Host) (page : ℕ) (held : List ℕ) → IsSound host → contains_key host.areas page ≡ true → length held ≡ 4096 → IsSound (record host { bytes = insert host.bytes page held })
-IsSound-put host page held sound has n = grind (arith, nat_tests, get-put, eqb-true, put_whole)
+IsSound-put host page held sound has n = grind (arith, nat_tests, get-put)
 
 -- A write
 
@@ -81,25 +77,10 @@ pub record AreDigits (digits : List ℕ) (width value : ℕ) : Type 0 where
 abbrev pub ReadsAs : List ℕ → List ℕ → Type 0
 ReadsAs held other = (i : ℕ) → get_or held i 0 ≡ get_or other i 0
 
-byte_in-write : (bytes : FinMap nat_cmp (List ℕ)) (addr width value : ℕ) (held digits : List ℕ) → ReadsAs held (page_at bytes (addr / 4096)) → length held ≡ 4096 → AreDigits digits width value → addr % 4096 + width ≤ 4096 → (q : ℕ) → byte_in (insert bytes (addr / 4096) (overwrite held (addr % 4096) digits)) q ≡ cond (in_range addr width q) (value / 256 ^ (q - addr) % 256) (byte_in bytes q)
-byte_in-write bytes addr width value held digits same n are inside q = grind (arith, nat_tests, get_or-overwrite_in, get_or-overwrite_below, get_or-overwrite_above, cases_eq, in_range_tells, get-put, eq-eqb, eqb_other)
-
-chosen : (b : Bool) (bytes : FinMap nat_cmp (List ℕ)) (addr byte : ℕ) (o : Option Prot) → option_map (λ prot. record { byte = cond b byte (byte_in bytes addr); prot = prot }) o ≡ cond b (written (cell_at bytes addr o) byte) (cell_at bytes addr o)
-chosen b bytes addr byte o = grind (arith, nat_tests)
-
 pub memory-write : (host : Host) (addr width value : ℕ) (held digits : List ℕ) → ReadsAs held (page_at host.bytes (addr / 4096)) → length held ≡ 4096 → AreDigits digits width value → addr % 4096 + width ≤ 4096 → memory (record host { bytes = insert host.bytes (addr / 4096) (overwrite held (addr % 4096) digits) }) ≡ write (memory host) addr width value
-memory-write host addr width value held digits same n are inside =
-    let new : Host = record host { bytes = insert host.bytes (addr / 4096) (overwrite held (addr % 4096) digits) } in
-    same_memory (memory new) (write (memory host) addr width value) (λ q.
-    memory-at new q
-    ∙ ap (λ byte. option_map (λ prot. record { byte = byte; prot = prot }) (get host.areas (q / 4096))) (byte_in-write host.bytes addr width value held digits same n are inside q)
-    ∙ chosen (in_range addr width q) host.bytes q (value / 256 ^ (q - addr) % 256) (get host.areas (q / 4096))
-    ∙ sym (ap (λ c. cond (in_range addr width q) (written c (value / 256 ^ (q - addr) % 256)) c) (memory-at host q)))
+memory-write host addr width value held digits same n are inside = grind (arith, nat_tests, memory-at, get_or-overwrite_in, get_or-overwrite_below, get_or-overwrite_above, in_range_tells, get-put, eq-eqb, eqb_other)
 
 -- Ranges of pages
-
-ltb_same : (a b c d : ℕ) → (a < b → c < d) → (c < d → a < b) → ltb a b ≡ ltb c d
-ltb_same a b c d f g = grind (arith, nat_tests, f, g)
 
 in_range-pages : (first count q : ℕ) → in_range first count (q / 4096) ≡ in_range (first * 4096) (4096 * count) q
 in_range-pages first count q = grind (arith, nat_tests)
@@ -111,27 +92,27 @@ abbrev with_byte : ℕ → Option Prot → Option Cell
 with_byte byte o = option_map (λ prot. record { byte = byte; prot = prot }) o
 
 pub memory-map : (host : Host) (first count : ℕ) (prot : Prot) → memory (record { areas = set_range host.areas first count prot; bytes = remove_range host.bytes first count }) ≡ fill (memory host) (first * 4096) (4096 * count) (record { byte = 0; prot = prot })
-memory-map host first count prot = grind (arith, nat_tests, same_memory, memory-at, cell_at, get-set_range, with_byte, byte_in-remove, in_range-pages)
+memory-map host first count prot = grind (arith, nat_tests, memory-at, get-set_range, with_byte, byte_in-remove, in_range-pages)
 
 pub some_kept : (b : Bool) (bytes : List ℕ) (p : Option (List ℕ)) → cond b None p ≡ Some bytes → p ≡ Some bytes
 some_kept b bytes p h = grind (arith, nat_tests)
 
 pub IsSound-map : (host : Host) (first count : ℕ) (prot : Prot) → IsSound host → first + count ≤ HIGH_PAGE → IsSound (record { areas = set_range host.areas first count prot; bytes = remove_range host.bytes first count })
-IsSound-map host first count prot sound high = grind (arith, nat_tests, get-set_range, in_range-false_above, get-remove_range, some_kept)
+IsSound-map host first count prot sound high = grind (arith, nat_tests, get-set_range, get-remove_range)
 
 pub memory-unmap : (host : Host) (first count : ℕ) → memory (record { areas = remove_range host.areas first count; bytes = remove_range host.bytes first count }) ≡ clear (memory host) (first * 4096) (4096 * count)
-memory-unmap host first count = grind (arith, nat_tests, same_memory, memory-at, cell_at, get-remove_range, in_range-pages)
+memory-unmap host first count = grind (arith, nat_tests, memory-at, get-remove_range, in_range-pages)
 
 pub IsSound-unmap : (host : Host) (first count : ℕ) → IsSound host → IsSound (record { areas = remove_range host.areas first count; bytes = remove_range host.bytes first count })
-IsSound-unmap host first count sound = grind (arith, nat_tests, get-remove_range, cond_none, some_kept)
+IsSound-unmap host first count sound = grind (arith, nat_tests, get-remove_range)
 
 -- Pages made missing
 
 pub memory-dropped : (host : Host) (first count : ℕ) → memory (host_dropped host first count) ≡ zeroed (memory host) (first * 4096) (4096 * count)
-memory-dropped host first count = grind (arith, nat_tests, same_memory, memory-at, with_byte, byte_in-remove, cell_at, in_range-pages)
+memory-dropped host first count = grind (arith, nat_tests, memory-at, byte_in-remove, cell_at, in_range-pages)
 
 pub IsSound-dropped : (host : Host) (first count : ℕ) → IsSound host → IsSound (host_dropped host first count)
-IsSound-dropped host first count sound = grind (arith, nat_tests, get-remove_range, none_or, some_kept)
+IsSound-dropped host first count sound = grind (arith, nat_tests, get-remove_range)
 
 -- Pages moved
 
@@ -148,7 +129,7 @@ chosen_cell : (new old from : Bool) (area growth here : Option Prot) (held own :
 chosen_cell new old from area growth here held own offset = grind (arith, nat_tests)
 
 shorter_pages : (to count q : ℕ) → ltb (q / 4096 - to) count ≡ ltb (q - to * 4096) (4096 * count)
-shorter_pages to count q = ltb_same (q / 4096 - to) count (q - to * 4096) (4096 * count) (λ h. omega arith) (λ h. omega arith)
+shorter_pages to count q = grind (arith, nat_tests)
 
 grown_cell : (host : Host) (from : ℕ) → zero_cell (get host.areas from) ≡ grown (memory host (from * 4096))
 grown_cell host from = grind (arith, nat_tests, memory-at)
@@ -180,4 +161,4 @@ memory-moved host from count to new_count =
     ∙ ap (λ b. cond (in_range (to * 4096) (4096 * new_count) q) (cond (ltb (q - to * 4096) (4096 * count)) (memory host (from * 4096 + (q - to * 4096))) (grown (memory host (from * 4096)))) (cond b None (memory host q))) (in_range-pages from count q))
 
 pub IsSound-moved : (host : Host) (from count to new_count : ℕ) → IsSound host → to + new_count ≤ HIGH_PAGE → IsSound (host_moved host from count to new_count)
-IsSound-moved host from count to new_count sound high = grind (arith, nat_tests, get-moved_range, in_range-false_above, cond_none)
+IsSound-moved host from count to new_count sound high = grind (arith, nat_tests, get-moved_range)

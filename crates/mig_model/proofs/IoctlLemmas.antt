@@ -1,14 +1,16 @@
 -- The calls of a userfault object leave a space in order.
-use Rattle.std.proofs.Common.{◌≡◌, ℕ, zero, suc, ◌+◌, ◌-◌, ◌/◌, ◌<◌, ◌≤◌, ◌&&◌, Bool, true, false, cond, not, eqb, ltb, Option, Some, None, List, [], ◌∷◌, sym, ap, ◌∙◌, arith, is_some, unwrap_or, length}
+use Rattle.std.proofs.Common.{◌≡◌, ℕ, zero, suc, ◌+◌, ◌-◌, ◌/◌, ◌<◌, ◌≤◌, ◌&&◌, Bool, true, false, cond, not, eqb, ltb, Option, Some, None, List, [], ◌∷◌, sym, ap, ◌∙◌, arith, length}
 use Rattle.std.specs.Ordering.{nat_cmp}
 use Rattle.std.specs.FinMap.{FinMap, get, contains_key}
 use Rattle.std.specs.FinSet.{contains}
 use Rattle.std.proofs.lemmas.Bool.Decides.{nat_tests}
-use Rattle.std.proofs.lemmas.Bool.{false≢true, not-false, or_left, or_cases, or_right}
+use Rattle.std.proofs.lemmas.Bool.{false≢true, not-false, or_cases, or_right}
 use Rattle.std.proofs.lemmas.List.{length-take, length-drop}
 use Rattle.mig_base.specs.declared.TheConstants.{HIGH_PAGE}
+use Rattle.mig_base.specs.declared.Prot.{Prot}
 use Rattle.mig_base.specs.declared.command.Errno.{Errno}
 use Rattle.mig_base.specs.Bits.{is_one}
+use Rattle.mig_base.specs.Codes.{prot_number}
 use Rattle.mig_base.specs.Bytes.{zero_page}
 use Rattle.mig_base.specs.Ranges.{in_range, least_below}
 use Rattle.mig_base.proofs.ByteLemmas.{length-zero_page}
@@ -16,26 +18,21 @@ use Rattle.mig_base.proofs.RangeLemmas.{none_below_tells, in_range-none}
 use Rattle.mig_base.proofs.SetLemmas.{member_without, member_below}
 use Rattle.mig_model.specs.Userfault.{Mode, is_registered, message_read, enabled_with}
 use Rattle.mig_model.specs.Space.{Space, IsSoundSpace}
-use Rattle.mig_model.specs.Ioctls.{left_by, mode_of, registered_in, registered, register_error, unregistered_in, range_unregistered, unregister_error, handshaken, put_pages, handed, missing_run, installed, same_area, is_one_area, copy_errors, copy_error, copied, zeropage_errors, zeropage_error, zeropaged, protected_in, writeprotect_errors, writeprotect_error, write_protected, read_error, read_space}
+use Rattle.mig_model.specs.Ioctls.{same_prot, left_by, mode_of, registered_in, registered, register_error, range_unregistered, handshaken, put_pages, handed, missing_run, installed, same_area, is_one_area, copy_errors, copy_error, copied, zeropage_errors, zeropage_error, zeropaged, protected_in, writeprotect_errors, writeprotect_error, write_protected, read_error, read_space}
 use Rattle.mig_base.specs.Tests.{first_holding, same_bool, is_every}
 use Rattle.mig_model.proofs.HostLemmas.{get-put}
-use Rattle.mig_model.proofs.Facts.{none_absurd, and_second, and_left, in_range_first, some_either}
+use Rattle.mig_model.proofs.Facts.{eqb-self, none_absurd, and_second, and_left, in_range_first, some_either}
+
+pub same_prot-self : (prot : Prot) → same_prot (Some prot) (Some prot) ≡ true
+same_prot-self prot = eqb-self (prot_number prot)
 
 -- Registered pages
 
-low_or : {page : ℕ} → (HIGH_PAGE ≤ page → ⊥) → ltb page HIGH_PAGE ≡ true
-low_or h = grind (arith, nat_tests, h)
-
 pub below_high : (space : Space) (page : ℕ) → IsSoundSpace space → contains_key space.host.areas page ≡ true → ltb page HIGH_PAGE ≡ true
-below_high space page sound mapped = low_or (λ h. false≢true (sym (ap is_some (sound.host.bound page h)) ∙ mapped))
+below_high space page sound mapped = grind (arith, nat_tests)
 
 pub IsSoundSpace-registered : (space : Space) (first count : ℕ) (mode : Mode) → IsSoundSpace space → IsSoundSpace (registered_in space first count mode)
-IsSoundSpace-registered space first count mode sound = grind (arith, nat_tests, and_second, or_left, member_below, or_right, or_cases, and_left, below_high)
-
--- A range that is registered no longer
-
-pub IsSoundSpace-unregistered : (space : Space) (first count : ℕ) → IsSoundSpace space → IsSoundSpace (unregistered_in space first count)
-IsSoundSpace-unregistered space first count sound = grind (arith, nat_tests, or_left, and_left, member_without, or_right, or_cases, and_second)
+IsSoundSpace-registered space first count mode sound = grind (arith, nat_tests, member_below, or_right, or_cases, and_left, below_high)
 
 -- Pages put
 
@@ -54,7 +51,7 @@ pub record CanPut (space : Space) (first count : ℕ) (bytes : ℕ → List ℕ)
   pub watched : protect ≡ true → (page : ℕ) → in_range first count page ≡ true → contains space.object.protect page ≡ true
 
 pub IsSoundSpace-installed : (space : Space) (first count : ℕ) (bytes : ℕ → List ℕ) (protect : Bool) → CanPut space first count bytes protect → IsSoundSpace space → IsSoundSpace (installed space first count bytes protect)
-IsSoundSpace-installed space first count bytes protect can sound = grind (arith, nat_tests, or_cases, and_second, member_below, get-put_pages, false≢true, in_range_first, some_either, and_left)
+IsSoundSpace-installed space first count bytes protect can sound = grind (arith, nat_tests, member_below, get-put_pages, false≢true, in_range_first, some_either, and_left)
 
 -- Write protection
 
@@ -100,11 +97,8 @@ unfolding least_below
 least_bound test zero k h = absurd (cc)
 least_bound test (suc bound) k h = found_bound (least_below test bound) (test bound) bound k (λ e. least_bound test bound k e) h
 
-run_by : (o : Option ℕ) (count : ℕ) → ((k : ℕ) → o ≡ Some k → k < count) → unwrap_or o count ≤ count
-run_by o count h = grind (arith, nat_tests)
-
 missing_run-few : (space : Space) (first count : ℕ) → missing_run space first count ≤ count
-missing_run-few space first count = run_by (least_below (λ i. contains_key space.host.bytes (first + i)) count) count (λ k. least_bound (λ i. contains_key space.host.bytes (first + i)) count k)
+missing_run-few space first count = grind (arith, nat_tests, least_bound)
 
 pub IsSoundSpace-handshaken : (space : Space) (api features : ℕ) → IsSoundSpace space → IsSoundSpace (handshaken space api features)
 IsSoundSpace-handshaken space api features sound = grind (arith, nat_tests)
@@ -114,8 +108,7 @@ IsSoundSpace-range_registered space start len bits sound =
     left_sound (register_error space start len bits) space _ sound (λ e. IsSoundSpace-registered space (start / 4096) (len / 4096) (mode_of bits) sound)
 
 pub IsSoundSpace-range_unregistered : (space : Space) (start len : ℕ) → IsSoundSpace space → IsSoundSpace (range_unregistered space start len)
-IsSoundSpace-range_unregistered space start len sound =
-    left_sound (unregister_error space start len) space _ sound (λ e. IsSoundSpace-unregistered space (start / 4096) (len / 4096) sound)
+IsSoundSpace-range_unregistered space start len sound = grind (arith, nat_tests, and_left, member_without, or_right, or_cases, and_second)
 
 pub IsSoundSpace-write_protected : (space : Space) (start len bits : ℕ) → IsSoundSpace space → IsSoundSpace (write_protected space start len bits)
 IsSoundSpace-write_protected space start len bits sound =

@@ -11,7 +11,7 @@ use Rattle.mig_base.specs.declared.command.Command.{Command}
 use Rattle.mig_base.specs.declared.command.Entry.{Entry}
 use Rattle.mig_base.specs.Ranges.{count_below}
 use Rattle.mig_base.specs.Flat.{is_mapped, memory_of}
-use Rattle.mig_base.proofs.BoundLemmas.{memory_of_bounded, high_or, low_or}
+use Rattle.mig_base.proofs.BoundLemmas.{memory_of_bounded, high_or}
 use Rattle.mig_model.specs.Host.{Host, IsSound, host_after, memory}
 use Rattle.mig_model.specs.Space.{Space, access_of, accessed_by}
 use Rattle.mig_model.specs.Guest.{Guest, space_by}
@@ -25,7 +25,7 @@ use Rattle.mig_model.proofs.WorldLemmas.{entry_of, holds_after, sound_after}
 
 -- the flat memory of a transcript
 pub flat_within : (entries : List Entry) → IsWithinBounds (memory_of entries)
-flat_within entries = grind (arith, nat_tests, low_or, false≢true, memory_of_bounded, high_or, memory_of_few)
+flat_within entries = grind (arith, nat_tests, memory_of_bounded, high_or, memory_of_few)
 
 page_inside : (page : ℕ) → LOW ≤ 4096 * page → 4096 * page < HIGH → IsPage page
 page_inside page low high = (omega (arith, low), omega (arith, high))

@@ -1,7 +1,6 @@
 -- Little-endian numbers in memory, and the place of an access in its page.
 use Rattle.std.proofs.lemmas.Bool.Decides.{nat_tests}
-use Rattle.std.proofs.Common.{◌≡◌, ℕ, zero, suc, ◌+◌, ◌/◌, ◌%◌, ◌^◌, ◌<◌, ◌≤◌, true, eqb, List, [], ◌∷◌, refl, sym, ap, ◌∙◌, arith, length, get_or}
-use Rattle.std.specs.Int.{bytes_low_first, byte_at}
+use Rattle.std.proofs.Common.{◌≡◌, ℕ, zero, suc, ◌+◌, ◌%◌, ◌<◌, ◌≤◌, true, eqb, List, [], ◌∷◌, refl, sym, ap, ◌∙◌, arith, length, get_or}
 use Rattle.mig_base.specs.Flat.{Memory, byte_of, number_at, is_width, is_aligned}
 use Rattle.mig_base.specs.Bytes.{little_endian}
 use Rattle.mig_model.proofs.Facts.{and_left}
@@ -20,15 +19,6 @@ number_at-zeros memory addr (suc width) h =
     let here : byte_of (memory addr) ≡ 0 = ap (λ n. byte_of (memory n)) (omega arith) ∙ h 0 (omega arith) in
     let rest = number_at-zeros memory (addr + 1) width (λ i l. ap (λ n. byte_of (memory n)) (omega arith) ∙ h (suc i) (omega arith)) in
     rw (here, rest) refl
-
--- byte j of a number
-byte_at-is : (j n : ℕ) → byte_at j n ≡ n / 256 ^ j % 256
-byte_at-is j n = grind (arith, nat_tests)
-
-pub get_or-bytes_low_first : (k i j n : ℕ) → j < k → get_or (bytes_low_first i k n) j 0 ≡ n / 256 ^ (i + j) % 256
-get_or-bytes_low_first zero i j n l = absurd (omega arith)
-get_or-bytes_low_first (suc k) i zero n l = byte_at-is i n ∙ ap (λ e. n / 256 ^ e % 256) (omega arith)
-get_or-bytes_low_first (suc k) i (suc j) n l = get_or-bytes_low_first k (suc i) j n (omega arith) ∙ ap (λ e. n / 256 ^ e % 256) (omega arith)
 
 -- an access whose form is right stays inside its page
 pub record IsInside (addr width : ℕ) : Type 0 where

@@ -18,7 +18,6 @@ use Rattle.mig_model.specs.Ioctls.{all_features, event_features}
 use Rattle.mig_model.specs.Guest.{Act, Guest, read_guest, space_by, tried}
 use Rattle.mig_model.specs.Owed.{home}
 use Rattle.mig_model.specs.Wire.{Copy, Frame}
-use Rattle.mig_model.specs.Wire.Frame.{Page, Zero}
 use Rattle.mig_model.specs.Source.{is_precopy, is_released, is_source_idle, source_act, source_acted_by, source_took, space_of}
 use Rattle.mig_model.specs.Destination.{destination_act, destination_acted_by, destination_took, install_by, urgent_took}
 use Rattle.mig_model.specs.Migration.{World, answer, first_world_with, guest_by, next, with_guest_by}
@@ -94,9 +93,7 @@ took_open : (frame : Frame) (epoch : ℕ) (world : World) → HasOpenObjects wor
 took_open frame epoch world h = grind (arith, nat_tests)
 
 urgent_open : (frame : Frame) (world : World) → HasOpenObjects world → HasOpenObjects (record world { destination = urgent_took world.destination frame })
-urgent_open (Page page bytes) world h = h
-urgent_open (Zero page) world h = h
-urgent_open _ world h = h
+urgent_open frame world h = grind (arith, nat_tests)
 
 -- Phases in which the source is not released
 

@@ -5,7 +5,7 @@ use Rattle.std.specs.Ordering.{nat_cmp}
 use Rattle.std.specs.FinMap as finmap
 use Rattle.std.specs.FinMap.{FinMap, get, contains_key, get-empty}
 use Rattle.std.specs.FinSet.{FinSet, contains, contains-empty}
-use Rattle.std.proofs.lemmas.Bool.{false≢true, false_from_ne_true, lt-ltb, and_from, ltb-false, ltb-true}
+use Rattle.std.proofs.lemmas.Bool.{false≢true, false_from_ne_true, lt-ltb, and_from, ltb-false}
 use Rattle.std.proofs.lemmas.Bool.Decides.{nat_tests}
 use Rattle.std.proofs.lemmas.Option.{none-some}
 use Rattle.mig_base.specs.declared.phase.DestPhase.{DestPhase}
@@ -27,10 +27,9 @@ use Rattle.mig_model.specs.Invariant.{IsSoundWorld, IsFlowing, IsSwitching, AreO
 use Rattle.mig_model.proofs.FirstFrame.{at_state, delivered}
 use Rattle.mig_model.specs.Log.{no_pages}
 use Rattle.mig_model.specs.Owed.{own_places}
-use Rattle.mig_model.specs.Source.{Source, commands_of, space_of}
+use Rattle.mig_model.specs.Source.{Source, space_of}
 use Rattle.mig_model.specs.Destination.{assembled, settled}
 use Rattle.mig_model.proofs.WireLemmas.{fits-none, flight_up}
-use Rattle.mig_model.proofs.Facts.{none_or}
 use Rattle.mig_model.proofs.SourceRounds.{present_mapped}
 
 -- Owed pages at their own places
@@ -44,19 +43,11 @@ none_lower q b = grind (arith, nat_tests)
 pub get-own_places : (owed : FinSet nat_cmp) (bound q : ℕ) → get (own_places owed bound) q ≡ (if ltb q bound && contains owed q then Some q else None)
 unfolding own_places
 get-own_places owed zero q = get-empty nat_cmp q ∙ sym (none_lower q (contains owed q))
-get-own_places owed (suc bound) q =
-    get-put (own_places owed bound) bound q (cond (contains owed bound) (Some bound) None)
-    ∙ ap (λ o. cond (eqb q bound) (cond (contains owed bound) (Some bound) None) o) (get-own_places owed bound q)
-    ∙ placed owed bound q
-
-own_tells : (low owed : Bool) (q origin : ℕ) → cond (low && owed) (Some q) None ≡ Some origin → (low ≡ true) × (owed ≡ true) × (origin ≡ q)
-own_tells low owed q origin h = grind arith
+get-own_places owed (suc bound) q = grind (arith, nat_tests, get-put, placed, get-own_places owed bound q)
 
 -- what a pair of the table tells
 pub own_place : (owed : FinSet nat_cmp) (page origin : ℕ) → get (own_places owed HIGH_PAGE) page ≡ Some origin → (page < HIGH_PAGE) × (contains owed page ≡ true) × (origin ≡ page)
-own_place owed page origin h =
-    let told = own_tells (ltb page HIGH_PAGE) (contains owed page) page origin (sym (get-own_places owed HIGH_PAGE page) ∙ h) in
-    (ltb-true page HIGH_PAGE told.0, told.1, told.2)
+own_place owed page origin h = grind (arith, nat_tests, get-own_places)
 
 -- The space that is put together
 
@@ -94,21 +85,11 @@ IsRest host owed kept = (page : ℕ) → get kept page ≡ (if contains owed pag
 -- a host of the source's areas with these pages is sound
 sound_rest : (host : Host) (owed : FinSet nat_cmp) (areas : FinMap nat_cmp Prot) (kept : FinMap nat_cmp (List ℕ)) → areas ≡ host.areas → IsRest host owed kept → IsSound host →
     ((page : ℕ) (bytes : List ℕ) → get kept page ≡ Some bytes → length bytes ≡ 4096) → IsSound (record { areas = areas; bytes = kept })
-sound_rest host owed areas kept same rest sound whole =
-    record {
-      bound = λ page l. ap (λ a. get a page) same ∙ sound.bound page l;
-      mapped = λ page h. rest page ∙ none_or (contains owed page) (get host.bytes page) (sound.mapped page (sym (ap (λ a. get a page) same) ∙ h));
-      whole = whole;
-    }
+sound_rest host owed areas kept same rest sound whole = grind (arith, nat_tests)
 
 seen_rest : (low owed : Bool) (q : ℕ) (pages : FinMap nat_cmp (List ℕ)) (here : Option (List ℕ)) (own : Option ℕ) → here ≡ cond owed None (get pages q) → own ≡ cond (low && owed) (Some q) None → (low ≡ false → get pages q ≡ None) →
     cond low (elim here [ Some bytes ↦ Some bytes | None ↦ option_and_then (get pages) own ]) None ≡ get pages q
-seen_rest false owed q pages here own kept place none = sym (none refl)
-seen_rest true true q pages here own kept place none =
-    (λ i. elim (kept i) [ Some bytes ↦ Some bytes | None ↦ option_and_then (get pages) (place i) ])
-seen_rest true false q pages here own kept place none =
-    (λ i. elim (kept i) [ Some bytes ↦ Some bytes | None ↦ option_and_then (get pages) (place i) ])
-    ∙ elim (get pages q) as (λ o. elim o [ Some bytes ↦ Some bytes | None ↦ None ] ≡ o) [ None ↦ refl | Some bytes ↦ refl ]
+seen_rest low owed q pages here own kept place none = grind (arith, nat_tests)
 
 -- with what is owed it is the memory of the source
 pub seen_source : (host : Host) (owed : FinSet nat_cmp) (areas : FinMap nat_cmp Prot) (kept : FinMap nat_cmp (List ℕ)) → areas ≡ host.areas → IsRest host owed kept → IsSound host →
@@ -138,16 +119,7 @@ record IsPlan (source : Source) (kept : FinMap nat_cmp (List ℕ)) (rest urgent 
 
 plan_of : (source : Source) (kept : FinMap nat_cmp (List ℕ)) (rest urgent : List Sent) (epoch : ℕ) (areas : FinMap nat_cmp Prot) (owed : FinSet nat_cmp) (commands : List (Option Command)) →
     IsSwitching source kept (record { epoch = epoch; frame = Package areas owed commands } ∷ rest) urgent → IsPlan source kept rest urgent areas owed
-plan_of source kept rest urgent epoch areas owed commands w =
-    let plan : Some (Package areas owed commands) ≡ Some (Package (space_of source).host.areas w.owed (commands_of source.guest.cpus)) = w.plan in
-    let same_owed : w.owed ≡ owed = cc in
-    record {
-      same = cc;
-      owed_present = subst (λ (o : FinSet nat_cmp). (page : ℕ) → contains o page ≡ true → is_present (space_of source) page ≡ true) same_owed w.owed_present;
-      kept_rest = subst (λ (o : FinSet nat_cmp). IsRest (space_of source).host o kept) same_owed w.kept_rest;
-      whereabouts = subst (λ (o : FinSet nat_cmp). (page : ℕ) → contains o page ≡ true → (is_urgent_or_left source.remaining urgent page || has_copy (copies_of rest) page) ≡ true) same_owed w.whereabouts;
-      faithful = w.faithful;
-    }
+plan_of source kept rest urgent epoch areas owed commands w = grind (arith, nat_tests)
 
 pub package_taken : (epoch : ℕ) (areas : FinMap nat_cmp Prot) (owed : FinSet nat_cmp) (commands : List (Option Command)) (rest : List Sent) (world : World) →
     let old : World = at_state SourcePhase.Stopped DestPhase.Discarding false true (record { epoch = epoch; frame = Package areas owed commands } ∷ rest) world in

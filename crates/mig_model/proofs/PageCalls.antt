@@ -1,18 +1,17 @@
 -- The calls that a handler makes for one page: what each of them answers where it is accepted, and the space that it leaves.
 use Rattle.mig_base.specs.declared.TheConstants.{LOW_PAGE, HIGH_PAGE}
 use Rattle.std.proofs.lemmas.Bool.Decides.{nat_tests}
-use Rattle.std.proofs.Common.{◌≡◌, ℕ, ◌+◌, ◌*◌, ◌/◌, ◌<◌, ◌≤◌, ◌&&◌, ◌||◌, Bool, true, false, not, eqb, ltb, Option, None, is_some, unwrap_or, List, refl, sym, ap, ◌∙◌, arith, length, if◌then◌else◌, ◌-◌, ◌∷◌, []}
-use Rattle.std.specs.Prelude.{Ok}
+use Rattle.std.proofs.Common.{◌≡◌, ℕ, ◌+◌, ◌*◌, ◌/◌, ◌<◌, ◌≤◌, ◌&&◌, ◌||◌, Bool, true, false, not, eqb, ltb, Option, None, is_some, unwrap_or, List, sym, ap, ◌∙◌, arith, length, if◌then◌else◌}
 use Rattle.std.specs.Ordering.{nat_cmp}
 use Rattle.std.specs.FinMap.{FinMap, contains_key, insert}
 use Rattle.std.specs.FinSet.{contains}
-use Rattle.std.proofs.lemmas.Bool.{and_from, not_from_true}
+use Rattle.std.proofs.lemmas.Bool.{not_from_true}
 use Rattle.std.proofs.lemmas.Bool.Decides.{nat_tests}
 use Rattle.mig_base.specs.declared.TheConstants.{LOW_PAGE, HIGH_PAGE}
 use Rattle.std.proofs.lemmas.List.{take_all}
 use Rattle.mig_base.specs.declared.Prot.{Prot}
 use Rattle.mig_base.specs.declared.command.Errno.{Errno}
-use Rattle.mig_base.specs.declared.command.Errno.TheVariants.{Eexist, Einval}
+use Rattle.mig_base.specs.declared.command.Errno.TheVariants.{Eexist}
 use Rattle.mig_base.specs.declared.wake.Wake.TheVariants.{Nobody, Range}
 use Rattle.mig_base.specs.Bits.{is_one}
 use Rattle.mig_base.specs.Bytes.{zero_page}
@@ -23,12 +22,10 @@ use Rattle.mig_base.proofs.BitLemmas.{zero_is_no_one}
 use Rattle.mig_base.proofs.RangeLemmas.{least_below-none, none_below-from}
 use Rattle.mig_model.specs.Userfault.{changing, is_registered}
 use Rattle.mig_model.specs.Space.{Space}
-use Rattle.mig_model.specs.Guest.{Guest, in_bytes, resolved, is_present, zero_installed}
-use Rattle.mig_model.specs.Ioctls.{Put, answered_by, copy_error, copy_errors, handed, installed, is_bad_range, is_one_area, missing_run, protected_in, put_answer, put_by, put_pages, same_prot, writeprotect_error, writeprotect_errors, zeropage_error}
+use Rattle.mig_model.specs.Guest.{Guest, resolved, is_present, zero_installed}
+use Rattle.mig_model.specs.Ioctls.{Put, copy_error, handed, installed, is_bad_range, is_one_area, missing_run, protected_in, put_answer, put_by, put_pages, same_prot, zeropage_error}
 use Rattle.mig_model.specs.Bounds.{IsPage}
 use Rattle.mig_model.specs.Handlers.{IsCopy, IsWake, IsWriteProtect, IsZeroPage, page_put, woken_by}
-use Rattle.mig_model.specs.Cpus.{all_woken}
-use Rattle.mig_model.proofs.Facts.{only_one}
 use Rattle.mig_model.proofs.Registering.{left_new, nothing_holds, pages_again, range_good}
 
 -- a page for which a call is made: the object is enabled, no event is unread, and the page may be mapped
@@ -53,12 +50,9 @@ same_prot_self o h = grind (arith, nat_tests)
 pub same_bool_self : (b : Bool) → same_bool b b ≡ true
 same_bool_self b = grind (arith, nat_tests)
 
-and_three : (a b c : Bool) → a ≡ true → b ≡ true → c ≡ true → (a && b && c) ≡ true
-and_three a b c ha hb hc = grind (arith, nat_tests)
-
 -- a mapped page that is registered is one area
 one_area : (space : Space) (page : ℕ) → contains_key space.host.areas page ≡ true → is_registered space.object page ≡ true → is_one_area space page 1 ≡ true
-one_area space page mapped registered = grind (arith, nat_tests, every_one, and_from, and_three, same_prot_self, same_bool_self)
+one_area space page mapped registered = grind (arith, nat_tests, every_one, same_bool_self)
 
 -- a missing page is put whole
 missing_one : (space : Space) (page : ℕ) → is_present space page ≡ false → missing_run space page 1 ≡ 1
@@ -70,20 +64,13 @@ put_new error put h = grind (arith, nat_tests)
 one_put : (addr : ℕ) → put_answer addr 1 1 0 Eexist ≡ page_put addr
 one_put addr = ap (λ b. record { bytes = 4096; fault = None; wake = if b then Nobody else Range addr 4096 }) (zero_is_no_one 0)
 
--- the range of a page is that page
-page_bytes : (page q : ℕ) → eqb q page ≡ in_bytes (4096 * page) (4096 * page + 4096) q
-page_bytes page q =
-    sym (only_one page q)
-    ∙ ap (λ n. in_range page n q) (omega arith)
-    ∙ ap (λ p. in_range p ((4096 * page + 4096) / 4096 - 4096 * page / 4096) q) (sym (pages_again page))
-
 pub page_woken : (guest : Guest) (page : ℕ) (space : Space) → (resolved guest page space).cpus ≡ woken_by (Range (4096 * page) 4096) guest.cpus
-page_woken guest page space = let same : (λ q. eqb q page) ≡ in_bytes (4096 * page) (4096 * page + 4096) = λ i q. page_bytes page q i in ap (λ test. all_woken test guest.cpus) same
+page_woken guest page space = grind (arith, nat_tests)
 
 -- UFFDIO_ZEROPAGE
 
 zeropage_accepted : (space : Space) (page : ℕ) → IsCalled space page → contains_key space.host.areas page ≡ true → is_registered space.object page ≡ true → zeropage_error space (4096 * page) 4096 0 ≡ None
-zeropage_accepted space page is mapped registered = grind (arith, nat_tests, nothing_holds, not_from_true, page_range, pages_again, one_area)
+zeropage_accepted space page is mapped registered = grind (arith, nat_tests, page_range, pages_again, one_area)
 
 pub zero_page_made : (guest : Guest) (page : ℕ) → IsCalled guest.space page → contains_key guest.space.host.areas page ≡ true → is_registered guest.space.object page ≡ true → is_present guest.space page ≡ false →
     IsZeroPage guest (resolved guest page (zero_installed guest.space page)) (4096 * page)
@@ -102,11 +89,8 @@ zero_page_made guest page is mapped registered gone =
 
 -- UFFDIO_COPY
 
-abbrev copy_errors_of : Space → ℕ → ℕ → List (Bool × Errno)
-copy_errors_of space page len = copy_errors space (4096 * page) len 0
-
 copy_accepted : (space : Space) (page : ℕ) → IsCalled space page → contains_key space.host.areas page ≡ true → is_registered space.object page ≡ true → copy_error space (4096 * page) 4096 0 ≡ None
-copy_accepted space page is mapped registered = grind (arith, nat_tests, nothing_holds, copy_errors_of, not_from_true, page_range, pages_again, one_area, zero_is_no_one)
+copy_accepted space page is mapped registered = grind (arith, nat_tests, not_from_true, page_range, pages_again, one_area, zero_is_no_one)
 
 put_one : (pages : FinMap nat_cmp (List ℕ)) (page : ℕ) (one other : ℕ → List ℕ) → one 0 ≡ other 0 → put_pages pages page 1 one ≡ put_pages pages page 1 other
 unfolding put_pages
@@ -141,40 +125,14 @@ copy_made guest page bytes is mapped registered gone whole =
 
 -- UFFDIO_WRITEPROTECT
 
-answered_new : {A : Type 0} (error : Option Errno) (answer : A) → error ≡ None → answered_by error answer ≡ Ok answer
-answered_new error answer h = grind (arith, nat_tests)
-
-in_run : (first count i : ℕ) → i < count → in_range first count (first + i) ≡ true
-in_run first count i l = grind (arith, nat_tests, l)
-
 pub range_protect_made : (guest new : Guest) (first count bits : ℕ) (protect : Bool) → guest.space.object.enabled ≡ true → ltb 0 (changing guest.space.object) ≡ false → 0 < count → LOW_PAGE ≤ first → first + count ≤ HIGH_PAGE →
     ((q : ℕ) → in_range first count q ≡ true → contains guest.space.object.protect q ≡ true) → ltb 2 bits ≡ false → is_one bits 0 ≡ protect → new.space ≡ protected_in guest.space first count protect →
     new.cpus ≡ woken_by (if eqb bits 0 then Range (4096 * first) (4096 * count) else Nobody) guest.cpus →
     IsWriteProtect guest new (4096 * first) (4096 * count) bits (if eqb bits 0 then Range (4096 * first) (4096 * count) else Nobody)
-range_protect_made guest new first count bits protect enabled quiet some low high watched few mode leaves wakes =
-    let space = guest.space in
-    let test = λ (q : ℕ). contains space.object.protect q in
-    let every : is_every test (4096 * first / 4096) (4096 * count / 4096) ≡ true =
-    ap (λ q. is_every test q (4096 * count / 4096)) (pages_again first) ∙ ap (λ n. is_every test first n) (pages_again count)
-    ∙ none_below-from (λ i. not (test (first + i))) count (λ i l. not_from_true (test (first + i)) (watched (first + i) (in_run first count i l))) in
-    let accepted =
-    nothing_holds (writeprotect_errors space (4096 * first) (4096 * count) bits) (
-      not_from_true space.object.enabled enabled,
-      (few, (range_good first count some low high, (quiet, (not_from_true (is_every test (4096 * first / 4096) (4096 * count / 4096)) every, tt)))),
-    ) in
-    record {
-      answer = answered_new (writeprotect_error space (4096 * first) (4096 * count) bits) _ accepted;
-      leaves = leaves
-          ∙ sym
-          (left_new (writeprotect_error space (4096 * first) (4096 * count) bits) space _ accepted
-          ∙ ap (λ q. protected_in space q (4096 * count / 4096) (is_one bits 0)) (pages_again first)
-          ∙ ap (λ n. protected_in space first n (is_one bits 0)) (pages_again count)
-          ∙ ap (λ b. protected_in space first count b) mode);
-      wakes = wakes;
-    }
+range_protect_made guest new first count bits protect enabled quiet some low high watched few mode leaves wakes = grind (arith, nat_tests, none_below-from, nothing_holds, range_good, left_new)
 
 only_itself : (page q : ℕ) → in_range page 1 q ≡ true → page ≡ q
-only_itself page q h = grind (arith, nat_tests, h)
+only_itself page q h = grind (arith, nat_tests)
 
 pub write_protect_made : (guest new : Guest) (page bits : ℕ) (protect : Bool) → IsCalled guest.space page → contains guest.space.object.protect page ≡ true → ltb 2 bits ≡ false → is_one bits 0 ≡ protect → new.space ≡ protected_in guest.space page 1 protect →
     new.cpus ≡ woken_by (if eqb bits 0 then Range (4096 * page) 4096 else Nobody) guest.cpus → IsWriteProtect guest new (4096 * page) 4096 bits (if eqb bits 0 then Range (4096 * page) 4096 else Nobody)
@@ -184,9 +142,4 @@ write_protect_made guest new page bits protect is watched few mode leaves wakes 
 -- UFFDIO_WAKE
 
 pub wake_made : (guest : Guest) (page : ℕ) → guest.space.object.enabled ≡ true → IsPage page → IsWake guest (resolved guest page guest.space) (4096 * page)
-wake_made guest page enabled is =
-    record {
-      answer = answered_new _ (Range (4096 * page) 4096) (nothing_holds ((not guest.space.object.enabled, Einval) ∷ (is_bad_range (4096 * page) 4096, Einval) ∷ []) (not_from_true guest.space.object.enabled enabled, (page_range page is, tt)));
-      leaves = refl;
-      wakes = page_woken guest page guest.space;
-    }
+wake_made guest page enabled is = grind (arith, nat_tests)

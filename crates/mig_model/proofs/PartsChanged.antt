@@ -1,17 +1,15 @@
 -- Each step of the whole migration changes only its parts.
-use Rattle.std.proofs.Common.{◌≡◌, ℕ, ◌+◌, Bool, true, false, List, [], ◌∷◌, ◌++◌, refl, sym, ◌∙◌, ap, append-nil}
-use Rattle.std.proofs.lemmas.Bool.{false≢true}
+use Rattle.std.proofs.lemmas.Bool.Decides.{nat_tests}
+use Rattle.std.proofs.Common.{◌≡◌, ℕ, ◌+◌, Bool, true, false, List, [], ◌∷◌, ◌++◌, refl, sym, ap, append-nil, arith}
 use Rattle.std.proofs.lemmas.List.{append_assoc}
 use Rattle.mig_base.specs.declared.phase.DestPhase.{DestPhase}
 use Rattle.mig_base.specs.declared.phase.SourcePhase.{SourcePhase}
 use Rattle.mig_base.specs.declared.schedule.Side.{Side}
 use Rattle.mig_base.specs.declared.schedule.Step.{Step}
 use Rattle.mig_base.specs.declared.command.Command.{Command}
-use Rattle.mig_base.specs.Commands.{is_access}
-use Rattle.mig_model.specs.Guest.{Guest, tried}
 use Rattle.mig_model.specs.Wire.{Frame, Sent, page_frame, sending, Wire, wire_if, wire_with}
 use Rattle.mig_model.specs.Wire.Frame.{Advise, Run, End, Resume}
-use Rattle.mig_model.specs.Migration.{World, next, guest_of, with_guest_by, after_command, after_deliver, after_deliver_back, after_dest_act, after_move, after_move_back, after_move_urgent, after_deliver_urgent}
+use Rattle.mig_model.specs.Migration.{World, next, after_command, after_deliver, after_deliver_back, after_dest_act, after_move, after_move_back, after_move_urgent, after_deliver_urgent}
 use Rattle.mig_model.specs.Parts.{Grows, Shrinks, GuestAlone, ChangesParts}
 use Rattle.mig_model.proofs.StepCases.{MakesWorld, made-next}
 use Rattle.mig_model.specs.Source.{bytes_of, run_of, source_answers, source_took, switch_frames}
@@ -27,9 +25,7 @@ record Longer (old new : List Sent) : Type 0 where
 
 longer_by : (frames : List Sent) (epoch : ℕ) (more : List Frame) → Longer frames (sending frames epoch more)
 longer_by frames epoch [] = record { more = []; is = sym (append-nil frames) }
-longer_by frames epoch (frame ∷ more) =
-    let rest = longer_by (frames ++ record { epoch = epoch; frame = frame } ∷ []) epoch more in
-    record { more = record { epoch = epoch; frame = frame } ∷ rest.more; is = rest.is ∙ append_assoc frames (record { epoch = epoch; frame = frame } ∷ []) rest.more }
+longer_by frames epoch (frame ∷ more) = grind (arith, nat_tests, append_assoc, longer_by (frames ++ record { epoch = epoch; frame = frame } ∷ []) epoch more)
 
 grows_by : (wire : Wire) (epoch : ℕ) (frames : List Frame) → Grows wire (wire_with wire epoch frames)
 grows_by wire epoch frames = let longer = longer_by wire.frames epoch frames in record { more = longer.more; is = ap (λ f. record wire { frames = f }) longer.is }
@@ -38,12 +34,8 @@ grows_if : (up : Bool) (wire : Wire) (epoch : ℕ) (frames : List Frame) → Gro
 grows_if true wire epoch frames = grows_by wire epoch frames
 grows_if false wire epoch frames = as_it_was wire
 
-guest_by_alone : (ran : Bool) (world : World) (guest : Guest) → world.destination.has_run ≡ ran → GuestAlone world (with_guest_by ran world guest)
-guest_by_alone true world guest is = record { forward = refl; back = refl; urgent = refl; up = refl; source = λ h. refl; destination = λ h. absurd (false≢true (sym h ∙ is)); source_guest = refl; destination_guest = refl }
-guest_by_alone false world guest is = record { forward = refl; back = refl; urgent = refl; up = refl; source = λ h. absurd (false≢true (sym is ∙ h)); destination = λ h. refl; source_guest = refl; destination_guest = refl }
-
 guest_alone : (world : World) (cpu : ℕ) (command : Command) → GuestAlone world (after_command world cpu command)
-guest_alone world cpu command = let alone = guest_by_alone world.destination.has_run world (tried (is_access command) (guest_of world) cpu command) refl in assumption
+guest_alone world cpu command = grind (arith, nat_tests)
 
 -- what a step that is not refused changes, where a wire that it leaves has grown by nothing
 made_alone : (world : World) (step : Step) → Grows world.forward world.forward → Grows world.back world.back → MakesWorld (ChangesParts world step) world step

@@ -1,11 +1,10 @@
 -- The promises of the whole migration from what every world of it keeps.
-use Rattle.std.proofs.Common.{◌≡◌, ℕ, ◌≤◌, ◌||◌, Bool, true, false, cond, ltb, Option, Some, None, List, refl, sym, ap, ◌∙◌, subst, arith}
+use Rattle.std.proofs.Common.{◌≡◌, ℕ, ◌≤◌, ◌||◌, Bool, true, false, cond, ltb, Option, Some, None, List, refl, sym, ap, ◌∙◌, arith}
 use Rattle.std.specs.Option.{option_and_then}
 use Rattle.std.specs.Ordering.{nat_cmp}
 use Rattle.std.specs.FinMap.{FinMap, get, get-empty}
-use Rattle.std.specs.FinSet.{contains}
 use Rattle.std.proofs.lemmas.Bool.Decides.{nat_tests}
-use Rattle.std.proofs.lemmas.Bool.{false≢true, or_left, true_from_ne_false}
+use Rattle.std.proofs.lemmas.Bool.{false≢true}
 use Rattle.std.proofs.lemmas.Option.{none-some}
 use Rattle.mig_base.specs.declared.phase.DestPhase.{DestPhase}
 use Rattle.mig_base.specs.declared.phase.Received.{Received}
@@ -17,23 +16,21 @@ use Rattle.mig_model.specs.Host.{Host, memory, IsSound}
 use Rattle.mig_model.specs.Guest.{Fault, is_present}
 use Rattle.mig_model.specs.Guest.Act.{Zeroed}
 use Rattle.mig_model.specs.Migration.{World, runs}
-use Rattle.mig_model.specs.Invariant.{IsSoundWorld, IsPrecopying, IsSwitching, IsReceiving, RanAt, seen_bytes, seen_host, current_by, copies_of, has_copy, is_urgent_or_left, AreSoundUrgent}
+use Rattle.mig_model.specs.Invariant.{IsSoundWorld, IsPrecopying, IsSwitching, IsReceiving, seen_bytes, seen_host, current_by, copies_of, has_copy, is_urgent_or_left, AreSoundUrgent}
 use Rattle.mig_model.specs.Promises.{IsComplete, IsAlone, ArePaired, AreUnderWay}
 use Rattle.mig_model.proofs.Stopping.{in_phases}
 use Rattle.mig_model.proofs.SettledLemmas.{IsOneToOne-settled, values-settled, none-settled}
-use Rattle.mig_model.specs.Source.{is_precopy, is_released, is_source_paused, is_stopped, released, source_act, source_act_by, space_of}
-use Rattle.mig_model.specs.Destination.{destination_act, destination_act_by, is_running, settled}
+use Rattle.mig_model.specs.Source.{is_precopy, is_released, is_source_paused, is_stopped, released, source_act, space_of}
+use Rattle.mig_model.specs.Destination.{destination_act, is_running, settled}
 use Rattle.mig_model.proofs.Facts.{none_absurd}
 
 -- A table without pairs
 
 own_bytes : (o : Option (List ℕ)) (there : FinMap nat_cmp (List ℕ)) (owed : Option ℕ) → owed ≡ None → (elim o [ Some bytes ↦ Some bytes | None ↦ option_and_then (get there) owed ]) ≡ o
-own_bytes None there owed h = ap (option_and_then (get there)) h
-own_bytes (Some bytes) there owed h = refl
+own_bytes o there owed h = grind (arith, nat_tests)
 
 all_low : (low : Bool) (o : Option (List ℕ)) → (low ≡ false → o ≡ None) → cond low o None ≡ o
-all_low true o h = refl
-all_low false o h = sym (h refl)
+all_low low o h = grind (arith, nat_tests)
 
 not_low : (page : ℕ) → ltb page HIGH_PAGE ≡ false → HIGH_PAGE ≤ page
 not_low page h = grind (arith, nat_tests)
@@ -49,16 +46,8 @@ seen_own here there owed sound none =
 
 -- Completion
 
-ended_told : (phase : DestPhase) (ran ended : Bool) → phase ≡ DestPhase.Ended → RanAt phase ran ended → ended ≡ true
-ended_told phase ran ended is told = subst (λ p. RanAt p ran ended) is told
-
 ran_in : (from : SourcePhase) (world : World) → is_released from ≡ true → IsSoundWorld (in_phases from world.destination.phase world) → (world.destination.ended ≡ true) × (world.destination.has_run ≡ true)
-ran_in SourcePhase.Released world released kept =
-    let up = true_from_ne_false world.up (λ h. (kept.flight.down h).3 refl) in
-    let ended = ended_told world.destination.phase world.destination.has_run world.destination.ended (kept.flight.wires up).0 kept.phases.destination_phase in
-    (ended, kept.phases.ended_after_run ended)
-ran_in SourcePhase.Idle world released kept = none_absurd released
-ran_in _ world released kept = none_absurd released
+ran_in from world released kept = grind (arith, nat_tests)
 
 -- the destination of a migration that is complete has run
 pub complete_ran : (world : World) → IsSoundWorld world → IsComplete world → world.destination.has_run ≡ true
@@ -92,18 +81,7 @@ is_alone world kept complete = complete_in world.source.phase world complete kep
 -- Pairs
 
 pub are_paired : (world : World) → IsSoundWorld world → ArePaired world
-are_paired world kept =
-    record {
-      one_to_one = kept.owing.one_to_one;
-      present = kept.owing.origins_present;
-      settled_one_to_one = λ page other origin h k. IsOneToOne-settled world.destination.guest.space.object.events (get world.destination.owed) kept.owing.one_to_one page other origin h k;
-      settled_present = λ page origin h. let pair = values-settled world.destination.guest.space.object.events (get world.destination.owed) page origin h in kept.owing.origins_present pair.0 origin pair.1;
-      mapped = λ page origin h.
-          kept.spaces.destination_space.mapped page (or_left (contains world.destination.guest.space.object.missing page) (contains world.destination.guest.space.object.protect page) (kept.owing.pairs_missing page origin h).0);
-      registered = λ page origin h. (kept.owing.pairs_missing page origin h).0;
-      missing = λ page origin h. (kept.owing.pairs_missing page origin h).1;
-      ended = kept.owing.ended_empty;
-    }
+are_paired world kept = grind (arith, nat_tests, IsOneToOne-settled, values-settled)
 
 -- Whereabouts
 
@@ -116,24 +94,12 @@ whereabouts_in SourcePhase.Stopped _ world stopped ran up kept page origin owed 
 whereabouts_in _ to world stopped ran up kept page origin owed = none_absurd stopped
 
 pub are_under_way : (world : World) → IsSoundWorld world → AreSoundUrgent world → world.destination.has_run ≡ true → AreUnderWay world
-are_under_way world kept urgent ran =
-    record {
-      whereabouts = λ up stopped. whereabouts_in world.source.phase world.destination.phase world stopped ran up kept;
-      in_flight = kept.flight.flight_faithful ran;
-      urgent = urgent.faithful;
-      arrived = kept.owing.arrivals_faithful ran;
-    }
+are_under_way world kept urgent ran = grind (arith, nat_tests, whereabouts_in)
 
 -- What is in flight
 
-precopying_in : (from : SourcePhase) (to : DestPhase) (world : World) → is_precopy from ≡ true → world.up ≡ true → IsSoundWorld (in_phases from to world) → IsPrecopying (in_phases from to world).source world.destination.kept world.forward.frames
-precopying_in SourcePhase.Precopy DestPhase.Idle world precopy up kept = (kept.flight.wires up).2
-precopying_in SourcePhase.Precopy DestPhase.Advised world precopy up kept = (kept.flight.wires up).2
-precopying_in SourcePhase.Precopy _ world precopy up kept = absurd (kept.flight.wires up)
-precopying_in _ to world precopy up kept = none_absurd precopy
-
 pub is_precopying : (world : World) → IsSoundWorld world → world.up ≡ true → is_precopy world.source.phase ≡ true → IsPrecopying world.source world.destination.kept world.forward.frames
-is_precopying world kept up precopy = precopying_in world.source.phase world.destination.phase world precopy up kept
+is_precopying world kept up precopy = grind (arith, nat_tests)
 
 switching_in : (from : SourcePhase) (to : DestPhase) (world : World) → is_stopped from ≡ true → world.up ≡ true → world.destination.has_run ≡ false → IsSoundWorld (in_phases from to world) → IsSwitching (in_phases from to world).source world.destination.kept world.forward.frames world.urgent.frames
 switching_in SourcePhase.Stopped DestPhase.Running world stopped up ran kept = absurd (false≢true (sym ran ∙ kept.phases.destination_phase.0))
@@ -145,28 +111,13 @@ switching_in _ to world stopped up ran kept = none_absurd stopped
 pub is_switching : (world : World) → IsSoundWorld world → world.up ≡ true → is_stopped world.source.phase ≡ true → world.destination.has_run ≡ false → IsSwitching world.source world.destination.kept world.forward.frames world.urgent.frames
 is_switching world kept up stopped ran = switching_in world.source.phase world.destination.phase world stopped up ran kept
 
-receiving_in : (from : SourcePhase) (to : DestPhase) (world : World) → is_source_paused from ≡ true → is_running to ≡ true → world.up ≡ true → IsSoundWorld (in_phases from to world) →
-    IsReceiving (in_phases from to world).source (in_phases from to world).destination Received.Running world.back.frames
-receiving_in SourcePhase.Paused DestPhase.Running world paused runs up kept = (kept.flight.wires up).1
-receiving_in SourcePhase.Paused _ world paused runs up kept = none_absurd runs
-receiving_in _ to world paused runs up kept = none_absurd paused
-
 pub is_receiving : (world : World) → IsSoundWorld world → world.up ≡ true → is_source_paused world.source.phase ≡ true → is_running world.destination.phase ≡ true → IsReceiving world.source world.destination Received.Running world.back.frames
-is_receiving world kept up paused runs = receiving_in world.source.phase world.destination.phase world paused runs up kept
+is_receiving world kept up paused runs = grind (arith, nat_tests)
 
 -- The zero pages of the handlers
 
-source_zero_by : (forgotten present protected : Bool) → source_act_by forgotten present protected ≡ Zeroed → present ≡ false
-source_zero_by false false protected h = refl
-source_zero_by false true true h = absurd (cc)
-source_zero_by _ _ _ h = absurd (cc)
-
 pub source_zero : (world : World) (fault : Fault) → source_act world.source fault ≡ Zeroed → is_present (space_of world.source) fault.page ≡ false
-source_zero world fault h = source_zero_by _ (is_present (space_of world.source) fault.page) _ h
-
-destination_zero_by : (forgotten present : Bool) (owed : Option ℕ) → destination_act_by forgotten present owed ≡ Zeroed → present ≡ false
-destination_zero_by false false owed h = refl
-destination_zero_by _ _ owed h = absurd (cc)
+source_zero world fault h = grind (arith, nat_tests)
 
 pub destination_zero : (world : World) (fault : Fault) → destination_act world.destination fault ≡ Zeroed → is_present world.destination.guest.space fault.page ≡ false
-destination_zero world fault h = destination_zero_by _ (is_present world.destination.guest.space fault.page) _ h
+destination_zero world fault h = grind (arith, nat_tests)

@@ -1,24 +1,17 @@
 -- After a Push no Switch of its epoch is made, and no Recv of its epoch is taken.
-use Rattle.std.proofs.Common.{◌≡◌, ℕ, ◌+◌, ◌<◌, Bool, true, false, not, List, ◌∷◌, refl, sym, ◌∙◌, subst, ◌⊎◌, inl, inr, ⊎_elim, arith, IsOk, if◌then◌else◌}
-use Rattle.std.proofs.lemmas.Bool.{false≢true}
-use Rattle.mig_base.specs.declared.phase.Received.{Received}
+use Rattle.std.proofs.lemmas.Bool.Decides.{nat_tests}
+use Rattle.std.proofs.Common.{◌≡◌, ℕ, ◌<◌, Bool, true, false, not, List, ◌∷◌, refl, ◌⊎◌, inr, arith, IsOk}
 use Rattle.mig_base.specs.declared.phase.SourcePhase.{SourcePhase}
-use Rattle.mig_base.specs.declared.schedule.Side.{Side}
 use Rattle.mig_base.specs.declared.schedule.Step.{Step}
 use Rattle.mig_base.specs.declared.schedule.Ticket.{Ticket}
-use Rattle.mig_model.specs.Wire.{Frame, Sent}
-use Rattle.mig_model.specs.Wire.Frame.{Recv, Done}
-use Rattle.mig_model.specs.Guest.{Act, Guest}
-use Rattle.mig_model.specs.Guest.Act.{Unprotected}
+use Rattle.mig_model.specs.Wire.{Sent}
 use Rattle.mig_model.specs.Invariant.{IsSoundWorld, SwitchedAt, AreSoundUrgent}
 use Rattle.mig_model.proofs.EveryStep.{by_steps, kept-next}
-use Rattle.mig_model.proofs.FramesTaken.{is_taken_back}
 use Rattle.mig_model.proofs.SourceRounds.{precopy_unswitched}
 use Rattle.mig_model.proofs.WokenSteps.{stopped_switched}
-use Rattle.mig_model.specs.Source.{Source, is_source_idle, is_source_paused, is_stopped, source_act, source_acted_by, source_took}
-use Rattle.mig_model.specs.Migration.{World, after_steps, next, outcome, with_guest_by}
+use Rattle.mig_model.specs.Source.{Source, is_source_idle, is_source_paused, is_stopped}
+use Rattle.mig_model.specs.Migration.{World, after_steps, next, outcome}
 use Rattle.mig_model.specs.Promises.{is_recv}
-use Rattle.mig_model.proofs.Taken.{IsInPlaceBack}
 use Rattle.mig_model.proofs.StepCases.{MakesWorld, made-next, made-ok}
 use Rattle.mig_model.proofs.UrgentSteps.{urgent-next}
 
@@ -36,90 +29,21 @@ record IsAlike (old new : Source) : Type 0 where
   switched : new.switched ≡ old.switched
   phase : new.phase ≡ old.phase
 
-alike : (pushed : ℕ) (old new : Source) (up : Bool) → IsAlike old new → HasPushed pushed old.epoch old.switched old.phase up → HasPushed pushed new.epoch new.switched new.phase up
-alike pushed old new up same h =
-    subst (λ e. HasPushed pushed e new.switched new.phase up) (sym same.epoch) (subst (λ s. HasPushed pushed old.epoch s new.phase up) (sym same.switched) (subst (λ p. HasPushed pushed old.epoch old.switched p up) (sym same.phase) h))
-
--- the same while a link that is up stays so
-guest_alike : (ran : Bool) (pushed : ℕ) (world : World) (guest : Guest) → PushedIn pushed world → PushedIn pushed (with_guest_by ran world guest)
-guest_alike true pushed world guest h = h
-guest_alike false pushed world guest h = h
-
-act_alike : (act : Act) (node : Source) (page : ℕ) → IsAlike node (source_acted_by act node page)
-act_alike Unprotected node page = record { epoch = refl; switched = refl; phase = refl }
-act_alike _ node page = record { epoch = refl; switched = refl; phase = refl }
-
 pub idle_unswitched : (phase : SourcePhase) (switched : Bool) → is_source_idle phase ≡ true → SwitchedAt phase switched → switched ≡ false
-idle_unswitched SourcePhase.Idle switched h at = at
-idle_unswitched _ switched h at = absurd (false≢true h)
+idle_unswitched phase switched h at = grind (arith, nat_tests)
 
 -- a later epoch alone is left, where the source has not switched
 later : {A : Type 0} (pushed epoch : ℕ) (switched : Bool) (phase : SourcePhase) (up : Bool) → switched ≡ false → HasPushed pushed epoch switched phase up → (pushed < epoch → A) → A
-later pushed epoch switched phase up not h more =
-    ⊎_elim more (λ (one : (epoch ≡ pushed) × (switched ≡ true) × (up ≡ true → is_source_paused phase ≡ false)). absurd (false≢true (sym not ∙ one.1))) h
-
--- the same, where it is paused and the link is up
-resumed_later : {A : Type 0} (pushed epoch : ℕ) (switched : Bool) (phase : SourcePhase) (up : Bool) → up ≡ true → is_source_paused phase ≡ true → HasPushed pushed epoch switched phase up → (pushed < epoch → A) → A
-resumed_later pushed epoch switched phase up linked paused h more =
-    ⊎_elim more (λ (one : (epoch ≡ pushed) × (switched ≡ true) × (up ≡ true → is_source_paused phase ≡ false)). absurd (false≢true (sym (one.2 linked) ∙ paused))) h
-
-one_later : (pushed epoch : ℕ) → pushed < epoch → pushed < epoch + 1
-one_later pushed epoch h = omega (arith, h)
-
-next_later : (pushed epoch : ℕ) → epoch ≡ pushed → pushed < epoch + 1
-next_later pushed epoch h = omega (arith, h)
-
-rebuilt_epoch : (switched : Bool) (one other : Source) (epoch : ℕ) → one.epoch ≡ epoch → other.epoch ≡ epoch → (if switched then one else other).epoch ≡ epoch
-rebuilt_epoch true one other epoch a b = a
-rebuilt_epoch false one other epoch a b = b
-
-taken_pushed : (frame : Frame) (pushed : ℕ) (node : Source) (up : Bool) → up ≡ true → (is_recv frame ≡ true → is_source_paused node.phase ≡ true) → HasPushed pushed node.epoch node.switched node.phase up →
-    HasPushed pushed (source_took node frame).epoch (source_took node frame).switched (source_took node frame).phase up
-taken_pushed (Recv Received.NotRun owed) pushed node up linked paused h =
-    resumed_later pushed node.epoch node.switched node.phase up linked (paused refl) h (λ more. inl (subst (λ e. pushed < e) (sym (rebuilt_epoch node.switched _ _ node.epoch refl refl)) more))
-taken_pushed (Recv Received.Running owed) pushed node up linked paused h = resumed_later pushed node.epoch node.switched node.phase up linked (paused refl) h (λ more. inl more)
-taken_pushed (Recv Received.Ended owed) pushed node up linked paused h = resumed_later pushed node.epoch node.switched node.phase up linked (paused refl) h (λ more. inl more)
-taken_pushed Done pushed node up linked paused h =
-    ⊎_elim (λ (more : pushed < node.epoch). inl more) (λ (one : (node.epoch ≡ pushed) × (node.switched ≡ true) × (up ≡ true → is_source_paused node.phase ≡ false)). inr (one.0, one.1, λ u. refl)) h
-taken_pushed _ pushed node up linked paused h = h
-
-recv_paused : (frame : Frame) (node : Source) → IsInPlaceBack node frame → is_recv frame ≡ true → is_source_paused node.phase ≡ true
-recv_paused (Recv state owed) node place is = place.0
-recv_paused _ node place is = absurd (false≢true is)
-
--- with the link down the phase tells nothing
-down_pushed : (pushed epoch : ℕ) (switched : Bool) (old new : SourcePhase) (before : Bool) → HasPushed pushed epoch switched old before → HasPushed pushed epoch switched new false
-down_pushed pushed epoch switched old new before h =
-    ⊎_elim (λ (more : pushed < epoch). inl more) (λ (one : (epoch ≡ pushed) × (switched ≡ true) × (before ≡ true → is_source_paused old ≡ false)). inr (one.0, one.1, λ u. absurd (false≢true u))) h
+later pushed epoch switched phase up not h more = grind (arith, nat_tests)
 
 pushed_answer : (pushed : ℕ) (world : World) (step : Step) → IsSoundWorld world → PushedIn pushed world → MakesWorld (PushedIn pushed) world step
-pushed_answer pushed world (Step.Issue cpu command) kept h = λ there idle may. guest_alike world.destination.has_run pushed world _ h
-pushed_answer pushed world (Step.Retry cpu) kept h = λ command is woken may. guest_alike world.destination.has_run pushed world _ h
-pushed_answer pushed world Step.Start kept h =
-    λ idle unused. later pushed world.source.epoch world.source.switched world.source.phase world.up (idle_unswitched world.source.phase world.source.switched idle kept.phases.source_phase) h (λ more. inl (one_later pushed world.source.epoch more))
-pushed_answer pushed world Step.SourceAct kept h =
-    λ fault rest is started unswitched quiet. alike pushed world.source _ world.up (act_alike (source_act world.source fault) world.source fault.page) h
-pushed_answer pushed world Step.Switch kept h =
-    λ precopy up quiet.
-    later pushed world.source.epoch world.source.switched world.source.phase world.up (precopy_unswitched world.source.phase world.source.switched precopy kept.phases.source_phase) h (λ more. inl more)
-pushed_answer pushed world (Step.DeliverBack n) kept h =
-    ((λ sent rest is short. h), (λ sent rest is full started up. taken_pushed sent.frame pushed world.source world.up up (recv_paused sent.frame world.source (is_taken_back world sent rest kept up is)) h))
-pushed_answer pushed world Step.Break kept h = λ started unreleased up. down_pushed pushed world.source.epoch world.source.switched world.source.phase world.source.phase world.up h
-pushed_answer pushed world (Step.Notice Side.Source) kept h =
-    λ started unreleased down.
-    subst (λ u. HasPushed pushed world.source.epoch world.source.switched SourcePhase.Paused u) (sym down) (down_pushed pushed world.source.epoch world.source.switched world.source.phase SourcePhase.Paused world.up h)
-pushed_answer pushed world Step.Resume kept h =
-    λ from to down unused.
-    ⊎_elim (λ (more : pushed < world.source.epoch). inl (one_later pushed world.source.epoch more))
-    (λ (one : (world.source.epoch ≡ pushed) × (world.source.switched ≡ true) × (world.up ≡ true → is_source_paused world.source.phase ≡ false)). inl (next_later pushed world.source.epoch one.0)) h
-pushed_answer pushed world _ kept h = assumption
+pushed_answer pushed world step kept h = grind (arith, nat_tests)
 
 pushed_steps : (pushed : ℕ) (world : World) (steps : List Step) → IsSoundWorld world → AreSoundUrgent world → PushedIn pushed world → PushedIn pushed (after_steps world steps)
 pushed_steps pushed world steps = by_steps (PushedIn pushed) (λ old step kept urgent h. made-next (PushedIn pushed) old step h (pushed_answer pushed old step kept h)) world steps
 
 stopped_not_paused : (phase : SourcePhase) → is_stopped phase ≡ true → is_source_paused phase ≡ false
-stopped_not_paused SourcePhase.Stopped h = refl
-stopped_not_paused _ h = absurd (false≢true h)
+stopped_not_paused phase h = grind (arith, nat_tests)
 
 -- an accepted Push, and any steps behind it
 pub pushed_before : (world : World) (ticket : Ticket) (steps : List Step) → IsSoundWorld world → AreSoundUrgent world → IsOk (outcome world (Step.Push ticket)) → PushedIn world.source.epoch (after_steps (next world (Step.Push ticket)) steps)
@@ -149,5 +73,4 @@ no_switch pushed world kept h same ok =
 
 -- and no Recv is on the wire back
 pub no_recv_taken : (pushed : ℕ) (world : World) (sent : Sent) (rest : List Sent) → IsSoundWorld world → PushedIn pushed world → world.source.epoch ≡ pushed → world.up ≡ true → world.back.frames ≡ sent ∷ rest → is_recv sent.frame ≡ true → ⊥
-no_recv_taken pushed world sent rest kept h same up first is =
-    resumed_later pushed world.source.epoch world.source.switched world.source.phase world.up up (recv_paused sent.frame world.source (is_taken_back world sent rest kept up first) is) h (not_later pushed world.source.epoch same)
+no_recv_taken pushed world sent rest kept h same up first is = grind (arith, nat_tests)

@@ -14,7 +14,7 @@ use Rattle.mig_base.specs.declared.command.Reply.{Reply}
 use Rattle.mig_base.specs.declared.command.Reply.TheVariants.{Value, Done, At, BadAccess, Refused}
 use Rattle.mig_base.specs.Codes.{prot_number}
 use Rattle.mig_base.specs.Ranges.{in_range, count_below, none_below, rounded, free_place}
-use Rattle.mig_base.specs.Flat.{Cell, Memory, is_mapped, fill, zeros_with, moved, grown, written, same_prot, has_one_prot, is_unmapped, exceeds_limit, mremap_target, mremap_reply, mmap_reply, dontneed_reply, place_refusals, at_place, first_refusal, is_bad_target, is_page_start, is_aligned, access_reply, allows_load, allows_store, number_at, reply_of}
+use Rattle.mig_base.specs.Flat.{Cell, Memory, is_mapped, fill, zeros_with, moved, grown, written, has_one_prot, is_unmapped, exceeds_limit, mremap_target, mremap_reply, mmap_reply, dontneed_reply, place_refusals, at_place, first_refusal, is_bad_target, is_page_start, is_aligned, access_reply, allows_load, allows_store, number_at, reply_of}
 use Rattle.mig_base.specs.Commands.{is_access, page_of}
 use Rattle.mig_model.specs.Space.{is_made}
 use Rattle.mig_model.specs.Bounds.{IsRightAccess}
@@ -78,11 +78,8 @@ same_of (Some a) (Some b) = eqb (prot_number a) (prot_number b)
 same_of (Some a) None = false
 same_of None b = false
 
-same_prot-of : (a b : Option Cell) → same_prot a b ≡ same_of (option_map (λ cell. cell.prot) a) (option_map (λ cell. cell.prot) b)
-same_prot-of a b = grind (arith, nat_tests)
-
 one_prot-of : (m : Memory) (start len : ℕ) → has_one_prot m start len ≡ none_below (λ i. not (same_of (prots m start) (prots m (start + i)))) len
-one_prot-of m start len = ap (λ f. none_below f len) (λ k i. not (same_prot-of (m start) (m (start + i)) k))
+one_prot-of m start len = grind (arith, nat_tests)
 
 same_one_prot : (m n : Memory) (start len : ℕ) → prots m ≡ prots n → has_one_prot m start len ≡ has_one_prot n start len
 same_one_prot m n start len h =

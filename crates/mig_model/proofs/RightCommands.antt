@@ -1,22 +1,19 @@
 -- A command that waits is a load or store whose form is right, of a page that may be mapped.
-use Rattle.std.proofs.Common.{◌≡◌, ℕ, zero, suc, ◌/◌, ◌^◌, ◌&&◌, Bool, true, false, not, ltb, Option, Some, None, is_some, List, [], ◌∷◌, refl, sym, ap, ◌∙◌, ⊎_elim, if◌then◌else◌, ◌<◌, arith}
-use Rattle.std.proofs.lemmas.Bool.{false≢true, and_parts, ltb-true}
-use Rattle.std.proofs.lemmas.Option.{none-some}
+use Rattle.std.proofs.lemmas.Bool.Decides.{nat_tests}
+use Rattle.std.proofs.Common.{◌≡◌, ℕ, suc, ◌/◌, ◌^◌, Bool, true, false, Option, Some, is_some, List, [], ◌∷◌, refl, sym, ap, ◌∙◌, ⊎_elim, if◌then◌else◌, ◌<◌, arith}
 use Rattle.mig_base.specs.declared.Prot.{Prot}
 use Rattle.mig_base.specs.declared.cpu_state.CpuState.{CpuState}
-use Rattle.mig_base.specs.declared.command.Access.{Access}
-use Rattle.mig_base.specs.declared.command.Access.TheVariants.{Answered}
 use Rattle.mig_base.specs.declared.command.Command.{Command}
 use Rattle.mig_base.specs.declared.command.Command.TheVariants.{Load, Store}
 use Rattle.mig_base.specs.declared.command.Reply.{Reply}
 use Rattle.mig_base.specs.declared.command.Reply.TheVariants.{BadAccess}
 use Rattle.mig_base.specs.declared.schedule.Step.{Step}
 use Rattle.mig_base.specs.Commands.{is_access}
-use Rattle.mig_base.specs.Flat.{Cell, access_reply, is_aligned, is_mapped, reply_of}
+use Rattle.mig_base.specs.Flat.{Cell, access_reply, is_aligned, is_mapped}
 use Rattle.mig_model.specs.Host.{memory}
-use Rattle.mig_model.specs.Space.{Space, is_made, queued_by}
-use Rattle.mig_model.specs.Cpus.{access_took, call_took, idle_processors, outstanding, processor_at}
-use Rattle.mig_model.specs.Cpus.Took.{Answer, Sleep, Call}
+use Rattle.mig_model.specs.Space.{Space, is_made}
+use Rattle.mig_model.specs.Cpus.{outstanding, processor_at}
+use Rattle.mig_model.specs.Cpus.Took.{Sleep}
 use Rattle.mig_model.specs.Guest.{Guest, took_by}
 use Rattle.mig_model.specs.Migration.{World, first_world_with, guest_by, guest_of, next}
 use Rattle.mig_model.specs.Source.{commands_of}
@@ -29,18 +26,8 @@ use Rattle.mig_model.proofs.WaitingCommands.{idle_at, waits_arise}
 
 -- A command that sleeps
 
-slept_made : (makes : Bool) (reply : Reply) (rest : Access) → access_took (if not makes then Answered reply else rest) ≡ Sleep → makes ≡ true
-slept_made true reply rest h = refl
-slept_made false reply rest h = absurd (let other : Answer reply ≡ Sleep = h in cc)
-
-call_answered : (reply : Reply) (left : ℕ) → call_took reply left ≡ Sleep → ⊥
-call_answered reply zero h = let other : Answer reply ≡ Sleep = h in cc
-call_answered reply (suc left) h = let other : Call reply (suc left) ≡ Sleep = h in cc
-
 access_form : (right : Bool) (o : Option Cell) (allows : Prot → Bool) (answer : Reply) → is_made (if right then access_reply o allows answer else BadAccess) ≡ true → (right ≡ true) × (is_some o ≡ true)
-access_form true (Some cell) allows answer h = (refl, refl)
-access_form true None allows answer h = absurd (false≢true h)
-access_form false o allows answer h = absurd (false≢true h)
+access_form right o allows answer h = grind (arith, nat_tests)
 
 page_of_access : (space : Space) (addr : ℕ) → IsMapping space.host.areas → is_mapped (memory space.host) addr ≡ true → IsPage (addr / 4096)
 page_of_access space addr mapping h = mapping.pages (addr / 4096) (sym (ap (λ test. test addr) (is_mapped-memory space.host)) ∙ h)
@@ -51,25 +38,11 @@ IsInside (Load addr width) = (is_aligned addr width ≡ true) × IsPage (addr / 
 IsInside (Store addr width value) = (is_aligned addr width ≡ true) × (value < 256 ^ width) × IsPage (addr / 4096)
 IsInside command = ⊥
 
-low_address : (addr : ℕ) → IsPage (addr / 4096) → addr < 2 ^ 64
-low_address addr is = let low = is.1 in omega (arith, low)
-
 right_form : (command : Command) → IsInside command → IsRightAccess command
-right_form (Load addr width) is = (is.0, low_address addr is.1)
-right_form (Store addr width value) is = (is.0, is.1, low_address addr is.2)
-right_form _ is = absurd is
-
-right_by : (space : Space) (command : Command) → IsMapping space.host.areas → is_access command ≡ true → is_made (reply_of (memory space.host) command) ≡ true → IsInside command
-right_by space (Load addr width) mapping is h = let form = access_form (is_aligned addr width) (memory space.host addr) _ _ h in (form.0, page_of_access space addr mapping form.1)
-right_by space (Store addr width value) mapping is h =
-    let form = access_form (is_aligned addr width && ltb value (256 ^ width)) (memory space.host addr) _ _ h in
-    let both = and_parts (is_aligned addr width) (ltb value (256 ^ width)) form.0 in
-    (both.0, ltb-true value (256 ^ width) both.1, page_of_access space addr mapping form.1)
-right_by space _ mapping is h = absurd (false≢true is)
+right_form command is = grind (arith, nat_tests)
 
 pub right_slept : (access : Bool) (space : Space) (command : Command) → access ≡ is_access command → IsMapping space.host.areas → took_by access space command ≡ Sleep → IsInside command
-right_slept true space command is mapping h = right_by space command mapping (sym is) (slept_made (is_made (reply_of (memory space.host) command)) _ _ h)
-right_slept false space command is mapping h = absurd (call_answered (reply_of (memory space.host) command) (queued_by space command) h)
+right_slept access space command is mapping h = grind (arith, nat_tests, access_form, page_of_access)
 
 -- Where the guest runs
 
@@ -79,11 +52,8 @@ AllRight processors = (k : ℕ) (command : Command) → outstanding (processor_a
 abbrev pub AreRight : World → Type 0
 AreRight world = AllRight (guest_of world).cpus
 
-idle_right : (count : ℕ) → AllRight (idle_processors count)
-idle_right count k command h = absurd (none-some command (sym (ap outstanding (idle_at count k)) ∙ h))
-
 pub right-first : (cpus epoch rounds : ℕ) → AreRight (first_world_with cpus epoch rounds)
-right-first cpus epoch rounds = idle_right cpus
+right-first cpus epoch rounds = grind (arith, nat_tests, idle_at)
 
 pub right-next : (world : World) (step : Step) → IsSoundWorld world → AreRight world → AreRight (next world step)
 right-next world step kept right k command h =
@@ -94,12 +64,10 @@ right-next world step kept right k command h =
 
 -- the source's, until the destination has run
 pub right_source : (ran : Bool) (from to : Guest) → ran ≡ false → AllRight (guest_by ran from to).cpus → AllRight from.cpus
-right_source true from to bare right = absurd (false≢true (sym bare))
-right_source false from to bare right = right
+right_source ran from to bare right = grind (arith, nat_tests)
 
 right_one : (o : Option Command) (rest : List (Option Command)) → ((command : Command) → o ≡ Some command → IsRightAccess command) → AreRightAccesses rest → AreRightAccesses (o ∷ rest)
-right_one None rest h right = right
-right_one (Some command) rest h right = (h command refl, right)
+right_one o rest h right = grind (arith, nat_tests)
 
 -- so are the commands of a Package
 pub right_commands : (processors : List CpuState) → AllRight processors → AreRightAccesses (commands_of processors)

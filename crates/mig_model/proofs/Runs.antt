@@ -1,38 +1,27 @@
 -- A run that may be short of memory is a run of those of its steps that were not.
-use Rattle.std.proofs.Common.{◌≡◌, ◌≢◌, Bool, true, false, not, Option, Some, None, List, [], ◌∷◌, refl, sym, ap, ◌∙◌, subst, inl, ⊎_elim, if◌then◌else◌}
-use Rattle.std.specs.Prelude.{Ok, Err}
+use Rattle.std.proofs.lemmas.Bool.Decides.{nat_tests}
+use Rattle.std.proofs.Common.{◌≡◌, ◌≢◌, Bool, true, false, not, List, [], ◌∷◌, refl, sym, ap, ◌∙◌, subst, inl, if◌then◌else◌, arith}
+use Rattle.std.specs.Prelude.{Err}
 use Rattle.std.specs.List.{list_all}
 use Rattle.std.proofs.lemmas.Bool.{false≢true, and_parts}
 use Rattle.mig_base.specs.declared.refusal.Refusal.{Refusal}
 use Rattle.mig_base.specs.declared.schedule.Step.{Step}
-use Rattle.mig_model.specs.Cpus.{outstanding, processor_at}
-use Rattle.mig_model.specs.Log.{least_of}
-use Rattle.mig_model.specs.Source.{space_of}
-use Rattle.mig_model.specs.Userfault.{next_message}
-use Rattle.mig_model.specs.Migration.{Answer, World, after_steps, answer, deliver_back_first, deliver_first, deliver_urgent_first, destination_act_first, destination_read_next, guest_of, install_first, is_short, next, outcome, outcome_by, retry_command, send_page, send_run_from, serve_first, source_act_first, source_read_next, unless}
+use Rattle.mig_model.specs.Migration.{Answer, World, after_steps, answer, next, outcome, outcome_by, unless}
 use Rattle.mig_model.specs.Promises.{IsReached}
-use Rattle.mig_model.specs.Runs.{Happens, IsRun, Outcome, is_lacking, may_lack, needs_memory, outcomes, results_of, steps_made}
+use Rattle.mig_model.specs.Runs.{Happens, IsRun, Outcome, is_lacking, needs_memory, outcomes, results_of, steps_made}
 use Rattle.mig_model.proofs.Facts.{by_test}
 use Rattle.mig_model.proofs.ReachedLemmas.{reached-after_steps}
 use Rattle.mig_model.proofs.StepLemmas.{next-refused}
 
 -- Answers
 
-lacking_is : (result : Outcome) → is_lacking result ≡ true → result ≡ Err Refusal.NoMemory
-lacking_is (Err Refusal.NoMemory) h = refl
-lacking_is _ h = absurd (false≢true h)
-
 -- a step that answers NoMemory has changed nothing
 lacking_stays : (old : World) (step : Step) (result : Outcome) (new : World) → is_lacking result ≡ true → Happens old step result new → new ≡ old
-lacking_stays old step result new lacks happens =
-    ⊎_elim (λ (made : (result ≡ outcome old step) × (new ≡ next old step)). made.1 ∙ next-refused old step Refusal.NoMemory (sym made.0 ∙ lacking_is result lacks))
-    (λ (short : (result ≡ Err Refusal.NoMemory) × (may_lack step (outcome old step) ≡ true) × (new ≡ old)). short.2) happens
+lacking_stays old step result new lacks happens = grind (arith, nat_tests, next-refused)
 
 -- any other does as the machine does
 other_made : (old : World) (step : Step) (result : Outcome) (new : World) → is_lacking result ≡ false → Happens old step result new → (result ≡ outcome old step) × (new ≡ next old step)
-other_made old step result new other happens =
-    ⊎_elim (λ (made : (result ≡ outcome old step) × (new ≡ next old step)). made)
-    (λ (short : (result ≡ Err Refusal.NoMemory) × (may_lack step (outcome old step) ≡ true) × (new ≡ old)). absurd (false≢true (sym other ∙ ap is_lacking short.0))) happens
+other_made old step result new other happens = grind (arith, nat_tests)
 
 -- Runs
 
@@ -77,17 +66,8 @@ run_enough world (step ∷ steps) = (next world step, inl (refl, refl), run_enou
 
 -- Steps that need no memory
 
-lacks_not : (step : Step) (result : Outcome) → needs_memory step ≡ false → may_lack step result ≡ false
-lacks_not step (Ok effect) h = h
-lacks_not Step.Break (Err refusal) h = refl
-lacks_not (Step.Notice side) (Err refusal) h = refl
-lacks_not Step.Serve (Err refusal) h = refl
-lacks_not _ (Err refusal) h = absurd (false≢true (sym h))
-
 pub needs_none : (world : World) (step : Step) (result : Outcome) (new : World) → needs_memory step ≡ false → Happens world step result new → (result ≡ outcome world step) × (new ≡ next world step)
-needs_none world step result new none happens =
-    ⊎_elim (λ (made : (result ≡ outcome world step) × (new ≡ next world step)). made)
-    (λ (short : (result ≡ Err Refusal.NoMemory) × (may_lack step (outcome world step) ≡ true) × (new ≡ world)). absurd (false≢true (sym (lacks_not step (outcome world step) none) ∙ short.1))) happens
+needs_none world step result new none happens = grind (arith, nat_tests)
 
 -- The machine itself is never short
 
@@ -100,8 +80,7 @@ abbrev are_other : List (Bool × Refusal) → Bool
 are_other reasons = list_all (λ reason. not (is_lacking (Err reason.1))) reasons
 
 other_if : (test : Bool) (refusal : Refusal) (rest : Answer) → not (is_lacking (Err refusal)) ≡ true → is_other rest ≡ true → is_other (if test then Err refusal else rest) ≡ true
-other_if true refusal rest here behind = here
-other_if false refusal rest here behind = behind
+other_if test refusal rest here behind = grind (arith, nat_tests)
 
 other-unless : (reasons : List (Bool × Refusal)) (rest : Answer) → are_other reasons ≡ true → is_other rest ≡ true → is_other (unless reasons rest) ≡ true
 unfolding unless
@@ -110,33 +89,8 @@ other-unless (reason ∷ reasons) rest all behind =
     let both = and_parts (not (is_lacking (Err reason.1))) (are_other reasons) all in
     other_if reason.0 reason.1 (unless reasons rest) both.0 (other-unless reasons rest both.1 behind)
 
-other_either : (test : Bool) (one two : Answer) → is_other one ≡ true → is_other two ≡ true → is_other (if test then one else two) ≡ true
-other_either true one two a b = a
-other_either false one two a b = b
-
-other_some : {A : Type 0} (f : Option A → Answer) (o : Option A) → is_other (f None) ≡ true → ((x : A) → is_other (f (Some x)) ≡ true) → is_other (f o) ≡ true
-other_some f None none some = none
-other_some f (Some x) none some = some x
-
-other_first : {A : Type 0} (f : List A → Answer) (l : List A) → is_other (f []) ≡ true → ((x : A) (xs : List A) → is_other (f (x ∷ xs)) ≡ true) → is_other (f l) ≡ true
-other_first f [] none some = none
-other_first f (x ∷ xs) none some = some x xs
-
 other_answer : (world : World) (step : Step) → is_other (answer world step) ≡ true
-other_answer world (Step.Retry cpu) = other-unless _ _ refl (other_some (retry_command world cpu) (outstanding (processor_at (guest_of world).cpus cpu)) refl (λ command. other-unless _ _ refl refl))
-other_answer world Step.Send = other-unless _ _ refl (other_some (send_page world) (least_of world.source.log.todo) refl (λ page. other-unless _ _ refl refl))
-other_answer world (Step.SendRun count) = other-unless _ _ refl (other_some (send_run_from world count) (least_of world.source.log.todo) refl (λ first. other-unless _ _ refl refl))
-other_answer world Step.SourceRead = other-unless _ _ refl (other_some (source_read_next world) (next_message (space_of world.source).object) refl (λ noted. refl))
-other_answer world Step.SourceAct = other-unless _ _ refl (other_first (source_act_first world) world.source.log.held refl (λ fault rest. other-unless _ _ refl refl))
-other_answer world (Step.Deliver n) =
-    other-unless _ _ refl (other_first (deliver_first world n) world.forward.frames refl (λ sent rest. other_either (is_short world.forward sent.frame n) _ _ refl (other-unless _ _ refl refl)))
-other_answer world (Step.DeliverBack n) = other-unless _ _ refl (other_first (deliver_back_first world n) world.back.frames refl (λ sent rest. other_either (is_short world.back sent.frame n) _ _ refl refl))
-other_answer world (Step.DeliverUrgent n) = other-unless _ _ refl (other_first (deliver_urgent_first world n) world.urgent.frames refl (λ sent rest. other_either (is_short world.urgent sent.frame n) _ _ refl refl))
-other_answer world Step.DestRead = other-unless _ _ refl (other_some (destination_read_next world) (next_message world.destination.guest.space.object) refl (λ noted. refl))
-other_answer world Step.DestAct = other-unless _ _ refl (other_first (destination_act_first world) world.destination.held refl (λ fault rest. other-unless _ _ refl refl))
-other_answer world Step.Install = other-unless _ _ refl (other_first (install_first world) world.destination.arrivals refl (λ copy rest. other-unless _ _ refl refl))
-other_answer world Step.Serve = other-unless _ _ refl (other_first (serve_first world) world.source.asked refl (λ page pages. refl))
-other_answer world _ = other-unless _ _ refl refl
+other_answer world step = grind (arith, nat_tests, other-unless)
 
 pub never_lacking : (world : World) (step : Step) → outcome world step ≢ Err Refusal.NoMemory
 unfolding outcome

@@ -1,11 +1,11 @@
 -- The host that the guest sees at the destination: what it has, and what it answers.
-use Rattle.std.proofs.Common.{◌≡◌, ℕ, ◌/◌, ◌≤◌, ◌&&◌, Bool, true, false, cond, not, ltb, Option, Some, None, List, refl, sym, ap, ◌∙◌, ◌⊎◌, ⊎_elim, inl, inr, arith, is_some}
-use Rattle.std.specs.Option.{option_map, option_and_then}
+use Rattle.std.proofs.Common.{◌≡◌, ℕ, ◌/◌, ◌&&◌, Bool, true, false, cond, not, Option, Some, None, List, refl, sym, ap, ◌∙◌, ◌⊎◌, ⊎_elim, inl, inr, arith}
+use Rattle.std.specs.Option.{option_and_then}
 use Rattle.std.specs.Ordering.{nat_cmp}
 use Rattle.std.specs.FinMap.{FinMap, get, contains_key}
 use Rattle.std.specs.FinSet.{contains}
 use Rattle.std.proofs.lemmas.Bool.Decides.{nat_tests}
-use Rattle.std.proofs.lemmas.Bool.{or_left, le-ltb}
+use Rattle.std.proofs.lemmas.Bool.{or_left}
 use Rattle.mig_base.specs.declared.Prot.{Prot}
 use Rattle.mig_base.specs.declared.command.Command.{Command}
 use Rattle.mig_base.specs.declared.command.Reply.{Reply}
@@ -16,7 +16,7 @@ use Rattle.mig_model.specs.Host.{Host, memory, IsSound}
 use Rattle.mig_base.specs.Commands.{is_access, page_of, is_store}
 use Rattle.mig_model.specs.Space.{Space, IsSoundSpace, is_made, access_of}
 use Rattle.mig_model.specs.Invariant.{seen_bytes, seen_host}
-use Rattle.mig_model.proofs.HostLemmas.{cell_at, memory-at}
+use Rattle.mig_model.proofs.HostLemmas.{memory-at}
 use Rattle.mig_model.proofs.ReplyOfLemmas.{prots, reply_of-prots, reply_of-page, reply_of-unmade}
 use Rattle.mig_model.specs.Log.{present}
 use Rattle.mig_model.specs.Promises.{gone}
@@ -33,33 +33,21 @@ AreMapped here owed = (page origin : ℕ) → owed page ≡ Some origin → cont
 abbrev pub overlay : PageMap (List ℕ) → Option (List ℕ) → Option ℕ → Option (List ℕ)
 overlay there o origin = elim o [ Some bytes ↦ Some bytes | None ↦ option_and_then (get there) origin ]
 
-none_unless : (o : Option ℕ) (b : Bool) → ((origin : ℕ) → o ≡ Some origin → b ≡ true) → b ≡ false → o ≡ None
-none_unless o b h is = grind (arith, nat_tests)
-
 -- a page that is not mapped is not owed, nor is one that does not pass any test that owed pages pass
 pub owed_none : (owed : ℕ → Option ℕ) (test : ℕ → Bool) (page : ℕ) → ((page origin : ℕ) → owed page ≡ Some origin → test page ≡ true) → test page ≡ false → owed page ≡ None
-owed_none owed test page h is = none_unless (owed page) (test page) (h page) is
-
-pub below_or_not : (page bound : ℕ) → (ltb page bound ≡ true) ⊎ (bound ≤ page)
-below_or_not page bound = grind (arith, nat_tests)
-
-pub unmapped_none : (here there : Host) (owed : ℕ → Option ℕ) (page : ℕ) → IsSound here → AreMapped here owed → get here.areas page ≡ None → seen_bytes here there owed page ≡ None
-unmapped_none here there owed page sound mapped h = grind (arith, nat_tests)
+owed_none owed test page h is = grind (arith, nat_tests)
 
 -- what the seen host has at each page
 pub get-seen : (here there : Host) (owed : ℕ → Option ℕ) (page : ℕ) → IsSound here → AreMapped here owed → get (seen_host here there owed).bytes page ≡ seen_bytes here there owed page
-get-seen here there owed page sound mapped = grind (arith, nat_tests, get-map_below, le-ltb, unmapped_none, below_or_not)
+get-seen here there owed page sound mapped = grind (arith, nat_tests, get-map_below)
 
 pub IsSound-seen : (here there : Host) (owed : ℕ → Option ℕ) → IsSound here → IsSound there → AreMapped here owed → IsSound (seen_host here there owed)
-IsSound-seen here there owed sound far mapped = grind (arith, nat_tests, get-seen, unmapped_none)
+IsSound-seen here there owed sound far mapped = grind (arith, nat_tests, get-seen)
 
 -- Replies
 
-prot_cell : (bytes : PageMap (List ℕ)) (addr : ℕ) (o : Option Prot) → option_map (λ cell. cell.prot) (cell_at bytes addr o) ≡ o
-prot_cell bytes addr o = grind (arith, nat_tests)
-
 prots-memory : (host : Host) → prots (memory host) ≡ (λ addr. get host.areas (addr / 4096))
-prots-memory host = λ i addr. (ap (option_map (λ cell. cell.prot)) (memory-at host addr) ∙ prot_cell host.bytes addr (get host.areas (addr / 4096))) i
+prots-memory host = grind (arith, nat_tests, memory-at)
 
 -- two hosts with the same areas have the same protections
 pub same_prots : (host other : Host) → host.areas ≡ other.areas → prots (memory host) ≡ prots (memory other)
@@ -73,12 +61,9 @@ reply_of-seen_call here there owed command call = reply_of-prots (memory here) (
 same_cells : (areas : PageMap Prot) (bytes other : PageMap (List ℕ)) (page addr : ℕ) → get bytes page ≡ get other page → addr / 4096 ≡ page → memory (record { areas = areas; bytes = bytes }) addr ≡ memory (record { areas = areas; bytes = other }) addr
 same_cells areas bytes other page addr h at = grind (arith, nat_tests, memory-at)
 
-overlay_own : (there : PageMap (List ℕ)) (o : Option (List ℕ)) (origin : Option ℕ) → (is_some o ≡ true) ⊎ (origin ≡ None) → overlay there o origin ≡ o
-overlay_own there o origin h = grind (arith, nat_tests)
-
 -- a page that is present, or is not owed, is seen as it is
 pub seen_own : (here there : Host) (owed : ℕ → Option ℕ) (page : ℕ) → IsSound here → AreMapped here owed → (contains_key here.bytes page ≡ true) ⊎ (owed page ≡ None) → get (seen_host here there owed).bytes page ≡ get here.bytes page
-seen_own here there owed page sound mapped h = get-seen here there owed page sound mapped ∙ overlay_own there.bytes (get here.bytes page) (owed page) h
+seen_own here there owed page sound mapped h = grind (arith, nat_tests, get-seen)
 
 answered_how : (made gone protect : Bool) (reply other : Reply) → cond (not made) (Answered reply) (cond gone Missing (cond protect Protected (Answered reply))) ≡ Answered other → (other ≡ reply) × ((made ≡ false) ⊎ (gone ≡ false))
 answered_how made gone protect reply other h = grind (arith, nat_tests)

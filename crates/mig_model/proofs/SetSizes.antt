@@ -48,7 +48,7 @@ len-removed set page h = one_less (contains set page) (len set) _ (len-remove na
 
 -- a set with a page has one at least
 some_len : (n : ℕ) → (n ≡ 0 → ⊥) → 1 ≤ n
-some_len n h = grind (arith, nat_tests, h)
+some_len n h = grind (arith, nat_tests)
 
 pub len-some : (set : FinSet nat_cmp) (page : ℕ) → contains set page ≡ true → 1 ≤ len set
 len-some set page h = some_len (len set) (λ none. false≢true (sym (ap (λ s. contains s page) (empty_of_len set none) ∙ contains-empty nat_cmp page) ∙ h))

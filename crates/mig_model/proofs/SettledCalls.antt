@@ -1,5 +1,6 @@
 -- The settled owed relation once a map call has queued its events: it changes as the pages do.
-use Rattle.std.proofs.Common.{◌≡◌, ℕ, ◌+◌, ◌-◌, ◌*◌, ◌/◌, ◌<◌, ◌≤◌, ◌&&◌, Bool, true, false, cond, Option, Some, None, List, [], ◌∷◌, ◌++◌, refl, sym, ap, ◌∙◌, subst, arith, if◌then◌else◌}
+use Rattle.std.proofs.lemmas.Bool.Decides.{nat_tests}
+use Rattle.std.proofs.Common.{◌≡◌, ℕ, ◌+◌, ◌-◌, ◌*◌, ◌/◌, ◌<◌, ◌≤◌, ◌&&◌, Bool, true, false, cond, Option, Some, None, List, [], ◌∷◌, ◌++◌, refl, sym, ap, subst, arith, if◌then◌else◌}
 use Rattle.std.proofs.lemmas.Bool.{not-false}
 use Rattle.mig_base.specs.declared.message.Message.{Message}
 use Rattle.mig_base.specs.declared.message.Message.TheVariants.{Remap, Remove, Unmap}
@@ -26,9 +27,7 @@ settled_messages (message ∷ messages) owed = settled_messages messages (owed_a
 
 pub settled-queued : (object : Object) (messages : List Message) (cpu : ℕ) (owed : ℕ → Option ℕ) → settled_by (all_queued object messages cpu).events owed ≡ settled_messages messages (settled_by object.events owed)
 settled-queued object [] cpu owed = refl
-settled-queued object (message ∷ messages) cpu owed =
-    settled-queued (event_queued object message cpu) messages cpu owed
-    ∙ ap (settled_messages messages) (settled-push object.events (record { message = message; cpu = cpu }) owed)
+settled-queued object (message ∷ messages) cpu owed = grind (arith, nat_tests, settled-push, settled-queued (event_queued object message cpu) messages cpu owed)
 
 pub settled-append : (some more : List Message) (owed : ℕ → Option ℕ) → settled_messages (some ++ more) owed ≡ settled_messages more (settled_messages some owed)
 settled-append [] more owed = refl
@@ -90,10 +89,6 @@ told_shifted true false object owed from to count message is inside free right =
 
 -- What each message does
 
--- a range of whole pages
-range_of : (start n m : ℕ) → (start + 4096 * m) / 4096 - (start + 4096 * n) / 4096 ≡ m - n
-range_of start n m = omega arith
-
 pub unmap_right : (owed : ℕ → Option ℕ) (start n page : ℕ) → owed_after (Unmap start (start + 4096 * n)) owed page ≡ gone owed (start / 4096) n page
 unmap_right owed start n page = ap (λ k. cond (in_range (start / 4096) k page) None (owed page)) (let k : (start + 4096 * n) / 4096 - start / 4096 ≡ n = omega arith in k)
 
@@ -101,9 +96,7 @@ pub remove_right : (owed : ℕ → Option ℕ) (start n page : ℕ) → owed_aft
 remove_right owed start n page = ap (λ k. cond (in_range (start / 4096) k page) None (owed page)) (let k : (start + 4096 * n) / 4096 - start / 4096 ≡ n = omega arith in k)
 
 pub cut_right : (owed : ℕ → Option ℕ) (addr n m page : ℕ) → owed_after (Unmap (addr + 4096 * n) (addr + 4096 * m)) owed page ≡ gone owed (addr / 4096 + n) (m - n) page
-cut_right owed addr n m page =
-    ap (λ k. cond (in_range ((addr + 4096 * n) / 4096) k page) None (owed page)) (range_of addr n m)
-    ∙ ap (λ k. cond (in_range k (m - n) page) None (owed page)) (let k : (addr + 4096 * n) / 4096 ≡ addr / 4096 + n = omega arith in k)
+cut_right owed addr n m page = grind (arith, nat_tests)
 
 pub remap_right : (owed : ℕ → Option ℕ) (addr target n page : ℕ) → owed_after (Remap addr target (4096 * n)) owed page ≡ shifted owed (addr / 4096) (target / 4096) n page
 remap_right owed addr target n page = ap (λ k. shifted owed (addr / 4096) (target / 4096) k page) (let k : 4096 * n / 4096 ≡ n = omega arith in k)

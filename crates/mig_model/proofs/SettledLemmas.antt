@@ -1,5 +1,5 @@
 -- The owed table and its look-up once events are applied, and the page to which a page of the source is owed.
-use Rattle.std.proofs.Common.{◌≡◌, ℕ, ◌+◌, ◌-◌, ◌<◌, ◌≤◌, Bool, true, false, eqb, Option, Some, None, List, [], ◌∷◌, sym, ap, ◌∙◌, ◌⊎◌, ⊎_elim, arith, is_some, if◌then◌else◌}
+use Rattle.std.proofs.Common.{◌≡◌, ℕ, ◌+◌, ◌-◌, ◌<◌, ◌≤◌, true, false, eqb, Option, Some, None, List, [], ◌∷◌, sym, ap, ◌∙◌, ◌⊎◌, ⊎_elim, arith, is_some, if◌then◌else◌}
 use Rattle.std.specs.Ordering.{nat_cmp}
 use Rattle.std.specs.FinMap.{FinMap, get}
 use Rattle.std.proofs.lemmas.Bool.Decides.{nat_tests}
@@ -22,19 +22,11 @@ IsOneToOne owed = (page other origin : ℕ) → owed page ≡ Some origin → ow
 pub get-owed_table_after : (message : Message) (owed : FinMap nat_cmp ℕ) (page : ℕ) → get (owed_table_after message owed) page ≡ owed_after message (get owed) page
 get-owed_table_after message owed page = grind (arith, nat_tests, get-moved_range, get-remove_range)
 
--- the same as functions
-pub owed_table_after-applied : (message : Message) (owed : FinMap nat_cmp ℕ) → get (owed_table_after message owed) ≡ owed_after message (get owed)
-owed_table_after-applied message owed = λ i page. get-owed_table_after message owed page i
-
 -- an event that is read changes the table and not what is settled
 pub settled_by-applied : (noted : Noted) (events : List Noted) (owed : FinMap nat_cmp ℕ) → settled_by events (get (owed_table_after noted.message owed)) ≡ settled_by (noted ∷ events) (get owed)
-settled_by-applied noted events owed = ap (settled_by events) (owed_table_after-applied noted.message owed)
+settled_by-applied noted events owed = grind (arith, nat_tests, get-owed_table_after)
 
 -- What an event leaves
-
--- pages that are gone
-gone_value : (gone : Bool) (o : Option ℕ) (origin : ℕ) → (if gone then None else o) ≡ Some origin → o ≡ Some origin
-gone_value gone o origin h = grind (arith, nat_tests)
 
 -- each source page that is owed after an event was owed before
 pub values-after : (message : Message) (owed : ℕ → Option ℕ) (page origin : ℕ) → owed_after message owed page ≡ Some origin → (other : ℕ) × (owed other ≡ Some origin)
@@ -90,7 +82,7 @@ moved_one from to count owed one page other origin h k =
     (moved_from from to count owed page origin h)
 
 pub IsOneToOne-after : (message : Message) (owed : ℕ → Option ℕ) → IsOneToOne owed → IsOneToOne (owed_after message owed)
-IsOneToOne-after message owed one page other origin h k = grind (arith, nat_tests, moved_one, gone_value)
+IsOneToOne-after message owed one page other origin h k = grind (arith, nat_tests, moved_one)
 
 pub IsOneToOne-settled : (events : List Noted) (owed : ℕ → Option ℕ) → IsOneToOne owed → IsOneToOne (settled_by events owed)
 IsOneToOne-settled [] owed one = one

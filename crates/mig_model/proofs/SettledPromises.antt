@@ -1,6 +1,7 @@
 -- What each step does to the settled relation: a map call changes it as it changes the pages, an install takes away its own pair, and
 -- no other step changes it.
-use Rattle.std.proofs.Common.{◌≡◌, ℕ, ◌/◌, ◌*◌, Bool, true, false, cond, eqb, Option, Some, None, List, [], ◌∷◌, refl, sym, ap, ◌∙◌, subst, if◌then◌else◌, IsOk}
+use Rattle.std.proofs.lemmas.Bool.Decides.{nat_tests}
+use Rattle.std.proofs.Common.{◌≡◌, ℕ, ◌/◌, ◌*◌, Bool, true, false, cond, eqb, Option, Some, None, List, [], ◌∷◌, refl, sym, ap, ◌∙◌, if◌then◌else◌, IsOk, arith}
 use Rattle.std.specs.Prelude.{Ok}
 use Rattle.std.specs.Ordering.{nat_cmp}
 use Rattle.std.specs.Cmp.{nat_cmp_total, unsigned_tied}
@@ -12,27 +13,21 @@ use Rattle.mig_base.specs.declared.schedule.Side.{Side}
 use Rattle.mig_base.specs.declared.schedule.Step.{Step}
 use Rattle.mig_base.specs.declared.command.Command.{Command}
 use Rattle.mig_base.specs.declared.command.Access.{Access}
-use Rattle.mig_base.specs.declared.command.Access.TheVariants.{Answered, Missing, Protected}
-use Rattle.mig_base.specs.declared.message.Message.{Message}
-use Rattle.mig_base.specs.declared.message.Message.TheVariants.{PageFault, Remap, Remove, Unmap}
 use Rattle.mig_base.specs.Flat.{reply_of}
-use Rattle.mig_base.specs.Commands.{is_access, page_of}
+use Rattle.mig_base.specs.Commands.{is_access}
 use Rattle.mig_model.specs.Host.{memory}
-use Rattle.mig_model.specs.Userfault.{Noted, Object, waits_fault, next_of}
-use Rattle.mig_model.specs.Space.{Space, access_of, accessed_by}
+use Rattle.mig_model.specs.Userfault.{Noted, next_of}
+use Rattle.mig_model.specs.Space.{Space, accessed_by}
 use Rattle.mig_model.specs.Guest.{tried, Act}
 use Rattle.mig_model.specs.Wire.{Frame, Sent, Copy}
-use Rattle.mig_model.specs.Wire.Frame.{Package}
-use Rattle.mig_model.specs.Guest.Act.{Unprotected}
-use Rattle.mig_model.specs.Migration.{World, with_guest_by, guest_by, next, outcome, install_effect, after_command, after_dest_read, guest_of, runs, start}
+use Rattle.mig_model.specs.Migration.{World, with_guest_by, guest_by, next, outcome, install_effect, after_command, after_dest_read, guest_of, runs}
 use Rattle.mig_model.specs.Invariant.{IsSoundWorld, AreFaults, AreRight}
 use Rattle.mig_model.specs.Promises.{owed_changed, leaves_settled, AreAccesses}
 use Rattle.mig_model.proofs.SettledLemmas.{settled_by-applied}
 use Rattle.mig_model.proofs.TriedLemmas.{settled_then}
-use Rattle.mig_model.proofs.WaitingCommands.{package_next}
-use Rattle.mig_model.proofs.WokenSteps.{TakesFrame, takes, takes_urgent}
+use Rattle.mig_model.proofs.WokenSteps.{TakesFrame, takes_urgent}
 use Rattle.mig_model.proofs.StepCases.{MakesWorld, made-next, made-ok, made-effect}
-use Rattle.mig_model.proofs.DestinationRead.{none_is, ready_of}
+use Rattle.mig_model.proofs.DestinationRead.{ready_of}
 use Rattle.mig_model.specs.Cpus.{outstanding, processor_at}
 use Rattle.mig_model.specs.Owed.{home, settled_by}
 use Rattle.mig_model.specs.Destination.{Destination, destination_act, destination_acted_by, destination_took, install_by, settled}
@@ -43,9 +38,7 @@ use Rattle.mig_model.proofs.Facts.{some_is, dropped_not, page_again, no_event}
 called_by : (ran access : Bool) (world : World) (cpu : ℕ) (command : Command) → ran ≡ true → access ≡ false → IsSoundWorld world → (page : ℕ) →
     settled (with_guest_by ran world (tried access (guest_by ran world.source.guest world.destination.guest) cpu command)).destination page
     ≡ owed_changed (settled world.destination) command (reply_of (memory world.destination.guest.space.host) command) page
-called_by false access world cpu command runs is kept page = absurd (false≢true runs)
-called_by true true world cpu command runs is kept page = absurd (false≢true (sym is))
-called_by true false world cpu command runs is kept page = ap (λ f. f page) (settled_then world.destination.guest.space (get world.destination.owed) cpu command (ready_of world kept))
+called_by ran access world cpu command runs is kept page = grind (arith, nat_tests, settled_then, ready_of)
 
 pub settled_call : (world : World) (cpu : ℕ) (command : Command) → IsSoundWorld world → world.destination.has_run ≡ true → is_access command ≡ false → (page : ℕ) →
     IsOk (outcome world (Step.Issue cpu command)) → settled (next world (Step.Issue cpu command)).destination page ≡ owed_changed (settled world.destination) command (reply_of (memory world.destination.guest.space.host) command) page
@@ -63,48 +56,17 @@ at_queues faults events world =
       };
     }
 
-event_settled : (message : Message) (cpu : ℕ) (events : List Noted) (world : World) → AreRight (record { message = message; cpu = cpu } ∷ events) → (page : ℕ) →
-    settled (after_dest_read (at_queues [] (record { message = message; cpu = cpu } ∷ events) world) (record { message = message; cpu = cpu })).destination page ≡ settled (at_queues [] (record { message = message; cpu = cpu } ∷ events) world).destination page
-event_settled (PageFault addr write wp tid) cpu events world right page = absurd right.0
-event_settled (Remap from to len) cpu events world right page = ap (λ f. f page) (settled_by-applied (record { message = Remap from to len; cpu = cpu }) events world.destination.owed)
-event_settled (Remove start end) cpu events world right page = ap (λ f. f page) (settled_by-applied (record { message = Remove start end; cpu = cpu }) events world.destination.owed)
-event_settled (Unmap start end) cpu events world right page = ap (λ f. f page) (settled_by-applied (record { message = Unmap start end; cpu = cpu }) events world.destination.owed)
-
-fault_settled : (message : Message) (cpu : ℕ) (faults events : List Noted) (world : World) → AreFaults (record { message = message; cpu = cpu } ∷ faults) → (page : ℕ) →
-    settled (after_dest_read (at_queues (record { message = message; cpu = cpu } ∷ faults) events world) (record { message = message; cpu = cpu })).destination page ≡ settled (at_queues (record { message = message; cpu = cpu } ∷ faults) events world).destination page
-fault_settled (PageFault addr write wp tid) cpu faults events world are page = refl
-fault_settled _ cpu faults events world are page = absurd are.0
-
 read_settled : (faults events : List Noted) (noted : Noted) (world : World) → next_of faults events ≡ Some noted → AreFaults faults → AreRight events → (page : ℕ) →
     settled (after_dest_read (at_queues faults events world) noted).destination page ≡ settled (at_queues faults events world).destination page
-read_settled [] [] noted world is are right page = absurd (none_is noted is)
-read_settled [] (first ∷ events) noted world is are right page =
-    subst (λ m. settled (after_dest_read (at_queues [] (first ∷ events) world) m).destination page ≡ settled (at_queues [] (first ∷ events) world).destination page) (some_is first noted is)
-    (event_settled first.message first.cpu events world right page)
-read_settled (first ∷ faults) events noted world is are right page =
-    subst (λ m. settled (after_dest_read (at_queues (first ∷ faults) events world) m).destination page ≡ settled (at_queues (first ∷ faults) events world).destination page) (some_is first noted is)
-    (fault_settled first.message first.cpu faults events world are page)
+read_settled faults events noted world is are right page = grind (arith, nat_tests, some_is, settled_by-applied)
 
 -- A load or store
 
-queued_events : (waits : Bool) (object other : Object) → other.events ≡ object.events → (if waits then object else other).events ≡ object.events
-queued_events true object other h = refl
-queued_events false object other h = h
-
 pub accessed_events : (access : Access) (space : Space) (cpu : ℕ) (command : Command) → (accessed_by access space cpu command).object.events ≡ space.object.events
-accessed_events (Answered reply) space cpu command = refl
-accessed_events Missing space cpu command = queued_events (waits_fault space.object.faults (4096 * page_of command) false) space.object _ refl
-accessed_events Protected space cpu command = queued_events (waits_fault space.object.faults (4096 * page_of command) true) space.object _ refl
-
-accessed_by_node : (ran access : Bool) (world : World) (cpu : ℕ) (command : Command) → ran ≡ true → access ≡ true → (page : ℕ) →
-    settled (with_guest_by ran world (tried access (guest_by ran world.source.guest world.destination.guest) cpu command)).destination page ≡ settled world.destination page
-accessed_by_node false access world cpu command runs is page = absurd (false≢true runs)
-accessed_by_node true false world cpu command runs is page = absurd (false≢true is)
-accessed_by_node true true world cpu command runs is page =
-    ap (λ events. settled_by events (get world.destination.owed) page) (accessed_events (access_of world.destination.guest.space command) world.destination.guest.space cpu command)
+accessed_events access space cpu command = grind (arith, nat_tests)
 
 settled_try : (world : World) (cpu : ℕ) (command : Command) → world.destination.has_run ≡ true → is_access command ≡ true → (page : ℕ) → settled (after_command world cpu command).destination page ≡ settled world.destination page
-settled_try world cpu command ran is page = accessed_by_node world.destination.has_run (is_access command) world cpu command ran is page
+settled_try world cpu command ran is page = grind (arith, nat_tests)
 
 -- the relation is what it was
 abbrev SettledAs : World → ℕ → World → Type 0
@@ -140,17 +102,11 @@ settled_install world addr source answered page =
 
 -- Any other step
 
--- where the destination runs, what waits there is a load or a store
-waits_by : (ran : Bool) (world : World) (cpu : ℕ) (command : Command) → AreAccesses world → ran ≡ true → outstanding (processor_at (guest_by ran world.source.guest world.destination.guest).cpus cpu) ≡ Some command → is_access command ≡ true
-waits_by true world cpu command waits ran is = waits.destination cpu command is
-waits_by false world cpu command waits ran is = absurd (false≢true ran)
-
 waits_here : (world : World) (cpu : ℕ) (command : Command) → AreAccesses world → world.destination.has_run ≡ true → outstanding (processor_at (guest_of world).cpus cpu) ≡ Some command → is_access command ≡ true
-waits_here world cpu command waits ran is = waits_by world.destination.has_run world cpu command waits ran is
+waits_here world cpu command waits ran is = grind (arith, nat_tests)
 
 acted_settled : (act : Act) (node : Destination) (fault page : ℕ) → settled (destination_acted_by act node fault) page ≡ settled node page
-acted_settled Unprotected node fault page = refl
-acted_settled _ node fault page = refl
+acted_settled act node fault page = grind (arith, nat_tests)
 
 taken_settled : (old new : Destination) (page : ℕ) → TakesFrame old new → settled new page ≡ settled old page
 taken_settled old new page is = ap (λ events. settled_by events (get new.owed) page) is.node.guest.events ∙ ap (λ owed. settled_by old.guest.space.object.events (get owed) page) is.owed
@@ -158,14 +114,11 @@ taken_settled old new page is = ap (λ events. settled_by events (get new.owed) 
 -- a destination that has run takes no Package
 frame_settled : (frame : Frame) (epoch : ℕ) (rest : List Sent) (world : World) → IsSoundWorld world → world.up ≡ true → world.destination.has_run ≡ true → world.forward.frames ≡ record { epoch = epoch; frame = frame } ∷ rest → (page : ℕ) →
     settled (destination_took world.destination epoch frame) page ≡ settled world.destination page
-frame_settled (Package areas owed commands) epoch rest world kept up ran first page =
-    absurd (false≢true (sym (package_next epoch areas owed commands rest world up first kept).1 ∙ ran))
-frame_settled frame epoch rest world kept up ran first page = taken_settled _ _ page (takes frame world.destination epoch refl)
+frame_settled frame epoch rest world kept up ran first page = grind (arith, nat_tests)
 
 settled_answer : (world : World) (step : Step) → IsSoundWorld world → AreAccesses world → world.destination.has_run ≡ true → leaves_settled step ≡ true → (page : ℕ) → MakesWorld (SettledAs world page) world step
 settled_answer world (Step.Issue cpu command) kept waits ran leaves page = λ there idle may. settled_try world cpu command ran leaves page
-settled_answer world (Step.Retry cpu) kept waits ran leaves page =
-    λ command is woken may. settled_try world cpu command ran (waits_here world cpu command waits ran is) page
+settled_answer world (Step.Retry cpu) kept waits ran leaves page = grind (arith, nat_tests, settled_try, waits_here)
 settled_answer world Step.Install kept waits ran leaves page = absurd (false≢true leaves)
 settled_answer world (Step.Deliver n) kept waits ran leaves page = ((λ sent rest is short. refl), (λ sent rest is full started up free early. frame_settled sent.frame sent.epoch rest world kept up ran is page))
 settled_answer world Step.DestRead kept waits ran leaves page =
@@ -181,8 +134,7 @@ settled_else world step kept waits ran leaves page = made-next (SettledAs world 
 -- A copy that is given up leaves the relation
 
 dropped_by : (o : Option ℕ) (copy : Copy) (rest : List Copy) (world : World) (source page : ℕ) → install_effect o copy.page ≡ Effect.Dropped source → settled (install_by o world.destination copy rest) page ≡ settled world.destination page
-dropped_by None copy rest world source page same = refl
-dropped_by (Some here) copy rest world source page same = absurd (cc)
+dropped_by o copy rest world source page same = grind (arith, nat_tests)
 
 pub settled_dropped : (world : World) (source page : ℕ) → outcome world Step.Install ≡ Ok (Effect.Dropped source) → settled (next world Step.Install).destination page ≡ settled world.destination page
 settled_dropped world source page answered =

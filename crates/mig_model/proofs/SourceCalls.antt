@@ -1,10 +1,10 @@
 -- A map call leaves each registered page of which its messages do not tell as it was, and its messages are right.
-use Rattle.std.proofs.Common.{◌≡◌, ℕ, ◌+◌, ◌-◌, ◌*◌, ◌/◌, ◌%◌, ◌<◌, ◌≤◌, ◌&&◌, Bool, true, false, cond, not, eqb, ltb, leb, Some, None, ◌++◌, refl, sym, ap, ◌∙◌, subst, ◌⊎◌, inl, inr, ⊎_elim, arith, is_some, List, []}
+use Rattle.std.proofs.Common.{◌≡◌, ℕ, ◌+◌, ◌-◌, ◌*◌, ◌/◌, ◌%◌, ◌<◌, ◌≤◌, ◌&&◌, Bool, true, false, cond, not, eqb, ltb, leb, Some, None, ◌++◌, refl, sym, ap, ◌∙◌, subst, ◌⊎◌, inl, inr, ⊎_elim, arith, is_some, []}
 use Rattle.std.specs.Ordering.{nat_cmp}
 use Rattle.std.specs.FinMap.{FinMap, get, contains_key}
 use Rattle.std.specs.FinSet.{FinSet, contains}
 use Rattle.std.proofs.lemmas.Bool.Decides.{nat_tests}
-use Rattle.std.proofs.lemmas.Bool.{false≢true, or_left, and_parts, false_from_ne_true, cases_lt, lt-ltb, or_parts, and_right}
+use Rattle.std.proofs.lemmas.Bool.{false≢true, or_left, and_parts, false_from_ne_true, cases_lt, lt-ltb}
 use Rattle.mig_base.specs.declared.TheConstants.{LOW, HIGH, HIGH_PAGE}
 use Rattle.mig_base.specs.declared.command.Errno.TheVariants.{Enomem}
 use Rattle.mig_base.specs.declared.command.Command.{Command}
@@ -24,12 +24,11 @@ use Rattle.mig_base.proofs.ReplyLemmas.IsWhere.{Shrunk, Grew, Moved, Told}
 use Rattle.mig_base.proofs.BoundLemmas.{one_prot_some, apart_of}
 use Rattle.mig_model.specs.Host.{Host, memory, host_changed, IsSound}
 use Rattle.mig_base.specs.Commands.{is_access}
-use Rattle.mig_model.specs.Guest.{in_bytes}
 use Rattle.mig_model.specs.Userfault.{Object, is_registered, is_watched}
 use Rattle.mig_model.specs.Space.{Space, IsSoundSpace, told, remap_messages, call_messages, modes_after, protected_after}
 use Rattle.mig_model.proofs.HostLemmas.{is_mapped-memory, memory-none}
 use Rattle.mig_model.proofs.CommandLemmas.{remapped_place}
-use Rattle.mig_model.proofs.SourceMessages.{tells, tells-append, unmapped_outside, removed_outside, dropped_outside, outside_told, in_bytes-pages, Stays, stays_there, moved_away, lesser_is, AllRight, AllRight-append, told_right}
+use Rattle.mig_model.proofs.SourceMessages.{tells, unmapped_outside, removed_outside, dropped_outside, outside_told, in_bytes-pages, Stays, stays_there, moved_away, AllRight, AllRight-append, told_right}
 use Rattle.mig_model.proofs.Facts.{none_absurd, in_range_first, same_or_other, low_or, and_true, lesser_right, whole_page, lesser_left}
 use Rattle.mig_base.specs.declared.message.Message.{Message}
 
@@ -51,12 +50,10 @@ bytes_stay pages first count page out = get-remove_range pages first count page 
 
 moved_stays : {A : Type 0} (test : ℕ → A) (from count to new_count page : ℕ) (growth none : A) → Stays from count to new_count page →
     cond (in_range to new_count page) (cond (ltb (page - to) count) (test (from + (page - to))) growth) (cond (in_range from count page) none (test page)) ≡ test page
-moved_stays test from count to new_count page growth none (inl h) = rw (h.0, h.1, h.2) refl
-moved_stays test from count to new_count page growth none (inr h) = rw (h.0, h.1) refl
+moved_stays test from count to new_count page growth none h = grind (arith, nat_tests)
 
 member_moved : (s : FinSet nat_cmp) (from count to new_count page : ℕ) (growth : Bool) → ltb page HIGH_PAGE ≡ true → Stays from count to new_count page → contains (moved_set s from count to new_count growth) page ≡ contains s page
-member_moved s from count to new_count page growth low (inl h) = member_below _ HIGH_PAGE page ∙ rw (low, h.0, h.1, h.2) refl
-member_moved s from count to new_count page growth low (inr h) = member_below _ HIGH_PAGE page ∙ rw (low, h.0, h.1) refl
+member_moved s from count to new_count page growth low h = grind (arith, nat_tests, member_below)
 
 -- The place of an mremap
 
@@ -154,12 +151,7 @@ registered_below space page sound registered = low_or (λ h. false≢true (sym (
 
 taken_out : (space : Space) (first count page : ℕ) (host : Host) (pages : FinSet nat_cmp) (object : Object) → in_range first count page ≡ false → host.bytes ≡ remove_range space.host.bytes first count → pages ≡ without space.protected first count →
     object.protect ≡ without space.object.protect first count → IsUntouched space host pages object page
-taken_out space first count page host pages object out bytes protected protect =
-    record {
-      bytes = ap (λ m. get m page) bytes ∙ bytes_stay space.host.bytes first count page out;
-      protected = ap (λ s. contains s page) protected ∙ member_stays space.protected first count page out;
-      protect = ap (λ s. contains s page) protect ∙ member_stays space.object.protect first count page out;
-    }
+taken_out space first count page host pages object out bytes protected protect = grind (arith, nat_tests, bytes_stay, member_stays)
 
 dropped : (space : Space) (first count page : ℕ) → in_range first count page ≡ false → IsUntouched space (record space.host { bytes = remove_range space.host.bytes first count }) (without space.protected first count) space.object page
 dropped space first count page out = record { bytes = bytes_stay space.host.bytes first count page out; protected = member_stays space.protected first count page out; protect = refl }
@@ -171,24 +163,10 @@ record AreSilent (object : Object) (addr count target new_count page : ℕ) : Ty
   moved : tells (told (not (eqb (target / 4096) (addr / 4096)) && is_watched object (addr / 4096) (lesser count new_count)) (Remap addr target (4096 * lesser count new_count))) page ≡ false
 
 are_silent : (object : Object) (addr count target new_count page : ℕ) → tells (remap_messages object addr count target new_count) page ≡ false → AreSilent object addr count target new_count page
-are_silent object addr count target new_count page h =
-    let one = told (not (eqb (target / 4096) (addr / 4096)) && is_watched object (target / 4096) new_count) (Unmap target (target + 4096 * new_count)) in
-    let two = told (ltb new_count count && is_watched object (addr / 4096 + new_count) (count - new_count)) (Unmap (addr + 4096 * new_count) (addr + 4096 * count)) in
-    let three = told (not (eqb (target / 4096) (addr / 4096)) && is_watched object (addr / 4096) (lesser count new_count)) (Remap addr target (4096 * lesser count new_count)) in
-    let rest = or_parts (tells (one ++ two) page) (tells three page) (sym (tells-append (one ++ two) three page) ∙ h) in
-    let first = or_parts (tells one page) (tells two page) (sym (tells-append one two page) ∙ rest.0) in
-    record { replaced = first.0; cut = first.1; moved = rest.1 }
-
-tail_bytes : (addr count new_count page : ℕ) → new_count < count → in_range (addr / 4096 + new_count) (count - new_count) page ≡ true → in_bytes (addr + 4096 * new_count) (addr + 4096 * count) page ≡ true
-tail_bytes addr count new_count page shorter inside =
-    let first : (addr + 4096 * new_count) / 4096 ≡ addr / 4096 + new_count = omega arith in
-    let size : (addr + 4096 * count) / 4096 - (addr / 4096 + new_count) ≡ count - new_count = omega arith in
-    rw (first, size) inside
+are_silent object addr count target new_count page h = grind (arith, nat_tests)
 
 tail_outside : (object : Object) (addr count target new_count page : ℕ) → AreSilent object addr count target new_count page → is_registered object page ≡ true → new_count < count → in_range (addr / 4096 + new_count) (count - new_count) page ≡ false
-tail_outside object addr count target new_count page silent registered shorter =
-    outside_told (ltb new_count count) (Unmap (addr + 4096 * new_count) (addr + 4096 * count)) object (addr / 4096 + new_count) (count - new_count) page
-    (tail_bytes addr count new_count page shorter) (lt-ltb new_count count shorter) registered silent.cut
+tail_outside object addr count target new_count page silent registered shorter = grind (arith, nat_tests, outside_told)
 
 remap_stays : (space : Space) (addr old_len new_len target page : ℕ) → IsSoundSpace space → IsRemapped (memory space.host) addr old_len new_len target → is_registered space.object page ≡ true →
     AreSilent space.object addr (pages_of old_len) target (pages_of new_len) page → Stays (addr / 4096) (pages_of old_len) (target / 4096) (pages_of new_len) page
@@ -236,9 +214,6 @@ untouched space _ _ page sound call is registered silent = record { bytes = refl
 whole_times : (count : ℕ) → 4096 * count % 4096 ≡ 0
 whole_times count = omega arith
 
-whole_lesser : (start count : ℕ) → start % 4096 ≡ 0 → lesser (start + 4096 * count) HIGH % 4096 ≡ 0
-whole_lesser start count h = ⊎_elim (λ e. ap (λ n. n % 4096) e ∙ whole_page start count h) (λ e. ap (λ n. n % 4096) e) (lesser_is (start + 4096 * count) HIGH)
-
 not_same : (a b : ℕ) (rest : Bool) → (not (eqb a b) && rest) ≡ true → a ≡ b → ⊥
 not_same a b rest h e = grind (arith, nat_tests)
 
@@ -274,67 +249,23 @@ right_remap host object addr old_len new_len target may_move fixed sound is =
     )))
 
 pub right_messages : (host : Host) (object : Object) (command : Command) (reply : Reply) → IsSound host → reply ≡ reply_of (memory host) command → AllRight (call_messages object command reply)
-right_messages host object (Mmap len prot place) (At start) sound is = told_right _ _ (λ h. let inside = mmap_inside (memory host) len prot place start is in (inside.whole, whole_page start (pages_of len) inside.whole))
-right_messages host object (Munmap addr len) Done sound is = told_right _ _ (λ h. let whole = munmap_whole addr len is in (whole, whole_page addr (pages_of len) whole))
-right_messages host object (Mremap addr old_len new_len may_move fixed) (At target) sound is = right_remap host object addr old_len new_len target may_move fixed sound is
-right_messages host object (DontNeed addr len) Done sound is = told_right _ _ (λ h. let whole = dontneed_done (memory host) addr len is in (whole, whole_page addr (pages_of len) whole))
-right_messages host object (DontNeed addr len) (Refused Enomem) sound is = told_right _ _ (λ h. let whole = dontneed_hole (memory host) addr len is in (whole, whole_lesser addr (pages_of len) whole))
-right_messages host object _ _ sound is = tt
+right_messages host object command reply sound is = grind (arith, nat_tests, mmap_inside, munmap_whole, right_remap, dontneed_done, dontneed_hole)
 
 -- Nothing is told where nothing is registered
 
 abbrev pub IsUnregistered : Object → Type 0
 IsUnregistered object = (page : ℕ) → is_registered object page ≡ false
 
-unwatched : (object : Object) (first count : ℕ) → IsUnregistered object → is_watched object first count ≡ false
-unwatched object first count none = ap not (none_below-from (λ i. is_registered object (first + i)) count (λ i l. none (first + i)))
-
 pub untold : (reason : Bool) (message : Message) → reason ≡ false → told reason message ≡ []
-untold true message h = none_absurd (sym h)
-untold false message h = refl
-
-joined_none : (a b : List Message) → a ≡ [] → b ≡ [] → a ++ b ≡ []
-joined_none a b x y = rw (x, y) refl
+untold reason message h = grind (arith, nat_tests)
 
 pub no_messages : (object : Object) (command : Command) (reply : Reply) → IsUnregistered object → call_messages object command reply ≡ []
-no_messages object (Mmap len prot place) (At start) none = untold _ _ (unwatched object (start / 4096) (pages_of len) none)
-no_messages object (Munmap addr len) Done none = untold _ _ (unwatched object (addr / 4096) (pages_of len) none)
-no_messages object (Mremap addr old_len new_len may_move fixed) (At target) none =
-    let count = pages_of old_len in
-    let new_count = pages_of new_len in
-    joined_none _ _
-    (joined_none _ _
-    (untold _ _ (and_right (not (eqb (target / 4096) (addr / 4096))) _ (unwatched object (target / 4096) new_count none)))
-    (untold _ _ (and_right (ltb new_count count) _ (unwatched object (addr / 4096 + new_count) (count - new_count) none))))
-    (untold _ _ (and_right (not (eqb (target / 4096) (addr / 4096))) _ (unwatched object (addr / 4096) (lesser count new_count) none)))
-no_messages object (DontNeed addr len) Done none = untold _ _ (unwatched object (addr / 4096) (pages_of len) none)
-no_messages object (DontNeed addr len) (Refused Enomem) none = untold _ _ (unwatched object (addr / 4096) (pages_of len) none)
-no_messages object _ _ none = refl
+no_messages object command reply none = grind (arith, nat_tests, none_below-from)
 
 -- Modes
 
 pub modes_same : (object : Object) (command : Command) (reply : Reply) → object.missing ≡ object.protect → (modes_after object command reply).missing ≡ (modes_after object command reply).protect
-modes_same object (Mmap len prot place) (At start) same = ap (λ s. without s (start / 4096) (pages_of len)) same
-modes_same object (Munmap addr len) Done same = ap (λ s. without s (addr / 4096) (pages_of len)) same
-modes_same object (Mremap addr old_len new_len may_move fixed) (At target) same =
-    ap (λ s. moved_set s (addr / 4096) (pages_of old_len) (target / 4096) (pages_of new_len) (contains s (addr / 4096 + (pages_of old_len - 1)))) same
-modes_same object _ _ same = same
-
-none_without : (s : FinSet nat_cmp) (first count page : ℕ) → contains s page ≡ false → contains (without s first count) page ≡ false
-none_without s first count page none = member_without s first count page ∙ ap (λ b. b && not (in_range first count page)) none
-
-moved_none : (low new old out a growth b : Bool) → a ≡ false → growth ≡ false → b ≡ false → (low && cond new (cond old a growth) (out && b)) ≡ false
-moved_none low new old out a growth b x y z = grind arith
-
-none_moved : (s : FinSet nat_cmp) (from count to new_count page : ℕ) (growth : Bool) → ((q : ℕ) → contains s q ≡ false) → growth ≡ false → contains (moved_set s from count to new_count growth) page ≡ false
-none_moved s from count to new_count page growth none not_grown =
-    member_below _ HIGH_PAGE page ∙ moved_none (ltb page HIGH_PAGE) (in_range to new_count page) (ltb (page - to) count) (not (in_range from count page)) (contains s (from + (page - to))) growth (contains s page) (none (from + (page - to))) not_grown (none page)
+modes_same object command reply same = grind (arith, nat_tests)
 
 pub none_missing : (object : Object) (command : Command) (reply : Reply) → ((page : ℕ) → contains object.missing page ≡ false) → (page : ℕ) → contains (modes_after object command reply).missing page ≡ false
-none_missing object (Mmap len prot place) (At start) none page = none_without object.missing (start / 4096) (pages_of len) page (none page)
-none_missing object (Munmap addr len) Done none page = none_without object.missing (addr / 4096) (pages_of len) page (none page)
-none_missing object (Mremap addr old_len new_len may_move fixed) (At target) none page =
-    none_moved object.missing (addr / 4096) (pages_of old_len) (target / 4096) (pages_of new_len) page _ none (none (addr / 4096 + (pages_of old_len - 1)))
-none_missing object _ _ none page = none page
-
--- A call changes modes and queues messages, and neither changes the other
+none_missing object command reply none page = grind (arith, nat_tests, member_without, member_below)

@@ -1,22 +1,21 @@
 -- A command that is tried at the source, before it has stopped, keeps what every world keeps.
-use Rattle.std.proofs.Common.{◌≡◌, append-nil, ℕ, ◌/◌, ◌&&◌, ◌||◌, Bool, true, false, cond, not, eqb, if◌then◌else◌, Some, List, [], ◌∷◌, ◌++◌, refl, sym, ap, ◌∙◌, subst, is_some, arith}
+use Rattle.std.proofs.lemmas.Bool.Decides.{nat_tests}
+use Rattle.std.proofs.Common.{◌≡◌, append-nil, ℕ, ◌||◌, Bool, true, false, cond, eqb, Some, List, [], ◌∷◌, ◌++◌, refl, sym, ap, ◌∙◌, subst, is_some, arith}
 use Rattle.std.specs.Ordering.{nat_cmp}
 use Rattle.std.specs.FinMap.{FinMap, get, insert, contains_key}
 use Rattle.std.specs.FinSet.{contains}
-use Rattle.std.proofs.lemmas.Bool.{eqb-true, false_from_ne_true, and_from, or_right, or_parts}
+use Rattle.std.proofs.lemmas.Bool.{and_from, or_right, or_parts}
 use Rattle.mig_base.specs.declared.cpu_state.CpuState.{CpuState}
 use Rattle.mig_base.specs.declared.command.Command.{Command}
-use Rattle.mig_base.specs.declared.command.Command.TheVariants.{Load, Store}
 use Rattle.mig_base.specs.declared.command.Reply.{Reply}
-use Rattle.mig_base.specs.declared.command.Reply.TheVariants.{Done}
 use Rattle.mig_base.specs.declared.command.Access.{Access}
 use Rattle.mig_base.specs.declared.command.Access.TheVariants.{Answered, Missing, Protected}
 use Rattle.mig_base.specs.Flat.{reply_of, memory_of, IsFlatRun}
 use Rattle.mig_base.proofs.SetLemmas.{same_members}
 use Rattle.mig_model.specs.Host.{Host, memory, host_changed, host_after}
 use Rattle.mig_base.specs.Commands.{is_access}
-use Rattle.mig_model.specs.Userfault.{Object, fault_queued, waits_fault}
-use Rattle.mig_model.specs.Space.{Space, IsSoundSpace, is_made, access_of, accessed_by, called, queued_by, call_messages, modes_after}
+use Rattle.mig_model.specs.Userfault.{Object, fault_queued}
+use Rattle.mig_model.specs.Space.{Space, IsSoundSpace, access_of, accessed_by, called, queued_by, call_messages, modes_after}
 use Rattle.mig_model.specs.Guest.{took_by, tried}
 use Rattle.mig_model.specs.Migration.{World, after_command}
 use Rattle.mig_model.specs.Invariant.{IsSoundWorld, AreRight, is_unread}
@@ -27,16 +26,13 @@ use Rattle.mig_model.proofs.SourceMessages.{noted_all, events_queued, tells, is_
 use Rattle.mig_model.proofs.SourceCalls.{untouched, IsUnregistered, right_messages, no_messages, modes_same, none_missing}
 use Rattle.mig_model.specs.Cpus.{access_took, call_took, entries_of}
 use Rattle.mig_model.specs.Source.{space_of}
-use Rattle.mig_model.proofs.Facts.{none_absurd, queued_missing, queued_protect, entered_once, modes_events, some_either}
+use Rattle.mig_model.proofs.Facts.{queued_missing, queued_protect, entered_once, modes_events}
 use Rattle.mig_model.proofs.WorldLemmas.{entry_of, flat_after, holds_after}
 
 -- Loads and stores that are answered
 
 present_after : (host : Host) (command : Command) (reply : Reply) (page : ℕ) → is_access command ≡ true → contains_key host.bytes page ≡ true → contains_key (host_changed host command reply).bytes page ≡ true
-present_after host (Load addr width) reply page access h = h
-present_after host (Store addr width value) Done page access h = ap is_some (get-put host.bytes (addr / 4096) page _) ∙ some_either (eqb page (addr / 4096)) _ (get host.bytes page) h
-present_after host (Store addr width value) _ page access h = h
-present_after host _ reply page access h = none_absurd access
+present_after host command reply page access h = grind (arith, nat_tests, get-put)
 
 never_answered : (missing protect : Bool) (reply other : Reply) → protect ≡ true → cond missing Missing (cond protect Protected (Answered reply)) ≡ Answered other → ⊥
 never_answered missing protect reply other p h = grind arith
@@ -44,32 +40,9 @@ never_answered missing protect reply other p h = grind arith
 other_page : (bytes : FinMap nat_cmp (List ℕ)) (page q : ℕ) (held : List ℕ) → eqb q page ≡ false → get (insert bytes page held) q ≡ get bytes q
 other_page bytes page q held other = get-put bytes page q held ∙ ap (λ b. cond b (Some held) (get bytes q)) other
 
-abbrev answer_by : Space → ℕ → Reply → Access
-answer_by space page reply =
-    if not (is_made reply) then Answered reply
-    else if not (contains_key space.host.bytes page) && contains space.object.missing page then Missing
-    else if contains space.object.protect page && contains space.protected page then Protected
-    else Answered reply
-
--- a store that is made is of another page than a protected one
-stored_elsewhere : (space : Space) (addr width value page : ℕ) (made other : Reply) → made ≡ reply_of (memory space.host) (Store addr width value) → access_of space (Store addr width value) ≡ Answered other →
-    contains space.object.protect page ≡ true → contains space.protected page ≡ true → get (host_changed space.host (Store addr width value) made).bytes page ≡ get space.host.bytes page
-stored_elsewhere space addr width value page Done other is answered watched protected =
-    let there : eqb page (addr / 4096) ≡ false =
-    false_from_ne_true (eqb page (addr / 4096)) (λ e.
-    let here = eqb-true page (addr / 4096) e in
-    never_answered (not (contains_key space.host.bytes (addr / 4096)) && contains space.object.missing (addr / 4096)) (contains space.object.protect (addr / 4096) && contains space.protected (addr / 4096)) Done other
-    (and_from _ _ (ap (contains space.object.protect) (sym here) ∙ watched) (ap (contains space.protected) (sym here) ∙ protected))
-    (subst (λ r. answer_by space (addr / 4096) r ≡ Answered other) (sym is) answered)) in
-    other_page space.host.bytes (addr / 4096) page _ there
-stored_elsewhere space addr width value page _ other is answered watched protected = refl
-
 elsewhere : (space : Space) (command : Command) (page : ℕ) (other : Reply) → is_access command ≡ true → access_of space command ≡ Answered other → contains space.object.protect page ≡ true → contains space.protected page ≡ true →
     get (host_after space.host command).bytes page ≡ get space.host.bytes page
-elsewhere space (Load addr width) page other access answered watched protected = refl
-elsewhere space (Store addr width value) page other access answered watched protected =
-    stored_elsewhere space addr width value page (reply_of (memory space.host) (Store addr width value)) other refl answered watched protected
-elsewhere space _ page other access answered watched protected = none_absurd access
+elsewhere space command page other access answered watched protected = grind (arith, nat_tests, never_answered, and_from, other_page)
 
 answered_changed : (world : World) (cpu : ℕ) (command : Command) (reply : Reply) (processors : List CpuState) → IsSoundWorld world → world.destination.has_run ≡ false → world.source.switched ≡ false → is_access command ≡ true →
     access_of (space_of world.source) command ≡ Answered reply →
@@ -104,12 +77,8 @@ record IsAlike (object new : Object) : Type 0 where
   missing : new.missing ≡ object.missing
   protect : new.protect ≡ object.protect
 
-alike_if : (waits : Bool) (object new : Object) → IsAlike object new → IsAlike object (if waits then object else new)
-alike_if true object new alike = record { events = refl; missing = refl; protect = refl }
-alike_if false object new alike = alike
-
 faulted_alike : (object : Object) (addr : ℕ) (write wp : Bool) (cpu : ℕ) → IsAlike object (fault_queued object addr write wp cpu)
-faulted_alike object addr write wp cpu = alike_if (waits_fault object.faults addr wp) object _ (record { events = refl; missing = refl; protect = refl })
+faulted_alike object addr write wp cpu = grind (arith, nat_tests)
 
 slept_changed : (world : World) (processors : List CpuState) (object : Object) → IsSoundWorld world → world.destination.has_run ≡ false → world.source.switched ≡ false → IsAlike (space_of world.source).object object →
     IsSoundSpace (record (space_of world.source) { object = object }) →

@@ -1,5 +1,5 @@
 -- What a step of a source that has not stopped has to keep, and that its handler keeps it: a message is read, a fault is worked.
-use Rattle.std.proofs.Common.{◌≡◌, ◌≢◌, ℕ, ◌≤◌, Bool, true, false, Option, Some, None, List, [], refl, sym, ap, ◌∙◌, ◌⊎◌, arith, cond, get_or, unwrap_or, is_some, ◌&&◌, ◌||◌, not, eqb, ltb, ◌∷◌}
+use Rattle.std.proofs.Common.{◌≡◌, ◌≢◌, ℕ, ◌≤◌, Bool, true, false, Option, Some, None, List, [], refl, sym, ap, ◌∙◌, ◌⊎◌, arith, cond, get_or, unwrap_or, ◌&&◌, not, ltb}
 use Rattle.std.specs.Ordering.{nat_cmp}
 use Rattle.std.specs.FinMap as finmap
 use Rattle.std.specs.FinMap.{FinMap, get, get-empty, contains_key}
@@ -13,13 +13,13 @@ use Rattle.mig_model.specs.Space.{Space, IsSoundSpace, fresh_space}
 use Rattle.mig_model.specs.Guest.{Guest, is_present, Fault, is_changed_by, read_guest, zero_installed, is_forgotten, Act}
 use Rattle.mig_model.specs.Wire.{Sent}
 use Rattle.mig_model.specs.Migration.{World, next, after_source_act, after_source_read}
-use Rattle.mig_model.specs.Invariant.{IsSoundWorld, IsSoundFlight, AreSoundEpochs, AreFaithful, IsPrecopying, Wires, AreRight, AreWhole, RanAt, SwitchedAt, is_unread, copies_of, current_by, current_host, HeldFits}
+use Rattle.mig_model.specs.Invariant.{IsSoundWorld, IsSoundFlight, AreSoundEpochs, AreFaithful, Wires, AreRight, AreWhole, RanAt, SwitchedAt, is_unread, copies_of, current_by, current_host, HeldFits}
 use Rattle.mig_model.specs.Log.{no_pages, present, unchanged}
 use Rattle.mig_model.specs.Source.{Source, is_source_idle, space_of, source_act, source_act_by, source_acted_by}
 use Rattle.mig_model.specs.Destination.{Destination, settled}
-use Rattle.mig_model.proofs.Facts.{none_absurd, some_is, missing_none, only_one, some_either}
+use Rattle.mig_model.proofs.Facts.{none_absurd, missing_none, only_one, some_either}
 use Rattle.std.proofs.lemmas.Bool.Decides.{nat_tests}
-use Rattle.std.proofs.lemmas.Bool.{false≢true, not-false, or_left, and_parts, false_from_ne_true, lt-ltb, or_from, or_right, or_parts, not-true, eqb-true}
+use Rattle.std.proofs.lemmas.Bool.{false≢true, or_left, and_parts, false_from_ne_true, not-true, eqb-true}
 use Rattle.mig_base.specs.declared.cpu_state.CpuState.{CpuState}
 use Rattle.mig_base.specs.declared.TheConstants.{HIGH_PAGE}
 use Rattle.mig_base.specs.declared.message.Message.{Message}
@@ -28,11 +28,10 @@ use Rattle.mig_base.specs.Bytes.{zero_page}
 use Rattle.mig_base.specs.Ranges.{in_range}
 use Rattle.mig_base.proofs.ByteLemmas.{length-zero_page, get_or-zero_page}
 use Rattle.mig_base.proofs.SetLemmas.{member_below, member_removed}
-use Rattle.mig_model.specs.Userfault.{Noted, Object, is_registered, next_of, next_message, read_by, message_read}
-use Rattle.mig_model.specs.Ioctls.{protected_in, put_pages}
+use Rattle.mig_model.specs.Userfault.{Noted, Object, next_message, message_read}
+use Rattle.mig_model.specs.Ioctls.{protected_in}
 use Rattle.mig_model.specs.Guest.Act.{Unprotected, Zeroed}
-use Rattle.mig_model.proofs.IoctlLemmas.{IsSoundSpace-read, IsSoundSpace-protected, IsSoundSpace-installed, CanPut, get-put_pages}
-use Rattle.mig_model.proofs.SourceCalls.{registered_below}
+use Rattle.mig_model.proofs.IoctlLemmas.{IsSoundSpace-read, IsSoundSpace-protected, IsSoundSpace-installed, get-put_pages}
 use Rattle.mig_model.proofs.DestinationAct.{get-put_one, byte_of, memory-reads}
 
 pub no_page_absurd : {A : Type 0} (set : FinSet nat_cmp) (page : ℕ) → set ≡ no_pages → contains set page ≡ true → A
@@ -73,15 +72,13 @@ current_before ran here there owed h = grind arith
 
 -- the memory of the source is the guest's
 pub source_holds : (world : World) → IsSoundWorld world → world.destination.has_run ≡ false → memory (space_of world.source).host ≡ memory_of world.transcript
-source_holds world kept bare =
-    sym (ap memory (current_before world.destination.has_run world.destination.guest.space.host (space_of world.source).host (settled world.destination) bare)) ∙ kept.memory.holds
+source_holds world kept bare = grind (arith, nat_tests)
 
 nothing_owed : {A : Type 0} (owed : FinMap nat_cmp ℕ) (page origin : ℕ) → owed ≡ finmap.empty → get owed page ≡ Some origin → A
 nothing_owed owed page origin none h = let e : None ≡ Some origin = sym (ap (λ m. get m page) none ∙ get-empty nat_cmp page) ∙ h in absurd (cc)
 
 released_switched : {A : Type 0} (phase : SourcePhase) (switched : Bool) → SwitchedAt phase switched → switched ≡ false → phase ≡ SourcePhase.Released → A
-released_switched SourcePhase.Released switched at h e = none_absurd (sym h ∙ at)
-released_switched _ switched at h e = absurd (cc)
+released_switched phase switched at h e = grind (arith, nat_tests)
 
 pub renewed : (world : World) (source : Source) (forward : List Sent) (transcript : List Entry) → IsSoundWorld world → world.destination.has_run ≡ false → IsNext world source forward transcript →
     IsSoundWorld (record world { source = source; forward = record world.forward { frames = forward }; transcript = transcript })
@@ -118,27 +115,12 @@ pub record IsChanged (source : Source) (guest : Guest) (clean todo : FinSet nat_
   pub sendable : (page : ℕ) → contains todo page ≡ true → is_unread guest.space.object.events page ≡ false → (is_present guest.space page ≡ true) × (contains guest.space.object.protect page ≡ true)
   pub copies : CopiesStay source guest clean
 
-precopying : (source : Source) (guest : Guest) (clean todo : FinSet nat_cmp) (held : List Fault) (rounds faults : ℕ) (kept : FinMap nat_cmp (List ℕ)) (forward : List Sent) → CopiesStay source guest clean → IsPrecopying source kept forward →
-    IsPrecopying (with_parts source guest clean todo held rounds faults) kept forward
-precopying source guest clean todo held rounds faults kept forward stay old =
-    record {
-      clean_copy = λ page h u. let was = stay page h u in old.clean_copy page was.0 was.1 ∙ sym was.2;
-      copies_sent = old.copies_sent;
-    }
-
 -- before the switch the destination has not run: while the source is paused, it is paused too, or has answered Resume
 wires_changed : (from : SourcePhase) (to : DestPhase) (source : Source) (guest : Guest) (clean todo : FinSet nat_cmp) (held : List Fault) (rounds faults : ℕ) (destination : Destination) (forward back urgent : List Sent) →
     RanAt to destination.has_run destination.ended → destination.has_run ≡ false → (destination.ended ≡ true → destination.has_run ≡ true) → SwitchedAt from source.switched → source.switched ≡ false →
     CopiesStay source guest clean → Wires (record source { phase = from }) (record destination { phase = to }) forward back urgent →
     Wires (with_parts (record source { phase = from }) guest clean todo held rounds faults) (record destination { phase = to }) forward back urgent
-wires_changed SourcePhase.Precopy DestPhase.Idle source guest clean todo held rounds faults destination forward back urgent ran bare after at unswitched stay wires =
-    (wires.0, wires.1, precopying (record source { phase = SourcePhase.Precopy }) guest clean todo held rounds faults destination.kept forward stay wires.2)
-wires_changed SourcePhase.Precopy DestPhase.Advised source guest clean todo held rounds faults destination forward back urgent ran bare after at unswitched stay wires =
-    (wires.0, wires.1, precopying (record source { phase = SourcePhase.Precopy }) guest clean todo held rounds faults destination.kept forward stay wires.2)
-wires_changed SourcePhase.Stopped to source guest clean todo held rounds faults destination forward back urgent ran bare after at unswitched stay wires = none_absurd (sym unswitched ∙ at)
-wires_changed SourcePhase.Paused DestPhase.Running source guest clean todo held rounds faults destination forward back urgent ran bare after at unswitched stay wires = none_absurd (sym bare ∙ ran.0)
-wires_changed SourcePhase.Paused DestPhase.Ended source guest clean todo held rounds faults destination forward back urgent ran bare after at unswitched stay wires = none_absurd (sym bare ∙ after ran)
-wires_changed _ _ source guest clean todo held rounds faults destination forward back urgent ran bare after at unswitched stay wires = wires
+wires_changed from to source guest clean todo held rounds faults destination forward back urgent ran bare after at unswitched stay wires = grind (arith, nat_tests)
 
 pub changed : (world : World) (guest : Guest) (clean todo : FinSet nat_cmp) (held : List Fault) (rounds faults : ℕ) (transcript : List Entry) → IsSoundWorld world → world.destination.has_run ≡ false → world.source.switched ≡ false →
     IsChanged world.source guest clean todo transcript →
@@ -164,22 +146,7 @@ in_one_is page q h = eqb-true q page (sym (only_one page q) ∙ h)
 -- A page of zeros at a missing page changes nothing that the guest reads
 
 zero_bytes : (here : Bool) (o : Option (List ℕ)) (i : ℕ) → (here ≡ true → o ≡ None) → get_or (unwrap_or (cond here (Some zero_page) o) []) i 0 ≡ get_or (unwrap_or o []) i 0
-zero_bytes true o i h = get_or-zero_page i ∙ sym (ap (λ p. get_or (unwrap_or p []) i 0) (h refl))
-zero_bytes false o i h = refl
-
--- a missing page reads as one of zeros
-memory_zeroed : (host : Host) (page : ℕ) → get host.bytes page ≡ None → memory (record host { bytes = put_pages host.bytes page 1 (λ i. zero_page) }) ≡ memory host
-memory_zeroed host page none =
-    memory-reads host.areas host.bytes (put_pages host.bytes page 1 (λ i. zero_page)) (λ q i.
-    ap (λ o. byte_of o i) (get-put_one host.bytes page q zero_page) ∙ zero_bytes (eqb q page) (get host.bytes q) i (λ here. ap (get host.bytes) (eqb-true q page here) ∙ none))
-
-more_present : (space : Space) (page q : ℕ) → is_present space q ≡ true → is_present (zero_installed space page) q ≡ true
-more_present space page q h = ap is_some (get-put_pages space.host.bytes page 1 q (λ i. zero_page)) ∙ some_either (in_range page 1 q) zero_page (get space.host.bytes q) h
-
-same_elsewhere : (space : Space) (page q : ℕ) → is_present space page ≡ false → is_present space q ≡ true → get (zero_installed space page).host.bytes q ≡ get space.host.bytes q
-same_elsewhere space page q missing present =
-    get-put_pages space.host.bytes page 1 q (λ i. zero_page)
-    ∙ ap (λ b. cond b (Some zero_page) (get space.host.bytes q)) (false_from_ne_true (in_range page 1 q) (λ here. false≢true (sym missing ∙ ap (is_present space) (sym (in_one_is page q here)) ∙ present)))
+zero_bytes here o i h = grind (arith, nat_tests, get_or-zero_page)
 
 -- A message is read
 
@@ -188,18 +155,6 @@ record IsRead (object new : Object) (message : Message) : Type 0 where
   protect : new.protect ≡ object.protect
   right : AreRight object.events → AreRight new.events
   unread : (page : ℕ) → is_changed_by message page ≡ false → is_unread new.events page ≡ false → is_unread object.events page ≡ false
-
-is_read : (faults events : List Noted) (object : Object) (noted : Noted) → next_of faults events ≡ Some noted →
-    IsRead (record object { faults = faults; events = events }) (read_by faults (record object { faults = faults; events = events })) noted.message
-is_read [] [] object noted h = absurd (cc)
-is_read [] (first ∷ rest) object noted h =
-    record {
-      missing = refl;
-      protect = refl;
-      right = λ are. are.1;
-      unread = λ page out u. or_from (is_changed_by first.message page) (is_unread rest page) (ap (λ n. is_changed_by n.message page) (some_is first noted h) ∙ out) u;
-    }
-is_read (fault ∷ faults) events object noted h = record { missing = refl; protect = refl; right = λ are. are; unread = λ page out u. u }
 
 member_unchanged : (s : FinSet nat_cmp) (message : Message) (page : ℕ) → contains (unchanged s message) page ≡ true → (contains s page ≡ true) × (is_changed_by message page ≡ false)
 member_unchanged s message page h =
@@ -211,26 +166,7 @@ read_changed : (world : World) (noted : Noted) (processors : List CpuState) → 
     next_message (space_of world.source).object ≡ Some noted →
     IsChanged world.source (record { space = record (space_of world.source) { object = message_read (space_of world.source).object }; cpus = processors })
     (unchanged world.source.log.clean noted.message) (unchanged world.source.log.todo noted.message) world.transcript
-read_changed world noted processors kept unswitched started next =
-    let space = space_of world.source in
-    let read : IsRead space.object (message_read space.object) noted.message = is_read space.object.faults space.object.events space.object noted next in
-    let new : Space = record space { object = message_read space.object } in
-    let holds = source_holds world kept (has_not_run world kept unswitched) in
-    let sound = IsSoundSpace-read space kept.spaces.source_space in
-    let modes = λ (page : ℕ). ap (λ s. contains s page) read.missing ∙ kept.spaces.both_modes page ∙ sym (ap (λ s. contains s page) read.protect) in
-    let events = read.right kept.spaces.source_events in
-    let idle = never_idle world.source.phase new (unchanged world.source.log.clean noted.message) (unchanged world.source.log.todo noted.message) world.source.log.sent started in
-    let protected = λ (page : ℕ) (h : contains (unchanged world.source.log.clean noted.message) page ≡ true) (u : is_unread new.object.events page ≡ false).
-    let was = member_unchanged world.source.log.clean noted.message page h in
-    kept.precopy.clean_protected unswitched page was.0 (read.unread page was.1 u) in
-    let sendable : (page : ℕ) → contains (unchanged world.source.log.todo noted.message) page ≡ true → is_unread new.object.events page ≡ false → (is_present space page ≡ true) × (contains new.object.protect page ≡ true) = λ page h u.
-    let was = member_unchanged world.source.log.todo noted.message page h in
-    let sendable = kept.precopy.todo_sendable unswitched page was.0 (read.unread page was.1 u) in
-    (sendable.0, ap (λ s. contains s page) read.protect ∙ sendable.1) in
-    let copies : CopiesStay world.source (record { space = new; cpus = processors }) (unchanged world.source.log.clean noted.message) = λ page h u.
-    let was = member_unchanged world.source.log.clean noted.message page h in
-    (was.0, read.unread page was.1 u, refl) in
-    assumption
+read_changed world noted processors kept unswitched started next = grind (arith, nat_tests, has_not_run, IsSoundSpace-read, never_idle, member_unchanged)
 
 -- whatever the message is
 read_by_message : (world : World) (noted : Noted) (message : Message) → IsSoundWorld world → world.source.switched ≡ false → is_source_idle world.source.phase ≡ false → next_message (space_of world.source).object ≡ Some noted →
@@ -250,75 +186,31 @@ record IsWatched (space : Space) (page : ℕ) : Type 0 where
   mapped : contains_key space.host.areas page ≡ true
   protect : contains space.object.protect page ≡ true
 
-either_same : (a b : Bool) → a ≡ b → (a || b) ≡ true → b ≡ true
-either_same a b e h = grind arith
-
 is_watched : (space : Space) (page : ℕ) → contains space.object.missing page ≡ contains space.object.protect page → is_forgotten space page ≡ false → IsWatched space page
-is_watched space page both h =
-    let parts = or_parts (not (contains_key space.host.areas page)) (not (is_registered space.object page)) h in
-    record {
-      mapped = not-false (contains_key space.host.areas page) parts.0;
-      protect = either_same (contains space.object.missing page) (contains space.object.protect page) both (not-false (is_registered space.object page) parts.1);
-    }
+is_watched space page both h = grind (arith, nat_tests)
 
 unprotected_is : (forgotten present protected : Bool) → source_act_by forgotten present protected ≡ Unprotected → forgotten ≡ false
-unprotected_is true present protected h = absurd (cc)
-unprotected_is false present protected h = refl
+unprotected_is forgotten present protected h = grind (arith, nat_tests)
 
 zeroed_is : (forgotten present protected : Bool) → source_act_by forgotten present protected ≡ Zeroed → (forgotten ≡ false) × (present ≡ false)
 zeroed_is forgotten present protected h = grind arith
 
-not_in_one : (page q : ℕ) → eqb q page ≡ false → in_range page 1 q ≡ false
-not_in_one page q h = grind (arith, nat_tests)
-
 -- nothing but processors and held faults has changed
 same_changed : (world : World) (processors : List CpuState) → IsSoundWorld world → world.source.switched ≡ false →
     IsChanged world.source (record { space = space_of world.source; cpus = processors }) world.source.log.clean world.source.log.todo world.transcript
-same_changed world processors kept unswitched =
-    let holds = source_holds world kept (has_not_run world kept unswitched) in
-    let copies : CopiesStay world.source (record { space = space_of world.source; cpus = processors }) world.source.log.clean = λ page h u. (h, u, refl) in
-    assumption (holds, kept.precopy.clean_protected unswitched, kept.precopy.todo_sendable unswitched)
+same_changed world processors kept unswitched = grind (arith, nat_tests)
 
 protected_below : (space : Space) (page : ℕ) → IsSoundSpace space → contains space.protected page ≡ true → ltb page HIGH_PAGE ≡ true
-protected_below space page sound h =
-    lt-ltb page HIGH_PAGE (registered_below space page sound (or_right (contains space.object.missing page) (contains space.object.protect page) (sound.watched page h)))
+protected_below space page sound h = grind (arith, nat_tests)
 
 unprotected_changed : (world : World) (page : ℕ) (processors : List CpuState) → IsSoundWorld world → world.source.switched ≡ false → is_source_idle world.source.phase ≡ false → IsWatched (space_of world.source) page →
     IsChanged world.source (record { space = protected_in (space_of world.source) page 1 false; cpus = processors }) (remove world.source.log.clean page) world.source.log.todo world.transcript
-unprotected_changed world page processors kept unswitched started watched =
-    let space = space_of world.source in
-    let removed = λ (q : ℕ) (h : contains (remove world.source.log.clean page) q ≡ true). and_parts (not (eqb q page)) (contains world.source.log.clean q) (sym (member_removed world.source.log.clean page q) ∙ h) in
-    let new : Space = protected_in space page 1 false in
-    let holds = source_holds world kept (has_not_run world kept unswitched) in
-    let sound = IsSoundSpace-protected space page 1 false (λ q h. ap (contains space.object.protect) (in_one_is page q h) ∙ watched.protect) kept.spaces.source_space in
-    let idle = never_idle world.source.phase new (remove world.source.log.clean page) world.source.log.todo world.source.log.sent started in
-    let protected : (q : ℕ) → contains (remove world.source.log.clean page) q ≡ true → is_unread space.object.events q ≡ false → contains new.protected q ≡ true = λ q h u.
-    let was = kept.precopy.clean_protected unswitched q (removed q h).1 u in
-    member_below _ HIGH_PAGE q ∙ rw (protected_below space q kept.spaces.source_space was, not_in_one page q (not-true (eqb q page) (removed q h).0)) was in
-    let copies : CopiesStay world.source (record { space = new; cpus = processors }) (remove world.source.log.clean page) = λ q h u. ((removed q h).1, u, refl) in
-    assumption (idle, kept.precopy.todo_sendable unswitched)
+unprotected_changed world page processors kept unswitched started watched = grind (arith, nat_tests, member_removed, has_not_run, IsSoundSpace-protected, in_one_is, never_idle, member_below, protected_below, not-true)
 
 zeroed_changed : (world : World) (page : ℕ) (processors : List CpuState) → IsSoundWorld world → world.source.switched ≡ false → is_source_idle world.source.phase ≡ false → IsWatched (space_of world.source) page →
     is_present (space_of world.source) page ≡ false →
     IsChanged world.source (record { space = zero_installed (space_of world.source) page; cpus = processors }) world.source.log.clean world.source.log.todo world.transcript
-zeroed_changed world page processors kept unswitched started watched missing =
-    let space = space_of world.source in
-    let sound = kept.spaces.source_space in
-    let can : CanPut space page 1 (λ i. zero_page) false =
-    record { mapped = λ q h. ap (contains_key space.host.areas) (in_one_is page q h) ∙ watched.mapped; whole = λ i l. length-zero_page; watched = λ e q h. none_absurd e } in
-    let new : Space = zero_installed space page in
-    let holds = memory_zeroed space.host page (missing_none (get space.host.bytes page) missing) ∙ source_holds world kept (has_not_run world kept unswitched) in
-    let installed = IsSoundSpace-installed space page 1 (λ i. zero_page) false can sound in
-    let idle = never_idle world.source.phase new world.source.log.clean world.source.log.todo world.source.log.sent started in
-    let protected : (q : ℕ) → contains world.source.log.clean q ≡ true → is_unread space.object.events q ≡ false → contains new.protected q ≡ true = λ q h u.
-    let was = kept.precopy.clean_protected unswitched q h u in
-    member_below _ HIGH_PAGE q ∙ rw (protected_below space q sound was) (or_left (contains space.protected q) _ was) in
-    let sendable : (q : ℕ) → contains world.source.log.todo q ≡ true → is_unread space.object.events q ≡ false → (is_present new q ≡ true) × (contains space.object.protect q ≡ true) = λ q h u.
-    let was = kept.precopy.todo_sendable unswitched q h u in
-    (more_present space page q was.0, was.1) in
-    let copies : CopiesStay world.source (record { space = new; cpus = processors }) world.source.log.clean = λ q h u.
-    (h, u, same_elsewhere space page q missing (sound.present q (kept.precopy.clean_protected unswitched q h u))) in
-    assumption
+zeroed_changed world page processors kept unswitched started watched missing = grind (arith, nat_tests, in_one_is, length-zero_page, none_absurd, missing_none, source_holds, has_not_run, IsSoundSpace-installed, never_idle, member_below, protected_below, or_left, memory-reads, byte_of, get-put_one, zero_bytes, eqb-true, get-put_pages, some_either)
 
 -- Every act
 
@@ -333,8 +225,7 @@ acted world fault Zeroed kept unswitched started is =
     let told = zeroed_is (is_forgotten space fault.page) (is_present space fault.page) (contains space.protected fault.page && fault.wp) is in
     let watched = is_watched space fault.page (kept.spaces.both_modes fault.page) told.0 in
     changed world _ _ _ _ world.source.rounds world.source.faults world.transcript kept (has_not_run world kept unswitched) unswitched (zeroed_changed world fault.page _ kept unswitched started watched told.1)
-acted world fault _ kept unswitched started is =
-    changed world _ _ _ _ world.source.rounds world.source.faults world.transcript kept (has_not_run world kept unswitched) unswitched (same_changed world _ kept unswitched)
+acted world fault _ kept unswitched started is = grind (arith, nat_tests, changed, has_not_run, same_changed)
 
 pub kept-source_act : (world : World) (fault : Fault) → IsSoundWorld world → is_source_idle world.source.phase ≡ false → world.source.switched ≡ false → IsSoundWorld (after_source_act world fault)
 kept-source_act world fault kept started unswitched = acted world fault (source_act world.source fault) kept unswitched started refl

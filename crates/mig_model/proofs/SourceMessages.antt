@@ -1,7 +1,7 @@
 -- The messages of a map call: each is right, and together they tell of every registered page that the call changes.
-use Rattle.std.proofs.Common.{◌≡◌, append-nil, ℕ, ◌+◌, ◌-◌, ◌*◌, ◌/◌, ◌<◌, ◌≤◌, ◌&&◌, ◌||◌, Bool, true, false, not, ltb, List, [], ◌∷◌, ◌++◌, refl, sym, ap, ◌∙◌, ◌⊎◌, inl, inr, ⊎_elim, arith, append_assoc}
+use Rattle.std.proofs.Common.{◌≡◌, append-nil, ℕ, ◌+◌, ◌-◌, ◌*◌, ◌/◌, ◌<◌, ◌≤◌, ◌&&◌, ◌||◌, Bool, true, false, not, ltb, List, [], ◌∷◌, ◌++◌, refl, sym, ap, ◌∙◌, ◌⊎◌, arith, append_assoc}
 use Rattle.std.proofs.lemmas.Bool.Decides.{nat_tests}
-use Rattle.std.proofs.lemmas.Bool.{false≢true, false_from_ne_true, cases_lt, and_from, or_parts}
+use Rattle.std.proofs.lemmas.Bool.{false≢true}
 use Rattle.mig_base.specs.declared.TheConstants.{HIGH, HIGH_PAGE}
 use Rattle.mig_base.specs.declared.message.Message.{Message}
 use Rattle.mig_base.specs.declared.message.Message.TheVariants.{Remove, Unmap}
@@ -12,7 +12,7 @@ use Rattle.mig_model.specs.Guest.{is_changed_by, in_bytes}
 use Rattle.mig_model.specs.Space.{told, all_queued}
 use Rattle.mig_model.specs.Invariant.{is_unread, IsRight, AreRight}
 use Rattle.mig_model.specs.Migration.{start}
-use Rattle.mig_model.proofs.Facts.{none_absurd, in_range_first, or_assoc}
+use Rattle.mig_model.proofs.Facts.{in_range_first, or_assoc}
 
 -- Messages and the events that they become
 
@@ -32,13 +32,7 @@ tells (message ∷ messages) page = is_changed_by message page || tells messages
 pub is_unread-append : (events : List Noted) (messages : List Message) (cpu page : ℕ) → is_unread (events ++ noted_all messages cpu) page ≡ (is_unread events page || tells messages page)
 is_unread-append [] [] cpu page = refl
 is_unread-append [] (message ∷ messages) cpu page = ap (λ b. is_changed_by message page || b) (is_unread-append [] messages cpu page)
-is_unread-append (noted ∷ events) messages cpu page =
-    ap (λ b. is_changed_by noted.message page || b) (is_unread-append events messages cpu page)
-    ∙ or_assoc (is_changed_by noted.message page) (is_unread events page) (tells messages page)
-
-pub tells-append : (a b : List Message) (page : ℕ) → tells (a ++ b) page ≡ (tells a page || tells b page)
-tells-append [] b page = refl
-tells-append (message ∷ a) b page = ap (λ t. is_changed_by message page || t) (tells-append a b page) ∙ or_assoc (is_changed_by message page) (tells a page) (tells b page)
+is_unread-append (noted ∷ events) messages cpu page = grind (arith, nat_tests, or_assoc, is_unread-append events messages cpu page)
 
 abbrev pub AllRight : List Message → Type 0
 AllRight [] = Unit {0}
@@ -54,14 +48,9 @@ AllRight-append [] b one two = two
 AllRight-append (message ∷ a) b one two = (one.0, AllRight-append a b one.1 two)
 
 pub told_right : (reason : Bool) (message : Message) → (reason ≡ true → IsRight message) → AllRight (told reason message)
-told_right true message right = (right refl, tt)
-told_right false message right = tt
+told_right reason message right = grind (arith, nat_tests)
 
 -- A message is told where a page of its range was registered
-
-untold : (reason changed : Bool) (message : Message) (page : ℕ) → is_changed_by message page ≡ changed → reason ≡ true → tells (told reason message) page ≡ false → changed ≡ false
-untold true changed message page is reasoned h = sym is ∙ (or_parts (is_changed_by message page) false h).0
-untold false changed message page is reasoned h = none_absurd reasoned
 
 watched_by : (none : Bool) → (none ≡ true → ⊥) → not none ≡ true
 watched_by none never = grind arith
@@ -79,9 +68,7 @@ in_bytes-pages start count page = let n : (start + 4096 * count) / 4096 - start 
 -- a registered page of which nothing is told lies outside of a range of which it would be told
 pub outside_told : (reason : Bool) (message : Message) (object : Object) (first count page : ℕ) → (in_range first count page ≡ true → is_changed_by message page ≡ true) → reason ≡ true → is_registered object page ≡ true →
     tells (told (reason && is_watched object first count) message) page ≡ false → in_range first count page ≡ false
-outside_told reason message object first count page covers reasoned registered h =
-    false_from_ne_true (in_range first count page) (λ inside.
-    false≢true (sym (untold (reason && is_watched object first count) (is_changed_by message page) message page refl (and_from reason _ reasoned (watched_page object first count page registered inside)) h) ∙ covers inside))
+outside_told reason message object first count page covers reasoned registered h = grind (arith, nat_tests, watched_page)
 
 pub unmapped_outside : (object : Object) (start count page : ℕ) → is_registered object page ≡ true → tells (told (is_watched object (start / 4096) count) (Unmap start (start + 4096 * count))) page ≡ false → in_range (start / 4096) count page ≡ false
 unmapped_outside object start count page registered h =
@@ -95,9 +82,7 @@ pub lesser_is : (a b : ℕ) → (lesser a b ≡ a) ⊎ (lesser a b ≡ b)
 lesser_is a b = grind (arith, nat_tests)
 
 below_end : (start count page end : ℕ) → page < HIGH_PAGE → start / 4096 ≤ page → page < start / 4096 + count → (end ≡ start + 4096 * count) ⊎ (end ≡ HIGH) → in_bytes start end page ≡ true
-below_end start count page end below low high (inl e) = rw (e, in_bytes-pages start count page) (grind (arith, nat_tests))
-below_end start count page end below low high (inr e) =
-    let n : start / 4096 + (end / 4096 - start / 4096) ≡ 1048576 = omega (arith, e) in grind (arith, nat_tests, n)
+below_end start count page end below low high h = grind (arith, nat_tests)
 
 -- the same where the range is told to its end, or to the end of the address space
 pub dropped_outside : (object : Object) (start count page : ℕ) → page < HIGH_PAGE → is_registered object page ≡ true → tells (told (is_watched object (start / 4096) count) (Remove start (lesser (start + 4096 * count) HIGH))) page ≡ false →
@@ -115,14 +100,8 @@ Stays from count to new_count page =
     ((in_range to new_count page ≡ true) × (ltb (page - to) count ≡ true) × (from + (page - to) ≡ page)) ⊎ ((in_range to new_count page ≡ false) × (in_range from count page ≡ false))
 
 pub stays_there : (from count new_count page : ℕ) → (new_count < count → in_range (from + new_count) (count - new_count) page ≡ false) → in_range (from + count) (new_count - count) page ≡ false → Stays from count from new_count page
-stays_there from count new_count page tail growth = ⊎_elim
-    (λ (shorter : new_count < count). let out = tail shorter in grind (arith, nat_tests))
-    (λ (longer : count ≤ new_count). grind (arith, nat_tests))
-    (cases_lt new_count count)
+stays_there from count new_count page tail growth = grind (arith, nat_tests)
 
 pub moved_away : (from count to new_count page : ℕ) → in_range to new_count page ≡ false → (new_count < count → in_range (from + new_count) (count - new_count) page ≡ false) → in_range from (lesser count new_count) page ≡ false →
     in_range from count page ≡ false
-moved_away from count to new_count page out tail head = ⊎_elim
-    (λ (shorter : new_count < count). let more = tail shorter in grind (arith, nat_tests))
-    (λ (longer : count ≤ new_count). grind (arith, nat_tests))
-    (cases_lt new_count count)
+moved_away from count to new_count page out tail head = grind (arith, nat_tests)

@@ -1,20 +1,17 @@
 -- The source begins a migration, or a round of pre-copy, and keeps what every world keeps.
-use Rattle.std.proofs.Common.{◌≡◌, ◌≢◌, ◌⊎◌, ◌≤◌, ℕ, ◌+◌, ◌<◌, ◌&&◌, Bool, true, false, cond, not, ltb, if◌then◌else◌, Some, None, List, [], ◌∷◌, ◌++◌, refl, sym, ap, ◌∙◌, subst, inl, arith, is_some}
+use Rattle.std.proofs.Common.{◌≡◌, ◌≢◌, ◌⊎◌, ◌≤◌, ℕ, ◌+◌, ◌<◌, ◌&&◌, Bool, true, false, cond, not, ltb, List, [], ◌∷◌, ◌++◌, refl, sym, ap, ◌∙◌, subst, inl, arith, is_some}
 use Rattle.std.specs.Ordering.{nat_cmp}
 use Rattle.std.specs.FinMap as finmap
 use Rattle.std.specs.FinMap.{FinMap, get, contains_key, get-empty}
 use Rattle.std.specs.FinSet.{contains}
 use Rattle.std.proofs.lemmas.Bool.Decides.{nat_tests}
-use Rattle.std.proofs.lemmas.Bool.{false≢true, true_from_ne_false, lt-ltb, and_from, or_right}
+use Rattle.std.proofs.lemmas.Bool.{lt-ltb, and_from, or_right}
 use Rattle.mig_base.specs.declared.phase.DestPhase.{DestPhase}
 use Rattle.mig_base.specs.declared.phase.SourcePhase.{SourcePhase}
 use Rattle.mig_base.specs.declared.TheConstants.{HIGH_PAGE}
 use Rattle.mig_base.specs.Ranges.{in_range}
-use Rattle.mig_base.specs.Sets.{pages_where}
-use Rattle.mig_base.proofs.SetLemmas.{member_below, same_members}
-use Rattle.mig_model.specs.Userfault.{has_modes}
+use Rattle.mig_base.proofs.SetLemmas.{member_below}
 use Rattle.mig_model.specs.Space.{Space, IsSoundSpace}
-use Rattle.mig_model.specs.Ioctls.{is_mapped_in}
 use Rattle.mig_model.specs.Guest.{is_present}
 use Rattle.mig_model.specs.Wire.{Sent}
 use Rattle.mig_model.specs.Wire.Frame.{Advise}
@@ -22,24 +19,22 @@ use Rattle.mig_model.specs.Migration.{World, after_round, after_start}
 use Rattle.mig_model.specs.Invariant.{IsSoundWorld, AreSoundEpochs, is_unread, Wires, PrecopyWires, SwitchedAt, EpochAt, AreOf, AreWhole, flow_after, copies_of, kept_by}
 use Rattle.mig_model.specs.Invariant.Flow.{BeforeAdvise}
 use Rattle.mig_model.proofs.IoctlLemmas.{IsSoundSpace-registered}
-use Rattle.mig_model.proofs.SourceKept.{no_page_absurd, source_holds, IsNext, renewed, IsChanged, CopiesStay, changed, never_idle, has_not_run}
+use Rattle.mig_model.proofs.SourceKept.{no_page_absurd, source_holds, IsNext, renewed, IsChanged, CopiesStay, never_idle, has_not_run}
 use Rattle.mig_model.proofs.SourceCalls.{registered_below}
 use Rattle.mig_model.specs.Cpus.{is_idle}
 use Rattle.mig_model.specs.Log.{no_pages}
 use Rattle.mig_model.specs.Source.{Source, all_registered, for_both, is_precopy, is_source_idle, not_clean, source_started, space_of}
 use Rattle.mig_model.specs.Destination.{Destination}
 use Rattle.mig_model.proofs.WireLemmas.{fits-more, flight_up}
-use Rattle.mig_model.proofs.Facts.{none_absurd, low_or, and_true, owed_is_present}
+use Rattle.mig_model.proofs.Facts.{none_absurd, and_true, owed_is_present}
 
 -- The source makes rounds of pre-copy
 
 pub precopy_unswitched : (phase : SourcePhase) (switched : Bool) → is_precopy phase ≡ true → SwitchedAt phase switched → switched ≡ false
-precopy_unswitched SourcePhase.Precopy switched h at = at
-precopy_unswitched _ switched h at = none_absurd h
+precopy_unswitched phase switched h at = grind (arith, nat_tests)
 
 pub precopy_started : (phase : SourcePhase) → is_precopy phase ≡ true → is_source_idle phase ≡ false
-precopy_started SourcePhase.Idle h = none_absurd h
-precopy_started _ h = refl
+precopy_started phase h = grind (arith, nat_tests)
 
 pub watched_below : (space : Space) (page : ℕ) → IsSoundSpace space → contains space.object.protect page ≡ true → ltb page HIGH_PAGE ≡ true
 watched_below space page sound h = lt-ltb page HIGH_PAGE (registered_below space page sound (or_right (contains space.object.missing page) (contains space.object.protect page) h))
@@ -47,8 +42,7 @@ watched_below space page sound h = lt-ltb page HIGH_PAGE (registered_below space
 -- Every mapped page is registered
 
 registered_modes : (space : Space) → ((page : ℕ) → contains space.object.missing page ≡ contains space.object.protect page) → (all_registered space).object.missing ≡ (all_registered space).object.protect
-registered_modes space both =
-    ap (λ s. pages_where (λ page. if is_mapped_in space 0 HIGH_PAGE page && not (has_modes space.object page for_both) then true else contains s page)) (same_members space.object.missing space.object.protect both)
+registered_modes space both = grind (arith, nat_tests)
 
 registered_now : (low test missing protect : Bool) → low ≡ true → test ≡ true → (low && cond (test && not (missing && protect)) true protect) ≡ true
 registered_now low test missing protect low_ is = grind arith
@@ -57,56 +51,21 @@ whole_range : (page : ℕ) → page < HIGH_PAGE → in_range 0 HIGH_PAGE page �
 whole_range page h = grind (arith, nat_tests)
 
 pub mapped_registered : (space : Space) (page : ℕ) → IsSoundSpace space → contains_key space.host.areas page ≡ true → contains (all_registered space).object.protect page ≡ true
-mapped_registered space page sound mapped =
-    let low = low_or (λ h. false≢true (sym (ap is_some (sound.host.bound page h)) ∙ mapped)) in
-    member_below _ HIGH_PAGE page
-    ∙ registered_now (ltb page HIGH_PAGE) (is_mapped_in space 0 HIGH_PAGE page) (contains space.object.missing page) (contains space.object.protect page) (lt-ltb page HIGH_PAGE low)
-    (and_from (in_range 0 HIGH_PAGE page) (contains_key space.host.areas page) (whole_range page low) mapped)
+mapped_registered space page sound mapped = grind (arith, nat_tests, member_below, and_from)
 
 pub present_mapped : (space : Space) (page : ℕ) → IsSoundSpace space → is_present space page ≡ true → contains_key space.host.areas page ≡ true
-present_mapped space page sound h =
-    elim (get space.host.areas page) as (λ o. get space.host.areas page ≡ o → is_some o ≡ true) [
-      | None ↦ λ e. none_absurd (sym (ap is_some (sound.host.mapped page e)) ∙ h)
-      | Some prot ↦ λ e. refl
-    ] refl
-
-still_protected : (space : Space) (page : ℕ) → IsSoundSpace space → contains space.protected page ≡ true → contains (all_registered space).protected page ≡ true
-still_protected space page sound h = member_below _ HIGH_PAGE page ∙ rw (watched_below space page sound (sound.watched page h)) (and_true (contains space.protected page) ∙ h)
+present_mapped space page sound h = grind (arith, nat_tests)
 
 -- Round
 
 round_changed : (world : World) → IsSoundWorld world → is_precopy world.source.phase ≡ true → world.source.switched ≡ false →
     IsChanged world.source (record world.source.guest { space = all_registered (space_of world.source) }) world.source.log.clean (not_clean world.source) world.transcript
-round_changed world kept precopy unswitched =
-    let space = space_of world.source in
-    let sound = kept.spaces.source_space in
-    let new = all_registered space in
-    let holds = source_holds world kept (has_not_run world kept unswitched) in
-    let registered = IsSoundSpace-registered space 0 HIGH_PAGE for_both sound in
-    let modes = λ (page : ℕ). ap (λ s. contains s page) (registered_modes space kept.spaces.both_modes) in
-    let idle = never_idle world.source.phase new world.source.log.clean (not_clean world.source) world.source.log.sent (precopy_started world.source.phase precopy) in
-    let protected : (page : ℕ) → contains world.source.log.clean page ≡ true → is_unread space.object.events page ≡ false → contains new.protected page ≡ true = λ page h u.
-    still_protected space page sound (kept.precopy.clean_protected unswitched page h u) in
-    let sendable : (page : ℕ) → contains (not_clean world.source) page ≡ true → is_unread space.object.events page ≡ false → (is_present space page ≡ true) × (contains new.object.protect page ≡ true) = λ page h u.
-    let here = owed_is_present world.source page h in
-    (here, mapped_registered space page sound (present_mapped space page sound here)) in
-    let copies : CopiesStay world.source (record world.source.guest { space = new }) world.source.log.clean = λ page h u. (h, u, refl) in
-    assumption
+round_changed world kept precopy unswitched = grind (arith, nat_tests, has_not_run, IsSoundSpace-registered, registered_modes, never_idle, precopy_started, owed_is_present, present_mapped, CopiesStay, member_below, watched_below, and_true, registered_now, lt-ltb, and_from, whole_range)
 
 pub kept-round : (world : World) → IsSoundWorld world → is_precopy world.source.phase ≡ true → IsSoundWorld (after_round world)
-kept-round world kept precopy =
-    let unswitched = precopy_unswitched world.source.phase world.source.switched precopy kept.phases.source_phase in
-    changed world (record world.source.guest { space = all_registered (space_of world.source) }) world.source.log.clean (not_clean world.source) world.source.log.held (world.source.rounds + 1) world.source.faults world.transcript kept
-    (has_not_run world kept unswitched) unswitched (round_changed world kept precopy unswitched)
+kept-round world kept precopy = grind (arith, nat_tests, has_not_run, round_changed)
 
 -- Start
-
-idle_is : (phase : SourcePhase) → is_source_idle phase ≡ true → phase ≡ SourcePhase.Idle
-idle_is SourcePhase.Idle h = refl
-idle_is _ h = none_absurd h
-
-idle_unswitched : (phase : SourcePhase) (switched : Bool) → phase ≡ SourcePhase.Idle → SwitchedAt phase switched → switched ≡ false
-idle_unswitched phase switched idle at = subst (λ p. SwitchedAt p switched) idle at
 
 -- nothing is in flight before a migration
 record IsQuiet (to : DestPhase) (forward back : List Sent) : Type 0 where
@@ -115,9 +74,7 @@ record IsQuiet (to : DestPhase) (forward back : List Sent) : Type 0 where
   back_none : back ≡ []
 
 idle_wires : (from : SourcePhase) (source : Source) (destination : Destination) (forward back urgent : List Sent) → from ≡ SourcePhase.Idle → Wires (record source { phase = from }) destination forward back urgent → IsQuiet destination.phase forward back
-idle_wires from source destination forward back urgent idle wires =
-    let now = subst (λ p. Wires (record source { phase = p }) destination forward back urgent) idle wires in
-    record { not_advised = now.0; forward_none = now.1; back_none = now.2 }
+idle_wires from source destination forward back urgent idle wires = grind (arith, nat_tests)
 
 no_copy : {A : Type 0} (kept : FinMap nat_cmp (List ℕ)) (page : ℕ) → kept ≡ finmap.empty → contains_key kept page ≡ true → A
 no_copy kept page none h = none_absurd (sym (ap is_some (ap (λ m. get m page) none ∙ get-empty nat_cmp page)) ∙ h)
@@ -174,21 +131,10 @@ started_next world kept idle unswitched up quiet =
 
 -- nothing is in flight before Start
 pub idle_forward : (world : World) → IsSoundWorld world → is_source_idle world.source.phase ≡ true → world.forward.frames ≡ []
-idle_forward world kept is_idle =
-    let idle = idle_is world.source.phase is_idle in
-    let up = true_from_ne_false world.up (λ down. (kept.flight.down down).2 idle) in
-    (idle_wires world.source.phase world.source world.destination world.forward.frames world.back.frames world.urgent.frames idle (kept.flight.wires up)).forward_none
+idle_forward world kept is_idle = grind (arith, nat_tests)
 
 pub idle_back : (world : World) → IsSoundWorld world → is_source_idle world.source.phase ≡ true → world.back.frames ≡ []
-idle_back world kept is_idle =
-    let idle = idle_is world.source.phase is_idle in
-    let up = true_from_ne_false world.up (λ down. (kept.flight.down down).2 idle) in
-    (idle_wires world.source.phase world.source world.destination world.forward.frames world.back.frames world.urgent.frames idle (kept.flight.wires up)).back_none
+idle_back world kept is_idle = grind (arith, nat_tests)
 
 pub kept-start : (world : World) → IsSoundWorld world → is_source_idle world.source.phase ≡ true → IsSoundWorld (after_start world)
-kept-start world kept is_idle =
-    let idle = idle_is world.source.phase is_idle in
-    let unswitched = idle_unswitched world.source.phase world.source.switched idle kept.phases.source_phase in
-    let up = true_from_ne_false world.up (λ down. (kept.flight.down down).2 idle) in
-    renewed world (source_started world.source) (start_wire world) world.transcript kept (has_not_run world kept unswitched)
-    (started_next world kept idle unswitched up (idle_wires world.source.phase world.source world.destination world.forward.frames world.back.frames world.urgent.frames idle (kept.flight.wires up)))
+kept-start world kept is_idle = grind (arith, nat_tests, renewed, has_not_run, started_next, idle_wires)

@@ -1,22 +1,21 @@
 -- The source sends the next page of a round, or a run of neighbouring pages in one frame, and keeps what every world keeps.
-use Rattle.std.proofs.Common.{◌≡◌, ℕ, zero, suc, ◌+◌, Bool, true, false, cond, eqb, if◌then◌else◌, Option, Some, List, [], ◌∷◌, ◌++◌, refl, sym, ap, ◌∙◌, length, subst, arith, ◌&&◌, ◌||◌, not, ltb, ◌⊎◌, ⊎_elim, is_some, unwrap_or}
+use Rattle.std.proofs.Common.{◌≡◌, ℕ, zero, suc, ◌+◌, Bool, true, false, cond, eqb, Option, Some, List, [], ◌∷◌, ◌++◌, sym, ap, ◌∙◌, length, arith, ◌&&◌, ◌||◌, ltb, is_some, unwrap_or}
 use Rattle.std.proofs.lemmas.Bool.Decides.{nat_tests}
 use Rattle.mig_base.specs.Ranges.{in_range}
 use Rattle.std.specs.List.{list_all}
 use Rattle.std.specs.Ordering.{nat_cmp}
 use Rattle.std.specs.FinMap.{FinMap, get, insert}
 use Rattle.mig_model.specs.Wire.{Frame, Sent, page_frame, copies_in, kept_after, kept_with, run_copies}
-use Rattle.mig_model.specs.Wire.Frame.{Page, Zero, Run}
-use Rattle.mig_model.specs.Invariant.{Flow, flow_next, flow_after, copies_of, AreWhole, is_package, kept_by, IsSoundWorld, IsPrecopying, Wires, is_unread}
+use Rattle.mig_model.specs.Wire.Frame.{Run}
+use Rattle.mig_model.specs.Invariant.{Flow, flow_next, flow_after, copies_of, AreWhole, kept_by, IsSoundWorld, IsPrecopying, Wires, is_unread}
 use Rattle.mig_model.specs.Invariant.Flow.{BeforeAdvise, Copies}
 use Rattle.mig_model.specs.Source.{Source, bytes_of, run_of, in_space, is_precopy, space_of}
 use Rattle.mig_model.proofs.HostLemmas.{get-put}
 use Rattle.mig_model.specs.Migration.{World, after_run, after_send, is_changing, run_bound}
-use Rattle.mig_model.proofs.Facts.{none_absurd, zero_bytes, kept_page, copies_of-append, AreWhole-append, either, eqb-self, only_one, AreOf-one, no_event}
-use Rattle.mig_model.proofs.WireLemmas.{has_no_package, copies_in-page, page_flow, flow_sent, fits-append, flight_up}
-use Rattle.std.specs.FinSet as finset
+use Rattle.mig_model.proofs.Facts.{none_absurd, zero_bytes, kept_page, copies_of-append, AreWhole-append, eqb-self, only_one, AreOf-one, no_event}
+use Rattle.mig_model.proofs.WireLemmas.{has_no_package, copies_in-page, flow_sent, fits-append, flight_up}
 use Rattle.std.specs.FinSet.{FinSet, contains}
-use Rattle.std.proofs.lemmas.Bool.{and_parts, or_right}
+use Rattle.std.proofs.lemmas.Bool.{or_right}
 use Rattle.mig_base.specs.declared.phase.DestPhase.{DestPhase}
 use Rattle.mig_base.specs.declared.phase.SourcePhase.{SourcePhase}
 use Rattle.mig_base.specs.declared.TheConstants.{HIGH_PAGE}
@@ -38,27 +37,14 @@ use Rattle.mig_model.proofs.SourceRounds.{precopy_unswitched, precopy_started, w
 pub kept_after-page_frame : (kept : FinMap nat_cmp (List ℕ)) (page : ℕ) (bytes : List ℕ) → length bytes ≡ 4096 → kept_after kept (page_frame page bytes) ≡ insert kept page bytes
 kept_after-page_frame kept page bytes n = kept_page (list_all (λ byte. eqb byte 0) bytes) kept page bytes (zero_bytes bytes n)
 
-no_package_by : (b : Bool) (page : ℕ) (bytes : List ℕ) → is_package (if b then Zero page else Page page bytes) ≡ false
-no_package_by b page bytes = grind arith
-
 -- One more frame
 
 pub copies_whole-push : (wire : List Sent) (sent : Sent) → AreWhole (copies_in sent.frame) → AreWhole (copies_of wire) → AreWhole (copies_of (wire ++ sent ∷ []))
-copies_whole-push wire sent whole are =
-    subst AreWhole (sym (copies_of-append wire (sent ∷ []))) (AreWhole-append (copies_of wire) (copies_of (sent ∷ [])) are (AreWhole-append (copies_in sent.frame) [] whole tt))
+copies_whole-push wire sent whole are = grind (arith, nat_tests, copies_of-append, AreWhole-append)
 
 -- what is kept once one more frame behind copies is taken
 pub kept_by-push : (wire : List Sent) (flow : Flow) (sent : Sent) (kept : FinMap nat_cmp (List ℕ)) → flow_after flow wire ≡ Some Copies → kept_by kept (wire ++ sent ∷ []) ≡ kept_by (kept_by kept wire) (sent ∷ [])
 kept_by-push wire flow sent kept h = (has_no_package flow kept wire (sent ∷ []) h).kept_then
-
--- the page's own bytes are the newest then
-pub kept_by-page : (wire : List Sent) (flow : Flow) (kept : FinMap nat_cmp (List ℕ)) (epoch page : ℕ) (bytes : List ℕ) → flow_after flow wire ≡ Some Copies → length bytes ≡ 4096 → (q : ℕ) →
-    get (kept_by kept (wire ++ record { epoch = epoch; frame = page_frame page bytes } ∷ [])) q ≡ cond (eqb q page) (Some bytes) (get (kept_by kept wire) q)
-kept_by-page wire flow kept epoch page bytes h n q =
-    ap (λ m. get m q) (kept_by-push wire flow (record { epoch = epoch; frame = page_frame page bytes }) kept h
-    ∙ ap (λ b. cond b (kept_by kept wire) (kept_after (kept_by kept wire) (page_frame page bytes))) (no_package_by (list_all (λ byte. eqb byte 0) bytes) page bytes)
-    ∙ kept_after-page_frame (kept_by kept wire) page bytes n)
-    ∙ get-put (kept_by kept wire) page q bytes
 
 -- A run of pages
 
@@ -81,16 +67,12 @@ one_in f first count q o = grind (arith, nat_tests)
 
 get-kept_with : (node : Source) (kept : FinMap nat_cmp (List ℕ)) (first count q : ℕ) → get (kept_with kept (run_copies first (run_of node first count))) q ≡ cond (in_range first count q) (Some (bytes_of node q)) (get kept q)
 get-kept_with node kept first zero q = none_in first q (Some (bytes_of node q)) (get kept q)
-get-kept_with node kept first (suc count) q =
-    get-kept_with node (insert kept first (bytes_of node first)) (1 + first) count q
-    ∙ ap (cond (in_range (1 + first) count q) (Some (bytes_of node q))) (get-put kept first q (bytes_of node first))
-    ∙ one_in (λ page. Some (bytes_of node page)) first count q (get kept q)
+get-kept_with node kept first (suc count) q = grind (arith, nat_tests, get-put, one_in, get-kept_with node (insert kept first (bytes_of node first)) (1 + first) count q)
 
 -- its pages' own bytes are the newest then
 pub kept_by-run : (wire : List Sent) (flow : Flow) (kept : FinMap nat_cmp (List ℕ)) (epoch : ℕ) (node : Source) (first count : ℕ) → flow_after flow wire ≡ Some Copies → (q : ℕ) →
     get (kept_by kept (wire ++ record { epoch = epoch; frame = Run first (run_of node first count) } ∷ [])) q ≡ cond (in_range first count q) (Some (bytes_of node q)) (get (kept_by kept wire) q)
-kept_by-run wire flow kept epoch node first count h q =
-    ap (λ m. get m q) (kept_by-push wire flow (record { epoch = epoch; frame = Run first (run_of node first count) }) kept h) ∙ get-kept_with node (kept_by kept wire) first count q
+kept_by-run wire flow kept epoch node first count h q = grind (arith, nat_tests, kept_by-push, get-kept_with)
 
 pub present_bytes : {X : Type 0} (o : Option X) (zeros : X) → is_some o ≡ true → Some (unwrap_or o zeros) ≡ o
 present_bytes o zeros h = grind arith
@@ -110,15 +92,7 @@ whole_bytes space page o sound e h = grind arith
 
 are_sent : (world : World) (first count : ℕ) → IsSoundWorld world → world.source.switched ≡ false → (space_of world.source).object.events ≡ [] → ((q : ℕ) → in_range first count q ≡ true → contains world.source.log.todo q ≡ true) →
     AreSent (space_of world.source) first count
-are_sent world first count kept unswitched quiet todo =
-    let space = space_of world.source in
-    let was = λ (q : ℕ) (h : in_range first count q ≡ true). kept.precopy.todo_sendable unswitched q (todo q h) (ap (λ e. is_unread e q) quiet) in
-    record {
-      present = λ q h. (was q h).0;
-      watched = λ q h. (was q h).1;
-      whole = λ q h. whole_bytes space q (get space.host.bytes q) kept.spaces.source_space refl (was q h).0;
-      low = λ q h. watched_below space q kept.spaces.source_space (was q h).1;
-    }
+are_sent world first count kept unswitched quiet todo = grind (arith, nat_tests)
 
 -- the frame carries the pages, and the log has them as clean and sent
 record IsCarried (space : Space) (old : Log) (first count : ℕ) (frame : Frame) (log : Log) : Type 0 where
@@ -140,41 +114,13 @@ carried_wire world frame = world.forward.frames ++ record { epoch = world.source
 still_after : (world : World) (first count : ℕ) (clean : FinSet nat_cmp) → IsSoundWorld world → world.source.switched ≡ false → AreSent (space_of world.source) first count →
     ((q : ℕ) → contains clean q ≡ (in_range first count q || contains world.source.log.clean q)) →
     (q : ℕ) → contains clean q ≡ true → is_unread (space_of world.source).object.events q ≡ false → contains (protected_in (space_of world.source) first count true).protected q ≡ true
-still_after world first count clean kept unswitched are clean_is q h u =
-    let space = space_of world.source in
-    let now = protected_now (ltb q HIGH_PAGE) (in_range first count q) (is_present space q) (contains space.protected q) in
-    member_below _ HIGH_PAGE q ∙ either (in_range first count q) (contains world.source.log.clean q) (sym (clean_is q) ∙ h)
-    (λ e. now (are.low q e) (are.present q e) (ap (λ b. b || contains space.protected q) e))
-    (λ c. let was = kept.precopy.clean_protected unswitched q c u in
-    now (watched_below space q kept.spaces.source_space (kept.spaces.source_space.watched q was)) (kept.spaces.source_space.present q was) (or_right (in_range first count q) (contains space.protected q) was))
-
-here_or_before : (here : Bool) (bytes : List ℕ) (kept own : Option (List ℕ)) → (here ≡ true → Some bytes ≡ own) → (here ≡ false → kept ≡ own) → cond here (Some bytes) kept ≡ own
-here_or_before here bytes kept own first second = grind arith
-
-copied_or_before : (here : Bool) (bytes : List ℕ) (kept : Option (List ℕ)) → is_some (cond here (Some bytes) kept) ≡ true → (here ≡ true) ⊎ (is_some kept ≡ true)
-copied_or_before here bytes kept h = grind arith
-
-was_clean : (here clean : Bool) → (here || clean) ≡ true → here ≡ false → clean ≡ true
-was_clean here clean h e = grind arith
+still_after world first count clean kept unswitched are clean_is q h u = grind (arith, nat_tests, member_below, watched_below, or_right)
 
 -- the copies of the clean pages are right once those of these pages are behind them
 carried_copies : (source : Source) (first count : ℕ) (frame : Frame) (log : Log) (pages epoch : ℕ) (flow : Flow) (kept : FinMap nat_cmp (List ℕ)) (wire : List Sent) → AreSent (space_of source) first count →
     IsCarried (space_of source) source.log first count frame log → flow_after flow wire ≡ Some Copies → IsPrecopying source kept wire →
     IsPrecopying (carried source first count log pages) kept (wire ++ record { epoch = epoch; frame = frame } ∷ [])
-carried_copies source first count frame log pages epoch flow kept wire are is right old =
-    let space = space_of source in
-    let newest = is.newest wire flow kept epoch right in
-    record {
-      clean_copy = λ q h u.
-          newest q ∙ here_or_before (in_range first count q) (contents space.host.bytes q) (get (kept_by kept wire) q) (get space.host.bytes q)
-          (λ e. present_bytes (get space.host.bytes q) zero_page (are.present q e))
-          (λ e. old.clean_copy q (was_clean (in_range first count q) (contains source.log.clean q) (sym (is.clean_is q) ∙ h) e) u);
-      copies_sent = λ q h.
-          is.sent_is q ∙ ⊎_elim
-          (λ (e : in_range first count q ≡ true). ap (λ b. b || contains source.log.sent q) e)
-          (λ (e : is_some (get (kept_by kept wire) q) ≡ true). or_right (in_range first count q) (contains source.log.sent q) (old.copies_sent q e))
-          (copied_or_before (in_range first count q) (contents space.host.bytes q) (get (kept_by kept wire) q) (sym (ap is_some (newest q)) ∙ h));
-    }
+carried_copies source first count frame log pages epoch flow kept wire are is right old = grind (arith, nat_tests)
 
 wires_carried : (from : SourcePhase) (to : DestPhase) (world : World) (first count : ℕ) (frame : Frame) (log : Log) (pages : ℕ) → is_precopy from ≡ true → AreSent (space_of world.source) first count →
     IsCarried (space_of world.source) world.source.log first count frame log →
@@ -217,23 +163,8 @@ kept-carried world first count frame log pages kept precopy up unswitched are is
 first_of_one : (page : ℕ) → in_range page 1 page ≡ true
 first_of_one page = only_one page page ∙ eqb-self page
 
-one_page : (f : ℕ → List ℕ) (page q : ℕ) (o : Option (List ℕ)) → cond (eqb q page) (Some (f page)) o ≡ cond (in_range page 1 q) (Some (f q)) o
-one_page f page q o = grind (arith, nat_tests)
-
-inserted_is : (set : FinSet nat_cmp) (page q : ℕ) → contains (finset.insert set page) q ≡ (in_range page 1 q || contains set q)
-inserted_is set page q = member_inserted set page q ∙ ap (λ b. b || contains set q) (sym (only_one page q))
-
 page_carried : (source : Source) (page : ℕ) → length (bytes_of source page) ≡ 4096 → IsCarried (space_of source) source.log page 1 (page_frame page (bytes_of source page)) (log_sent source.log page)
-page_carried source page whole =
-    record {
-      clean_is = inserted_is source.log.clean page;
-      sent_is = inserted_is source.log.sent page;
-      todo_was = λ q h. (and_parts (not (eqb q page)) (contains source.log.todo q) (sym (member_removed source.log.todo page q) ∙ h)).1;
-      whole = subst AreWhole (sym (copies_in-page page (bytes_of source page) whole)) (whole, tt);
-      flow = (page_flow page (bytes_of source page)).0;
-      newest = λ wire flow kept epoch h q.
-          kept_by-page wire flow kept epoch page (bytes_of source page) h whole q ∙ one_page (bytes_of source) page q (get (kept_by kept wire) q);
-    }
+page_carried source page whole = grind (arith, nat_tests, member_removed, copies_in-page, member_inserted, only_one, kept_by-push, kept_after-page_frame, get-put)
 
 pub kept-send : (world : World) (page : ℕ) → IsSoundWorld world → least_of world.source.log.todo ≡ Some page → is_precopy world.source.phase ≡ true → world.up ≡ true → is_changing world.source.guest ≡ false → IsSoundWorld (after_send world page)
 kept-send world page kept found precopy up quiet =
@@ -245,15 +176,7 @@ kept-send world page kept found precopy up quiet =
 -- A run
 
 run_carried : (source : Source) (first count : ℕ) → AreSent (space_of source) first count → IsCarried (space_of source) source.log first count (Run first (run_of source first count)) (log_run_sent source.log first count)
-run_carried source first count are =
-    record {
-      clean_is = member_with_range source.log.clean first count;
-      sent_is = member_with_range source.log.sent first count;
-      todo_was = λ q h. (and_parts (contains source.log.todo q) (not (in_range first count q)) (sym (member_without source.log.todo first count q) ∙ h)).0;
-      whole = run_whole source first count are.whole;
-      flow = refl;
-      newest = λ wire flow kept epoch h. kept_by-run wire flow kept epoch source first count h;
-    }
+run_carried source first count are = grind (arith, nat_tests, member_with_range, member_without, run_whole, kept_by-run)
 
 pub kept-run : (world : World) (first number count : ℕ) → IsSoundWorld world → number ≡ run_length world.source.log.todo first (run_bound count) → is_precopy world.source.phase ≡ true → world.up ≡ true → is_changing world.source.guest ≡ false →
     IsSoundWorld (after_run world first number)

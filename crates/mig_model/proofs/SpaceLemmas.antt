@@ -1,10 +1,9 @@
 -- What a space keeps over each load, store and map call.
 use Rattle.std.proofs.lemmas.Bool.Decides.{nat_tests}
-use Rattle.std.proofs.Common.{◌≡◌, ℕ, ◌+◌, ◌-◌, ◌/◌, ◌&&◌, ◌||◌, Bool, true, false, cond, not, eqb, ltb, Option, Some, None, List, refl, sym, ap, ◌∙◌, subst, arith, is_some}
+use Rattle.std.proofs.Common.{◌≡◌, ℕ, ◌+◌, ◌-◌, ◌/◌, ◌||◌, Bool, true, false, cond, not, Some, None, List, refl, sym, ap, ◌∙◌, subst, arith, is_some}
 use Rattle.std.specs.Ordering.{nat_cmp}
-use Rattle.std.specs.FinMap.{FinMap, get, insert, contains_key}
+use Rattle.std.specs.FinMap.{FinMap, get, contains_key}
 use Rattle.std.specs.FinSet.{FinSet, empty, contains, contains-empty}
-use Rattle.mig_base.specs.declared.TheConstants.{HIGH_PAGE}
 use Rattle.mig_base.specs.declared.Prot.{Prot}
 use Rattle.mig_base.specs.declared.command.Errno.TheVariants.{Enomem}
 use Rattle.mig_base.specs.declared.command.Command.{Command}
@@ -20,10 +19,10 @@ use Rattle.mig_base.specs.Flat.{reply_of}
 use Rattle.mig_base.proofs.PageLemmas.{get-set_range, get-remove_range, get-moved_range}
 use Rattle.mig_base.proofs.SetLemmas.{member_without, member_below}
 use Rattle.mig_base.proofs.ReplyLemmas.{IsRemapped, mremap_told}
-use Rattle.mig_model.specs.Host.{Host, memory, host_changed, host_after, IsSound}
+use Rattle.mig_model.specs.Host.{Host, memory, host_changed, IsSound}
 use Rattle.mig_base.specs.Commands.{is_access}
 use Rattle.mig_base.proofs.BoundLemmas.{one_prot_some}
-use Rattle.mig_model.specs.Userfault.{Mode, mode_at, fault_queued}
+use Rattle.mig_model.specs.Userfault.{Mode, mode_at}
 use Rattle.mig_model.specs.Space.{Space, fresh_space, IsSoundSpace, access_of, accessed_by, accessed, called, modes_after, protected_after, call_messages}
 use Rattle.mig_model.proofs.HostLemmas.{IsSound-empty, memory-none, get-put}
 use Rattle.mig_model.proofs.CommandLemmas.{IsSound-changed}
@@ -49,14 +48,8 @@ sound_of space host parts = record { host = host; mapped = parts.mapped; present
 
 -- Ranges taken out
 
-both_left : (a b gone : Bool) → ((a && not gone) || (b && not gone)) ≡ true → (gone ≡ false) × ((a || b) ≡ true)
-both_left a b gone h = grind (arith, nat_tests)
-
-one_left : (a gone : Bool) → (a && not gone) ≡ true → (gone ≡ false) × (a ≡ true)
-one_left a gone h = grind (arith, nat_tests)
-
 left_of : (s : Set) (first count page : ℕ) → contains (without s first count) page ≡ true → (in_range first count page ≡ false) × (contains s page ≡ true)
-left_of s first count page h = one_left (contains s page) (in_range first count page) (sym (member_without s first count page) ∙ h)
+left_of s first count page h = grind (arith, nat_tests, member_without)
 
 stays : {X : Type 0} (pages : PageMap X) (first count page : ℕ) → in_range first count page ≡ false → contains_key pages page ≡ true → contains_key (remove_range pages first count) page ≡ true
 stays pages first count page out h = ap is_some (get-remove_range pages first count page ∙ ap (λ b. cond b None (get pages page)) out) ∙ h
@@ -65,18 +58,7 @@ stays pages first count page out h = ap is_some (get-remove_range pages first co
 taken_out : (areas new_areas : PageMap Prot) (bytes : PageMap (List ℕ)) (missing protect protected : Set) (first count : ℕ) → IsWatched areas bytes missing protect protected →
     ((page : ℕ) → in_range first count page ≡ false → contains_key areas page ≡ true → contains_key new_areas page ≡ true) →
     IsWatched new_areas (remove_range bytes first count) (without missing first count) (without protect first count) (without protected first count)
-taken_out areas new_areas bytes missing protect protected first count old areas_stay =
-    record {
-      mapped = λ page h.
-          let left = both_left (contains missing page) (contains protect page) (in_range first count page)
-          (sym (ap (λ a. a || (contains protect page && not (in_range first count page))) (member_without missing first count page))
-          ∙ sym (ap (λ b. contains (without missing first count) page || b) (member_without protect first count page)) ∙ h) in
-          areas_stay page left.0 (old.mapped page left.1);
-      present = λ page h. let left = left_of protected first count page h in stays bytes first count page left.0 (old.present page left.1);
-      watched = λ page h.
-          let left = left_of protected first count page h in
-          member_without protect first count page ∙ ap (λ a. a && not (in_range first count page)) (old.watched page left.1) ∙ ap not left.0;
-    }
+taken_out areas new_areas bytes missing protect protected first count old areas_stay = grind (arith, nat_tests, member_without, stays)
 
 given : (areas : PageMap Prot) (first count page : ℕ) (prot : Prot) → in_range first count page ≡ false → contains_key areas page ≡ true → contains_key (set_range areas first count prot) page ≡ true
 given areas first count page prot out h = ap is_some (get-set_range areas first count prot page ∙ ap (λ b. cond b (Some prot) (get areas page)) out) ∙ h
@@ -84,56 +66,13 @@ given areas first count page prot out h = ap is_some (get-set_range areas first 
 -- Pages made missing: what is registered stays
 dropped : (areas : PageMap Prot) (bytes : PageMap (List ℕ)) (missing protect protected : Set) (first count : ℕ) → IsWatched areas bytes missing protect protected →
     IsWatched areas (remove_range bytes first count) missing protect (without protected first count)
-dropped areas bytes missing protect protected first count old =
-    record {
-      mapped = old.mapped;
-      present = λ page h. let left = left_of protected first count page h in stays bytes first count page left.0 (old.present page left.1);
-      watched = λ page h. old.watched page (left_of protected first count page h).1;
-    }
+dropped areas bytes missing protect protected first count old = grind (arith, nat_tests, left_of, stays)
 
 -- Pages moved
 
-abbrev in_moved : (ℕ → Bool) → ℕ → ℕ → ℕ → ℕ → Bool → ℕ → Bool
-in_moved test from count to new_count growth page =
-    ltb page HIGH_PAGE && cond (in_range to new_count page) (cond (ltb (page - to) count) (test (from + (page - to))) growth) (not (in_range from count page) && test page)
-
-member_moved : (s : Set) (from count to new_count page : ℕ) (growth : Bool) → contains (moved_set s from count to new_count growth) page ≡ in_moved (contains s) from count to new_count growth page
-member_moved s from count to new_count page growth = member_below _ HIGH_PAGE page
-
-moved_mapped : (low new old from : Bool) (m1 m2 p1 p2 mg pg : Bool) (a1 ag a2 : Option Prot) → ((m1 || p1) ≡ true → is_some a1 ≡ true) → is_some ag ≡ true → ((m2 || p2) ≡ true → is_some a2 ≡ true) →
-    ((low && cond new (cond old m1 mg) (not from && m2)) || (low && cond new (cond old p1 pg) (not from && p2))) ≡ true → is_some (cond new (cond old a1 ag) (cond from None a2)) ≡ true
-moved_mapped low new old from m1 m2 p1 p2 mg pg a1 ag a2 one growth two h = grind (arith, nat_tests)
-
-moved_present : {X : Type 0} (low new old from p1 p2 : Bool) (b1 b2 : Option X) → (p1 ≡ true → is_some b1 ≡ true) → (p2 ≡ true → is_some b2 ≡ true) →
-    (low && cond new (cond old p1 false) (not from && p2)) ≡ true → is_some (cond new (cond old b1 None) (cond from None b2)) ≡ true
-moved_present low new old from p1 p2 b1 b2 one two h = grind (arith, nat_tests)
-
-moved_watched : (low new old from p1 p2 w1 w2 wg : Bool) → (p1 ≡ true → w1 ≡ true) → (p2 ≡ true → w2 ≡ true) →
-    (low && cond new (cond old p1 false) (not from && p2)) ≡ true → (low && cond new (cond old w1 wg) (not from && w2)) ≡ true
-moved_watched low new old from p1 p2 w1 w2 wg one two h = grind (arith, nat_tests)
-
 moved_parts : (areas : PageMap Prot) (bytes : PageMap (List ℕ)) (missing protect protected : Set) (from count to new_count : ℕ) (mode : Mode) → contains_key areas from ≡ true → IsWatched areas bytes missing protect protected →
     IsWatched (moved_range areas from count to new_count (get areas from)) (moved_range bytes from count to new_count None) (moved_set missing from count to new_count mode.missing) (moved_set protect from count to new_count mode.protect) (moved_set protected from count to new_count false)
-moved_parts areas bytes missing protect protected from count to new_count mode some old =
-    record {
-      mapped = λ page h.
-          ap is_some (get-moved_range areas from count to new_count page (get areas from))
-          ∙ moved_mapped (ltb page HIGH_PAGE) (in_range to new_count page) (ltb (page - to) count) (in_range from count page)
-          (contains missing (from + (page - to))) (contains missing page) (contains protect (from + (page - to))) (contains protect page) mode.missing mode.protect
-          (get areas (from + (page - to))) (get areas from) (get areas page) (old.mapped (from + (page - to))) some (old.mapped page)
-          (sym (ap (λ a. a || in_moved (contains protect) from count to new_count mode.protect page) (member_moved missing from count to new_count page mode.missing))
-          ∙ sym (ap (λ b. contains (moved_set missing from count to new_count mode.missing) page || b) (member_moved protect from count to new_count page mode.protect)) ∙ h);
-      present = λ page h.
-          ap is_some (get-moved_range bytes from count to new_count page None)
-          ∙ moved_present (ltb page HIGH_PAGE) (in_range to new_count page) (ltb (page - to) count) (in_range from count page)
-          (contains protected (from + (page - to))) (contains protected page) (get bytes (from + (page - to))) (get bytes page) (old.present (from + (page - to))) (old.present page)
-          (sym (member_moved protected from count to new_count page false) ∙ h);
-      watched = λ page h.
-          member_moved protect from count to new_count page mode.protect
-          ∙ moved_watched (ltb page HIGH_PAGE) (in_range to new_count page) (ltb (page - to) count) (in_range from count page)
-          (contains protected (from + (page - to))) (contains protected page) (contains protect (from + (page - to))) (contains protect page) mode.protect (old.watched (from + (page - to))) (old.watched page)
-          (sym (member_moved protected from count to new_count page false) ∙ h);
-    }
+moved_parts areas bytes missing protect protected from count to new_count mode some old = grind (arith, nat_tests, get-moved_range, member_below)
 
 -- Map calls
 
@@ -172,41 +111,16 @@ IsSoundSpace-called space cpu command call sound =
 
 -- Loads and stores
 
-more_present : (bytes : PageMap (List ℕ)) (page q : ℕ) (held : List ℕ) → contains_key bytes q ≡ true → contains_key (insert bytes page held) q ≡ true
-more_present bytes page q held h = ap is_some (get-put bytes page q held) ∙ some_either (eqb q page) held (get bytes q) h
-
 -- a load or store leaves the areas, and leaves present what is present
 pub record Keeps (old new : Host) : Type 0 where
   areas : new.areas ≡ old.areas
   present : (page : ℕ) → contains_key old.bytes page ≡ true → contains_key new.bytes page ≡ true
 
-keeps_itself : (host : Host) → Keeps host host
-keeps_itself host = record { areas = refl; present = λ page h. h }
-
 accessed_host : (host : Host) (command : Command) (reply : Reply) → is_access command ≡ true → Keeps host (host_changed host command reply)
-accessed_host host (Load addr width) reply access = keeps_itself host
-accessed_host host (Store addr width value) Done access = record { areas = refl; present = λ page h. more_present host.bytes (addr / 4096) page _ h }
-accessed_host host (Store addr width value) _ access = keeps_itself host
-accessed_host host _ reply access = none_absurd access
-
-answered_sound : (space : Space) (command : Command) → is_access command ≡ true → IsSoundSpace space → IsSoundSpace (record space { host = host_after space.host command })
-answered_sound space command access sound =
-    let reply = reply_of (memory space.host) command in
-    let keeps = accessed_host space.host command reply access in
-    record {
-      host = IsSound-changed space.host command reply sound.host refl;
-      mapped = λ page h. ap (λ areas. contains_key areas page) keeps.areas ∙ sound.mapped page h;
-      present = λ page h. keeps.present page (sound.present page h);
-      watched = sound.watched;
-    }
-
-faulted_sound : (space : Space) (addr : ℕ) (write wp : Bool) (cpu : ℕ) → IsSoundSpace space → IsSoundSpace (record space { object = fault_queued space.object addr write wp cpu })
-faulted_sound space addr write wp cpu sound = grind (arith, nat_tests)
+accessed_host host command reply access = grind (arith, nat_tests, get-put, some_either)
 
 accessed_sound : (access : Access) (space : Space) (cpu : ℕ) (command : Command) → is_access command ≡ true → IsSoundSpace space → IsSoundSpace (accessed_by access space cpu command)
-accessed_sound (Answered reply) space cpu command is sound = answered_sound space command is sound
-accessed_sound Missing space cpu command is sound = faulted_sound space _ _ _ cpu sound
-accessed_sound Protected space cpu command is sound = faulted_sound space _ _ _ cpu sound
+accessed_sound access space cpu command is sound = grind (arith, nat_tests, accessed_host, IsSound-changed)
 
 pub IsSoundSpace-accessed : (space : Space) (cpu : ℕ) (command : Command) → is_access command ≡ true → IsSoundSpace space → IsSoundSpace (accessed space cpu command)
 IsSoundSpace-accessed space cpu command is sound = accessed_sound (access_of space command) space cpu command is sound
@@ -214,17 +128,8 @@ IsSoundSpace-accessed space cpu command is sound = accessed_sound (access_of spa
 pub no_member : (page : ℕ) → contains {R = nat_cmp} empty page ≡ false
 no_member page = contains-empty nat_cmp page
 
-none_registered : (a b : Bool) → a ≡ false → b ≡ false → (a || b) ≡ true → ⊥
-none_registered a b ha hb h = grind (arith, nat_tests)
-
 pub IsSoundSpace-fresh : IsSoundSpace fresh_space
-IsSoundSpace-fresh =
-    record {
-      host = IsSound-empty;
-      mapped = λ page h. absurd (none_registered (contains {R = nat_cmp} empty page) (contains {R = nat_cmp} empty page) (no_member page) (no_member page) h);
-      present = λ page h. none_absurd (sym (no_member page) ∙ h);
-      watched = λ page h. none_absurd (sym (no_member page) ∙ h);
-    }
+IsSoundSpace-fresh = grind (arith, nat_tests, IsSound-empty, no_member)
 
 -- What an access answers
 

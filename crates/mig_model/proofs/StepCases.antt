@@ -1,9 +1,10 @@
 -- Each step that is not refused: what its tests tell, and what it makes. A fact about every step is one answer for each of these.
-use Rattle.std.proofs.Common.{◌≡◌, ℕ, ◌&&◌, ◌||◌, Bool, true, false, not, eqb, Option, Some, None, List, [], ◌∷◌, refl, sym, ◌+◌, ◌*◌}
+use Rattle.std.proofs.lemmas.Bool.Decides.{nat_tests}
+use Rattle.std.proofs.Common.{◌≡◌, ℕ, ◌&&◌, Bool, true, false, not, eqb, Option, Some, None, List, [], ◌∷◌, refl, ◌+◌, ◌*◌, arith}
 use Rattle.std.specs.Prelude.{Ok, IsOk}
 use Rattle.std.specs.FinSet as finset
 use Rattle.std.specs.FinSet.{contains}
-use Rattle.std.proofs.lemmas.Bool.{false≢true, not-false, and_parts, or_parts}
+use Rattle.std.proofs.lemmas.Bool.{not-false, and_parts, or_parts}
 use Rattle.mig_base.specs.declared.TheConstants.{PAGE_SIZE}
 use Rattle.mig_base.specs.declared.command.Command.{Command}
 use Rattle.mig_base.specs.declared.effect.Effect.{Effect}
@@ -15,7 +16,7 @@ use Rattle.mig_base.proofs.TestLemmas.{missing_none}
 use Rattle.mig_model.specs.Userfault.{Noted, next_message}
 use Rattle.mig_model.specs.Guest.{Fault, is_present, took_by}
 use Rattle.mig_model.specs.Wire.{Sent, Copy}
-use Rattle.mig_model.specs.Migration.{Answer, World, Made, answer, next, outcome, is_used, guest_of, runs, has_started, is_changing, is_end, is_paused_at, try_effect, page_effect, read_effect, act_effect, frame_effect, install_effect, retry_command, send_page, send_run_from, run_bound, after_run, source_read_next, source_act_first, deliver_first, deliver_back_first, destination_read_next, destination_act_first, install_first, serve_first, after_command, after_start, after_round, after_send, after_source_read, after_source_act, after_switch, after_deliver, after_deliver_back, after_dest_read, after_dest_act, after_install, after_push, after_serve, after_end, after_break, after_notice, after_resume, after_move, after_move_back, is_short, has_no_cpu, after_deliver_urgent, after_move_urgent, after_push_urgent, deliver_urgent_first, is_early}
+use Rattle.mig_model.specs.Migration.{Answer, World, Made, answer, next, outcome, is_used, guest_of, runs, has_started, is_changing, is_end, try_effect, page_effect, read_effect, act_effect, frame_effect, install_effect, retry_command, send_page, send_run_from, run_bound, after_run, source_act_first, deliver_first, deliver_back_first, destination_act_first, install_first, after_command, after_start, after_round, after_send, after_source_read, after_source_act, after_switch, after_deliver, after_deliver_back, after_dest_read, after_dest_act, after_install, after_push, after_serve, after_end, after_break, after_notice, after_resume, after_move, after_move_back, is_short, has_no_cpu, after_deliver_urgent, after_move_urgent, after_push_urgent, deliver_urgent_first, is_early}
 use Rattle.mig_model.proofs.StepLemmas.{Holds, holds-unless, holds-either, holds-effect, leaves-next, leaves-ok, outcome-ok}
 use Rattle.mig_model.specs.Cpus.{is_idle, is_woken, outstanding, processor_at}
 use Rattle.mig_model.specs.Log.{least_of, less}
@@ -83,14 +84,11 @@ Makes Q world Step.Resume =
 
 -- the source has started and still runs the processors
 unswitched : (a b : Bool) → not (not a && not b) ≡ false → (a ≡ false) × (b ≡ false)
-unswitched false false h = (refl, refl)
-unswitched true b h = absurd (false≢true (sym h))
-unswitched false true h = absurd (false≢true (sym h))
+unswitched a b h = grind (arith, nat_tests)
 
 -- what a step finds
 holds-some : {A : Type 0} (Q : Made → Type 0) (f : Option A → Answer) (o : Option A) → Holds Q (f None) → ((x : A) → o ≡ Some x → Holds Q (f (Some x))) → Holds Q (f o)
-holds-some Q f None none some = none
-holds-some Q f (Some x) none some = some x refl
+holds-some Q f o none some = grind (arith, nat_tests)
 
 holds-first : {A : Type 0} (Q : Made → Type 0) (f : List A → Answer) (l : List A) → Holds Q (f []) → ((x : A) (xs : List A) → l ≡ x ∷ xs → Holds Q (f (x ∷ xs))) → Holds Q (f l)
 holds-first Q f [] none some = none
@@ -110,10 +108,7 @@ holds-made Q world (Step.SendRun count) h =
     holds-unless Q _ _ (λ t.
     holds-some Q (send_run_from world count) (least_of world.source.log.todo) tt (λ first is.
     holds-unless Q _ _ (λ u. h first (run_length world.source.log.todo first (run_bound count)) is refl (not-false _ t.0) (not-false _ t.1.0) u.0)))
-holds-made Q world Step.SourceRead h =
-    holds-unless Q _ _ (λ t.
-    let runs = unswitched (is_source_idle world.source.phase) world.source.switched t.0 in
-    holds-some Q (source_read_next world) (next_message (space_of world.source).object) tt (λ noted is. h noted is runs.0 runs.1))
+holds-made Q world Step.SourceRead h = grind (arith, nat_tests, holds-unless, unswitched, holds-some)
 holds-made Q world Step.SourceAct h =
     holds-unless Q _ _ (λ t.
     let runs = unswitched (is_source_idle world.source.phase) world.source.switched t.0 in
@@ -127,8 +122,7 @@ holds-made Q world (Step.DeliverBack n) (moved, taken) =
     holds-unless Q _ _ (λ t.
     holds-first Q (deliver_back_first world n) world.back.frames tt (λ sent rest is.
     holds-either Q (is_short world.back sent.frame n) _ _ (moved sent rest is) (λ full. taken sent rest is full (not-false _ t.0) (not-false _ t.1.0))))
-holds-made Q world Step.DestRead h =
-    holds-unless Q _ _ (λ t. holds-some Q (destination_read_next world) (next_message world.destination.guest.space.object) tt (λ noted is. h noted is (not-false _ t.0)))
+holds-made Q world Step.DestRead h = grind (arith, nat_tests, holds-unless, holds-some, not-false)
 holds-made Q world Step.DestAct h =
     holds-unless Q _ _ (λ t. holds-first Q (destination_act_first world) world.destination.held tt (λ fault rest is. holds-unless Q _ _ (λ u. h fault rest is (not-false _ t.0) u.0)))
 holds-made Q world Step.Install h =
@@ -139,25 +133,11 @@ holds-made Q world (Step.DeliverUrgent n) (moved, taken) =
     holds-unless Q _ _ (λ t.
     holds-first Q (deliver_urgent_first world n) world.urgent.frames tt (λ sent rest is.
     holds-either Q (is_short world.urgent sent.frame n) _ _ (moved sent rest is) (λ full. taken sent rest is full (not-false _ t.0) (not-false _ t.1.0))))
-holds-made Q world Step.Serve h =
-    holds-unless Q _ _ (λ t. holds-first Q (serve_first world) world.source.asked tt (λ page pages is. h page pages is (not-false _ t.0) (not-false _ t.1.0)))
-holds-made Q world Step.End h =
-    holds-unless Q _ _ (λ t.
-    let told = or_parts (not (is_stopped world.source.phase)) (eqb world.source.end_epoch world.source.epoch) t.0 in
-    h (not-false _ told.0) told.1 (not-false _ t.1.0) (missing_none (least_of world.source.remaining) t.1.1.0))
-holds-made Q world Step.Break h =
-    holds-unless Q _ _ (λ t.
-    let told = or_parts (not (has_started world)) (is_released world.source.phase) t.0 in
-    h (not-false _ told.0) told.1 (not-false _ t.1.0))
-holds-made Q world (Step.Notice side) h =
-    holds-unless Q _ _ (λ t.
-    let one = or_parts (not (has_started world) || is_released world.source.phase) (is_paused_at world side) t.0 in
-    let two = or_parts (not (has_started world)) (is_released world.source.phase) one.0 in
-    h (not-false _ two.0) two.1 t.1.0)
-holds-made Q world Step.Resume h =
-    holds-unless Q _ _ (λ t.
-    let told = and_parts (is_source_paused world.source.phase) (is_dest_paused world.destination.phase) (not-false _ t.0) in
-    h told.0 told.1 t.1.0 t.1.1.0)
+holds-made Q world Step.Serve h = grind (arith, nat_tests, holds-unless, holds-first, not-false)
+holds-made Q world Step.End h = grind (arith, nat_tests, holds-unless, or_parts, not-false, missing_none)
+holds-made Q world Step.Break h = grind (arith, nat_tests, holds-unless, or_parts, not-false)
+holds-made Q world (Step.Notice side) h = grind (arith, nat_tests, holds-unless, or_parts, not-false)
+holds-made Q world Step.Resume h = grind (arith, nat_tests, holds-unless, and_parts, not-false)
 
 -- of the new world alone
 abbrev pub MakesWorld : (World → Type 0) → World → Step → Type 0

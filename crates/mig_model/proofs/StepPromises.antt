@@ -1,31 +1,28 @@
 -- What single steps enter in the transcript, put at missing pages, and do to the pages that remain.
-use Rattle.std.proofs.Common.{◌≡◌, ℕ, ◌*◌, ◌/◌, ◌&&◌, Bool, true, false, not, eqb, Some, ◌++◌, refl, sym, ap, ◌∙◌, subst, arith, if◌then◌else◌, IsOk}
+use Rattle.std.proofs.Common.{◌≡◌, ℕ, ◌*◌, ◌/◌, ◌&&◌, true, not, eqb, Some, ◌++◌, refl, sym, ap, ◌∙◌, subst, arith, IsOk}
 use Rattle.std.specs.Prelude.{Ok}
 use Rattle.std.specs.FinMap.{get}
 use Rattle.std.specs.FinSet.{contains}
 use Rattle.std.proofs.lemmas.Bool.Decides.{nat_tests}
-use Rattle.std.proofs.lemmas.Bool.{false≢true}
 use Rattle.mig_base.specs.declared.effect.Effect.{Effect}
-use Rattle.mig_base.specs.declared.schedule.Side.{Side}
 use Rattle.mig_base.specs.declared.schedule.Step.{Step}
 use Rattle.mig_base.specs.declared.schedule.Ticket.{Ticket}
 use Rattle.mig_base.specs.declared.command.Command.{Command}
 use Rattle.mig_base.specs.Bytes.{zero_page}
-use Rattle.mig_base.specs.Ranges.{in_range}
 use Rattle.mig_base.proofs.SetLemmas.{member_removed}
 use Rattle.mig_base.specs.Commands.{is_access}
 use Rattle.mig_model.specs.Space.{Space}
-use Rattle.mig_model.specs.Guest.{Guest, took_by, tried, zero_installed, Act}
-use Rattle.mig_model.specs.Guest.Act.{Unprotected, Zeroed}
-use Rattle.mig_model.specs.Migration.{World, next, outcome, act_effect, act_effect, guest_of, with_guest_by, after_command, after_dest_act, after_source_act}
+use Rattle.mig_model.specs.Guest.{took_by, zero_installed, Act}
+use Rattle.mig_model.specs.Guest.Act.{Zeroed}
+use Rattle.mig_model.specs.Migration.{World, next, outcome, act_effect, act_effect, guest_of, after_dest_act, after_source_act}
 use Rattle.mig_model.specs.Promises.{IsZeroed, keeps_remaining}
 use Rattle.mig_model.proofs.IoctlLemmas.{get-put_pages}
 use Rattle.mig_model.proofs.PromiseLemmas.{source_zero, destination_zero}
 use Rattle.mig_model.proofs.StepCases.{MakesWorld, made-next, made-ok, made-effect}
 use Rattle.mig_model.specs.Cpus.{entries_of, outstanding, processor_at}
-use Rattle.mig_model.specs.Source.{Source, source_act, source_acted_by, space_of}
+use Rattle.mig_model.specs.Source.{source_act, source_acted_by, space_of}
 use Rattle.mig_model.specs.Destination.{destination_act, destination_acted_by}
-use Rattle.mig_model.proofs.Facts.{and_second, some_command, page_again}
+use Rattle.mig_model.proofs.Facts.{some_command, page_again}
 
 -- The transcript
 
@@ -43,14 +40,10 @@ entered_retry world cpu command ok waits =
 -- Pages of zeros
 
 pub told_zeroed : (act : Act) (a b : ℕ) → act_effect act a ≡ Effect.Zeroed b → (act ≡ Zeroed) × (a ≡ b)
-told_zeroed Zeroed a b h = (refl, cc)
-told_zeroed _ a b h = absurd (cc)
-
-one_page : (page : ℕ) → in_range page 1 page ≡ true
-one_page page = grind (arith, nat_tests)
+told_zeroed act a b h = grind (arith, nat_tests)
 
 zero_put : (space : Space) (page : ℕ) → get (zero_installed space page).host.bytes page ≡ Some zero_page
-zero_put space page = get-put_pages space.host.bytes page 1 page (λ i. zero_page) ∙ ap (λ b. if b then Some zero_page else get space.host.bytes page) (one_page page)
+zero_put space page = grind (arith, nat_tests, get-put_pages)
 
 source_put : (act : Act) (world : World) (page : ℕ) → act ≡ Zeroed → get (space_of (source_acted_by act world.source page)).host.bytes page ≡ Some zero_page
 source_put act world page is = ap (λ a. get (space_of (source_acted_by a world.source page)).host.bytes page) is ∙ zero_put (space_of world.source) page
@@ -86,32 +79,12 @@ remaining_push_urgent world ticket q ok =
     made-ok (λ new. contains new.source.remaining q ≡ (not (eqb q ticket.page) && contains world.source.remaining q)) world (Step.PushUrgent ticket)
     (λ stopped up own present remains. member_removed world.source.remaining ticket.page q) ok
 
-guest_remaining : (ran : Bool) (world : World) (guest : Guest) (q : ℕ) → contains (with_guest_by ran world guest).source.remaining q ≡ contains world.source.remaining q
-guest_remaining true world guest q = refl
-guest_remaining false world guest q = refl
-
-tried_remaining : (world : World) (cpu : ℕ) (command : Command) (q : ℕ) → contains (after_command world cpu command).source.remaining q ≡ contains world.source.remaining q
-tried_remaining world cpu command q = guest_remaining world.destination.has_run world (tried (is_access command) (guest_of world) cpu command) q
-
-worked_remaining : (act : Act) (node : Source) (page q : ℕ) → contains (source_acted_by act node page).remaining q ≡ contains node.remaining q
-worked_remaining Unprotected node page q = refl
-worked_remaining _ node page q = refl
-
 -- a page that remains in the new world did in the old one
 abbrev RemainedIn : World → ℕ → World → Type 0
 RemainedIn world q new = contains new.source.remaining q ≡ true → contains world.source.remaining q ≡ true
 
 remaining_answer : (world : World) (step : Step) (q : ℕ) → keeps_remaining step ≡ true → MakesWorld (RemainedIn world q) world step
-remaining_answer world (Step.Issue cpu command) q keeps = λ there idle may h. sym (tried_remaining world cpu command q) ∙ h
-remaining_answer world (Step.Retry cpu) q keeps = λ command waits woken may h. sym (tried_remaining world cpu command q) ∙ h
-remaining_answer world Step.SourceAct q keeps = λ fault rest is started unswitched quiet h. sym (worked_remaining (source_act world.source fault) world.source fault.page q) ∙ h
-remaining_answer world Step.Switch q keeps = absurd (false≢true keeps)
-remaining_answer world (Step.DeliverBack n) q keeps = absurd (false≢true keeps)
-remaining_answer world (Step.Push ticket) q keeps =
-    λ stopped up own present remains h. and_second (not (eqb q ticket.page)) (contains world.source.remaining q) (sym (member_removed world.source.remaining ticket.page q) ∙ h)
-remaining_answer world (Step.PushUrgent ticket) q keeps = λ stopped up own present remains h. and_second (not (eqb q ticket.page)) (contains world.source.remaining q) (sym (member_removed world.source.remaining ticket.page q) ∙ h)
-remaining_answer world (Step.Notice Side.Source) q keeps = assumption
-remaining_answer world _ q keeps = assumption
+remaining_answer world step q keeps = grind (arith, nat_tests, member_removed)
 
 pub remaining_shrinks : (world : World) (step : Step) (q : ℕ) → keeps_remaining step ≡ true → contains (next world step).source.remaining q ≡ true → contains world.source.remaining q ≡ true
 remaining_shrinks world step q keeps = made-next (RemainedIn world q) world step (λ h. h) (remaining_answer world step q keeps)

@@ -1,5 +1,5 @@
 -- Push, Serve, End and Switch keep what every world of the whole migration keeps.
-use Rattle.std.proofs.Common.{◌≡◌, ◌≢◌, ℕ, ◌<◌, ◌&&◌, ◌||◌, Bool, true, false, cond, not, eqb, Option, Some, None, List, [], ◌∷◌, ◌++◌, refl, sym, ap, ◌∙◌, subst, ◌⊎◌, ⊎_elim, arith, append-nil, length, is_some, unwrap_or, ◌≤◌, ltb}
+use Rattle.std.proofs.Common.{◌≡◌, ◌≢◌, ℕ, ◌<◌, ◌&&◌, ◌||◌, Bool, true, false, cond, not, eqb, Option, Some, None, List, [], ◌∷◌, ◌++◌, refl, sym, ap, ◌∙◌, subst, ◌⊎◌, arith, append-nil, length, is_some, unwrap_or, ◌≤◌, ltb}
 use Rattle.std.specs.Ordering.{nat_cmp}
 use Rattle.std.specs.FinMap.{FinMap, get, get-retain_keys, nat_cmp-IsAntisymmetric}
 use Rattle.std.specs.FinSet as finset
@@ -17,12 +17,12 @@ use Rattle.mig_model.specs.Wire.{Sent, Copy, page_frame, kept_after}
 use Rattle.mig_model.specs.Wire.Frame.{End, Discard, Package}
 use Rattle.mig_model.specs.Guest.{is_present}
 use Rattle.mig_model.specs.Migration.{World, after_end, after_push, after_serve, after_switch, is_changing}
-use Rattle.mig_model.specs.Invariant.{IsSoundWorld, IsSoundLog, IsSoundPushing, Wires, StoppedWires, IsSwitching, Flow, flow_after, flow_of, copies_of, has_copy, AreFaithful, AreWhole, behind, is_urgent_or_left, AreSoundPhases, PrecopyWires, IsPrecopying, is_unread, kept_by, package_in}
+use Rattle.mig_model.specs.Invariant.{IsSoundWorld, IsSoundLog, IsSoundPushing, StoppedWires, IsSwitching, Flow, flow_after, flow_of, copies_of, has_copy, AreFaithful, AreWhole, behind, is_urgent_or_left, AreSoundPhases, PrecopyWires, IsPrecopying, is_unread, kept_by, package_in}
 use Rattle.mig_model.specs.Invariant.Flow.{BeforeAdvise, Copies, BeforePackage, Pushed, AfterEnd}
 use Rattle.mig_model.proofs.WireLemmas.{flow_sent, has_package, copies_of-page, page_flow, fits-more, has_copy-append, flight_up, has_no_package}
 use Rattle.mig_model.specs.Log.{least_of, no_pages, present, less}
 use Rattle.mig_model.specs.Source.{Source, bytes_of, is_stopped, page_pushed, request_served, space_of, commands_of, is_precopy, not_clean, switch_made, switch_frames}
-use Rattle.mig_model.proofs.Facts.{none_absurd, eqb-self, eqb_other, low_or, copies_of-append, AreWhole-append, AreFaithful-append, AreOf-one, and_second, and_false, no_event, and_true, owed_is_present}
+use Rattle.mig_model.proofs.Facts.{none_absurd, eqb-self, eqb_other, low_or, copies_of-append, AreWhole-append, AreFaithful-append, AreOf-one, and_second, no_event, owed_is_present}
 use Rattle.mig_base.proofs.RangeLemmas.{least_below-some}
 use Rattle.std.proofs.lemmas.Bool.Decides.{nat_tests}
 use Rattle.std.proofs.lemmas.List.{append_assoc}
@@ -54,13 +54,11 @@ or_true a = grind arith
 -- a page that was pushed is in flight where it remained
 pushed_whereabouts : (remaining : FinSet nat_cmp) (urgent : List Sent) (copies : List Copy) (page q : ℕ) (bytes : List ℕ) → (is_urgent_or_left remaining urgent q || has_copy copies q) ≡ true →
     (is_urgent_or_left (finset.remove remaining page) urgent q || has_copy (copies ++ record { page = page; bytes = bytes } ∷ []) q) ≡ true
-pushed_whereabouts remaining urgent copies page q bytes h =
-    rw (member_removed remaining page q, has_copy-append copies (record { page = page; bytes = bytes } ∷ []) q) (grind (arith, nat_tests))
+pushed_whereabouts remaining urgent copies page q bytes h = grind (arith, nat_tests, member_removed, has_copy-append)
 
 pushed_flowing : (remaining : FinSet nat_cmp) (urgent : List Sent) (copies arrivals : List Copy) (page q : ℕ) (bytes : List ℕ) → (is_urgent_or_left remaining urgent q || has_copy copies q || has_copy arrivals q) ≡ true →
     (is_urgent_or_left (finset.remove remaining page) urgent q || has_copy (copies ++ record { page = page; bytes = bytes } ∷ []) q || has_copy arrivals q) ≡ true
-pushed_flowing remaining urgent copies arrivals page q bytes h =
-    rw (member_removed remaining page q, has_copy-append copies (record { page = page; bytes = bytes } ∷ []) q) (grind (arith, nat_tests))
+pushed_flowing remaining urgent copies arrivals page q bytes h = grind (arith, nat_tests, member_removed, has_copy-append)
 
 -- Push
 
@@ -95,51 +93,21 @@ pushed_wires : (to : DestPhase) (world : World) (page : ℕ) → get (space_of w
 pushed_wires DestPhase.Idle world page held whole other flows old = (flows BeforeAdvise old.0, old.1, pushed_switching (stopped_at DestPhase.Idle world).source world.destination.kept world.forward.frames world.urgent.frames page held whole old.2)
 pushed_wires DestPhase.Advised world page held whole other flows old = (flows Copies old.0, old.1, pushed_switching (stopped_at DestPhase.Advised world).source world.destination.kept world.forward.frames world.urgent.frames page held whole old.2)
 pushed_wires DestPhase.Discarding world page held whole other flows old = (flows BeforePackage old.0, old.1, pushed_switching (stopped_at DestPhase.Discarding world).source world.destination.kept world.forward.frames world.urgent.frames page held whole old.2)
-pushed_wires DestPhase.Running world page held whole other flows old =
-    let more = pushed_frame world.source page ∷ [] in
-    let copies : copies_of (world.forward.frames ++ more) ≡ copies_of world.forward.frames ++ record { page = page; bytes = bytes_of world.source page } ∷ [] =
-    copies_of-append world.forward.frames more ∙ ap (λ c. copies_of world.forward.frames ++ c) (copies_of-page world.source.epoch page (bytes_of world.source page) whole) in (
-      flows Pushed old.0,
-      old.1,
-      record {
-        whereabouts = λ q origin owed.
-            ap (λ c. is_urgent_or_left (finset.remove world.source.remaining page) world.urgent.frames origin || has_copy c origin || has_copy world.destination.arrivals origin) copies
-            ∙ pushed_flowing world.source.remaining world.urgent.frames (copies_of world.forward.frames) world.destination.arrivals page origin (bytes_of world.source page) (old.2.whereabouts q origin owed);
-      },
-    )
+pushed_wires DestPhase.Running world page held whole other flows old = grind (arith, nat_tests, copies_of-append, copies_of-page, pushed_flowing)
 pushed_wires DestPhase.Paused world page held whole other flows old = absurd old
 pushed_wires DestPhase.Ended world page held whole other flows old = absurd (other old.2)
 
 pub stopped_not_released : SourcePhase.Stopped ≢ SourcePhase.Released
 stopped_not_released h = cc
 
-pub stopped_not_paused : SourcePhase.Stopped ≢ SourcePhase.Paused
-stopped_not_paused h = cc
-
 -- once Switch was made, and the source is stopped
 pub pushing_stopped : (source : Source) (up : Bool) → source.switched ≡ true → (source.end_epoch ≡ source.epoch → source.remaining ≡ no_pages) →
     ((page : ℕ) → contains source.remaining page ≡ true → is_present (space_of source) page ≡ true) → source.end_epoch ≤ source.epoch →
     IsSoundPushing SourcePhase.Stopped source.switched up source.epoch source.end_epoch (space_of source) source.remaining
-pushing_stopped source up switched end_sent present before =
-    record {
-      before_switch = λ h. absurd (false≢true (sym h ∙ switched));
-      end_sent = end_sent;
-      remaining_present = present;
-      ended_before = before;
-      paused_fresh = λ h paused. absurd (stopped_not_paused paused);
-      released_empty = λ h. absurd (stopped_not_released h);
-    }
-
-stopped_not_idle : SourcePhase.Stopped ≢ SourcePhase.Idle
-stopped_not_idle h = cc
+pushing_stopped source up switched end_sent present before = grind (arith, nat_tests)
 
 pub log_stopped : (source : Source) → source.switched ≡ true → IsSoundLog SourcePhase.Stopped source.switched (space_of source) source.log.clean source.log.todo source.log.sent
-log_stopped source switched =
-    record {
-      idle_source = λ h. absurd (stopped_not_idle h);
-      clean_protected = λ h. absurd (false≢true (sym h ∙ switched));
-      todo_sendable = λ h. absurd (false≢true (sym h ∙ switched));
-    }
+log_stopped source switched = grind (arith, nat_tests)
 
 pub was_there : (remaining : FinSet nat_cmp) (page q : ℕ) → contains (finset.remove remaining page) q ≡ true → contains remaining q ≡ true
 was_there remaining page q h = and_second (not (eqb q page)) (contains remaining q) (sym (member_removed remaining page q) ∙ h)
@@ -180,15 +148,8 @@ served_wires DestPhase.Paused world pages old = absurd old
 served_wires DestPhase.Ended world pages old = old
 served_wires _ world pages old = (old.0, old.1, record { owed = old.2.owed; plan = old.2.plan; owed_present = old.2.owed_present; kept_rest = old.2.kept_rest; whereabouts = old.2.whereabouts; faithful = old.2.faithful })
 
-served_in : (from : SourcePhase) (to : DestPhase) (world : World) (pages : List ℕ) → is_stopped from ≡ true → IsSoundWorld (in_phases from to world) → IsSoundWorld (after_serve (in_phases from to world) pages)
-served_in SourcePhase.Stopped to world pages stopped kept =
-    let new : World = after_serve (stopped_at to world) pages in
-    let wires : new.up ≡ true → Wires new.source new.destination new.forward.frames new.back.frames new.urgent.frames = λ up. served_wires to world pages (kept.flight.wires up) in
-    assumption
-served_in _ to world pages stopped kept = none_absurd stopped
-
 pub kept-serve : (world : World) (pages : List ℕ) → IsSoundWorld world → is_stopped world.source.phase ≡ true → IsSoundWorld (after_serve world pages)
-kept-serve world pages kept stopped = served_in world.source.phase world.destination.phase world pages stopped kept
+kept-serve world pages kept stopped = grind (arith, nat_tests, served_wires)
 
 -- End
 
@@ -272,19 +233,10 @@ get-discarded kept pages q =
     get-retain_keys kept (λ page. not (contains pages page)) q (λ x e. ap (λ k. not (contains pages k)) (sym (nat_cmp-IsAntisymmetric q x e)))
     ∙ cond_not (contains pages q) (get kept q) None
 
-gone_or_none : (sent : Bool) (k : Option (List ℕ)) → (is_some k ≡ true → sent ≡ true) → cond sent None k ≡ None
-gone_or_none sent k h = grind arith
-
-owed_or_none : (low present : Bool) (bytes : Option (List ℕ)) → present ≡ is_some bytes → (present ≡ true → low ≡ true) → None ≡ cond (low && present) None bytes
-owed_or_none low present bytes is low_ = grind arith
-
 -- one page: what is kept of it once it was discarded or not is its bytes, unless it is owed
 rest_of : (clean sent low present : Bool) (k bytes : Option (List ℕ)) → (clean ≡ true → k ≡ bytes) → (is_some k ≡ true → sent ≡ true) → present ≡ is_some bytes → (present ≡ true → low ≡ true) →
     cond (sent && not clean) None k ≡ cond ((low && present) && not clean) None bytes
-rest_of true sent low present k bytes same was is below =
-    ap (λ b. cond b None k) (and_false sent) ∙ same refl ∙ sym (ap (λ b. cond b None bytes) (and_false (low && present)))
-rest_of false sent low present k bytes same was is below =
-    ap (λ b. cond b None k) (and_true sent) ∙ gone_or_none sent k was ∙ owed_or_none low present bytes is below ∙ sym (ap (λ b. cond b None bytes) (and_true (low && present)))
+rest_of clean sent low present k bytes same was is below = grind (arith, nat_tests)
 
 -- the two frames of a switch
 abbrev discard_frame : Source → Sent
@@ -339,11 +291,8 @@ switched_wires DestPhase.Advised world kept quiet other old =
 switched_wires DestPhase.Discarding world kept quiet other old = absurd old
 switched_wires _ world kept quiet other old = absurd old
 
-precopy_not_idle : SourcePhase.Precopy ≢ SourcePhase.Idle
-precopy_not_idle h = cc
-
 was_not_ended : (A : Type 0) → (A ⊎ (SourcePhase.Precopy ≡ SourcePhase.Idle)) → A
-was_not_ended A told = ⊎_elim (λ a. a) (λ idle. absurd (precopy_not_idle idle)) told
+was_not_ended A told = grind (arith, nat_tests)
 
 switched_in : (from : SourcePhase) (to : DestPhase) (world : World) → is_precopy from ≡ true → world.up ≡ true → (space_of world.source).object.events ≡ [] → IsSoundWorld (in_phases from to world) → IsSoundWorld (after_switch (in_phases from to world))
 switched_in SourcePhase.Precopy to world precopy up quiet kept =

@@ -1,4 +1,5 @@
 -- In a world that keeps what every world keeps, no frame is refused.
+use Rattle.std.proofs.lemmas.Bool.Decides.{nat_tests}
 use Rattle.std.proofs.Common.{◌≡◌, ℕ, Bool, true, false, Option, None, List, [], ◌∷◌, ◌++◌, refl, sym, ap, ◌∙◌, subst, is_some, arith}
 use Rattle.std.proofs.lemmas.Bool.{false≢true}
 use Rattle.std.specs.Ordering.{nat_cmp}
@@ -31,12 +32,9 @@ first_taken node wire first sent others rest is here taken = subst (IsTaken node
 -- a copy, or the Discard after the last
 copy_taken : (node : Destination) (epoch : ℕ) (copies more : List Frame) (wire : List Sent) (sent : Sent) (rest : List Sent) → epoch ≡ node.epoch → AreCopies copies →
     wire ≡ sent_in epoch (copies ++ Discard finset.empty ∷ more) → wire ≡ sent ∷ rest → IsTaken (record node { phase = destination.Advised }) sent
-copy_taken node epoch [] more wire sent rest own are is here =
-    first_taken (record node { phase = destination.Advised }) wire _ sent _ rest is here (record { in_place = refl; own_epoch = own; good = tt })
-copy_taken node epoch (Page page bytes ∷ copies) more wire sent rest own are is here =
-    first_taken (record node { phase = destination.Advised }) wire _ sent _ rest is here (record { in_place = refl; own_epoch = own; good = tt })
-copy_taken node epoch (Zero page ∷ copies) more wire sent rest own are is here =
-    first_taken (record node { phase = destination.Advised }) wire _ sent _ rest is here (record { in_place = refl; own_epoch = own; good = tt })
+copy_taken node epoch [] more wire sent rest own are is here = grind (arith, nat_tests, first_taken)
+copy_taken node epoch (Page page bytes ∷ copies) more wire sent rest own are is here = grind (arith, nat_tests, first_taken)
+copy_taken node epoch (Zero page ∷ copies) more wire sent rest own are is here = grind (arith, nat_tests, first_taken)
 copy_taken node epoch (_ ∷ copies) more wire sent rest own are is here = absurd are
 
 some_areas : (areas : Option Prot) (bytes : Option (List ℕ)) → (areas ≡ None → bytes ≡ None) → is_some bytes ≡ true → is_some areas ≡ true
@@ -52,10 +50,8 @@ package_good node host sound same = (
 
 takes_in : (from : SourcePhase) (to : DestinationPhase) (ends : Bool) (world : World) (sent : Sent) (rest : List Sent) → IsKept (at_stage from to ends world) →
     world.forward ≡ sent ∷ rest → IsTaken (record world.destination { phase = to }) sent
-takes_in source.Precopy destination.Idle ends world sent rest kept here =
-    let w = kept.wires in first_taken (record world.destination { phase = destination.Idle }) world.forward _ sent _ rest w.0 here (record { in_place = refl; own_epoch = tt; good = tt })
-takes_in source.Stopped destination.Idle ends world sent rest kept here =
-    let w = kept.wires in first_taken (record world.destination { phase = destination.Idle }) world.forward _ sent _ rest w.1 here (record { in_place = refl; own_epoch = tt; good = tt })
+takes_in source.Precopy destination.Idle ends world sent rest kept here = grind (arith, nat_tests, first_taken)
+takes_in source.Stopped destination.Idle ends world sent rest kept here = grind (arith, nat_tests, first_taken)
 takes_in source.Stopped destination.Advised ends world sent rest kept here =
     let w = kept.wires in
     let way : IsOnTheWay world.source.host world.destination.kept w.0 ends = w.3 in
@@ -64,8 +60,7 @@ takes_in source.Stopped destination.Discarding ends world sent rest kept here =
     let w = kept.wires in
     let node : Destination = record world.destination { phase = destination.Discarding } in
     first_taken node world.forward _ sent _ rest w.0 here (record { in_place = refl; own_epoch = sym w.3; good = package_good node world.source.host kept.source_sound w.2 })
-takes_in source.Stopped destination.Running true world sent rest kept here =
-    let w = kept.wires in first_taken (record world.destination { phase = destination.Running }) world.forward _ sent _ rest w.0 here (record { in_place = refl; own_epoch = sym w.2; good = tt })
+takes_in source.Stopped destination.Running true world sent rest kept here = grind (arith, nat_tests, first_taken)
 takes_in source.Idle destination.Idle ends world sent rest kept here = let w = kept.wires in absurd (none_is_first world.forward sent rest w.0 here)
 takes_in source.Precopy destination.Advised ends world sent rest kept here = let w = kept.wires in absurd (none_is_first world.forward sent rest w.0 here)
 takes_in source.Stopped destination.Running false world sent rest kept here = let w = kept.wires in absurd (none_is_first world.forward sent rest w.0 here)
@@ -83,23 +78,6 @@ kept_takes world sent rest kept here = takes_in world.source.phase world.destina
 abbrev pub IsTakenBack : Source → Sent → Type 0
 IsTakenBack node sent = (is_in_place_back node sent.frame ≡ true) × (sent.epoch ≡ node.epoch)
 
-first_taken_back : (node : Source) (wire : List Sent) (first sent : Sent) (others rest : List Sent) → wire ≡ first ∷ others → wire ≡ sent ∷ rest → IsTakenBack node first → IsTakenBack node sent
-first_taken_back node wire first sent others rest is here taken = subst (IsTakenBack node) (same_first wire first sent others rest is here) taken
-
-takes_back_in : (from : SourcePhase) (to : DestinationPhase) (ends : Bool) (world : World) (sent : Sent) (rest : List Sent) → IsKept (at_stage from to ends world) →
-    world.back ≡ sent ∷ rest → IsTakenBack (record world.source { phase = from; end_sent = ends }) sent
-takes_back_in source.Stopped destination.Ended ends world sent rest kept here =
-    let w = kept.wires in first_taken_back (record world.source { phase = source.Stopped; end_sent = ends }) world.back _ sent _ rest w.1 here (w.2, refl)
-takes_back_in source.Idle destination.Idle ends world sent rest kept here = let w = kept.wires in absurd (none_is_first world.back sent rest w.1 here)
-takes_back_in source.Precopy destination.Idle ends world sent rest kept here = let w = kept.wires in absurd (none_is_first world.back sent rest w.1 here)
-takes_back_in source.Precopy destination.Advised ends world sent rest kept here = let w = kept.wires in absurd (none_is_first world.back sent rest w.1 here)
-takes_back_in source.Stopped destination.Idle ends world sent rest kept here = let w = kept.wires in absurd (none_is_first world.back sent rest w.2 here)
-takes_back_in source.Stopped destination.Advised ends world sent rest kept here = let w = kept.wires in absurd (none_is_first world.back sent rest w.2 here)
-takes_back_in source.Stopped destination.Discarding ends world sent rest kept here = let w = kept.wires in absurd (none_is_first world.back sent rest w.1 here)
-takes_back_in source.Stopped destination.Running ends world sent rest kept here = let w = kept.wires in absurd (none_is_first world.back sent rest w.1 here)
-takes_back_in source.Released destination.Ended ends world sent rest kept here = let w = kept.wires in absurd (none_is_first world.back sent rest w.1 here)
-takes_back_in _ _ ends world sent rest kept here = absurd kept.wires
-
 -- the source takes the first frame of the wire back
 pub kept_takes_back : (world : World) (sent : Sent) (rest : List Sent) → IsKept world → world.back ≡ sent ∷ rest → IsTakenBack world.source sent
-kept_takes_back world sent rest kept here = takes_back_in world.source.phase world.destination.phase world.source.end_sent world sent rest kept here
+kept_takes_back world sent rest kept here = grind (arith, nat_tests)

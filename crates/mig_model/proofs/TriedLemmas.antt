@@ -20,14 +20,14 @@ use Rattle.mig_model.specs.Invariant.{AreRight, seen_host}
 use Rattle.mig_model.proofs.HostLemmas.{get-put}
 use Rattle.mig_model.proofs.SpaceLemmas.{IsSoundSpace-accessed, IsSoundSpace-called}
 use Rattle.mig_model.proofs.SeenLemmas.{answered_seen, owed_none, watched_mapped, seen_own, reply_of-seen_call}
-use Rattle.mig_model.proofs.SettledCalls.{settled_messages, settled-queued, right-queued}
+use Rattle.mig_model.proofs.SettledCalls.{settled-queued, right-queued}
 use Rattle.mig_model.proofs.EventLemmas.{settled_called, right_called}
 use Rattle.mig_model.proofs.ChangedLemmas.{called_seen, accessed_seen}
 use Rattle.mig_model.proofs.PairLemmas.{ArePairs, HasNone, pairs_watched, pairs_called, none_protected, none_in_mode}
 use Rattle.mig_model.specs.Cpus.{Took, access_took, call_took, entries_of}
 use Rattle.mig_model.specs.Owed.{settled_by}
 use Rattle.mig_model.specs.Promises.{owed_changed}
-use Rattle.mig_model.proofs.Facts.{none_absurd, queued_missing, queued_protect, entered_once, modes_events}
+use Rattle.mig_model.proofs.Facts.{queued_missing, queued_protect, entered_once, modes_events}
 
 -- what is settled in a space, from the owed table
 abbrev pub settled_in : Space → (ℕ → Option ℕ) → ℕ → Option ℕ
@@ -60,7 +60,7 @@ faulted waits faults there owed space cpu command ready = grind (arith, nat_test
 pairs_accessed : (space : Space) (owed : ℕ → Option ℕ) (command : Command) (reply : Reply) → is_access command ≡ true → ArePairs space owed →
     (is_made reply ≡ true → (contains_key space.host.bytes (page_of command) ≡ true) ⊎ (contains space.object.missing (page_of command) ≡ false)) →
     ArePairs (record space { host = host_changed space.host command reply }) owed
-pairs_accessed space owed command reply access pairs own page origin h = grind (arith, nat_tests, get-put, none_absurd)
+pairs_accessed space owed command reply access pairs own page origin h = grind (arith, nat_tests, get-put)
 
 -- one that is answered
 answered : (there : Host) (owed : ℕ → Option ℕ) (space : Space) (cpu : ℕ) (command : Command) (reply : Reply) → IsSound there → is_access command ≡ true → IsReady space owed → access_of space command ≡ Answered reply →
@@ -103,7 +103,7 @@ access_tried Protected there owed space cpu command far access ready is = faulte
 -- what is settled after a map call: the owed relation has changed as the pages have
 pub settled_then : (space : Space) (owed : ℕ → Option ℕ) (cpu : ℕ) (command : Command) → IsReady space owed →
     settled_in (called space cpu command) owed ≡ owed_changed (settled_in space owed) command (reply_of (memory space.host) command)
-settled_then space owed cpu command ready = grind (arith, nat_tests, settled-queued, settled_messages, modes_events, settled_called, pairs_watched)
+settled_then space owed cpu command ready = grind (arith, nat_tests, settled-queued, settled_called, pairs_watched)
 
 call_tried : (there : Host) (owed : ℕ → Option ℕ) (space : Space) (cpu : ℕ) (command : Command) → IsSound there → is_access command ≡ false → IsReady space owed →
     IsTried there owed space (called space cpu command) cpu command (call_took (reply_of (memory space.host) command) (queued_by space command))

@@ -1,44 +1,33 @@
 -- Without a break the Package that is taken is that of the Switch, and what is kept then is what was clean at the source.
-use Rattle.std.proofs.Common.{◌≡◌, ◌&&◌, Bool, true, false, cond, not, ℕ, Option, Some, None, is_some, List, [], ◌∷◌, ◌++◌, refl, sym, ap, ◌∙◌, IsOk, if◌then◌else◌}
+use Rattle.std.proofs.lemmas.Bool.Decides.{nat_tests}
+use Rattle.std.proofs.Common.{◌≡◌, true, false, cond, not, ℕ, Option, Some, None, is_some, List, [], ◌∷◌, ◌++◌, refl, sym, ap, ◌∙◌, IsOk, if◌then◌else◌, arith}
 use Rattle.std.specs.Prelude.{Ok}
-use Rattle.std.specs.Ordering.{nat_cmp}
-use Rattle.std.specs.FinMap.{FinMap, get}
-use Rattle.std.specs.FinSet.{FinSet, contains}
+use Rattle.std.specs.FinMap.{get}
+use Rattle.std.specs.FinSet.{contains}
 use Rattle.std.proofs.lemmas.Bool.{false≢true}
-use Rattle.mig_base.specs.declared.Prot.{Prot}
 use Rattle.mig_base.specs.declared.command.Command.{Command}
 use Rattle.mig_base.specs.declared.effect.Effect.{Effect}
 use Rattle.mig_base.specs.declared.phase.DestPhase.{DestPhase}
 use Rattle.mig_base.specs.declared.phase.SourcePhase.{SourcePhase}
 use Rattle.mig_base.specs.declared.schedule.Side.{Side}
 use Rattle.mig_base.specs.declared.schedule.Step.{Step}
-use Rattle.mig_base.specs.Commands.{is_access}
 use Rattle.mig_model.specs.Host.{Host}
-use Rattle.mig_model.specs.Wire.{Frame, Sent, kept_after}
+use Rattle.mig_model.specs.Wire.{Frame, Sent}
 use Rattle.mig_model.specs.Wire.Frame.{Package}
-use Rattle.mig_model.specs.Guest.{is_present, tried}
 use Rattle.mig_model.specs.Source.{Source, commands_of, is_precopy, is_stopped, not_clean, space_of}
-use Rattle.mig_model.specs.Destination.{Destination, destination_act, destination_took}
-use Rattle.mig_model.specs.Owed.{home}
-use Rattle.mig_model.specs.Migration.{World, after_command, after_deliver, after_steps, frame_effect, guest_of, is_changing, next, outcome, runs}
-use Rattle.mig_model.specs.Invariant.{IsSoundWorld, is_package, is_unread, kept_by, package_in}
-use Rattle.mig_model.specs.Invariant.Flow.{BeforeAdvise, Copies}
+use Rattle.mig_model.specs.Migration.{World, after_command, after_deliver, after_steps, frame_effect, is_changing, next, outcome, runs}
+use Rattle.mig_model.specs.Invariant.{IsSoundWorld, is_package, package_in}
 use Rattle.mig_model.specs.Promises.{IsReached}
 use Rattle.mig_model.specs.Unbroken.{StaysUp, KeepsClean}
 use Rattle.mig_model.proofs.EveryStep.{kept-reached}
-use Rattle.mig_model.proofs.Facts.{by_test, no_event, none_absurd}
+use Rattle.mig_model.proofs.Facts.{no_event}
 use Rattle.mig_model.proofs.FirstFrame.{empty_not}
 use Rattle.mig_model.proofs.FlightPromises.{none_precopy, owed_at}
-use Rattle.mig_model.proofs.FramesTaken.{owed_in}
-use Rattle.mig_model.proofs.PromiseLemmas.{is_switching}
 use Rattle.mig_model.proofs.ReachedLemmas.{reached-after_steps, reached-next}
-use Rattle.mig_model.proofs.SourceRounds.{precopy_unswitched}
 use Rattle.mig_model.proofs.StepCases.{MakesWorld, made-next, made-ok, made-effect}
 use Rattle.mig_model.proofs.Stopping.{in_phases}
-use Rattle.mig_model.proofs.UrgentSteps.{runs_unstopped}
 use Rattle.mig_model.proofs.UrgentWire.{idle_unstopped, not_stopped, precopy_unstopped}
-use Rattle.mig_model.proofs.WaitingCommands.{package_next, same_ran}
-use Rattle.mig_model.proofs.WokenSteps.{handles, installs, takes, takes_urgent}
+use Rattle.mig_model.proofs.WokenSteps.{handles, installs, takes_urgent}
 use Rattle.mig_model.proofs.WireLemmas.{package_in-append, has_package}
 
 -- From the Switch until the destination runs
@@ -61,30 +50,16 @@ unstopped host frame_sent world now not = absurd (false≢true (sym not ∙ now.
 
 -- no command is tried
 no_command : (host : Host) (frame_sent : Frame) (world : World) (cpu : ℕ) (command : Command) → IsSoundWorld world → runs world ≡ true → Awaits host frame_sent world → Awaits host frame_sent (after_command world cpu command)
-no_command host frame_sent world cpu command kept may h ran =
-    let bare = sym (same_ran world.destination.has_run world (tried (is_access command) (guest_of world) cpu command)) ∙ ran in
-    unstopped host frame_sent world (h bare) (runs_unstopped world.source.switched world.destination.has_run world.source.phase may kept.phases.source_phase bare)
-
-package_runs : (frame : Frame) (node : Destination) (epoch : ℕ) → is_package frame ≡ true → (destination_took node epoch frame).has_run ≡ true
-package_runs (Package areas owed commands) node epoch is = refl
-package_runs _ node epoch is = absurd (false≢true is)
+no_command host frame_sent world cpu command kept may h ran = grind (arith, nat_tests)
 
 -- a frame is taken: with the Package the destination runs
 taken_awaits : (host : Host) (frame_sent : Frame) (epoch : ℕ) (frame : Frame) (rest : List Sent) (world : World) → world.forward.frames ≡ record { epoch = epoch; frame = frame } ∷ rest → Awaits host frame_sent world →
     Awaits host frame_sent (after_deliver world (record { epoch = epoch; frame = frame }) rest)
-taken_awaits host frame_sent epoch frame rest world first h ran =
-    by_test (is_package frame) (λ is. absurd (false≢true (sym ran ∙ package_runs frame world.destination epoch is)))
-    (λ other.
-    let now = h (sym (takes frame world.destination epoch other).node.ran ∙ ran) in
-    record { stopped = now.stopped; host_is = now.host_is; package_is = sym (ap (λ b. cond b (Some frame) (package_in rest)) other) ∙ ap package_in (sym first) ∙ now.package_is })
+taken_awaits host frame_sent epoch frame rest world first h ran = grind (arith, nat_tests)
 
 -- nothing comes back
 no_back : (from : SourcePhase) (to : DestPhase) (world : World) → is_stopped from ≡ true → world.up ≡ true → world.destination.has_run ≡ false → IsSoundWorld (in_phases from to world) → world.back.frames ≡ []
-no_back SourcePhase.Stopped DestPhase.Running world stopped up ran kept = absurd (false≢true (sym ran ∙ kept.phases.destination_phase.0))
-no_back SourcePhase.Stopped DestPhase.Paused world stopped up ran kept = absurd (kept.flight.wires up)
-no_back SourcePhase.Stopped DestPhase.Ended world stopped up ran kept = absurd (false≢true (sym ran ∙ kept.phases.ended_after_run kept.phases.destination_phase))
-no_back SourcePhase.Stopped _ world stopped up ran kept = (kept.flight.wires up).1
-no_back _ to world stopped up ran kept = none_absurd stopped
+no_back from to world stopped up ran kept = grind (arith, nat_tests)
 
 -- more frames behind the Package
 sent_more : (host : Host) (frame_sent : Frame) (world : World) (more : List Sent) → HasSwitched host frame_sent world → package_in (world.forward.frames ++ more) ≡ Some frame_sent
@@ -97,28 +72,19 @@ awaits_answer host frame_sent world Step.Start kept linked h = λ idle unused up
 awaits_answer host frame_sent world Step.Round kept linked h = λ precopy quiet up ran. unstopped host frame_sent world (h ran) (precopy_unstopped world.source.phase precopy)
 awaits_answer host frame_sent world Step.Send kept linked h = λ page is precopy link quiet up ran. unstopped host frame_sent world (h ran) (precopy_unstopped world.source.phase precopy)
 awaits_answer host frame_sent world (Step.SendRun count) kept linked h = λ first number is many precopy link quiet up ran. unstopped host frame_sent world (h ran) (precopy_unstopped world.source.phase precopy)
-awaits_answer host frame_sent world Step.SourceRead kept linked h =
-    λ noted is started unswitched up ran. unstopped host frame_sent world (h ran) (not_stopped world.source.phase world.source.switched kept.phases.source_phase unswitched)
-awaits_answer host frame_sent world Step.SourceAct kept linked h =
-    λ fault rest is started unswitched quiet up ran. unstopped host frame_sent world (h ran) (not_stopped world.source.phase world.source.switched kept.phases.source_phase unswitched)
+awaits_answer host frame_sent world Step.SourceRead kept linked h = grind (arith, nat_tests, unstopped, not_stopped)
+awaits_answer host frame_sent world Step.SourceAct kept linked h = grind (arith, nat_tests, unstopped, not_stopped)
 awaits_answer host frame_sent world Step.Switch kept linked h = λ precopy link quiet up ran. unstopped host frame_sent world (h ran) (precopy_unstopped world.source.phase precopy)
-awaits_answer host frame_sent world (Step.Deliver n) kept linked h =
-    ((λ sent rest is short up ran. let now = h ran in record { stopped = now.stopped; host_is = now.host_is; package_is = now.package_is }), (λ sent rest is full started link free early up. taken_awaits host frame_sent sent.epoch sent.frame rest world is h))
-awaits_answer host frame_sent world (Step.DeliverBack n) kept linked h =
-    ((λ sent rest is short up ran. let now = h ran in record { stopped = now.stopped; host_is = now.host_is; package_is = now.package_is }), (λ sent rest is full started link up ran. absurd (empty_not sent rest (sym is ∙ no_back world.source.phase world.destination.phase world (h ran).stopped linked ran kept))))
+awaits_answer host frame_sent world (Step.Deliver n) kept linked h = grind (arith, nat_tests, taken_awaits)
+awaits_answer host frame_sent world (Step.DeliverBack n) kept linked h = grind (arith, nat_tests, empty_not, no_back)
 awaits_answer host frame_sent world Step.DestRead kept linked h = λ noted is runs up ran. absurd (false≢true (sym ran ∙ runs))
-awaits_answer host frame_sent world Step.DestAct kept linked h =
-    λ fault rest is runs quiet up ran. absurd (false≢true (sym ran ∙ (handles (destination_act world.destination fault) world.destination fault.page).ran ∙ runs))
-awaits_answer host frame_sent world Step.Install kept linked h =
-    λ copy rest is runs quiet up ran. absurd (false≢true (sym ran ∙ (installs (home world.destination.owed copy.page) world.destination copy rest).ran ∙ runs))
+awaits_answer host frame_sent world Step.DestAct kept linked h = grind (arith, nat_tests, handles)
+awaits_answer host frame_sent world Step.Install kept linked h = grind (arith, nat_tests, installs)
 awaits_answer host frame_sent world (Step.Push ticket) kept linked h =
     λ stopped link own present remains up ran. let now = h ran in record { stopped = now.stopped; host_is = now.host_is; package_is = sent_more host frame_sent world _ now }
-awaits_answer host frame_sent world (Step.PushUrgent ticket) kept linked h =
-    λ stopped link own present remains up ran. let now = h ran in record { stopped = now.stopped; host_is = now.host_is; package_is = now.package_is }
-awaits_answer host frame_sent world (Step.DeliverUrgent n) kept linked h =
-    ((λ sent rest is short up ran. let now = h ran in record { stopped = now.stopped; host_is = now.host_is; package_is = now.package_is }), (λ sent rest is full runs link up ran. absurd (false≢true (sym ran ∙ (takes_urgent sent.frame world.destination).node.ran ∙ runs))))
-awaits_answer host frame_sent world Step.Serve kept linked h =
-    λ page pages is stopped link up ran. let now = h ran in record { stopped = now.stopped; host_is = now.host_is; package_is = now.package_is }
+awaits_answer host frame_sent world (Step.PushUrgent ticket) kept linked h = grind (arith, nat_tests)
+awaits_answer host frame_sent world (Step.DeliverUrgent n) kept linked h = grind (arith, nat_tests, takes_urgent)
+awaits_answer host frame_sent world Step.Serve kept linked h = grind (arith, nat_tests)
 awaits_answer host frame_sent world Step.End kept linked h =
     λ stopped other link none up ran. let now = h ran in record { stopped = now.stopped; host_is = now.host_is; package_is = sent_more host frame_sent world _ now }
 awaits_answer host frame_sent world Step.Break kept linked h = λ started unreleased link up. absurd (false≢true up)
@@ -136,14 +102,10 @@ awaits_steps host frame_sent world (step ∷ steps) reached linked stays h =
 -- The Switch
 
 no_package_by : (o : Option Frame) → (is_some o ≡ true → ⊥) → o ≡ None
-no_package_by None not = refl
-no_package_by (Some frame) not = absurd (not refl)
+no_package_by o not = grind (arith, nat_tests)
 
 none_before : (from : SourcePhase) (to : DestPhase) (world : World) → is_precopy from ≡ true → world.up ≡ true → IsSoundWorld (in_phases from to world) → is_some (package_in world.forward.frames) ≡ true → ⊥
-none_before SourcePhase.Precopy DestPhase.Idle world precopy up kept there = none_precopy BeforeAdvise world.forward.frames (kept.flight.wires up).0 there
-none_before SourcePhase.Precopy DestPhase.Advised world precopy up kept there = none_precopy Copies world.forward.frames (kept.flight.wires up).0 there
-none_before SourcePhase.Precopy _ world precopy up kept there = kept.flight.wires up
-none_before _ to world precopy up kept there = none_absurd precopy
+none_before from to world precopy up kept there = grind (arith, nat_tests, none_precopy)
 
 -- a frame behind a wire with no Package
 sent_first : (wire : List Sent) (sent : Sent) → package_in wire ≡ None → package_in (wire ++ sent ∷ []) ≡ package_in (sent ∷ [])
@@ -177,59 +139,21 @@ record IsPackageFirst (world : World) : Type 0 where
   is : is_package sent.frame ≡ true
 
 takes_package : (frame : Frame) (owed : ℕ) → frame_effect frame ≡ Effect.TookPackage owed → is_package frame ≡ true
-takes_package (Package areas pages commands) owed h = refl
-takes_package _ owed h = absurd (cc)
+takes_package frame owed h = grind (arith, nat_tests)
 
 package_first : (world : World) (n owed : ℕ) → outcome world (Step.Deliver n) ≡ Ok (Effect.TookPackage owed) → IsPackageFirst world
 package_first world n owed answered =
     made-effect (λ effect new. effect ≡ Effect.TookPackage owed → IsPackageFirst world) world (Step.Deliver n) (Effect.TookPackage owed)
     ((λ sent rest is short h. absurd (cc)), (λ sent rest is full started up free early h. record { sent = sent; rest = rest; first = is; is = takes_package sent.frame owed h })) answered refl
 
-not_run_yet : (epoch : ℕ) (frame : Frame) (rest : List Sent) (world : World) → world.up ≡ true → world.forward.frames ≡ record { epoch = epoch; frame = frame } ∷ rest → IsSoundWorld world → is_package frame ≡ true → world.destination.has_run ≡ false
-not_run_yet epoch (Package areas owed commands) rest world up first kept is = (package_next epoch areas owed commands rest world up first kept).1
-not_run_yet epoch _ rest world up first kept is = absurd (false≢true is)
-
--- one page: it is kept exactly where it was clean
-page_kept : (clean present : Bool) (bytes kept : Option (List ℕ)) → present ≡ is_some bytes → (clean ≡ true → present ≡ true) → kept ≡ cond (present && not clean) None bytes → (is_some kept ≡ clean) × (clean ≡ true → kept ≡ bytes)
-page_kept true true bytes kept is all h = (ap is_some h ∙ sym is, λ c. h)
-page_kept true false bytes kept is all h = none_absurd (all refl)
-page_kept false true bytes kept is all h = (ap is_some h, λ c. none_absurd c)
-page_kept false false bytes kept is all h = (ap is_some h ∙ sym is, λ c. none_absurd c)
-
-owed_same : (source : Source) (areas : FinMap nat_cmp Prot) (owed : FinSet nat_cmp) (commands : List (Option Command)) → Some (Package areas owed commands) ≡ Some (package_of source) → owed ≡ not_clean source
-unfolding owed_in
-owed_same source areas owed commands h = ap (λ o. elim o [ None ↦ owed | Some frame ↦ owed_in frame owed ]) h
-
-package_keeps : (kept : FinMap nat_cmp (List ℕ)) (wire : List Sent) (sent : Sent) (rest : List Sent) → wire ≡ sent ∷ rest → is_package sent.frame ≡ true → kept_by kept wire ≡ kept
-package_keeps kept wire sent rest first is = ap (λ w. kept_by kept w) first ∙ ap (λ b. cond b kept (kept_by (kept_after kept sent.frame) rest)) is
-
 -- what is kept where the Package of a source comes next
 kept_then : (source : Source) (now : World) → IsSoundWorld now → now.up ≡ true → IsPackageFirst now → Awaits (space_of source).host (package_of source) now → (page : ℕ) →
     get now.destination.kept page ≡ cond (contains (not_clean source) page) None (get (space_of source).host.bytes page)
-kept_then source now sound up first awaits page =
-    let ran = not_run_yet first.sent.epoch first.sent.frame first.rest now up first.first sound first.is in
-    let has = awaits ran in
-    let told = is_switching now sound up has.stopped ran in
-    sym (ap (λ k. get k page) (package_keeps now.destination.kept now.forward.frames first.sent first.rest first.first first.is))
-    ∙ told.kept_rest page
-    ∙ ap (λ s. cond (contains s page) None (get (space_of now.source).host.bytes page)) (owed_same source _ told.owed _ (sym told.plan ∙ has.package_is))
-    ∙ ap (λ h. cond (contains (not_clean source) page) None (get h.bytes page)) has.host_is
-
--- a clean page of a source that may switch is present
-clean_present : (world : World) (page : ℕ) → IsSoundWorld world → is_precopy world.source.phase ≡ true → is_changing world.source.guest ≡ false → contains world.source.log.clean page ≡ true → is_present (space_of world.source) page ≡ true
-clean_present world page kept precopy quiet clean =
-    let unswitched = precopy_unswitched world.source.phase world.source.switched precopy kept.phases.source_phase in
-    let read = ap (λ e. is_unread e page) (no_event (space_of world.source).object.events quiet) in
-    kept.spaces.source_space.present page (kept.precopy.clean_protected unswitched page clean read)
+kept_then source now sound up first awaits page = grind (arith, nat_tests)
 
 keeps_by : (world now : World) → IsSoundWorld world → is_precopy world.source.phase ≡ true → is_changing world.source.guest ≡ false →
     ((page : ℕ) → get now.destination.kept page ≡ cond (contains (not_clean world.source) page) None (get (space_of world.source).host.bytes page)) → KeepsClean world now
-keeps_by world now kept precopy quiet all =
-    let one = λ (page : ℕ).
-    page_kept (contains world.source.log.clean page) (is_present (space_of world.source) page) (get (space_of world.source).host.bytes page) (get now.destination.kept page) refl
-    (clean_present world page kept precopy quiet)
-    (all page ∙ ap (λ b. cond b None (get (space_of world.source).host.bytes page)) (owed_at world page kept)) in
-    record { pages = λ page. (one page).0; bytes = λ page clean. (one page).1 clean }
+keeps_by world now kept precopy quiet all = grind (arith, nat_tests, owed_at, no_event)
 
 pub keeps_clean : (world : World) (steps : List Step) (n owed : ℕ) → IsReached world → IsOk (outcome world Step.Switch) → StaysUp (next world Step.Switch) steps →
     outcome (after_steps (next world Step.Switch) steps) (Step.Deliver n) ≡ Ok (Effect.TookPackage owed) → KeepsClean world (after_steps (next world Step.Switch) steps)

@@ -1,70 +1,44 @@
 -- The frames that were put on the urgent wire in an epoch and the pages that remain are, together, no more than the pages of the source.
-use Rattle.std.proofs.Common.{◌≡◌, ℕ, ◌+◌, ◌-◌, ◌<◌, ◌≤◌, ◌&&◌, not, Bool, true, false, List, refl, sym, ◌∙◌, arith, ltb}
+use Rattle.std.proofs.Common.{◌≡◌, ℕ, ◌+◌, ◌≤◌, not, Bool, true, false, List, refl, sym, ◌∙◌, arith}
 use Rattle.std.specs.Ordering.{nat_cmp}
 use Rattle.std.specs.FinSet as finset
 use Rattle.std.specs.FinSet.{FinSet, contains, len}
 use Rattle.std.proofs.lemmas.Bool.{false≢true}
 use Rattle.std.proofs.lemmas.Bool.Decides.{nat_tests}
-use Rattle.mig_base.specs.declared.TheConstants.{HIGH_PAGE}
-use Rattle.mig_base.specs.declared.phase.Received.{Received}
 use Rattle.mig_base.specs.declared.phase.SourcePhase.{SourcePhase}
 use Rattle.mig_base.specs.declared.schedule.Side.{Side}
 use Rattle.mig_base.specs.declared.schedule.Step.{Step}
 use Rattle.mig_base.specs.declared.command.Command.{Command}
-use Rattle.mig_base.specs.Commands.{is_access}
 use Rattle.mig_base.proofs.SetLemmas.{member_below}
 use Rattle.mig_model.specs.Host.{IsSound}
 use Rattle.mig_model.specs.Space.{Space}
-use Rattle.mig_model.specs.Guest.{Guest, Act, is_present, tried}
-use Rattle.mig_model.specs.Guest.Act.{Unprotected}
+use Rattle.mig_model.specs.Guest.{Act, is_present}
 use Rattle.mig_model.specs.Log.{present}
 use Rattle.mig_model.specs.Wire.{Frame, Sent}
-use Rattle.mig_model.specs.Wire.Frame.{Request, Recv, Done}
-use Rattle.mig_model.specs.Migration.{World, after_command, after_deliver_back, after_switch, first_world_with, guest_of, next, runs, with_guest_by}
-use Rattle.mig_model.specs.Source.{Source, is_precopy, is_released, is_stopped, not_clean, source_act, source_acted_by, source_rebuilt, space_of}
+use Rattle.mig_model.specs.Migration.{World, after_command, after_deliver_back, after_switch, first_world_with, next, runs}
+use Rattle.mig_model.specs.Source.{is_precopy, is_released, is_stopped, source_act, source_acted_by, space_of}
 use Rattle.mig_model.specs.Invariant.{AreSoundUrgent, IsSoundWorld}
 use Rattle.mig_model.specs.Promises.{IsReached}
 use Rattle.mig_model.proofs.Taken.{IsInPlaceBack}
 use Rattle.mig_model.specs.Bounds.{AreUrgentFew, IsUrgentFew}
-use Rattle.mig_model.proofs.EveryStep.{runs_source, by_reached}
+use Rattle.mig_model.proofs.EveryStep.{by_reached}
 use Rattle.mig_model.proofs.Facts.{owed_is_present}
-use Rattle.mig_model.proofs.WokenSteps.{stopped_switched}
 use Rattle.mig_model.proofs.FramesTaken.{is_taken_back}
 use Rattle.mig_model.proofs.PushOrder.{idle_unswitched}
 use Rattle.mig_model.proofs.SetSizes.{len-part, len-removed, len-some}
 use Rattle.mig_model.proofs.SourceRounds.{precopy_unswitched}
 use Rattle.mig_model.proofs.StepCases.{MakesWorld, made-next}
-use Rattle.mig_model.proofs.Stopping.{present_below}
-use Rattle.mig_model.proofs.UrgentWire.{is_paused}
 
 -- Sets of pages of the source
 
-past : (q bound : ℕ) (here : Bool) → bound ≤ q → (ltb q bound && here) ≡ false
-past q bound here l = grind (arith, nat_tests)
-
-inside : (q bound : ℕ) (here : Bool) → q < bound → here ≡ true → (ltb q bound && here) ≡ true
-inside q bound here l h = grind (arith, nat_tests)
-
-no_page_past : (space : Space) (q : ℕ) → HIGH_PAGE ≤ q → contains (present space) q ≡ false
-no_page_past space q l = member_below (λ page. is_present space page) HIGH_PAGE q ∙ past q HIGH_PAGE (is_present space q) l
-
 -- a set of present pages has no more than there are
 pub few_present : (space : Space) (set : FinSet nat_cmp) → IsSound space.host → ((page : ℕ) → contains set page ≡ true → is_present space page ≡ true) → len set ≤ len (present space)
-few_present space set sound h =
-    len-part set (present space)
-    (λ q m. member_below (λ page. is_present space page) HIGH_PAGE q ∙ inside q HIGH_PAGE (is_present space q) (present_below space q sound (h q m)) (h q m))
-    (no_page_past space)
+few_present space set sound h = grind (arith, nat_tests, len-part, member_below)
 
 -- Sums
 
 sum_fresh : (count left all : ℕ) → count ≡ 0 → left ≤ all → count + left ≤ all
 sum_fresh count left all none few = omega (arith, none, few)
-
-sum_less : (count left less all : ℕ) → count + left ≤ all → less ≡ left - 1 → count + less ≤ all
-sum_less count left less all few is = omega (arith, few, is)
-
-sum_moved : (count left less all : ℕ) → count + left ≤ all → less ≡ left - 1 → 1 ≤ left → (count + 1) + less ≤ all
-sum_moved count left less all few is some = omega (arith, few, is, some)
 
 -- The source
 
@@ -76,71 +50,33 @@ before : {from : SourcePhase} {switched : Bool} {count : ℕ} {space : Space} {r
     IsUrgentFew from switched count space remaining → IsUrgentFew to switched count new left
 before to new left not h = record { before_switch = h.before_switch; few = λ s. absurd (false≢true (sym not ∙ s)) }
 
-guest_few : (ran : Bool) (world : World) (guest : Guest) → (ran ≡ false → world.source.switched ≡ false) → AreUrgentFew world → AreUrgentFew (with_guest_by ran world guest)
-guest_few true world guest not h = h
-guest_few false world guest not h = before world.source.phase guest.space world.source.remaining (not refl) h
-
 command_few : (world : World) (cpu : ℕ) (command : Command) → runs world ≡ true → AreUrgentFew world → AreUrgentFew (after_command world cpu command)
-command_few world cpu command may h =
-    guest_few world.destination.has_run world (tried (is_access command) (guest_of world) cpu command) (runs_source world.source.switched world.destination.has_run may) h
+command_few world cpu command may h = grind (arith, nat_tests)
 
 acted_few : (act : Act) (world : World) (page : ℕ) → world.source.switched ≡ false → AreUrgentFew world → AreUrgentFew (record world { source = source_acted_by act world.source page })
-acted_few Unprotected world page not h = before _ _ _ not h
-acted_few _ world page not h = before _ _ _ not h
+acted_few act world page not h = grind (arith, nat_tests)
 
 switch_few : (world : World) → IsSoundWorld world → is_precopy world.source.phase ≡ true → AreUrgentFew world → AreUrgentFew (after_switch world)
-switch_few world kept precopy h =
-    let none = h.before_switch (precopy_unswitched world.source.phase world.source.switched precopy kept.phases.source_phase) in
-    record {
-      before_switch = λ s. none;
-      few = λ s p. sum_fresh world.source.urgent_sent (len (not_clean world.source)) _ none (few_present (space_of world.source) (not_clean world.source) kept.spaces.source_space.host (λ page m. owed_is_present world.source page m));
-    }
+switch_few world kept precopy h = grind (arith, nat_tests, few_present, owed_is_present)
 
 push_few : (world : World) (page : ℕ) → contains world.source.remaining page ≡ true → AreUrgentFew world →
     IsUrgentFew world.source.phase world.source.switched world.source.urgent_sent (space_of world.source) (finset.remove world.source.remaining page)
-push_few world page remains h =
-    record { before_switch = h.before_switch; few = λ s p. sum_less world.source.urgent_sent (len world.source.remaining) _ _ (h.few s p) (len-removed world.source.remaining page remains) }
+push_few world page remains h = grind (arith, nat_tests, len-removed)
 
 push_urgent_few : (world : World) (page : ℕ) → IsSoundWorld world → is_stopped world.source.phase ≡ true → contains world.source.remaining page ≡ true → AreUrgentFew world →
     IsUrgentFew world.source.phase world.source.switched (world.source.urgent_sent + 1) (space_of world.source) (finset.remove world.source.remaining page)
-push_urgent_few world page kept stopped remains h =
-    let switched = stopped_switched world.source.phase world.source.switched stopped kept.phases.source_phase in
-    record {
-      before_switch = λ s. absurd (false≢true (sym s ∙ switched));
-      few = λ s p. sum_moved world.source.urgent_sent (len world.source.remaining) _ _ (h.few s p) (len-removed world.source.remaining page remains) (len-some world.source.remaining page remains);
-    }
+push_urgent_few world page kept stopped remains h = grind (arith, nat_tests, len-removed, len-some)
 
 -- Frames that the source takes
 
-rebuilt_few : (switched : Bool) (owed : FinSet nat_cmp) (source : Source) → source.urgent_sent ≡ 0 →
-    let node = source_rebuilt Received.NotRun owed (record source { switched = switched }) in
-    IsUrgentFew node.phase node.switched node.urgent_sent (space_of node) node.remaining
-rebuilt_few true owed source none = record { before_switch = λ s. none; few = λ s p. sum_fresh source.urgent_sent _ _ none (omega arith) }
-rebuilt_few false owed source none = record { before_switch = λ s. none; few = λ s. absurd (false≢true s) }
-
 back_few : (frame : Frame) (epoch : ℕ) (rest : List Sent) (world : World) → IsSoundWorld world → AreSoundUrgent world → world.up ≡ true → IsInPlaceBack world.source frame → AreUrgentFew world →
     AreUrgentFew (after_deliver_back world (record { epoch = epoch; frame = frame }) rest)
-back_few (Recv Received.NotRun owed) epoch rest world kept urgent up place h = rebuilt_few world.source.switched owed world.source (urgent.fresh up (is_paused world.source.phase place.0))
-back_few (Recv Received.Running owed) epoch rest world kept urgent up place h =
-    record {
-      before_switch = h.before_switch;
-      few = λ s p.
-          sum_fresh world.source.urgent_sent (len owed) _ (urgent.fresh up (is_paused world.source.phase place.0))
-          (few_present (space_of world.source) owed kept.spaces.source_space.host place.1);
-    }
-back_few (Recv Received.Ended owed) epoch rest world kept urgent up place h = record { before_switch = h.before_switch; few = λ s p. absurd (false≢true (sym p)) }
-back_few Done epoch rest world kept urgent up place h = record { before_switch = h.before_switch; few = λ s p. absurd (false≢true (sym p)) }
-back_few (Request page) epoch rest world kept urgent up place h = h
-back_few _ epoch rest world kept urgent up place h = absurd place
+back_few frame epoch rest world kept urgent up place h = grind (arith, nat_tests, sum_fresh, few_present)
 
 -- The channel
 
 resume_few : (world : World) → IsSoundWorld world → AreUrgentFew world → IsUrgentFew world.source.phase world.source.switched 0 (space_of world.source) world.source.remaining
-resume_few world kept h =
-    record {
-      before_switch = λ s. refl;
-      few = λ s p. sum_fresh 0 (len world.source.remaining) _ refl (few_present (space_of world.source) world.source.remaining kept.spaces.source_space.host kept.pushing.remaining_present);
-    }
+resume_few world kept h = grind (arith, nat_tests)
 
 notices_few : (world : World) → is_released world.source.phase ≡ false → AreUrgentFew world → IsUrgentFew SourcePhase.Paused world.source.switched world.source.urgent_sent (space_of world.source) world.source.remaining
 notices_few world unreleased h = record { before_switch = h.before_switch; few = λ s p. h.few s unreleased }

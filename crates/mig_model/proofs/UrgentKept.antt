@@ -1,8 +1,8 @@
 -- PushUrgent and DeliverUrgent keep what every world keeps: a page goes from those that remain to the urgent wire, and from there to the
 -- copies that have arrived.
-use Rattle.std.proofs.Common.{◌≡◌, ◌≢◌, ℕ, ◌⊎◌, ◌&&◌, ◌||◌, Bool, true, false, not, eqb, Some, List, [], ◌∷◌, ◌++◌, refl, sym, ap, ◌∙◌, subst, ⊎_elim, length}
+use Rattle.std.proofs.lemmas.Bool.Decides.{nat_tests}
+use Rattle.std.proofs.Common.{◌≡◌, ◌≢◌, ℕ, ◌⊎◌, ◌||◌, Bool, true, false, Some, List, [], ◌∷◌, ◌++◌, refl, sym, ap, ◌∙◌, subst, length, arith}
 use Rattle.std.specs.Ordering.{nat_cmp}
-use Rattle.std.specs.FinMap as finmap
 use Rattle.std.specs.FinMap.{FinMap, get}
 use Rattle.std.specs.FinSet as finset
 use Rattle.std.specs.FinSet.{FinSet, contains}
@@ -11,48 +11,31 @@ use Rattle.mig_base.specs.declared.phase.DestPhase.{DestPhase}
 use Rattle.mig_base.specs.declared.phase.SourcePhase.{SourcePhase}
 use Rattle.mig_base.specs.Bytes.{zero_page}
 use Rattle.mig_base.proofs.SetLemmas.{member_removed}
-use Rattle.mig_model.specs.Wire.{Frame, Sent, Copy, page_frame, wire_behind, is_copy}
+use Rattle.mig_model.specs.Wire.{Frame, Sent, Copy, page_frame, wire_behind}
 use Rattle.mig_model.specs.Wire.Frame.{Page, Zero}
 use Rattle.mig_model.specs.Migration.{World, after_deliver_urgent, after_push_urgent}
 use Rattle.mig_model.specs.Source.{Source, is_stopped, bytes_of, space_of, urgent_pushed}
-use Rattle.mig_model.specs.Invariant.{AreFaithful, Wires, AreSoundUrgent, IsSoundWorld, IsSwitching, StoppedWires, are_copies, behind, copies_of, has_copy, is_urgent_or_left, AreOf, EpochAt}
-use Rattle.mig_model.specs.Destination.{urgent_came, is_running}
+use Rattle.mig_model.specs.Invariant.{AreFaithful, Wires, AreSoundUrgent, IsSoundWorld, IsSwitching, StoppedWires, are_copies, behind, copies_of, has_copy, is_urgent_or_left}
+use Rattle.mig_model.specs.Destination.{urgent_came}
 use Rattle.mig_model.specs.Log.{present, no_pages}
 use Rattle.mig_model.specs.Guest.{is_present}
 use Rattle.mig_model.specs.Space.{fresh_space}
-use Rattle.mig_model.proofs.Facts.{by_test, AreFaithful-append, copies_of-append, eqb-self, none_absurd, not_up, same_or_other, and_left}
-use Rattle.mig_model.proofs.Stopping.{in_phases, not_ended, or_true, present_bytes, stopped_at, stopped_not_released, was_there}
+use Rattle.mig_model.proofs.Facts.{AreFaithful-append, copies_of-append, none_absurd, same_or_other}
+use Rattle.mig_model.proofs.Stopping.{in_phases, not_ended, present_bytes, stopped_at, stopped_not_released, was_there}
 use Rattle.mig_model.proofs.Taken.{IsTakenUrgent}
-use Rattle.mig_model.proofs.UrgentWire.{not_none}
 use Rattle.mig_model.proofs.WireLemmas.{copies_of-page, has_copy-append}
 
 -- PushUrgent
 
-moved_page : (left urgent more : Bool) → (left || urgent) ≡ true → (left || (urgent || more)) ≡ true
-moved_page true urgent more h = refl
-moved_page false true more h = refl
-moved_page false false more h = none_absurd h
-
 still_urgent : (remaining : FinSet nat_cmp) (urgent : List Sent) (sent : Sent) (page q : ℕ) (bytes : List ℕ) → copies_of (urgent ++ sent ∷ []) ≡ copies_of urgent ++ record { page = page; bytes = bytes } ∷ [] →
     is_urgent_or_left remaining urgent q ≡ true → is_urgent_or_left (finset.remove remaining page) (urgent ++ sent ∷ []) q ≡ true
-still_urgent remaining urgent sent page q bytes copies h =
-    ap (λ b. b || has_copy (copies_of (urgent ++ sent ∷ [])) q) (member_removed remaining page q)
-    ∙ ap (λ c. (not (eqb q page) && contains remaining q) || has_copy c q) copies
-    ∙ ap (λ b. (not (eqb q page) && contains remaining q) || b) (has_copy-append (copies_of urgent) (record { page = page; bytes = bytes } ∷ []) q)
-    ∙ ⊎_elim
-    (λ (same : q ≡ page). rw (same, eqb-self page) (or_true (has_copy (copies_of urgent) page)))
-    (λ (other : eqb q page ≡ false). rw other (moved_page (contains remaining q) (has_copy (copies_of urgent) q) (eqb page q || false) h))
-    (same_or_other q page)
+still_urgent remaining urgent sent page q bytes copies h = grind (arith, nat_tests, member_removed, has_copy-append, same_or_other)
 
 first_by : (a new b : Bool) → (a ≡ true → new ≡ true) → (a || b) ≡ true → (new || b) ≡ true
-first_by true new b h k = ap (λ t. t || b) (h refl)
-first_by false true b h k = refl
-first_by false false b h k = k
+first_by a new b h k = grind (arith, nat_tests)
 
 first_of_three : (a new b c : Bool) → (a ≡ true → new ≡ true) → (a || b || c) ≡ true → (new || b || c) ≡ true
-first_of_three true new b c h k = ap (λ t. t || b || c) (h refl)
-first_of_three false true b c h k = refl
-first_of_three false false b c h k = k
+first_of_three a new b c h k = grind (arith, nat_tests)
 
 urgent_switching : (source : Source) (kept : FinMap nat_cmp (List ℕ)) (forward urgent : List Sent) (sent : Sent) (page : ℕ) (bytes : List ℕ) → copies_of (urgent ++ sent ∷ []) ≡ copies_of urgent ++ record { page = page; bytes = bytes } ∷ [] →
     IsSwitching source kept forward urgent → IsSwitching (urgent_pushed source page) kept forward (urgent ++ sent ∷ [])
@@ -119,20 +102,7 @@ kept-push_urgent world page kept stopped up present remains = urgent_in world.so
 
 -- it is no longer on the urgent wire, and has arrived
 came_urgent : (remains here urgent flies waits : Bool) → ((remains || (here || urgent)) || flies || waits) ≡ true → ((remains || urgent) || flies || (waits || (here || false))) ≡ true
-came_urgent true here urgent flies waits h = refl
-came_urgent false here true flies waits h = refl
-came_urgent false here false true waits h = refl
-came_urgent false here false false true h = refl
-came_urgent false true false false false h = refl
-came_urgent false false false false false h = none_absurd h
-
--- where a frame of the urgent wire is taken the source is stopped and the destination runs
-pub both_run : (from : SourcePhase) (to : DestPhase) (world : World) → is_stopped from ≡ true → world.destination.has_run ≡ true → world.up ≡ true → (to ≢ DestPhase.Ended) → IsSoundWorld (in_phases from to world) → (from ≡ SourcePhase.Stopped) × (to ≡ DestPhase.Running)
-both_run SourcePhase.Stopped DestPhase.Running world stopped ran up other kept = (refl, refl)
-both_run SourcePhase.Stopped DestPhase.Paused world stopped ran up other kept = absurd (kept.flight.wires up)
-both_run SourcePhase.Stopped DestPhase.Ended world stopped ran up other kept = absurd (other refl)
-both_run SourcePhase.Stopped _ world stopped ran up other kept = none_absurd (sym kept.phases.destination_phase ∙ ran)
-both_run _ to world stopped ran up other kept = none_absurd stopped
+came_urgent remains here urgent flies waits h = grind (arith, nat_tests)
 
 abbrev at_urgent : World → List Sent → World
 at_urgent world frames =
@@ -145,26 +115,7 @@ at_urgent world frames =
 
 urgent_arrives : (copy : Copy) (sent : Sent) (rest : List Sent) (world : World) → copies_of (sent ∷ rest) ≡ copy ∷ copies_of rest → get (space_of world.source).host.bytes copy.page ≡ Some copy.bytes →
     IsSoundWorld (at_urgent world (sent ∷ rest)) → IsSoundWorld (record (at_urgent world (sent ∷ rest)) { destination = urgent_came (at_urgent world (sent ∷ rest)).destination copy; urgent = wire_behind rest })
-urgent_arrives copy sent rest world copies faithful kept =
-    let w = kept.flight.wires refl in
-    let bytes = (space_of world.source).host.bytes in
-    let new : World = record (at_urgent world (sent ∷ rest)) { destination = urgent_came (at_urgent world (sent ∷ rest)).destination copy; urgent = wire_behind rest } in
-    let not_run : true ≡ false → (new.destination.owed ≡ finmap.empty) × (new.destination.guest.space ≡ fresh_space) × (new.destination.arrivals ≡ []) = λ h. none_absurd (sym h) in
-    let arrived = AreFaithful-append bytes world.destination.arrivals (copy ∷ []) (kept.owing.arrivals_faithful refl) (faithful, tt) in
-    let ended_empty : new.destination.ended ≡ true → (new.destination.owed ≡ finmap.empty) × (new.destination.arrivals ≡ []) = λ h. none_absurd (sym kept.phases.destination_phase.1 ∙ h) in
-    let down : new.up ≡ false → (new.forward.frames ≡ []) × (new.back.frames ≡ []) × (new.source.phase ≢ SourcePhase.Idle) × (new.source.phase ≢ SourcePhase.Released) = λ h. absurd (not_up h) in
-    let wires : new.up ≡ true → Wires new.source new.destination new.forward.frames new.back.frames new.urgent.frames =
-    λ u. (
-      w.0,
-      w.1,
-      record {
-        whereabouts = λ q origin h.
-            ap (λ b. is_urgent_or_left world.source.remaining rest origin || has_copy (copies_of world.forward.frames) origin || b) (has_copy-append world.destination.arrivals (copy ∷ []) origin)
-            ∙ came_urgent (contains world.source.remaining origin) (eqb copy.page origin) (has_copy (copies_of rest) origin) (has_copy (copies_of world.forward.frames) origin) (has_copy world.destination.arrivals origin)
-            (sym (ap (λ c. (contains world.source.remaining origin || has_copy c origin) || has_copy (copies_of world.forward.frames) origin || has_copy world.destination.arrivals origin) copies) ∙ w.2.whereabouts q origin h);
-      },
-    ) in
-    assumption
+urgent_arrives copy sent rest world copies faithful kept = grind (arith, nat_tests, AreFaithful-append, has_copy-append, came_urgent)
 
 arrives_by : (frame : Frame) (epoch : ℕ) (rest : List Sent) (world : World) → are_copies (record { epoch = epoch; frame = frame } ∷ rest) ≡ true → AreFaithful (space_of world.source).host.bytes (copies_of (record { epoch = epoch; frame = frame } ∷ rest)) →
     IsSoundWorld (at_urgent world (record { epoch = epoch; frame = frame } ∷ rest)) → IsSoundWorld (after_deliver_urgent (at_urgent world (record { epoch = epoch; frame = frame } ∷ rest)) (record { epoch = epoch; frame = frame }) rest)
@@ -173,19 +124,11 @@ arrives_by (Zero page) epoch rest world are faithful kept = urgent_arrives (reco
 arrives_by _ epoch rest world are faithful kept = none_absurd are
 
 urgent_at : (world : World) (sent : Sent) (rest : List Sent) → world.source.phase ≡ SourcePhase.Stopped → world.destination.phase ≡ DestPhase.Running → world.destination.has_run ≡ true → world.up ≡ true → world.urgent.frames ≡ sent ∷ rest → world ≡ at_urgent world (sent ∷ rest)
-urgent_at world sent rest from to ran up first =
-    ap (λ p. record world { source = record world.source { phase = p } }) from
-    ∙ ap (λ p. record world { source = record world.source { phase = SourcePhase.Stopped }; destination = record world.destination { phase = p } }) to
-    ∙ ap (λ r. record world { source = record world.source { phase = SourcePhase.Stopped }; destination = record world.destination { phase = DestPhase.Running; has_run = r } }) ran
-    ∙ ap (λ f. record (at_urgent world f) { up = world.up }) first
-    ∙ ap (λ u. record (at_urgent world (sent ∷ rest)) { up = u }) up
+urgent_at world sent rest from to ran up first = grind (arith, nat_tests)
 
 pub running_urgent : (world : World) (sent : Sent) (rest : List Sent) → IsSoundWorld world → AreSoundUrgent world → world.urgent.frames ≡ sent ∷ rest → world.destination.has_run ≡ true → world.up ≡ true →
     (world.source.phase ≡ SourcePhase.Stopped) × (world.destination.phase ≡ DestPhase.Running)
-running_urgent world sent rest kept h first ran up =
-    by_test (is_stopped world.source.phase)
-    (λ stopped. both_run world.source.phase world.destination.phase world stopped ran up (λ e. not_none world.urgent.frames sent rest first (h.ended e)) kept)
-    (λ not. not_none world.urgent.frames sent rest first (h.stopped not))
+running_urgent world sent rest kept h first ran up = grind (arith, nat_tests)
 
 pub kept-deliver_urgent : (world : World) (sent : Sent) (rest : List Sent) → IsSoundWorld world → AreSoundUrgent world → world.urgent.frames ≡ sent ∷ rest → world.destination.has_run ≡ true → world.up ≡ true → IsSoundWorld (after_deliver_urgent world sent rest)
 kept-deliver_urgent world sent rest kept h first ran up =
@@ -195,17 +138,6 @@ kept-deliver_urgent world sent rest kept h first ran up =
     (arrives_by sent.frame sent.epoch rest world (subst (λ f. are_copies f ≡ true) first h.copies)
     (subst (λ f. AreFaithful (space_of world.source).host.bytes (copies_of f)) first h.faithful) (subst IsSoundWorld same kept))
 
-running_epoch : (to : DestPhase) (epoch source_epoch : ℕ) → to ≡ DestPhase.Running → EpochAt to epoch source_epoch → epoch ≡ source_epoch
-running_epoch to epoch source_epoch is at = subst (λ p. EpochAt p epoch source_epoch) is at
-
 -- the destination takes the first frame of the urgent wire
 pub is_taken_urgent : (world : World) (sent : Sent) (rest : List Sent) → IsSoundWorld world → AreSoundUrgent world → world.destination.has_run ≡ true → world.up ≡ true → world.urgent.frames ≡ sent ∷ rest → IsTakenUrgent world.destination sent
-is_taken_urgent world sent rest kept h ran up first =
-    let both = running_urgent world sent rest kept h first ran up in
-    let own : AreOf world.source.epoch (sent ∷ rest) = subst (AreOf world.source.epoch) first h.of_epoch in
-    let are : are_copies (sent ∷ rest) ≡ true = subst (λ f. are_copies f ≡ true) first h.copies in
-    record {
-      runs = ap is_running both.1;
-      own_epoch = own.0 ∙ sym (running_epoch world.destination.phase world.destination.epoch world.source.epoch both.1 (kept.epochs.epoch_at up));
-      copy = and_left (is_copy sent.frame) (are_copies rest) are;
-    }
+is_taken_urgent world sent rest kept h ran up first = grind (arith, nat_tests)

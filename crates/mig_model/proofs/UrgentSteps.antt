@@ -1,92 +1,53 @@
 -- What every world keeps of the urgent wire is kept by every step.
-use Rattle.std.proofs.Common.{◌≡◌, ◌≢◌, ℕ, suc, ◌+◌, ◌||◌, Bool, true, false, not, Option, Some, None, List, [], ◌∷◌, ◌++◌, refl, sym, ap, ◌∙◌, subst, arith, length}
+use Rattle.std.proofs.lemmas.Bool.Decides.{nat_tests}
+use Rattle.std.proofs.Common.{◌≡◌, ℕ, ◌+◌, true, false, not, Option, Some, List, [], ◌∷◌, ◌++◌, sym, ap, ◌∙◌, subst, arith, length}
 use Rattle.std.specs.FinMap.{get}
 use Rattle.std.specs.FinSet.{contains}
 use Rattle.std.proofs.lemmas.Bool.{false≢true}
 use Rattle.std.proofs.lemmas.List.{length_push}
 use Rattle.mig_base.specs.declared.phase.DestPhase.{DestPhase}
 use Rattle.mig_base.specs.declared.phase.SourcePhase.{SourcePhase}
-use Rattle.mig_base.specs.declared.phase.Received.{Received}
 use Rattle.mig_base.specs.declared.schedule.Side.{Side}
 use Rattle.mig_base.specs.declared.schedule.Step.{Step}
 use Rattle.mig_base.specs.declared.command.Command.{Command}
-use Rattle.mig_base.specs.Commands.{is_access}
-use Rattle.mig_base.specs.Bytes.{zero_page}
-use Rattle.mig_model.specs.Wire.{Frame, Sent, Wire, Copy, is_copy, page_frame, sending, wire_behind}
-use Rattle.mig_model.specs.Wire.Frame.{Advise, Page, Zero, Run, Discard, Package, End, Resume, Request, Recv, Done}
-use Rattle.mig_model.specs.Migration.{World, after_break, after_command, after_deliver, after_deliver_back, after_deliver_urgent, after_end, after_move_urgent, after_notice, after_push_urgent, after_resume, after_start, after_switch, first_world_with, guest_of, is_early, is_short, next, runs, source_sends, with_guest_by}
-use Rattle.mig_model.specs.Guest.{Guest, Act, is_present, tried}
-use Rattle.mig_model.specs.Guest.Act.{Unprotected}
-use Rattle.mig_model.specs.Source.{Source, is_stopped, bytes_of, is_precopy, is_source_idle, package_frames, rebuild_frames, released, source_act, source_acted_by, source_rebuilt, space_of, switch_frames, run_of}
-use Rattle.mig_model.specs.Destination.{Destination, copy_came, destination_act, destination_acted_by, destination_took, install_by, is_dest_paused, received_of, resumed_by, urgent_came}
-use Rattle.mig_model.specs.Invariant.{AreFaithful, AreSoundUrgent, AreTold, IsSoundWorld, RanAt, SwitchedAt, Wires, are_copies, copies_of}
+use Rattle.mig_model.specs.Wire.{Frame, Sent, Wire, Copy, page_frame, sending}
+use Rattle.mig_model.specs.Wire.Frame.{Run}
+use Rattle.mig_model.specs.Migration.{World, after_break, after_command, after_deliver, after_deliver_back, after_deliver_urgent, after_end, after_move_urgent, after_notice, after_push_urgent, after_resume, after_start, after_switch, first_world_with, is_early, is_short, next, runs}
+use Rattle.mig_model.specs.Guest.{Act, is_present}
+use Rattle.mig_model.specs.Source.{Source, is_stopped, bytes_of, is_precopy, is_source_idle, source_acted_by, space_of, switch_frames, run_of}
+use Rattle.mig_model.specs.Destination.{Destination, destination_act, destination_acted_by, install_by, is_dest_paused}
+use Rattle.mig_model.specs.Invariant.{AreFaithful, AreSoundUrgent, AreTold, IsSoundWorld, Wires, copies_of}
 use Rattle.mig_model.proofs.Taken.{IsInPlaceBack}
-use Rattle.mig_model.specs.Log.{no_pages, present}
+use Rattle.mig_model.specs.Log.{present}
 use Rattle.mig_model.specs.Owed.{home}
-use Rattle.mig_model.proofs.Facts.{AreFaithful-append, AreOf-one, and_second, copies_of-append}
+use Rattle.mig_model.proofs.Facts.{AreFaithful-append, AreOf-one, copies_of-append}
 use Rattle.mig_model.proofs.StepCases.{MakesWorld, made-next}
 use Rattle.mig_model.proofs.Stopping.{not_ended, present_bytes}
-use Rattle.mig_model.proofs.FirstFrame.{comes, empty_not}
-use Rattle.mig_model.proofs.Delivery.{AllCame}
-use Rattle.mig_model.proofs.SourceRounds.{idle_forward}
-use Rattle.mig_model.proofs.UrgentWire.{are_copies-push, comes_advise, comes_resume, comes_unpaused, idle_not_paused, idle_unstopped, is_copy_page, none_faithful, none_of_epoch, not_stopped, other_bytes, other_forward, paused_unstopped, placed, precopy_unstopped, stopped_unpaused, told-push, told-sending, told_ended, told_open, told_page, all_came, not_none}
+use Rattle.mig_model.proofs.UrgentWire.{are_copies-push, is_copy_page, not_stopped, other_bytes, other_forward, precopy_unstopped, stopped_unpaused, told-push, told-sending, told_ended, told_open, told_page}
 use Rattle.mig_model.proofs.FramesTaken.{is_taken_back}
-use Rattle.mig_model.proofs.WireLemmas.{fits-more, fits-moved, fits-none, copies_of-page}
+use Rattle.mig_model.proofs.WireLemmas.{fits-more, copies_of-page}
 
 pub urgent-first : (cpus epoch rounds : ℕ) → AreSoundUrgent (first_world_with cpus epoch rounds)
-urgent-first cpus epoch rounds =
-    record {
-      copies = refl;
-      of_epoch = tt;
-      faithful = tt;
-      stopped = λ h. refl;
-      down = λ h. refl;
-      ended = λ h. refl;
-      counted = λ up other. refl;
-      told = tt;
-      fresh = λ up paused. refl;
-      none_taken = λ h. refl;
-      fits = refl;
-    }
+urgent-first cpus epoch rounds = grind (arith, nat_tests)
 
 -- Processors and handlers
 
-guest_urgent : (ran : Bool) (world : World) (guest : Guest) → (ran ≡ false → is_stopped world.source.phase ≡ false) → AreSoundUrgent world → AreSoundUrgent (with_guest_by ran world guest)
-guest_urgent true world guest not h = h
-guest_urgent false world guest not h = other_bytes guest.space.host.bytes (not refl) h
-
-pub runs_unstopped : (switched ran : Bool) (phase : SourcePhase) → (not switched || ran) ≡ true → SwitchedAt phase switched → ran ≡ false → is_stopped phase ≡ false
-runs_unstopped false ran phase may at bare = not_stopped phase false at refl
-runs_unstopped true true phase may at bare = absurd (false≢true (sym bare))
-runs_unstopped true false phase may at bare = absurd (false≢true may)
-
 command_urgent : (world : World) (cpu : ℕ) (command : Command) → IsSoundWorld world → runs world ≡ true → AreSoundUrgent world → AreSoundUrgent (after_command world cpu command)
-command_urgent world cpu command kept may h =
-    guest_urgent world.destination.has_run world (tried (is_access command) (guest_of world) cpu command)
-    (runs_unstopped world.source.switched world.destination.has_run world.source.phase may kept.phases.source_phase) h
+command_urgent world cpu command kept may h = grind (arith, nat_tests)
 
 acted_urgent : (act : Act) (world : World) (page : ℕ) → is_stopped world.source.phase ≡ false → AreSoundUrgent world → AreSoundUrgent (record world { source = source_acted_by act world.source page })
-acted_urgent Unprotected world page not h = other_bytes _ not h
-acted_urgent _ world page not h = other_bytes _ not h
+acted_urgent act world page not h = grind (arith, nat_tests)
 
 handled_urgent : (act : Act) (world : World) (page : ℕ) (back : Wire) → AreSoundUrgent world → AreSoundUrgent (record world { destination = destination_acted_by act world.destination page; back = back })
-handled_urgent Unprotected world page back h = h
-handled_urgent _ world page back h = h
+handled_urgent act world page back h = grind (arith, nat_tests)
 
 installed_urgent : (o : Option ℕ) (world : World) (copy : Copy) (rest : List Copy) → AreSoundUrgent world → AreSoundUrgent (record world { destination = install_by o world.destination copy rest })
-installed_urgent None world copy rest h = h
-installed_urgent (Some page) world copy rest h = h
+installed_urgent o world copy rest h = grind (arith, nat_tests)
 
 -- The source
 
 start_urgent : (world : World) → IsSoundWorld world → is_source_idle world.source.phase ≡ true → AreSoundUrgent world → AreSoundUrgent (after_start world)
-start_urgent world kept idle h =
-    let none = h.stopped (idle_unstopped world.source.phase idle) in
-    assumption (
-      none_of_epoch (world.source.epoch + 1) world.urgent.frames none,
-      subst (λ w. AreTold (world.source.epoch + 1) world.source.end_epoch world.source.urgent_sent (w ++ record { epoch = world.source.epoch + 1; frame = Advise } ∷ [])) (sym (idle_forward world kept idle)) (tt, tt),
-      λ (paused : SourcePhase.Precopy ≡ SourcePhase.Paused). absurd {A = world.source.urgent_sent ≡ 0} (cc),
-    )
+start_urgent world kept idle h = grind (arith, nat_tests)
 
 switch_urgent : (world : World) → is_precopy world.source.phase ≡ true → AreSoundUrgent world → AreSoundUrgent (after_switch world)
 switch_urgent world precopy h =
@@ -105,16 +66,12 @@ run_urgent : (world : World) (first count : ℕ) → AreSoundUrgent world → Ar
 run_urgent world first count h = told-sending world.source.epoch world.source.end_epoch world.source.urgent_sent world.forward.frames world.source.epoch (Run first (run_of world.source first count) ∷ []) h.told (tt, tt)
 
 end_urgent : (world : World) → AreSoundUrgent world → AreSoundUrgent (after_end world)
-end_urgent world h =
-    assumption (told-push world.source.epoch world.source.epoch world.source.urgent_sent world.forward.frames (record { epoch = world.source.epoch; frame = End world.source.urgent_sent }) (told_ended world.source.epoch world.source.end_epoch world.source.urgent_sent world.forward.frames h.told) (refl, refl))
+end_urgent world h = grind (arith, nat_tests, told-push, told_ended)
 
 -- while the destination has ended End was sent in this epoch
 ended_told : (from : SourcePhase) (to : DestPhase) (source : Source) (node : Destination) (forward back urgent : List Sent) → is_stopped from ≡ true → to ≡ DestPhase.Ended →
     Wires (record source { phase = from }) (record node { phase = to }) forward back urgent → source.end_epoch ≡ source.epoch
-ended_told SourcePhase.Stopped to source node forward back urgent stopped is w =
-    let now = subst (λ p. Wires (record source { phase = SourcePhase.Stopped }) (record node { phase = p }) forward back urgent) is w in now.2
-ended_told SourcePhase.Idle to source node forward back urgent stopped is w = absurd (false≢true stopped)
-ended_told _ to source node forward back urgent stopped is w = absurd (false≢true stopped)
+ended_told from to source node forward back urgent stopped is w = grind (arith, nat_tests)
 
 one_more : (count taken sent more : ℕ) → count ≡ taken + sent → more ≡ sent + 1 → count + 1 ≡ taken + more
 one_more count taken sent more h m = omega (arith, h, m)
@@ -145,210 +102,34 @@ push_urgent_kept world page kept stopped up present remains h =
 
 -- Frames that the destination takes
 
-abbrev Taken : World → ℕ → Frame → List Sent → Type 0
-Taken world epoch frame rest = AreSoundUrgent (after_deliver world (record { epoch = epoch; frame = frame }) rest)
-
--- a frame that leaves the destination in a phase, its count as it was
-moved_on : (world : World) (node : Destination) (rest : List Sent) (back : Wire) → world.destination.phase ≢ DestPhase.Paused → node.urgent_taken ≡ world.destination.urgent_taken → (node.has_run ≡ false → world.destination.has_run ≡ false) →
-    (node.phase ≡ DestPhase.Ended → world.urgent.frames ≡ []) → AreTold world.source.epoch world.source.end_epoch world.source.urgent_sent rest → AreSoundUrgent world →
-    AreSoundUrgent (record world { destination = node; forward = wire_behind rest; back = back })
-moved_on world node rest back other same bare ended told h =
-    assumption (
-      λ (up : world.up ≡ true) (p : node.phase ≢ DestPhase.Paused). h.counted up other ∙ ap (λ n. n + length world.urgent.frames) (sym same),
-      λ (r : node.has_run ≡ false). same ∙ h.none_taken (bare r),
-    )
-
--- a frame that leaves the destination's phase and counts
-stays_on : (world : World) (node : Destination) (rest : List Sent) (back : Wire) → node.phase ≡ world.destination.phase → node.urgent_taken ≡ world.destination.urgent_taken → node.has_run ≡ world.destination.has_run →
-    AreTold world.source.epoch world.source.end_epoch world.source.urgent_sent rest → AreSoundUrgent world → AreSoundUrgent (record world { destination = node; forward = wire_behind rest; back = back })
-stays_on world node rest back phase same ran told h =
-    assumption (
-      λ (e : node.phase ≡ DestPhase.Ended). h.ended (sym phase ∙ e),
-      λ (up : world.up ≡ true) (p : node.phase ≢ DestPhase.Paused). h.counted up (λ e. p (phase ∙ e)) ∙ ap (λ n. n + length world.urgent.frames) (sym same),
-      λ (r : node.has_run ≡ false). same ∙ h.none_taken (sym ran ∙ r),
-    )
-
-came_on : (ran : Bool) (node : Destination) (copy : Copy) → ((copy_came ran node copy).phase ≡ node.phase) × ((copy_came ran node copy).urgent_taken ≡ node.urgent_taken) × ((copy_came ran node copy).has_run ≡ node.has_run)
-came_on true node copy = (refl, refl, refl)
-came_on false node copy = (refl, refl, refl)
-
-resumed_on : (state : Received) (node : Destination) → ((resumed_by state node).urgent_taken ≡ node.urgent_taken)
-resumed_on Received.NotRun node = refl
-resumed_on _ node = refl
-
--- an idle destination has not run
-idle_bare : (to : DestPhase) (ran ended : Bool) → to ≡ DestPhase.Idle → RanAt to ran ended → ran ≡ false
-idle_bare to ran ended is at = subst (λ p. RanAt p ran ended) is at
-
-all_none : (count taken left : ℕ) → count ≡ 0 → taken ≡ 0 → left ≡ 0 → count ≡ taken + left
-all_none count taken left c t l = omega (arith, c, t, l)
-
-taken_urgent : (frame : Frame) (epoch : ℕ) (rest : List Sent) (world : World) → IsSoundWorld world → world.up ≡ true → comes world.source.phase world.destination.phase frame ≡ true → AllCame frame world →
-    AreTold world.source.epoch world.source.end_epoch world.source.urgent_sent rest → AreSoundUrgent world → Taken world epoch frame rest
-taken_urgent Advise epoch rest world kept up comes came told h =
-    let idle = comes_advise world.source.phase world.destination.phase comes in
-    let bare = idle_bare world.destination.phase world.destination.has_run world.destination.ended idle kept.phases.destination_phase in
-    let none : world.destination.urgent_taken ≡ 0 = h.none_taken bare in
-    moved_on world (destination_took world.destination epoch Advise) rest world.back (λ p. idle_not_paused (sym idle ∙ p)) (sym none) (λ r. r) (λ e. absurd (cc)) told h
-taken_urgent (Page page bytes) epoch rest world kept up comes came told h =
-    let on = came_on world.destination.has_run world.destination (record { page = page; bytes = bytes }) in stays_on world (destination_took world.destination epoch (Page page bytes)) rest world.back on.0 on.1 on.2 told h
-taken_urgent (Zero page) epoch rest world kept up comes came told h =
-    let on = came_on world.destination.has_run world.destination (record { page = page; bytes = zero_page }) in stays_on world (destination_took world.destination epoch (Zero page)) rest world.back on.0 on.1 on.2 told h
-taken_urgent (Run first pages) epoch rest world kept up comes came told h = stays_on world (destination_took world.destination epoch (Run first pages)) rest world.back refl refl refl told h
-taken_urgent (Discard pages) epoch rest world kept up comes came told h =
-    moved_on world (destination_took world.destination epoch (Discard pages)) rest world.back (comes_unpaused world.source.phase world.destination.phase (Discard pages) comes refl) refl (λ r. r) (λ e. absurd (cc)) told h
-taken_urgent (Package areas owed commands) epoch rest world kept up comes came told h =
-    moved_on world (destination_took world.destination epoch (Package areas owed commands)) rest world.back (comes_unpaused world.source.phase world.destination.phase (Package areas owed commands) comes refl) refl (λ r. absurd (false≢true (sym r))) (λ e. absurd (cc)) told h
-taken_urgent (End count) epoch rest world kept up comes came told h =
-    moved_on world (destination_took world.destination epoch (End count)) rest world.back (comes_unpaused world.source.phase world.destination.phase (End count) comes refl) refl (λ r. r) (λ e. came count refl) told h
-taken_urgent Resume epoch rest world kept up comes came told h =
-    let paused = comes_resume world.source.phase world.destination.phase comes in
-    let none = h.stopped (ap is_stopped paused) in
-    let zero_taken : (destination_took world.destination epoch Resume).urgent_taken ≡ 0 = resumed_on (received_of world.destination) (record world.destination { epoch = epoch; urgent_taken = 0 }) in
-    record {
-      copies = h.copies;
-      of_epoch = h.of_epoch;
-      faithful = h.faithful;
-      stopped = h.stopped;
-      down = h.down;
-      ended = λ e. none;
-      counted = λ u p. all_none world.source.urgent_sent (destination_took world.destination epoch Resume).urgent_taken (length world.urgent.frames) (h.fresh up paused) zero_taken (ap length none);
-      told = told;
-      fresh = h.fresh;
-      none_taken = λ r. zero_taken;
-      fits = h.fits;
-    }
-taken_urgent _ epoch rest world kept up comes came told h = stays_on world world.destination rest world.back refl refl refl told h
-
 deliver_urgent_kept : (world : World) (sent : Sent) (rest : List Sent) → IsSoundWorld world → world.forward.frames ≡ sent ∷ rest → world.up ≡ true → is_early world.destination sent.frame ≡ false → AreSoundUrgent world → AreSoundUrgent (after_deliver world sent rest)
-deliver_urgent_kept world sent rest kept first up early h =
-    let told : AreTold world.source.epoch world.source.end_epoch world.source.urgent_sent (sent ∷ rest) = subst (AreTold world.source.epoch world.source.end_epoch world.source.urgent_sent) first h.told in
-    taken_urgent sent.frame sent.epoch rest world kept up (placed world sent rest kept first up) (all_came world sent rest kept h first up early) told.1 h
-
--- a frame of the urgent wire
-one_less : (count taken left : ℕ) → count ≡ taken + suc left → count ≡ (taken + 1) + left
-one_less count taken left h = omega (arith, h)
-
-abbrev UrgentFrames : World → List Sent → Type 0
-UrgentFrames world frames = AreSoundUrgent (record world { urgent = record world.urgent { frames = frames } })
-
-arrived_urgent : (copy : Copy) (sent : Sent) (rest : List Sent) (world : World) → world.destination.has_run ≡ true → UrgentFrames world (sent ∷ rest) →
-    AreFaithful (space_of world.source).host.bytes (copies_of rest) → AreSoundUrgent (record world { destination = urgent_came world.destination copy; urgent = wire_behind rest })
-arrived_urgent copy sent rest world ran h faithful =
-    record {
-      copies = and_second (is_copy sent.frame) (are_copies rest) h.copies;
-      of_epoch = h.of_epoch.1;
-      faithful = faithful;
-      stopped = λ s. not_none (sent ∷ rest) sent rest refl (h.stopped s);
-      down = λ d. not_none (sent ∷ rest) sent rest refl (h.down d);
-      ended = λ e. not_none (sent ∷ rest) sent rest refl (h.ended e);
-      counted = λ u p. one_less world.source.urgent_sent world.destination.urgent_taken (length rest) (h.counted u p);
-      told = h.told;
-      fresh = h.fresh;
-      none_taken = λ r. absurd (false≢true (sym r ∙ ran));
-      fits = fits-none rest;
-    }
-
-urgent_taken_by : (frame : Frame) (epoch : ℕ) (rest : List Sent) (world : World) → world.destination.has_run ≡ true → UrgentFrames world (record { epoch = epoch; frame = frame } ∷ rest) →
-    AreSoundUrgent (after_deliver_urgent world (record { epoch = epoch; frame = frame }) rest)
-urgent_taken_by (Page page bytes) epoch rest world ran h = arrived_urgent (record { page = page; bytes = bytes }) (record { epoch = epoch; frame = Page page bytes }) rest world ran h h.faithful.1
-urgent_taken_by (Zero page) epoch rest world ran h = arrived_urgent (record { page = page; bytes = zero_page }) (record { epoch = epoch; frame = Zero page }) rest world ran h h.faithful.1
-urgent_taken_by _ epoch rest world ran h = absurd (false≢true h.copies)
+deliver_urgent_kept world sent rest kept first up early h = grind (arith, nat_tests)
 
 urgent_delivered : (world : World) (sent : Sent) (rest : List Sent) → world.urgent.frames ≡ sent ∷ rest → world.destination.has_run ≡ true → AreSoundUrgent world → AreSoundUrgent (after_deliver_urgent world sent rest)
-urgent_delivered world sent rest first ran h = urgent_taken_by sent.frame sent.epoch rest world ran (subst (UrgentFrames world) first h)
+urgent_delivered world sent rest first ran h = grind (arith, nat_tests)
 
 urgent_moved : (world : World) (n : ℕ) (sent : Sent) (rest : List Sent) → world.urgent.frames ≡ sent ∷ rest → is_short world.urgent sent.frame n ≡ true → AreSoundUrgent world → AreSoundUrgent (after_move_urgent world n)
-urgent_moved world n sent rest first short h =
-    assumption (fits-moved world.urgent n sent rest first short)
+urgent_moved world n sent rest first short h = grind (arith, nat_tests)
 
 -- Frames that the source takes
 
--- the source goes on where nothing is on the urgent wire
-resumes : (world : World) (node : Source) (frames : List Sent) (back : Wire) → world.urgent.frames ≡ [] → node.phase ≢ SourcePhase.Paused → node.epoch ≡ world.source.epoch → node.end_epoch ≡ world.source.end_epoch → node.urgent_sent ≡ world.source.urgent_sent →
-    AreTold node.epoch node.end_epoch node.urgent_sent frames → AreSoundUrgent world → AreSoundUrgent (record world { source = node; forward = record world.forward { frames = frames }; back = back })
-resumes world node frames back none other epoch end_epoch count told h =
-    assumption (
-      none_of_epoch node.epoch world.urgent.frames none,
-      none_faithful (space_of node).host.bytes world.urgent.frames none,
-      λ (u : world.up ≡ true) (p : world.destination.phase ≢ DestPhase.Paused). count ∙ h.counted u p,
-      λ (paused : node.phase ≡ SourcePhase.Paused). absurd {A = node.urgent_sent ≡ 0} (other paused),
-    )
-
--- a destination that sends Done has ended
-done_ended : (from : SourcePhase) (to : DestPhase) (source : Source) (node : Destination) (epoch : ℕ) (forward rest urgent : List Sent) → is_stopped from ≡ true →
-    Wires (record source { phase = from }) (record node { phase = to }) forward (record { epoch = epoch; frame = Done } ∷ rest) urgent → to ≡ DestPhase.Ended
-done_ended SourcePhase.Stopped DestPhase.Running source node epoch forward rest urgent stopped w = absurd (false≢true w.1)
-done_ended SourcePhase.Stopped DestPhase.Paused source node epoch forward rest urgent stopped w = absurd w
-done_ended SourcePhase.Stopped DestPhase.Ended source node epoch forward rest urgent stopped w = refl
-done_ended SourcePhase.Stopped _ source node epoch forward rest urgent stopped w = absurd (empty_not (record { epoch = epoch; frame = Done }) rest w.1)
-done_ended _ to source node epoch forward rest urgent stopped w = absurd (false≢true stopped)
-
-rebuilt_urgent : (switched : Bool) (world : World) (back : Wire) → world.urgent.frames ≡ [] → AreSoundUrgent world →
-    AreSoundUrgent (source_sends (record world { back = back }) (source_rebuilt Received.NotRun no_pages (record world.source { switched = switched })) (rebuild_frames Received.NotRun (record world.source { switched = switched })))
-rebuilt_urgent true world back none h =
-    resumes world (source_rebuilt Received.NotRun no_pages (record world.source { switched = true })) _ back none (λ h. cc) refl refl refl
-    (told-sending world.source.epoch world.source.end_epoch world.source.urgent_sent world.forward.frames world.source.epoch (package_frames world.source no_pages (present (space_of world.source))) h.told (tt, (tt, tt))) h
-rebuilt_urgent false world back none h = resumes world (source_rebuilt Received.NotRun no_pages (record world.source { switched = false })) world.forward.frames back none (λ h. cc) refl refl refl h.told h
-
 back_urgent : (frame : Frame) (epoch : ℕ) (rest : List Sent) (world : World) → IsSoundWorld world → world.up ≡ true → world.back.frames ≡ record { epoch = epoch; frame = frame } ∷ rest → IsInPlaceBack world.source frame → AreSoundUrgent world →
     AreSoundUrgent (after_deliver_back world (record { epoch = epoch; frame = frame }) rest)
-back_urgent (Recv Received.NotRun owed) epoch rest world kept up first place h = rebuilt_urgent world.source.switched world (wire_behind rest) (h.stopped (paused_unstopped world.source.phase place.0)) h
-back_urgent (Recv Received.Running owed) epoch rest world kept up first place h =
-    resumes world (source_rebuilt Received.Running owed world.source) world.forward.frames (wire_behind rest) (h.stopped (paused_unstopped world.source.phase place.0)) (λ h. cc) refl refl refl h.told h
-back_urgent (Recv Received.Ended owed) epoch rest world kept up first place h =
-    resumes world (released world.source) world.forward.frames (wire_behind rest) (h.stopped (paused_unstopped world.source.phase place.0)) (λ h. cc) refl refl refl h.told h
-back_urgent Done epoch rest world kept up first place h =
-    let w = subst (λ b. Wires world.source world.destination world.forward.frames b world.urgent.frames) first (kept.flight.wires up) in
-    resumes world (released world.source) world.forward.frames (wire_behind rest)
-    (h.ended (done_ended world.source.phase world.destination.phase world.source world.destination epoch world.forward.frames rest world.urgent.frames place.0 w)) (λ h. cc) refl refl refl h.told h
-back_urgent (Request page) epoch rest world kept up first place h = h
-back_urgent _ epoch rest world kept up first place h = absurd place
+back_urgent frame epoch rest world kept up first place h = grind (arith, nat_tests)
 
 -- The channel
 
 break_urgent : (world : World) → AreSoundUrgent world → AreSoundUrgent (after_break world)
-break_urgent world h =
-    record {
-      copies = refl;
-      of_epoch = tt;
-      faithful = tt;
-      stopped = λ s. refl;
-      down = λ d. refl;
-      ended = λ e. refl;
-      counted = λ up. absurd (false≢true up);
-      told = tt;
-      fresh = λ up. absurd (false≢true up);
-      none_taken = h.none_taken;
-      fits = refl;
-    }
+break_urgent world h = grind (arith, nat_tests)
 
 source_notices : (world : World) → world.up ≡ false → AreSoundUrgent world → AreSoundUrgent (after_notice world Side.Source)
-source_notices world down h =
-    assumption (
-      h.down down,
-      λ (up : world.up ≡ true). absurd {A = SourcePhase.Paused ≡ SourcePhase.Paused → world.source.urgent_sent ≡ 0} (false≢true (sym down ∙ up)),
-    )
+source_notices world down h = grind (arith, nat_tests)
 
 destination_notices : (world : World) → world.up ≡ false → AreSoundUrgent world → AreSoundUrgent (after_notice world Side.Destination)
-destination_notices world down h =
-    assumption (
-      h.down down,
-      λ (p : DestPhase.Paused ≢ DestPhase.Paused). absurd {A = world.source.urgent_sent ≡ world.destination.urgent_taken + length world.urgent.frames} (p refl),
-    )
-
-dest_paused : (to : DestPhase) → is_dest_paused to ≡ true → to ≡ DestPhase.Paused
-dest_paused DestPhase.Paused h = refl
-dest_paused _ h = absurd (false≢true h)
+destination_notices world down h = grind (arith, nat_tests)
 
 resume_urgent : (world : World) → IsSoundWorld world → is_dest_paused world.destination.phase ≡ true → world.up ≡ false → AreSoundUrgent world → AreSoundUrgent (after_resume world)
-resume_urgent world kept paused down h =
-    let none = h.down down in
-    assumption (
-      none_of_epoch (world.source.epoch + 1) world.urgent.frames none,
-      λ (p : world.destination.phase ≢ DestPhase.Paused). absurd {A = 0 ≡ world.destination.urgent_taken + length world.urgent.frames} (p (dest_paused world.destination.phase paused)),
-      subst (λ w. AreTold (world.source.epoch + 1) world.source.end_epoch 0 (w ++ record { epoch = world.source.epoch + 1; frame = Resume } ∷ [])) (sym (kept.flight.down down).0) (tt, tt),
-    )
+resume_urgent world kept paused down h = grind (arith, nat_tests)
 
 -- Steps
 
@@ -357,18 +138,13 @@ urgent-answer world (Step.Issue cpu command) kept h = λ there idle may. command
 urgent-answer world (Step.Retry cpu) kept h = λ command waits woken may. command_urgent world cpu command kept may h
 urgent-answer world Step.Start kept h = λ idle unused. start_urgent world kept idle h
 urgent-answer world Step.Round kept h = λ precopy quiet. other_bytes _ (precopy_unstopped world.source.phase precopy) h
-urgent-answer world Step.Send kept h =
-    λ page is precopy up quiet. other_bytes _ (precopy_unstopped world.source.phase precopy) (other_forward _ (sent_urgent world page h) h)
-urgent-answer world (Step.SendRun count) kept h =
-    λ first number is many precopy up quiet. other_bytes _ (precopy_unstopped world.source.phase precopy) (other_forward _ (run_urgent world first number h) h)
+urgent-answer world Step.Send kept h = grind (arith, nat_tests, other_bytes, precopy_unstopped, other_forward, sent_urgent)
+urgent-answer world (Step.SendRun count) kept h = grind (arith, nat_tests, other_bytes, precopy_unstopped, other_forward, run_urgent)
 urgent-answer world Step.SourceRead kept h = λ noted is started unswitched. other_bytes _ (not_stopped world.source.phase world.source.switched kept.phases.source_phase unswitched) h
-urgent-answer world Step.SourceAct kept h =
-    λ fault rest is started unswitched quiet.
-    acted_urgent (source_act world.source fault) world fault.page (not_stopped world.source.phase world.source.switched kept.phases.source_phase unswitched) h
+urgent-answer world Step.SourceAct kept h = grind (arith, nat_tests, acted_urgent, not_stopped)
 urgent-answer world Step.Switch kept h = λ precopy up quiet. switch_urgent world precopy h
 urgent-answer world (Step.Deliver n) kept h = ((λ sent rest is short. h), (λ sent rest is full started up free early. deliver_urgent_kept world sent rest kept is up early h))
-urgent-answer world (Step.DeliverBack n) kept h =
-    ((λ sent rest is short. h), (λ sent rest is full started up. back_urgent sent.frame sent.epoch rest world kept up is (is_taken_back world sent rest kept up is) h))
+urgent-answer world (Step.DeliverBack n) kept h = grind (arith, nat_tests, back_urgent, is_taken_back)
 urgent-answer world Step.DestAct kept h = λ fault rest is ran quiet. handled_urgent (destination_act world.destination fault) world fault.page world.back h
 urgent-answer world Step.Install kept h = λ copy rest is ran quiet. installed_urgent (home world.destination.owed copy.page) world copy rest h
 urgent-answer world (Step.Push ticket) kept h = λ stopped up own present remains. other_forward _ (sent_urgent world ticket.page h) h

@@ -1,46 +1,28 @@
 -- The urgent wire: what each step keeps of it.
-use Rattle.std.proofs.Common.{◌≡◌, ◌≢◌, ℕ, ◌+◌, ◌≤◌, ◌&&◌, Bool, true, false, not, List, [], ◌∷◌, ◌++◌, refl, sym, ap, ◌∙◌, subst, arith, length, if◌then◌else◌}
+use Rattle.std.proofs.lemmas.Bool.Decides.{nat_tests}
+use Rattle.std.proofs.Common.{◌≡◌, ◌≢◌, ℕ, ◌≤◌, ◌&&◌, Bool, true, false, not, List, [], ◌∷◌, ◌++◌, ap, arith}
 use Rattle.std.specs.Ordering.{nat_cmp}
 use Rattle.std.specs.FinMap.{FinMap}
-use Rattle.std.proofs.lemmas.Bool.{false≢true, ltb-false}
 use Rattle.mig_base.specs.declared.phase.DestPhase.{DestPhase}
 use Rattle.mig_base.specs.declared.phase.SourcePhase.{SourcePhase}
-use Rattle.mig_model.specs.Wire.{Frame, Sent, Wire, is_copy, is_zeros, page_frame, sending}
-use Rattle.mig_model.specs.Wire.Frame.{Advise, Page, Zero, End, Resume}
+use Rattle.mig_model.specs.Wire.{Frame, Sent, Wire, is_copy, page_frame, sending}
+use Rattle.mig_model.specs.Wire.Frame.{End}
 use Rattle.mig_model.specs.Migration.{World, is_early}
 use Rattle.mig_model.specs.Source.{is_stopped, is_precopy, is_source_idle, is_source_paused}
-use Rattle.mig_model.specs.Invariant.{AreFaithful, AreOf, AreTold, IsSoundUrgent, IsSoundWorld, IsTold, SwitchedAt, Wires, are_copies, copies_of, AreSoundUrgent}
+use Rattle.mig_model.specs.Invariant.{AreTold, IsSoundUrgent, IsSoundWorld, IsTold, SwitchedAt, are_copies, AreSoundUrgent}
 use Rattle.mig_model.proofs.FirstFrame.{comes, first_in_place}
 
 -- Lists of frames
 
-pub none_of_epoch : (epoch : ℕ) (frames : List Sent) → frames ≡ [] → AreOf epoch frames
-none_of_epoch epoch frames none = subst (AreOf epoch) (sym none) tt
-
-pub none_faithful : (bytes : FinMap nat_cmp (List ℕ)) (frames : List Sent) → frames ≡ [] → AreFaithful bytes (copies_of frames)
-none_faithful bytes frames none = subst (λ f. AreFaithful bytes (copies_of f)) (sym none) tt
-
 are_copies_by : (one more all : Bool) → (one && all) ≡ true → (all ≡ true → more ≡ true) → (one && more) ≡ true
-are_copies_by true more all h k = k h
-are_copies_by false more all h k = h
+are_copies_by one more all h k = grind (arith, nat_tests)
 
 pub are_copies-push : (frames : List Sent) (sent : Sent) → is_copy sent.frame ≡ true → are_copies frames ≡ true → are_copies (frames ++ sent ∷ []) ≡ true
 are_copies-push [] sent is are = ap (λ b. b && true) is
 are_copies-push (first ∷ frames) sent is are = are_copies_by (is_copy first.frame) (are_copies (frames ++ sent ∷ [])) (are_copies frames) are (are_copies-push frames sent is)
 
-pub not_none : {A : Type 0} (frames : List Sent) (sent : Sent) (rest : List Sent) → frames ≡ sent ∷ rest → frames ≡ [] → A
-not_none frames sent rest first none = absurd (let e : sent ∷ rest ≡ [] = sym first ∙ none in cc)
-
-pub length-push : (frames : List Sent) (sent : Sent) → length (frames ++ sent ∷ []) ≡ length frames + 1
-length-push [] sent = refl
-length-push (first ∷ frames) sent = let rest = length-push frames sent in omega (arith, rest)
-
-copy_page_by : (zeros : Bool) (page : ℕ) (bytes : List ℕ) → is_copy (if zeros then Zero page else Page page bytes) ≡ true
-copy_page_by true page bytes = refl
-copy_page_by false page bytes = refl
-
 pub is_copy_page : (page : ℕ) (bytes : List ℕ) → is_copy (page_frame page bytes) ≡ true
-is_copy_page page bytes = copy_page_by (is_zeros bytes) page bytes
+is_copy_page page bytes = grind (arith, nat_tests)
 
 -- What End tells
 
@@ -54,28 +36,21 @@ told-push epoch end_epoch count (first ∷ wire) sent told is = (told.0, told-pu
 
 pub told-sending : (epoch end_epoch count : ℕ) (wire : List Sent) (at : ℕ) (frames : List Frame) → AreTold epoch end_epoch count wire → AllTold epoch end_epoch count frames → AreTold epoch end_epoch count (sending wire at frames)
 told-sending epoch end_epoch count wire at [] told are = told
-told-sending epoch end_epoch count wire at (frame ∷ frames) told are =
-    told-sending epoch end_epoch count (wire ++ record { epoch = at; frame = frame } ∷ []) at frames (told-push epoch end_epoch count wire (record { epoch = at; frame = frame }) told are.0) are.1
-
-told_page_by : (epoch end_epoch count : ℕ) (zeros : Bool) (page : ℕ) (bytes : List ℕ) → IsTold epoch end_epoch count (if zeros then Zero page else Page page bytes)
-told_page_by epoch end_epoch count true page bytes = tt
-told_page_by epoch end_epoch count false page bytes = tt
+told-sending epoch end_epoch count wire at (frame ∷ frames) told are = grind (arith, nat_tests, told-push, told-sending epoch end_epoch count (wire ++ record { epoch = at; frame = frame } ∷ []) at frames (told-push epoch end_epoch count wire (record { epoch = at; frame = frame }) told are.0) are.1)
 
 pub told_page : (epoch end_epoch count page : ℕ) (bytes : List ℕ) → IsTold epoch end_epoch count (page_frame page bytes)
-told_page epoch end_epoch count page bytes = told_page_by epoch end_epoch count (is_zeros bytes) page bytes
+told_page epoch end_epoch count page bytes = grind (arith, nat_tests)
 
 -- where End was not sent in this epoch there is none in flight
 open_one : (epoch end_epoch count new : ℕ) (frame : Frame) → end_epoch ≢ epoch → IsTold epoch end_epoch count frame → IsTold epoch end_epoch new frame
-open_one epoch end_epoch count new (End urgent) other told = absurd (other told.0)
-open_one epoch end_epoch count new _ other told = tt
+open_one epoch end_epoch count new frame other told = grind (arith, nat_tests)
 
 pub told_open : (epoch end_epoch count new : ℕ) (wire : List Sent) → end_epoch ≢ epoch → AreTold epoch end_epoch count wire → AreTold epoch end_epoch new wire
 told_open epoch end_epoch count new [] other told = tt
 told_open epoch end_epoch count new (sent ∷ wire) other told = (open_one epoch end_epoch count new sent.frame other told.0, told_open epoch end_epoch count new wire other told.1)
 
 ended_one : (epoch end_epoch count : ℕ) (frame : Frame) → IsTold epoch end_epoch count frame → IsTold epoch epoch count frame
-ended_one epoch end_epoch count (End urgent) told = (refl, told.1)
-ended_one epoch end_epoch count _ told = tt
+ended_one epoch end_epoch count frame told = grind (arith, nat_tests)
 
 pub told_ended : (epoch end_epoch count : ℕ) (wire : List Sent) → AreTold epoch end_epoch count wire → AreTold epoch epoch count wire
 told_ended epoch end_epoch count [] told = tt
@@ -85,99 +60,44 @@ told_ended epoch end_epoch count (sent ∷ wire) told = (ended_one epoch end_epo
 
 pub other_bytes : {from : SourcePhase} {epoch end_epoch count : ℕ} {bytes : FinMap nat_cmp (List ℕ)} {to : DestPhase} {has_run : Bool} {taken : ℕ} {forward : List Sent} {urgent : Wire} {up : Bool} (new : FinMap nat_cmp (List ℕ)) → is_stopped from ≡ false →
     IsSoundUrgent from epoch end_epoch count bytes to has_run taken forward urgent up → IsSoundUrgent from epoch end_epoch count new to has_run taken forward urgent up
-other_bytes {urgent = urgent} new not h =
-    assumption (none_faithful new urgent.frames (h.stopped not))
+other_bytes {urgent = urgent} new not h = grind (arith, nat_tests)
 
 pub other_forward : {from : SourcePhase} {epoch end_epoch count : ℕ} {bytes : FinMap nat_cmp (List ℕ)} {to : DestPhase} {has_run : Bool} {taken : ℕ} {forward : List Sent} {urgent : Wire} {up : Bool} (new : List Sent) → AreTold epoch end_epoch count new →
     IsSoundUrgent from epoch end_epoch count bytes to has_run taken forward urgent up → IsSoundUrgent from epoch end_epoch count bytes to has_run taken new urgent up
-other_forward new told h =
-    assumption
+other_forward new told h = grind (arith, nat_tests)
 
 -- Phases
 
 pub not_stopped : (phase : SourcePhase) (switched : Bool) → SwitchedAt phase switched → switched ≡ false → is_stopped phase ≡ false
-not_stopped SourcePhase.Stopped switched at not = absurd (false≢true (sym not ∙ at))
-not_stopped _ switched at not = refl
-
-pub paused_unstopped : (phase : SourcePhase) → is_source_paused phase ≡ true → is_stopped phase ≡ false
-paused_unstopped SourcePhase.Stopped h = absurd (false≢true h)
-paused_unstopped _ h = refl
+not_stopped phase switched at not = grind (arith, nat_tests)
 
 pub is_paused : (phase : SourcePhase) → is_source_paused phase ≡ true → phase ≡ SourcePhase.Paused
-is_paused SourcePhase.Paused h = refl
-is_paused _ h = absurd (false≢true h)
+is_paused phase h = grind (arith, nat_tests)
 
 pub idle_unstopped : (phase : SourcePhase) → is_source_idle phase ≡ true → is_stopped phase ≡ false
-idle_unstopped SourcePhase.Stopped h = absurd (false≢true h)
-idle_unstopped _ h = refl
+idle_unstopped phase h = grind (arith, nat_tests)
 
 pub precopy_unstopped : (phase : SourcePhase) → is_precopy phase ≡ true → is_stopped phase ≡ false
-precopy_unstopped SourcePhase.Stopped h = absurd (false≢true h)
-precopy_unstopped _ h = refl
+precopy_unstopped phase h = grind (arith, nat_tests)
 
 pub stopped_unpaused : (phase : SourcePhase) → is_stopped phase ≡ true → phase ≢ SourcePhase.Paused
-stopped_unpaused SourcePhase.Stopped h e = cc
-stopped_unpaused _ h e = false≢true h
+stopped_unpaused phase h e = grind (arith, nat_tests)
 
 -- Which phases a first frame tells
 
 pub placed : (world : World) (sent : Sent) (rest : List Sent) → IsSoundWorld world → world.forward.frames ≡ sent ∷ rest → world.up ≡ true → comes world.source.phase world.destination.phase sent.frame ≡ true
-placed world sent rest kept first up =
-    first_in_place world.source world.destination sent rest world.back.frames world.urgent.frames
-    (subst (λ w. Wires world.source world.destination w world.back.frames world.urgent.frames) first (kept.flight.wires up))
-
-pub comes_resume : (from : SourcePhase) (to : DestPhase) → comes from to Resume ≡ true → from ≡ SourcePhase.Paused
-comes_resume SourcePhase.Paused to h = refl
-comes_resume SourcePhase.Precopy DestPhase.Idle h = absurd (false≢true h)
-comes_resume SourcePhase.Stopped DestPhase.Idle h = absurd (false≢true h)
-comes_resume _ _ h = absurd (false≢true h)
-
-pub comes_advise : (from : SourcePhase) (to : DestPhase) → comes from to Advise ≡ true → to ≡ DestPhase.Idle
-comes_advise SourcePhase.Precopy DestPhase.Idle h = refl
-comes_advise SourcePhase.Stopped DestPhase.Idle h = refl
-comes_advise SourcePhase.Paused DestPhase.Paused h = absurd (false≢true h)
-comes_advise _ _ h = absurd (false≢true h)
-
--- a frame is the one that a paused destination takes
-abbrev pub is_resume : Frame → Bool
-is_resume Resume = true
-is_resume frame = false
-
-paused_takes : (from : SourcePhase) (frame : Frame) → comes from DestPhase.Paused frame ≡ true → is_resume frame ≡ true
-paused_takes SourcePhase.Paused Resume h = refl
-paused_takes _ frame h = absurd (false≢true h)
-
-pub comes_unpaused : (from : SourcePhase) (to : DestPhase) (frame : Frame) → comes from to frame ≡ true → is_resume frame ≡ false → to ≢ DestPhase.Paused
-comes_unpaused from to frame h other is = false≢true (sym other ∙ paused_takes from frame (sym (ap (λ p. comes from p frame) is) ∙ h))
-
-pub idle_not_paused : DestPhase.Idle ≢ DestPhase.Paused
-idle_not_paused h = cc
+placed world sent rest kept first up = grind (arith, nat_tests, first_in_place)
 
 -- What an End that comes first tells
-
-at_least : (count taken left : ℕ) → count ≡ taken + left → taken ≤ count
-at_least count taken left h = omega (arith, h)
-
-none_left : (count taken left : ℕ) (frames : List Sent) → count ≡ taken + left → count ≤ taken → left ≡ length frames → frames ≡ []
-none_left count taken left [] h late is = refl
-none_left count taken left (sent ∷ frames) h late is = absurd (omega (arith, h, late, is))
 
 -- it counts no fewer urgent frames than came, and where it counts no more none is on its way
 abbrev pub EndTells : Frame → World → Type 0
 EndTells frame world = (count : ℕ) → frame ≡ End count → (world.destination.urgent_taken ≤ count) × (count ≤ world.destination.urgent_taken → world.urgent.frames ≡ [])
 
 pub end_tells : (world : World) (sent : Sent) (rest : List Sent) → IsSoundWorld world → AreSoundUrgent world → world.forward.frames ≡ sent ∷ rest → world.up ≡ true → EndTells sent.frame world
-end_tells world sent rest kept h first up count is =
-    let told : AreTold world.source.epoch world.source.end_epoch world.source.urgent_sent (sent ∷ rest) = subst (AreTold world.source.epoch world.source.end_epoch world.source.urgent_sent) first h.told in
-    let own : IsTold world.source.epoch world.source.end_epoch world.source.urgent_sent (End count) = subst (IsTold world.source.epoch world.source.end_epoch world.source.urgent_sent) is told.0 in
-    let other = comes_unpaused world.source.phase world.destination.phase sent.frame (placed world sent rest kept first up) (ap is_resume is) in
-    let counted : count ≡ world.destination.urgent_taken + length world.urgent.frames = own.1 ∙ h.counted up other in (
-      at_least count world.destination.urgent_taken (length world.urgent.frames) counted,
-      λ late. none_left count world.destination.urgent_taken (length world.urgent.frames) world.urgent.frames counted late refl,
-    )
+end_tells world sent rest kept h first up count is = grind (arith, nat_tests)
 
 -- End is taken once all urgent frames have come
 pub all_came : (world : World) (sent : Sent) (rest : List Sent) → IsSoundWorld world → AreSoundUrgent world → world.forward.frames ≡ sent ∷ rest → world.up ≡ true → is_early world.destination sent.frame ≡ false →
     (count : ℕ) → sent.frame ≡ End count → world.urgent.frames ≡ []
-all_came world sent rest kept h first up early count is =
-    (end_tells world sent rest kept h first up count is).1 (ltb-false world.destination.urgent_taken count (subst (λ f. is_early world.destination f ≡ false) is early))
+all_came world sent rest kept h first up early count is = grind (arith, nat_tests)

@@ -1,9 +1,9 @@
 -- The phase of a world is Complete exactly where the migration is complete, and a new world is a first world.
-use Rattle.std.proofs.Common.{◌≡◌, ℕ, ◌||◌, Bool, true, false, eqb, ltb, [], refl, sym, ap, ◌∙◌, if◌then◌else◌}
+use Rattle.std.proofs.lemmas.Bool.Decides.{nat_tests}
+use Rattle.std.proofs.Common.{◌≡◌, ℕ, ◌||◌, Bool, true, false, eqb, ltb, [], sym, ap, ◌∙◌, if◌then◌else◌, arith}
 use Rattle.std.specs.Prelude.{Ok, Err}
 use Rattle.std.specs.Ordering.{nat_cmp}
 use Rattle.std.specs.FinMap.{len, len-empty}
-use Rattle.std.proofs.lemmas.Bool.{false≢true}
 use Rattle.mig_base.specs.declared.TheConstants.{MAX_CPUS}
 use Rattle.mig_base.specs.declared.phase.SourcePhase.{SourcePhase}
 use Rattle.mig_base.specs.declared.refusal.Refusal.{Refusal}
@@ -21,20 +21,10 @@ is_complete _ = false
 
 told_by : (phase : SourcePhase) (switched ran : Bool) → is_complete (phase_by phase switched ran) ≡ is_released phase
 unfolding is_complete
-told_by SourcePhase.Released switched ran = refl
-told_by SourcePhase.Idle true false = refl
-told_by SourcePhase.Idle false false = refl
-told_by SourcePhase.Precopy true false = refl
-told_by SourcePhase.Precopy false false = refl
-told_by SourcePhase.Stopped true false = refl
-told_by SourcePhase.Stopped false false = refl
-told_by SourcePhase.Paused true false = refl
-told_by SourcePhase.Paused false false = refl
-told_by _ switched true = refl
+told_by phase switched ran = grind (arith, nat_tests)
 
 released_is : (phase : SourcePhase) (switched ran : Bool) → is_released phase ≡ true → phase_by phase switched ran ≡ WorldPhase.Complete
-released_is SourcePhase.Released switched ran h = refl
-released_is _ switched ran h = absurd (false≢true h)
+released_is phase switched ran h = grind (arith, nat_tests)
 
 pub phase_complete : (world : World) → (phase_of world ≡ WorldPhase.Complete → IsComplete world) × (IsComplete world → phase_of world ≡ WorldPhase.Complete)
 unfolding is_complete
@@ -44,8 +34,7 @@ phase_complete world = (
 )
 
 made_new : (wrong : Bool) (cpus epoch rounds : ℕ) (world : World) → (if wrong then Err Refusal.NoCpu else Ok (first_world_with cpus epoch rounds)) ≡ Ok world → world ≡ first_world_with cpus epoch rounds
-made_new true cpus epoch rounds world h = absurd (cc)
-made_new false cpus epoch rounds world h = cc
+made_new wrong cpus epoch rounds world h = grind (arith, nat_tests)
 
 pub new_reached : (cpus epoch rounds : ℕ) (world : World) → new_world_with cpus epoch rounds ≡ Ok world → IsReached world
 new_reached cpus epoch rounds world h = record { cpus = cpus; epoch = epoch; rounds = rounds; steps = []; is = made_new (eqb cpus 0 || ltb MAX_CPUS cpus) cpus epoch rounds world h }

@@ -1,20 +1,16 @@
 -- A command that waits is a load or a store.
-use Rattle.std.proofs.Common.{◌≡◌, ℕ, zero, suc, Bool, true, false, Some, List, [], ◌∷◌, refl, sym, ap, ◌∙◌, subst}
+use Rattle.std.proofs.lemmas.Bool.Decides.{nat_tests}
+use Rattle.std.proofs.Common.{◌≡◌, ℕ, zero, suc, Bool, true, false, Some, List, [], ◌∷◌, refl, sym, ap, ◌∙◌, subst, arith}
 use Rattle.std.specs.Prelude.{map, set, length}
-use Rattle.std.proofs.lemmas.Option.{same_Some, none-some}
+use Rattle.std.proofs.lemmas.Option.{none-some}
 use lib.ListN.{length-map, length-set}
 use Rattle.mig_base.specs.declared.cpu_state.CpuState.{CpuState}
 use Rattle.mig_base.specs.declared.schedule.Step.{Step}
 use Rattle.mig_base.specs.declared.command.Command.{Command}
-use Rattle.mig_base.specs.declared.command.Reply.{Reply}
-use Rattle.mig_base.specs.declared.command.Access.{Access}
-use Rattle.mig_base.specs.declared.command.Access.TheVariants.{Answered, Missing, Protected}
 use Rattle.mig_base.specs.declared.message.Message.{Message}
 use Rattle.mig_base.specs.declared.message.Message.TheVariants.{PageFault}
-use Rattle.mig_base.specs.Flat.{reply_of}
 use Rattle.mig_base.specs.Commands.{is_access}
-use Rattle.mig_model.specs.Host.{memory}
-use Rattle.mig_model.specs.Space.{Space, access_of, queued_by}
+use Rattle.mig_model.specs.Space.{Space}
 use Rattle.mig_model.specs.Guest.{Guest, read_guest, took_by, tried}
 use Rattle.mig_model.specs.Wire.{Frame, Sent}
 use Rattle.mig_model.specs.Wire.Frame.{Package}
@@ -25,23 +21,13 @@ use Rattle.mig_model.proofs.WaitingCommands.{idle_at, package_next, taken_keeps,
 use Rattle.mig_model.proofs.WokenSteps.{takes, wakes-next, woken_many}
 use Rattle.mig_model.proofs.EveryStep.{by_reached}
 use Rattle.mig_model.proofs.StepCases.{made-next}
-use Rattle.mig_model.specs.Cpus.{access_took, call_took, idle_processors, outstanding, processor_after, processor_at, taken_over}
+use Rattle.mig_model.specs.Cpus.{idle_processors, outstanding, processor_after, processor_at, taken_over}
 use Rattle.mig_model.specs.Source.{commands_of}
 
 -- A command that is tried
 
-answered_waits : (access : Access) (command other : Command) → outstanding (processor_after command (access_took access)) ≡ Some other → command ≡ other
-answered_waits (Answered reply) command other h = absurd (none-some other h)
-answered_waits Missing command other h = same_Some command other h
-answered_waits Protected command other h = same_Some command other h
-
-called_waits : (reply : Reply) (left : ℕ) (command other : Command) → outstanding (processor_after command (call_took reply left)) ≡ Some other → ⊥
-called_waits reply zero command other h = none-some other h
-called_waits reply (suc left) command other h = none-some other h
-
 tried_access : (access : Bool) (space : Space) (command other : Command) → access ≡ is_access command → outstanding (processor_after command (took_by access space command)) ≡ Some other → is_access other ≡ true
-tried_access true space command other is h = ap is_access (sym (answered_waits (access_of space command) command other h)) ∙ sym is
-tried_access false space command other is h = absurd (called_waits (reply_of (memory space.host) command) (queued_by space command) command other h)
+tried_access access space command other is h = grind (arith, nat_tests)
 
 set_access : (processors : List CpuState) (i : ℕ) (new : CpuState) → ((command : Command) → outstanding new ≡ Some command → is_access command ≡ true) → AllAccess processors → AllAccess (set processors i new)
 set_access [] i new one all k command h = all k command h
@@ -86,9 +72,7 @@ taken_all (Package areas owed commands) epoch rest world kept up first all =
       destination = subst (λ cs. AllAccess (map taken_over cs)) (sym told) (all_like processors _ (taken_keeps processors) all.source);
       many = ap (λ cs. length (map taken_over cs)) told ∙ length-map (commands_of processors) taken_over ∙ length-map processors outstanding;
     }
-taken_all frame epoch rest world kept up first all =
-    let w = (takes frame world.destination epoch refl).node.guest.woken in
-    record { source = all.source; destination = all_like _ _ (woken_waits _ _ w) all.destination; many = woken_many _ _ w ∙ all.many }
+taken_all frame epoch rest world kept up first all = grind (arith, nat_tests, takes, all_like, woken_waits, woken_many)
 
 next_all : (world : World) (step : Step) → IsSoundWorld world → Wait world → Wait (next world step)
 next_all world (Step.Issue cpu command) kept all = made-next Wait world (Step.Issue cpu command) all (λ there idle may. tried_all world cpu command all)

@@ -1,5 +1,5 @@
 -- A command that waits is changed by no step but the Retry that answers it.
-use Rattle.std.proofs.Common.{◌≡◌, ℕ, zero, suc, Bool, true, false, Option, Some, None, List, [], ◌∷◌, refl, sym, ap, ◌∙◌, subst, arith, if◌then◌else◌, IsOk, ◌⊎◌, inl, inr, ⊎_elim, not, ltb, length}
+use Rattle.std.proofs.Common.{◌≡◌, ℕ, zero, suc, Bool, true, false, Option, Some, List, [], ◌∷◌, refl, sym, ap, ◌∙◌, subst, arith, IsOk, ◌⊎◌, inl, inr, ⊎_elim, not, ltb, length}
 use Rattle.std.specs.Prelude.{map, set}
 use Rattle.std.specs.Ordering.{nat_cmp}
 use Rattle.std.specs.FinMap.{FinMap}
@@ -8,26 +8,23 @@ use Rattle.std.proofs.lemmas.Bool.Decides.{nat_tests}
 use Rattle.std.proofs.lemmas.Bool.{false≢true, eq-eqb}
 use Rattle.std.proofs.lemmas.Option.{none-some}
 use Rattle.mig_base.specs.declared.cpu_state.CpuState.{CpuState}
-use Rattle.mig_base.specs.declared.phase.DestPhase.{DestPhase}
-use Rattle.mig_base.specs.declared.phase.SourcePhase.{SourcePhase}
 use Rattle.mig_base.specs.declared.schedule.Step.{Step}
 use Rattle.mig_base.specs.declared.Prot.{Prot}
 use Rattle.mig_base.specs.declared.command.Command.{Command}
 use Rattle.mig_base.specs.declared.message.Message.{Message}
 use Rattle.mig_base.specs.declared.message.Message.TheVariants.{PageFault}
-use Rattle.mig_base.specs.Commands.{is_access, page_of}
+use Rattle.mig_base.specs.Commands.{is_access}
 use Rattle.mig_model.specs.Guest.{Guest, is_left_by, read_guest, took_by, tried}
-use Rattle.mig_model.specs.Cpus.Took.{Sleep, Call}
+use Rattle.mig_model.specs.Cpus.Took.{Sleep}
 use Rattle.mig_model.specs.Wire.{Frame, Sent}
 use Rattle.mig_model.specs.Wire.Frame.{Package}
-use Rattle.mig_model.specs.Migration.{World, next, guest_by, guest_of, with_guest_by, after_command, after_deliver, outcome}
+use Rattle.mig_model.specs.Migration.{World, next, guest_by, guest_of, after_command, after_deliver, outcome}
 use Rattle.mig_model.specs.Invariant.{IsSoundWorld}
 use Rattle.mig_model.specs.Promises.{is_retry_of, Slept}
-use Rattle.mig_model.proofs.FirstFrame.{comes, first_in_place, delivered}
-use Rattle.mig_model.proofs.FramesTaken.{with_first, commands_in}
+use Rattle.mig_model.proofs.FirstFrame.{delivered}
 use Rattle.mig_model.proofs.StepCases.{made-next, made-ok}
 use Rattle.mig_model.proofs.WokenSteps.{IsWoken, guest_woken, wakes-next, wakes-taken}
-use Rattle.mig_model.specs.Cpus.{idle_processors, all_woken, is_idle, message_less, outstanding, processor_after, processor_at, taken_over, woken_if, Took}
+use Rattle.mig_model.specs.Cpus.{idle_processors, all_woken, is_idle, message_less, outstanding, processor_after, processor_at, taken_over, Took}
 use Rattle.mig_model.specs.Source.{is_stopped, commands_of}
 use Rattle.mig_model.proofs.Facts.{some_command}
 
@@ -51,29 +48,15 @@ map_at f [] k idle = sym idle
 map_at f (p ∷ ps) zero idle = refl
 map_at f (p ∷ ps) (suc k) idle = map_at f ps k idle
 
-woken_by : (here : Bool) (command : Command) → outstanding (if here then CpuState.Woken command else CpuState.Asleep command) ≡ Some command
-woken_by true command = refl
-woken_by false command = refl
-
-woken_outstanding : (test : ℕ → Bool) (p : CpuState) → outstanding (woken_if test p) ≡ outstanding p
-woken_outstanding test (CpuState.Asleep command) = woken_by (test (page_of command)) command
-woken_outstanding test _ = refl
-
 -- waking leaves what waits
 pub woken_keeps : (test : ℕ → Bool) (ps : List CpuState) (k : ℕ) → outstanding (processor_at (all_woken test ps) k) ≡ outstanding (processor_at ps k)
-woken_keeps test ps k = ap outstanding (map_at (woken_if test) ps k refl) ∙ woken_outstanding test (processor_at ps k)
+woken_keeps test ps k = grind (arith, nat_tests, map_at)
 
 pub less_same : (p : CpuState) → outstanding (message_less p) ≡ outstanding p
-less_same CpuState.Idle = refl
-less_same (CpuState.Asleep command) = refl
-less_same (CpuState.Woken command) = refl
-less_same (CpuState.InCall reply zero) = refl
-less_same (CpuState.InCall reply (suc zero)) = refl
-less_same (CpuState.InCall reply (suc (suc left))) = refl
+less_same p = grind (arith, nat_tests)
 
 taken_outstanding : (p : CpuState) → outstanding (taken_over (outstanding p)) ≡ outstanding p
-taken_outstanding CpuState.Idle = refl
-taken_outstanding _ = refl
+taken_outstanding p = grind (arith, nat_tests)
 
 -- the destination takes over what waits
 pub taken_keeps : (ps : List CpuState) (k : ℕ) → outstanding (processor_at (map taken_over (commands_of ps)) k) ≡ outstanding (processor_at ps k)
@@ -99,29 +82,16 @@ waits_read guest cpu message k = read_same guest cpu message k
 
 -- where the guest runs, by the node that changes
 pub waits_source : (ran : Bool) (old new to : Guest) → SameWaits old new → SameWaits (guest_by ran old to) (guest_by ran new to)
-waits_source true old new to same k = refl
-waits_source false old new to same k = same k
+waits_source ran old new to same k = grind (arith, nat_tests)
 
 pub waits_destination : (ran : Bool) (from old new : Guest) → SameWaits old new → SameWaits (guest_by ran from old) (guest_by ran from new)
-waits_destination true from old new same k = same k
-waits_destination false from old new same k = refl
+waits_destination ran from old new same k = grind (arith, nat_tests)
 
 -- Steps
 
-pub same_guest : (ran : Bool) (world : World) (guest : Guest) → guest_by ran (with_guest_by ran world guest).source.guest (with_guest_by ran world guest).destination.guest ≡ guest
-same_guest true world guest = refl
-same_guest false world guest = refl
-
-pub same_ran : (ran : Bool) (world : World) (guest : Guest) → (with_guest_by ran world guest).destination.has_run ≡ world.destination.has_run
-same_ran true world guest = refl
-same_ran false world guest = refl
-
 -- the guest once a command was tried
 pub tried_guest : (world : World) (cpu : ℕ) (command : Command) → guest_of (after_command world cpu command) ≡ tried (is_access command) (guest_of world) cpu command
-tried_guest world cpu command =
-    let ran = world.destination.has_run in
-    let guest = tried (is_access command) (guest_of world) cpu command in
-    ap (λ b. guest_by b (with_guest_by ran world guest).source.guest (with_guest_by ran world guest).destination.guest) (same_ran ran world guest) ∙ same_guest ran world guest
+tried_guest world cpu command = grind (arith, nat_tests)
 
 -- another processor has tried a command
 pub set_other : (processors : List CpuState) (i k : ℕ) (new : CpuState) → (i ≡ k → ⊥) → processor_at (set processors i new) k ≡ processor_at processors k
@@ -132,43 +102,20 @@ set_other (p ∷ ps) (suc i) zero new other = refl
 set_other (p ∷ ps) (suc i) (suc k) new other = set_other ps i k new (λ e. other (ap suc e))
 
 pub tried_other : (world : World) (cpu : ℕ) (tries : Command) (k : ℕ) → (cpu ≡ k → ⊥) → outstanding (processor_at (guest_of (after_command world cpu tries)).cpus k) ≡ outstanding (processor_at (guest_of world).cpus k)
-tried_other world cpu tries k other =
-    ap (λ g. outstanding (processor_at g.cpus k)) (tried_guest world cpu tries)
-    ∙ ap outstanding (set_other (guest_of world).cpus cpu k (processor_after tries (took_by (is_access tries) (guest_of world).space tries)) other)
+tried_other world cpu tries k other = grind (arith, nat_tests, set_other)
 
 idle_none : (p : CpuState) (command : Command) → is_idle p ≡ true → outstanding p ≡ Some command → ⊥
-idle_none CpuState.Idle command h e = none-some command e
-idle_none _ command h e = false≢true h
+idle_none p command h e = grind (arith, nat_tests)
 
 -- Deliveries
 
--- a Package that comes next has the outstanding commands of the source, which has stopped, and the destination has not run
-package_told : (from : SourcePhase) (to : DestPhase) (epoch : ℕ) (areas : FinMap nat_cmp Prot) (owed : FinSet nat_cmp) (commands : List (Option Command)) (rest : List Sent) (world : World) →
-    comes from to (Package areas owed commands) ≡ true → world.up ≡ true → IsSoundWorld (with_first from to epoch (Package areas owed commands) rest world) →
-    (commands ≡ commands_of world.source.guest.cpus) × (world.destination.has_run ≡ false) × (is_stopped from ≡ true)
-unfolding commands_in
-package_told SourcePhase.Stopped DestPhase.Discarding epoch areas owed commands rest world is up kept =
-    let told = (kept.flight.wires up).2 in
-    (ap (λ o. elim o [ None ↦ commands | Some frame ↦ commands_in frame commands ]) told.plan, kept.phases.destination_phase, refl)
-package_told SourcePhase.Precopy DestPhase.Idle epoch areas owed commands rest world is up kept = absurd (false≢true is)
-package_told SourcePhase.Paused DestPhase.Paused epoch areas owed commands rest world is up kept = absurd (false≢true is)
-package_told _ _ epoch areas owed commands rest world is up kept = absurd (false≢true is)
-
 pub package_next : (epoch : ℕ) (areas : FinMap nat_cmp Prot) (owed : FinSet nat_cmp) (commands : List (Option Command)) (rest : List Sent) (world : World) → world.up ≡ true → world.forward.frames ≡ record { epoch = epoch; frame = Package areas owed commands } ∷ rest → IsSoundWorld world →
     (commands ≡ commands_of world.source.guest.cpus) × (world.destination.has_run ≡ false) × (is_stopped world.source.phase ≡ true)
-package_next epoch areas owed commands rest world up first kept =
-    let again = subst (λ w. IsSoundWorld (record world { forward = record world.forward { frames = w } })) first kept in
-    let old = with_first world.source.phase world.destination.phase epoch (Package areas owed commands) rest world in
-    let is = first_in_place old.source old.destination (record { epoch = epoch; frame = Package areas owed commands }) rest old.back.frames old.urgent.frames (again.flight.wires up) in
-    package_told world.source.phase world.destination.phase epoch areas owed commands rest world is up again
+package_next epoch areas owed commands rest world up first kept = grind (arith, nat_tests)
 
 package_same : (epoch : ℕ) (areas : FinMap nat_cmp Prot) (owed : FinSet nat_cmp) (commands : List (Option Command)) (rest : List Sent) (world : World) → world.up ≡ true → world.forward.frames ≡ record { epoch = epoch; frame = Package areas owed commands } ∷ rest → IsSoundWorld world →
     SameWaits (guest_of world) (guest_of (delivered world (record { epoch = epoch; frame = Package areas owed commands } ∷ rest)))
-package_same epoch areas owed commands rest world up first kept k =
-    let told = package_next epoch areas owed commands rest world up first kept in
-    ap (λ cs. outstanding (processor_at (map taken_over cs) k)) told.0
-    ∙ taken_keeps world.source.guest.cpus k
-    ∙ ap (λ b. outstanding (processor_at (guest_by b world.source.guest world.destination.guest).cpus k)) (sym told.1)
+package_same epoch areas owed commands rest world up first kept k = grind (arith, nat_tests, taken_keeps)
 
 -- every step but an Issue and a Retry leaves what each processor has to make
 abbrev pub WaitsAs : World → World → Type 0
@@ -184,8 +131,7 @@ pub woken_waits : (old new : List CpuState) → IsWoken old new → (k : ℕ) �
 woken_waits old new w k = ap (λ ps. outstanding (processor_at ps k)) w.is ∙ woken_keeps w.test old k
 
 taken_same : (frame : Frame) (epoch : ℕ) (rest : List Sent) (world : World) → world.up ≡ true → world.forward.frames ≡ record { epoch = epoch; frame = frame } ∷ rest → IsSoundWorld world → WaitsAs world (after_deliver world (record { epoch = epoch; frame = frame }) rest)
-taken_same (Package areas owed commands) epoch rest world up first kept k = package_same epoch areas owed commands rest world up first kept k
-taken_same frame epoch rest world up first kept k = woken_waits _ _ (guest_woken world _ (wakes-taken world (record { epoch = epoch; frame = frame }) rest refl)) k
+taken_same frame epoch rest world up first kept k = grind (arith, nat_tests, package_same, guest_woken, wakes-taken)
 
 pub same_waits : (world : World) (step : Step) → IsSoundWorld world → is_try step ≡ false → WaitsAs world (next world step)
 same_waits world (Step.Issue cpu tries) kept other = absurd (false≢true (sym other))
@@ -217,9 +163,7 @@ waiting_command world step k command kept other h = same_waits world step kept r
 -- Who comes to wait
 
 sleeps_by : (took : Took) (tries command : Command) → outstanding (processor_after tries took) ≡ Some command → (tries ≡ command) × (took ≡ Sleep)
-sleeps_by (Took.Answer reply) tries command h = absurd (none-some command h)
-sleeps_by Sleep tries command h = (some_command tries command h, refl)
-sleeps_by (Call reply left) tries command h = absurd (none-some command h)
+sleeps_by took tries command h = grind (arith, nat_tests)
 
 -- what stands at a place of a list where one was set
 set_at : (processors : List CpuState) (i k : ℕ) (new : CpuState) (command : Command) → outstanding (processor_at (set processors i new) k) ≡ Some command →

@@ -1,19 +1,16 @@
 -- Frames in flight: what each word on a wire says of two wires joined, of a wire to which frames were sent, and how many bytes of its first frame it holds.
-use Rattle.std.proofs.Common.{◌≡◌, ℕ, ◌&&◌, ◌||◌, Bool, true, false, cond, eqb, Option, Some, is_some, List, [], ◌∷◌, ◌++◌, map, refl, sym, ap, ◌∙◌, append_assoc, if◌then◌else◌, ◌+◌, ◌<◌, subst, arith, ltb, ◌-◌, length}
+use Rattle.std.proofs.Common.{◌≡◌, ℕ, ◌&&◌, ◌||◌, Bool, true, false, cond, eqb, Option, Some, is_some, List, [], ◌∷◌, ◌++◌, map, refl, sym, ap, ◌∙◌, append_assoc, if◌then◌else◌, ◌+◌, arith, length}
 use Rattle.std.specs.Option.{option_and_then}
 use Rattle.std.specs.Ordering.{nat_cmp}
 use Rattle.std.specs.FinMap.{FinMap}
 use Rattle.mig_model.specs.Wire.{Frame, Sent, Copy, kept_after, sending, Wire, page_frame, copies_in}
-use Rattle.mig_model.specs.Wire.Frame.{Request, Page, Zero, Package}
+use Rattle.mig_model.specs.Wire.Frame.{Request}
 use Rattle.mig_model.specs.Invariant.{Flow, flow_next, flow_after, has_copy, is_package, kept_by, behind, package_in, copies_of, AreOf, AreFaithful, Wires, IsSoundFlight, is_request, is_done, are_requests, are_requests_and_done, HeldFits}
 use Rattle.mig_model.specs.Migration.{World, is_short, next}
 use Rattle.mig_model.specs.Source.{space_of}
 use Rattle.mig_model.proofs.Facts.{or_assoc, up_not_down, zero_bytes}
 use Rattle.std.proofs.lemmas.Bool.Decides.{nat_tests}
-use Rattle.mig_model.specs.Texts.{text_len}
-use Rattle.std.specs.List.{list_all}
-use Rattle.mig_base.specs.Bytes.{zero_page}
-use Rattle.mig_model.specs.Invariant.Flow.{BeforeAdvise, Copies, BeforePackage, Pushed, AfterEnd}
+use Rattle.mig_model.specs.Invariant.Flow.{Copies, Pushed}
 use Rattle.mig_model.proofs.FirstFrame.{stays_late}
 
 -- Frames that are sent stand behind those in flight
@@ -52,35 +49,21 @@ AreOf-append epoch (sent ∷ a) b x y = (x.0, AreOf-append epoch a b x.1 y)
 
 pub AreOf-sending : (epoch : ℕ) (wire : List Sent) (frames : List Frame) → AreOf epoch wire → AreOf epoch (sending wire epoch frames)
 AreOf-sending epoch wire [] x = x
-AreOf-sending epoch wire (frame ∷ frames) x =
-    AreOf-sending epoch (wire ++ record { epoch = epoch; frame = frame } ∷ []) frames (AreOf-append epoch wire _ x (refl, tt))
+AreOf-sending epoch wire (frame ∷ frames) x = grind (arith, nat_tests, AreOf-append, AreOf-sending epoch (wire ++ record { epoch = epoch; frame = frame } ∷ []) frames (AreOf-append epoch wire _ x (refl, tt)))
 
 -- The Package, and what stands before and behind it
 
 pub package_in-append : (a b : List Sent) → package_in (a ++ b) ≡ (if is_some (package_in a) then package_in a else package_in b)
 package_in-append [] b = refl
-package_in-append (sent ∷ a) b =
-    elim (is_package sent.frame) as (λ t. cond t (Some sent.frame) (package_in (a ++ b)) ≡ cond (is_some (cond t (Some sent.frame) (package_in a))) (cond t (Some sent.frame) (package_in a)) (package_in b)) [
-      | true ↦ refl
-      | false ↦ package_in-append a b
-    ]
+package_in-append (sent ∷ a) b = grind (arith, nat_tests, package_in-append a b)
 
 pub behind-append : (a b : List Sent) → behind (a ++ b) ≡ (if is_some (package_in a) then behind a ++ b else behind b)
 behind-append [] b = refl
-behind-append (sent ∷ a) b =
-    elim (is_package sent.frame) as (λ t. cond t (a ++ b) (behind (a ++ b)) ≡ cond (is_some (cond t (Some sent.frame) (package_in a))) (cond t a (behind a) ++ b) (behind b)) [
-      | true ↦ refl
-      | false ↦ behind-append a b
-    ]
+behind-append (sent ∷ a) b = grind (arith, nat_tests, behind-append a b)
 
 pub kept_by-append : (kept : FinMap nat_cmp (List ℕ)) (a b : List Sent) → kept_by kept (a ++ b) ≡ (if is_some (package_in a) then kept_by kept a else kept_by (kept_by kept a) b)
 kept_by-append kept [] b = refl
-kept_by-append kept (sent ∷ a) b =
-    elim (is_package sent.frame) as (λ t. cond t kept (kept_by (kept_after kept sent.frame) (a ++ b))
-    ≡ cond (is_some (cond t (Some sent.frame) (package_in a))) (cond t kept (kept_by (kept_after kept sent.frame) a)) (kept_by (cond t kept (kept_by (kept_after kept sent.frame) a)) b)) [
-      | true ↦ refl
-      | false ↦ kept_by-append (kept_after kept sent.frame) a b
-    ]
+kept_by-append kept (sent ∷ a) b = grind (arith, nat_tests, kept_by-append (kept_after kept sent.frame) a b)
 
 -- The wire back
 
@@ -96,13 +79,8 @@ done_step here before after x h e = grind arith
 
 -- a Done behind requests
 pub are_requests_and_done-push : (wire : List Sent) (sent : Sent) → is_done sent.frame ≡ true → are_requests wire ≡ true → are_requests_and_done (wire ++ sent ∷ []) ≡ true
-are_requests_and_done-push [] sent done h =
-    elim (is_request sent.frame) as (λ t. ((t && false) || (is_done sent.frame && true)) ≡ true) [
-      | true ↦ ap (λ d. d && true) done
-      | false ↦ ap (λ d. d && true) done
-    ]
-are_requests_and_done-push (s ∷ wire) sent done h =
-    done_step (is_request s.frame) (are_requests wire) (are_requests_and_done (wire ++ sent ∷ [])) _ (are_requests_and_done-push wire sent done) h
+are_requests_and_done-push [] sent done h = grind (arith, nat_tests)
+are_requests_and_done-push (s ∷ wire) sent done h = grind (arith, nat_tests, done_step, are_requests_and_done-push wire sent done)
 
 pub are_requests-sending : (epoch : ℕ) (wire : List Sent) (pages : List ℕ) → are_requests wire ≡ true → are_requests (sending wire epoch (map Request pages)) ≡ true
 are_requests-sending epoch wire [] h = h
@@ -117,40 +95,24 @@ pub flight_up : (world : World) → world.up ≡ true → (world.destination.has
     IsSoundFlight world.source world.destination world.forward.frames world.back.frames world.urgent.frames world.up
 flight_up world up faithful wires = record { flight_faithful = faithful; down = λ down. up_not_down world.up up down; wires = λ h. wires }
 
-text_positive : (frame : Frame) → 0 < text_len frame
-text_positive frame = omega arith
-
 pub fits-none : (frames : List Sent) → HeldFits frames 0
-fits-none [] = refl
-fits-none (sent ∷ rest) = text_positive sent.frame
-
-first_fits : (held length : ℕ) → held ≡ 0 → 0 < length → held < length
-first_fits held length h l = omega arith
+fits-none frames = grind (arith, nat_tests)
 
 pub fits-append : (frames more : List Sent) (held : ℕ) → HeldFits frames held → HeldFits (frames ++ more) held
-fits-append [] [] held h = h
-fits-append [] (sent ∷ more) held h = first_fits held (text_len sent.frame) h (text_positive sent.frame)
-fits-append (sent ∷ rest) more held h = h
+fits-append frames more held h = grind (arith, nat_tests)
 
 pub fits-more : (frames : List Sent) (held epoch : ℕ) (more : List Frame) → HeldFits frames held → HeldFits (sending frames epoch more) held
 fits-more frames held epoch [] h = h
 fits-more frames held epoch (frame ∷ more) h = fits-more (frames ++ record { epoch = epoch; frame = frame } ∷ []) held epoch more (fits-append frames (record { epoch = epoch; frame = frame } ∷ []) held h)
 
-still_fits : (held n length : ℕ) → ltb n (length - held) ≡ true → held + n < length
-still_fits held n length h = grind (arith, nat_tests)
-
-fits-first : (frames : List Sent) (sent : Sent) (rest : List Sent) (held : ℕ) → frames ≡ sent ∷ rest → held < text_len sent.frame → HeldFits frames held
-fits-first frames sent rest held is h = subst (λ f. HeldFits f held) (sym is) h
-
 -- bytes that complete no frame are held
 pub fits-moved : (wire : Wire) (n : ℕ) (sent : Sent) (rest : List Sent) → wire.frames ≡ sent ∷ rest → is_short wire sent.frame n ≡ true → HeldFits wire.frames (wire.held + n)
-fits-moved wire n sent rest is short = fits-first wire.frames sent rest (wire.held + n) is (still_fits wire.held n (text_len sent.frame) short)
+fits-moved wire n sent rest is short = grind (arith, nat_tests)
 
 -- One frame more
 
 pub flow_sent : (flow before after : Flow) (wire : List Sent) (sent : Sent) → flow_after flow wire ≡ Some before → flow_next before sent.frame ≡ Some after → flow_after flow (wire ++ sent ∷ []) ≡ Some after
-flow_sent flow before after wire sent h n =
-    flow_after-append flow wire (sent ∷ []) ∙ ap (option_and_then (λ next. flow_after next (sent ∷ []))) h ∙ ap (option_and_then (λ next. Some next)) n
+flow_sent flow before after wire sent h n = grind (arith, nat_tests, flow_after-append)
 
 -- Behind a Package
 
@@ -161,23 +123,12 @@ pub record HasPackage (kept : FinMap nat_cmp (List ℕ)) (wire more : List Sent)
   pub behind_more : behind (wire ++ more) ≡ behind wire ++ more
 
 pub has_package : (kept : FinMap nat_cmp (List ℕ)) (wire more : List Sent) (frame : Frame) → package_in wire ≡ Some frame → HasPackage kept wire more
-has_package kept wire more frame h =
-    let some = ap is_some h in
-    record {
-      same = package_in-append wire more ∙ ap (λ b. cond b (package_in wire) (package_in more)) some;
-      kept_same = kept_by-append kept wire more ∙ ap (λ b. cond b (kept_by kept wire) (kept_by (kept_by kept wire) more)) some;
-      behind_more = behind-append wire more ∙ ap (λ b. cond b (behind wire ++ more) (behind more)) some;
-    }
+has_package kept wire more frame h = grind (arith, nat_tests, package_in-append, kept_by-append, behind-append)
 
 -- No Package yet: the wire is before its Discard
 
 plain_head : (flow : Flow) (frame : Frame) (rest : List Sent) → option_and_then (λ next. flow_after next rest) (flow_next flow frame) ≡ Some Copies → is_package frame ≡ false
-plain_head BeforePackage (Package areas owed commands) rest h = absurd (stays_late Pushed rest refl h)
-plain_head BeforeAdvise (Package areas owed commands) rest h = absurd (cc)
-plain_head Copies (Package areas owed commands) rest h = absurd (cc)
-plain_head Pushed (Package areas owed commands) rest h = absurd (cc)
-plain_head AfterEnd (Package areas owed commands) rest h = absurd (cc)
-plain_head flow _ rest h = refl
+plain_head flow frame rest h = grind (arith, nat_tests, stays_late)
 
 step_by : {A : Type 0} (o : Option Flow) (rest : List Sent) → ((next : Flow) → flow_after next rest ≡ Some Copies → A) → option_and_then (λ next. flow_after next rest) o ≡ Some Copies → A
 step_by o rest next h = grind arith
@@ -195,29 +146,15 @@ pub record HasNoPackage (kept : FinMap nat_cmp (List ℕ)) (wire more : List Sen
 
 -- a wire of copies alone, or of Advise and copies, has no Package
 pub has_no_package : (flow : Flow) (kept : FinMap nat_cmp (List ℕ)) (wire more : List Sent) → flow_after flow wire ≡ Some Copies → HasNoPackage kept wire more
-has_no_package flow kept wire more h =
-    let none = no_package flow wire h in
-    record {
-      plan = package_in-append wire more ∙ ap (λ b. cond b (package_in wire) (package_in more)) none;
-      kept_then = kept_by-append kept wire more ∙ ap (λ b. cond b (kept_by kept wire) (kept_by (kept_by kept wire) more)) none;
-      behind_then = behind-append wire more ∙ ap (λ b. cond b (behind wire ++ more) (behind more)) none;
-    }
+has_no_package flow kept wire more h = grind (arith, nat_tests, no_package, package_in-append, kept_by-append, behind-append)
 
 -- The frame of a page
 
--- the copy in it has the page's bytes
-page_copy : (zeros : Bool) (page : ℕ) (bytes : List ℕ) → (zeros ≡ true → bytes ≡ zero_page) → copies_in (cond zeros (Zero page) (Page page bytes)) ≡ record { page = page; bytes = bytes } ∷ []
-page_copy zeros page bytes h = grind arith
-
 pub copies_in-page : (page : ℕ) (bytes : List ℕ) → length bytes ≡ 4096 → copies_in (page_frame page bytes) ≡ record { page = page; bytes = bytes } ∷ []
-copies_in-page page bytes whole = page_copy (list_all (λ byte. eqb byte 0) bytes) page bytes (λ e. zero_bytes bytes whole e)
+copies_in-page page bytes whole = grind (arith, nat_tests, zero_bytes)
 
 pub copies_of-page : (epoch page : ℕ) (bytes : List ℕ) → length bytes ≡ 4096 → copies_of (record { epoch = epoch; frame = page_frame page bytes } ∷ []) ≡ record { page = page; bytes = bytes } ∷ []
 copies_of-page epoch page bytes whole = ap (λ copies. copies ++ []) (copies_in-page page bytes whole)
 
--- it is a copy in the order of frames
-frame_flow : (zeros : Bool) (page : ℕ) (bytes : List ℕ) → (flow_next Copies (cond zeros (Zero page) (Page page bytes)) ≡ Some Copies) × (flow_next Pushed (cond zeros (Zero page) (Page page bytes)) ≡ Some Pushed)
-frame_flow zeros page bytes = grind arith
-
 pub page_flow : (page : ℕ) (bytes : List ℕ) → (flow_next Copies (page_frame page bytes) ≡ Some Copies) × (flow_next Pushed (page_frame page bytes) ≡ Some Pushed)
-page_flow page bytes = frame_flow (list_all (λ byte. eqb byte 0) bytes) page bytes
+page_flow page bytes = grind (arith, nat_tests)

@@ -1,18 +1,17 @@
 -- What deliveries, installs and breaks take from the wires and the arrivals, and by which frames a migration completes.
-use Rattle.std.proofs.Common.{◌≡◌, ◌≢◌, ℕ, ◌*◌, Bool, true, false, Option, Some, None, List, ◌∷◌, refl, sym, ap, ◌∙◌, subst, if◌then◌else◌, IsOk}
+use Rattle.std.proofs.lemmas.Bool.Decides.{nat_tests}
+use Rattle.std.proofs.Common.{◌≡◌, ◌≢◌, ℕ, ◌*◌, true, false, Option, Some, None, List, ◌∷◌, refl, sym, ap, ◌∙◌, subst, IsOk, arith}
 use Rattle.std.specs.Prelude.{Ok}
 use Rattle.std.specs.FinMap.{get}
 use Rattle.std.specs.FinSet.{contains}
 use Rattle.std.proofs.lemmas.Bool.{false≢true}
 use Rattle.mig_base.specs.declared.effect.Effect.{Effect}
-use Rattle.mig_base.specs.declared.phase.Received.{Received}
-use Rattle.mig_base.specs.declared.phase.SourcePhase.{SourcePhase}
 use Rattle.mig_base.specs.declared.schedule.Side.{Side}
 use Rattle.mig_base.specs.declared.schedule.Step.{Step}
 use Rattle.mig_model.specs.Wire.{Frame, Sent, Copy, Wire, empty_wire, wire_if}
 use Rattle.mig_model.specs.Wire.Frame.{Recv, Done}
 use Rattle.mig_model.specs.Owed.{home, Owed}
-use Rattle.mig_model.specs.Source.{Source, is_released, source_act, source_took}
+use Rattle.mig_model.specs.Source.{Source, is_released, source_took}
 use Rattle.mig_model.specs.Destination.{Destination, destination_took, destination_answers, install_by}
 use Rattle.mig_model.specs.Migration.{World, outcome, next, install_effect, after_deliver, after_deliver_back, after_move, after_move_back, is_short, after_deliver_urgent, after_move_urgent}
 use Rattle.mig_model.specs.Invariant.{IsSoundWorld}
@@ -20,9 +19,8 @@ use Rattle.mig_model.specs.Parts.{Grows}
 use Rattle.mig_model.specs.Promises.{IsComplete, IsDelivered, IsDeliveredBack, Completes, takes_forward, takes_back, is_break, is_recv, is_last, IsDeliveredUrgent, takes_urgent}
 use Rattle.mig_model.proofs.SettledLemmas.{home-is, home_tells}
 use Rattle.mig_model.proofs.StepCases.{MakesWorld, made-next, made-ok, made-outcome}
-use Rattle.mig_model.proofs.StaysComplete.{worked_phase, command_phase}
 use Rattle.mig_model.proofs.PartsChanged.{changes_parts}
-use Rattle.mig_model.proofs.Facts.{no_page, as_it_was, tried_up}
+use Rattle.mig_model.proofs.Facts.{no_page, as_it_was}
 
 -- Deliveries
 
@@ -125,12 +123,7 @@ abbrev IsUp : World → Type 0
 IsUp world = world.up ≡ true
 
 up_answer : (world : World) (step : Step) → is_break step ≡ false → IsUp world → MakesWorld IsUp world step
-up_answer world (Step.Issue cpu command) h up = λ there idle may. tried_up world.destination.has_run world _ ∙ up
-up_answer world (Step.Retry cpu) h up = λ command waits woken may. tried_up world.destination.has_run world _ ∙ up
-up_answer world Step.Break h up = absurd (false≢true (sym h))
-up_answer world Step.Resume h up = λ from to down unused. refl
-up_answer world (Step.Notice Side.Source) h up = assumption
-up_answer world _ h up = assumption
+up_answer world step h up = grind (arith, nat_tests)
 
 pub stays_up : (world : World) (step : Step) → is_break step ≡ false → world.up ≡ true → (next world step).up ≡ true
 stays_up world step h up = made-next IsUp world step up (up_answer world step h up)
@@ -138,8 +131,7 @@ stays_up world step h up = made-next IsUp world step up (up_answer world step h 
 -- Installs
 
 arrivals_by : (o : Option ℕ) (node : Destination) (copy : Copy) (rest : List Copy) → (install_by o node copy rest).arrivals ≡ rest
-arrivals_by None node copy rest = refl
-arrivals_by (Some page) node copy rest = refl
+arrivals_by o node copy rest = grind (arith, nat_tests)
 
 pub arrivals_after : (world : World) (copy : Copy) (rest : List Copy) → IsOk (outcome world Step.Install) → world.destination.arrivals ≡ copy ∷ rest → (next world Step.Install).destination.arrivals ≡ rest
 arrivals_after world copy rest ok first =
@@ -184,9 +176,7 @@ remaining_back world n sent rest q first plain =
 -- Completion
 
 last_releases : (frame : Frame) (node : Source) → is_last frame ≡ true → is_released (source_took node frame).phase ≡ true
-last_releases Done node h = refl
-last_releases (Recv Received.Ended owed) node h = refl
-last_releases _ node h = absurd (false≢true h)
+last_releases frame node h = grind (arith, nat_tests)
 
 pub completes_by : (world : World) (n : ℕ) (sent : Sent) (rest : List Sent) → IsOk (outcome world (Step.DeliverBack n)) → world.back.frames ≡ sent ∷ rest → is_short world.back sent.frame n ≡ false → is_last sent.frame ≡ true →
     IsComplete (next world (Step.DeliverBack n))
@@ -194,35 +184,12 @@ completes_by world n sent rest ok first full last =
     made-ok IsComplete world (Step.DeliverBack n)
     ((λ other more is short. short_not world.back n (the_first is first).0 short full), (λ other more is whole started up. last_releases other.frame world.source (ap (λ (s : Sent). is_last s.frame) (the_first is first).0 ∙ last))) ok
 
-rebuilt_phase : (switched : Bool) (a b : Source) → is_released a.phase ≡ false → is_released b.phase ≡ false → is_released (if switched then a else b).phase ≡ true → false ≡ true
-rebuilt_phase true a b one two h = sym one ∙ h
-rebuilt_phase false a b one two h = sym two ∙ h
-
-released_by : (frame : Frame) (node : Source) → is_released node.phase ≡ false → is_released (source_took node frame).phase ≡ true → is_last frame ≡ true
-released_by Done node not h = refl
-released_by (Recv Received.Ended owed) node not h = refl
-released_by (Recv Received.NotRun owed) node not h = absurd (false≢true (rebuilt_phase node.switched _ _ refl refl h))
-released_by (Recv Received.Running owed) node not h = absurd (false≢true h)
-released_by _ node not h = absurd (false≢true (sym not ∙ h))
-
 -- if the new world is complete, the step has taken such a frame
 abbrev CompletesTo : World → Step → World → Type 0
 CompletesTo world step new = IsComplete new → Completes world step
 
-still_not : {A : Type 0} (old new : SourcePhase) → new ≡ old → is_released old ≡ false → is_released new ≡ true → A
-still_not old new same not h = absurd (false≢true (sym not ∙ sym (ap is_released same) ∙ h))
-
 completes_answer : (world : World) (step : Step) → is_released world.source.phase ≡ false → MakesWorld (CompletesTo world step) world step
-completes_answer world (Step.Issue cpu command) not = λ there idle may h. still_not world.source.phase _ (command_phase world cpu command) not h
-completes_answer world (Step.Retry cpu) not = λ command waits woken may h. still_not world.source.phase _ (command_phase world cpu command) not h
-completes_answer world Step.Start not = λ idle unused h. absurd (false≢true h)
-completes_answer world Step.SourceAct not =
-    λ fault rest is started unswitched quiet h. still_not world.source.phase _ (worked_phase (source_act world.source fault) world fault.page) not h
-completes_answer world Step.Switch not = λ precopy up quiet h. absurd (false≢true h)
-completes_answer world (Step.DeliverBack n) not =
-    ((λ sent rest is short h. absurd (false≢true (sym not ∙ h))), (λ one more is full started up h. record { n = n; step_is = refl; sent = one; rest = more; first = is; full = full; last = released_by one.frame world.source not h }))
-completes_answer world (Step.Notice Side.Source) not = λ started unreleased down h. absurd (false≢true h)
-completes_answer world step not = assumption (λ (h : is_released world.source.phase ≡ true). absurd {A = Completes world step} (false≢true (sym not ∙ h)))
+completes_answer world step not = grind (arith, nat_tests)
 
 pub completes_only : (world : World) (step : Step) → is_released world.source.phase ≡ false → IsComplete (next world step) → Completes world step
 completes_only world step not = made-next (CompletesTo world step) world step (λ h. absurd (false≢true (sym not ∙ h))) (completes_answer world step not)

@@ -1,11 +1,11 @@
 -- A step that tries no command and reads no message changes no processor, but that it may wake some, and hands over no reply; nor does a
 -- frame that the destination takes, unless it is the Package.
-use Rattle.std.proofs.Common.{◌≡◌, ℕ, ◌*◌, Bool, true, false, eqb, Option, Some, None, List, [], ◌∷◌, refl, sym, ap, ◌∙◌, subst, length, if◌then◌else◌}
+use Rattle.std.proofs.lemmas.Bool.Decides.{nat_tests}
+use Rattle.std.proofs.Common.{◌≡◌, ℕ, ◌*◌, Bool, true, false, eqb, Option, Some, None, List, [], ◌∷◌, refl, ap, ◌∙◌, length, if◌then◌else◌, arith}
 use lib.ListN.{length-map}
 use Rattle.mig_base.specs.declared.TheConstants.{PAGE_SIZE}
 use Rattle.mig_base.specs.declared.cpu_state.CpuState.{CpuState}
 use Rattle.mig_base.specs.declared.effect.Effect.{Effect}
-use Rattle.mig_base.specs.declared.phase.Received.{Received}
 use Rattle.mig_base.specs.declared.phase.SourcePhase.{SourcePhase}
 use Rattle.mig_base.specs.declared.schedule.Side.{Side}
 use Rattle.mig_base.specs.declared.schedule.Step.{Step}
@@ -13,11 +13,10 @@ use Rattle.mig_model.specs.Cpus.{all_woken, woken_if}
 use Rattle.mig_model.specs.Guest.{Act, Guest}
 use Rattle.mig_model.specs.Guest.Act.{Unprotected, Requested}
 use Rattle.mig_model.specs.Wire.{Copy, Frame, Sent, is_zeros}
-use Rattle.mig_model.specs.Wire.Frame.{Advise, Page, Zero, Package, Resume, Recv, Done}
 use Rattle.mig_model.specs.Owed.{home}
 use Rattle.mig_model.specs.Source.{Source, bytes_of, is_stopped, source_act, source_acted_by, source_took, space_of}
-use Rattle.mig_model.specs.Destination.{Destination, copy_came, destination_act, destination_acted_by, destination_took, install_by, received_of, resumed_by, urgent_took}
-use Rattle.mig_model.specs.Migration.{Made, World, act_effect, after_deliver, answer, frame_effect, guest_by, guest_of, install_effect, next}
+use Rattle.mig_model.specs.Destination.{Destination, destination_act, destination_acted_by, destination_took, install_by, urgent_took}
+use Rattle.mig_model.specs.Migration.{Made, World, act_effect, after_deliver, answer, frame_effect, guest_of, install_effect, next}
 use Rattle.mig_model.specs.Invariant.{AreFaults, IsSoundWorld, SwitchedAt, is_package}
 use Rattle.mig_model.specs.Promises.{is_last}
 use Rattle.mig_model.proofs.Facts.{none_absurd}
@@ -53,15 +52,11 @@ pub record WakesBoth (old new : World) : Type 0 where
   pub transcript : new.transcript ≡ old.transcript
 
 still_asleep : (p : CpuState) → p ≡ woken_if (λ q. false) p
-still_asleep (CpuState.Asleep command) = refl
-still_asleep _ = refl
+still_asleep p = grind (arith, nat_tests)
 
 none_woken : (ps : List CpuState) → ps ≡ all_woken (λ q. false) ps
 none_woken [] = refl
-none_woken (p ∷ ps) =
-    let one = still_asleep p in
-    let rest = none_woken ps in
-    cc
+none_woken (p ∷ ps) = grind (arith, nat_tests, still_asleep, none_woken ps)
 
 still : (ps : List CpuState) → IsWoken ps ps
 still ps = record { test = λ q. false; is = none_woken ps }
@@ -72,15 +67,8 @@ some_woken test ps = record { test = test; is = refl }
 pub woken_many : (old new : List CpuState) → IsWoken old new → length new ≡ length old
 woken_many old new w = ap length w.is ∙ length-map old (woken_if w.test)
 
--- where the guest runs
-woken_by : (ran : Bool) (from to after_from after_to : Guest) → IsWoken from.cpus after_from.cpus → IsWoken to.cpus after_to.cpus → IsWoken (guest_by ran from to).cpus (guest_by ran after_from after_to).cpus
-woken_by true from to after_from after_to one other = other
-woken_by false from to after_from after_to one other = one
-
 pub guest_woken : (old new : World) → WakesBoth old new → IsWoken (guest_of old).cpus (guest_of new).cpus
-guest_woken old new w =
-    subst (λ ran. IsWoken (guest_of old).cpus (guest_by ran new.source.guest new.destination.guest).cpus) (sym w.node.ran)
-    (woken_by old.destination.has_run old.source.guest old.destination.guest new.source.guest new.destination.guest w.source.woken w.node.guest.woken)
+guest_woken old new w = grind (arith, nat_tests)
 
 -- Nodes
 
@@ -96,46 +84,21 @@ pub installs : (o : Option ℕ) (node : Destination) (copy : Copy) (rest : List 
 installs None node copy rest = assumption (still node.guest.cpus)
 installs (Some page) node copy rest = assumption (some_woken (λ q. eqb q page) node.guest.cpus)
 
-comes_to : (ran : Bool) (node : Destination) (copy : Copy) → TakesFrame node (copy_came ran node copy)
-comes_to true node copy = assumption (still node.guest.cpus)
-comes_to false node copy = assumption (still node.guest.cpus)
-
-resumes_as : (state : Received) (node new : Destination) → TakesFrame node new → TakesFrame node (resumed_by state new)
-resumes_as Received.NotRun node new w = assumption
-resumes_as _ node new w = assumption
-
 pub takes : (frame : Frame) (node : Destination) (epoch : ℕ) → is_package frame ≡ false → TakesFrame node (destination_took node epoch frame)
-takes (Page page bytes) node epoch h = comes_to node.has_run node _
-takes (Zero page) node epoch h = comes_to node.has_run node _
-takes (Package areas owed commands) node epoch h = none_absurd (sym h)
-takes Resume node epoch h = resumes_as (received_of node) node _ (assumption (still node.guest.cpus))
-takes _ node epoch h = assumption (still node.guest.cpus)
+takes frame node epoch h = grind (arith, nat_tests, still)
 
 pub takes_urgent : (frame : Frame) (node : Destination) → TakesFrame node (urgent_took node frame)
-takes_urgent (Page page bytes) node = assumption (still node.guest.cpus)
-takes_urgent _ node = assumption (still node.guest.cpus)
-
-rebuilds : (switched : Bool) (one other node : Source) → Wakes node.guest one.guest → Wakes node.guest other.guest → Wakes node.guest (if switched then one else other).guest
-rebuilds true one other node a b = a
-rebuilds false one other node a b = b
+takes_urgent frame node = grind (arith, nat_tests, still)
 
 -- a source that is told that nothing more is needed has no unread event
 takes_back : (frame : Frame) (node : Source) → (is_last frame ≡ true → (space_of node).object.events ≡ []) → Wakes node.guest (source_took node frame).guest
-takes_back (Recv Received.NotRun owed) node quiet = rebuilds node.switched _ _ node (assumption (still node.guest.cpus)) (assumption (still node.guest.cpus))
-takes_back (Recv Received.Ended owed) node quiet = record { woken = still node.guest.cpus; events = sym (quiet refl); faults = λ h. tt }
-takes_back Done node quiet = record { woken = still node.guest.cpus; events = sym (quiet refl); faults = λ h. tt }
-takes_back _ node quiet = assumption (still node.guest.cpus)
+takes_back frame node quiet = grind (arith, nat_tests, still)
 
 pub stopped_switched : (phase : SourcePhase) (switched : Bool) → is_stopped phase ≡ true → SwitchedAt phase switched → switched ≡ true
-stopped_switched SourcePhase.Stopped switched h at = at
-stopped_switched _ switched h at = none_absurd h
+stopped_switched phase switched h at = grind (arith, nat_tests)
 
 last_switched : (frame : Frame) (world : World) → IsSoundWorld world → IsInPlaceBack world.source frame → is_last frame ≡ true → world.source.switched ≡ true
-last_switched Done world kept place h = stopped_switched world.source.phase world.source.switched place.0 kept.phases.source_phase
-last_switched (Recv Received.Ended owed) world kept place h = place.3 (λ h. cc)
-last_switched (Recv Received.NotRun owed) world kept place h = none_absurd h
-last_switched (Recv Received.Running owed) world kept place h = none_absurd h
-last_switched _ world kept place h = none_absurd h
+last_switched frame world kept place h = grind (arith, nat_tests)
 
 -- Effects that hand no reply over
 
@@ -144,20 +107,16 @@ is_last_read (Effect.ReadLast event cpu reply) = true
 is_last_read effect = false
 
 page_not_last : (zeros : Bool) (addr : ℕ) → is_last_read (if zeros then Effect.SentZero addr else Effect.SentPage addr) ≡ false
-page_not_last true addr = refl
-page_not_last false addr = refl
+page_not_last zeros addr = grind (arith, nat_tests)
 
 act_not_last : (act : Act) (addr : ℕ) → is_last_read (act_effect act addr) ≡ false
-act_not_last Unprotected addr = refl
-act_not_last _ addr = refl
+act_not_last act addr = grind (arith, nat_tests)
 
 pub frame_not_last : (frame : Frame) → is_last_read (frame_effect frame) ≡ false
-frame_not_last Advise = refl
-frame_not_last _ = refl
+frame_not_last frame = grind (arith, nat_tests)
 
 install_not_last : (o : Option ℕ) (origin : ℕ) → is_last_read (install_effect o origin) ≡ false
-install_not_last None origin = refl
-install_not_last (Some page) origin = refl
+install_not_last o origin = grind (arith, nat_tests)
 
 -- Steps
 

@@ -1,14 +1,15 @@
 -- A world at a stage, and what its transcript holds after a command.
-use Rattle.std.proofs.Common.{◌≡◌, ℕ, Bool, true, false, List, [], ◌∷◌, ◌++◌, refl, sym, ap, ◌∙◌, subst, if◌then◌else◌}
+use Rattle.std.proofs.lemmas.Bool.Decides.{nat_tests}
+use Rattle.std.proofs.Common.{◌≡◌, ℕ, Bool, List, [], ◌∷◌, ◌++◌, refl, ap, arith}
 use Rattle.mig_base.specs.declared.command.Command.{Command}
 use Rattle.mig_base.specs.declared.command.Entry.{Entry}
 use Rattle.mig_base.specs.declared.step.SourcePhase.{SourcePhase}
 use Rattle.mig_base.specs.declared.step.DestinationPhase.{DestinationPhase}
-use Rattle.mig_base.specs.Flat.{no_memory, reply_of, after, memory_of, IsFlatRun}
+use Rattle.mig_base.specs.Flat.{no_memory, reply_of, memory_of, IsFlatRun}
 use Rattle.mig_base.proofs.FlatLemmas.{memory_from-push, IsRunFrom-push}
 use Rattle.mig_model.specs.Host.{Host, memory, host_after, IsSound}
-use Rattle.mig_model.specs.Node.{Source, Destination, has_run}
-use Rattle.mig_model.specs.World.{World, first_world_with, running_host, active_host}
+use Rattle.mig_model.specs.Node.{has_run}
+use Rattle.mig_model.specs.World.{World, first_world_with}
 use Rattle.mig_model.specs.Kept.{IsKept, Wires}
 use Rattle.mig_model.proofs.HostLemmas.{memory-empty, IsSound-empty}
 use Rattle.mig_model.proofs.CommandLemmas.{memory-changed, IsSound-changed}
@@ -18,43 +19,16 @@ abbrev pub at_stage : SourcePhase → DestinationPhase → Bool → World → Wo
 at_stage from to ends world = record world { source = record world.source { phase = from; end_sent = ends }; destination = record world.destination { phase = to } }
 
 pub IsKept-first : (cpus epoch rounds : ℕ) → IsKept (first_world_with cpus epoch rounds)
-IsKept-first cpus epoch rounds =
-    record {
-      source_sound = IsSound-empty;
-      destination_sound = IsSound-empty;
-      flat = tt;
-      holds = memory-empty;
-      wires = (refl, refl, refl, refl);
-      bare = λ h. refl;
-    }
+IsKept-first cpus epoch rounds = grind (arith, nat_tests, IsSound-empty, memory-empty)
 
 -- the hosts and the transcript are the same, and so is which host runs the processors
 abbrev pub SameHosts : World → World → Type 0
 SameHosts old new =
     (new.source.host ≡ old.source.host) × (new.destination.host ≡ old.destination.host) × (has_run new.destination.phase ≡ has_run old.destination.phase) × (new.transcript ≡ old.transcript)
 
-same_active : (runs were : Bool) (from to from_before to_before : Host) → from ≡ from_before → to ≡ to_before → runs ≡ were → (if runs then to else from) ≡ (if were then to_before else from_before)
-same_active runs were from to from_before to_before a b c = cc
-
-running : (runs : Bool) (from : Source) (to : Destination) → running_host runs from to ≡ (if runs then to.host else from.host)
-running true from to = refl
-running false from to = refl
-
 -- only the wires, the phases and the counts have changed
 pub rewired : {old new : World} → IsKept old → SameHosts old new → Wires new.source.phase new.destination.phase new → IsKept new
-rewired {old} {new} kept same wires =
-    let active : active_host new ≡ active_host old =
-    running (has_run new.destination.phase) new.source new.destination
-    ∙ same_active (has_run new.destination.phase) (has_run old.destination.phase) new.source.host new.destination.host old.source.host old.destination.host same.0 same.1 same.2
-    ∙ sym (running (has_run old.destination.phase) old.source old.destination) in
-    record {
-      source_sound = subst IsSound (sym same.0) kept.source_sound;
-      destination_sound = subst IsSound (sym same.1) kept.destination_sound;
-      flat = subst IsFlatRun (sym same.3) kept.flat;
-      holds = ap memory active ∙ kept.holds ∙ ap memory_of (sym same.3);
-      wires = wires;
-      bare = λ idle. same.1 ∙ kept.bare (sym same.2 ∙ idle);
-    }
+rewired {old} {new} kept same wires = grind (arith, nat_tests)
 
 -- A command that a host answers, and its entry
 
@@ -66,10 +40,7 @@ sound_after host command sound = IsSound-changed host command (reply_of (memory 
 
 pub holds_after : (host : Host) (transcript : List Entry) (cpu : ℕ) (command : Command) → IsSound host → memory host ≡ memory_of transcript →
     memory (host_after host command) ≡ memory_of (transcript ++ entry_of host cpu command ∷ [])
-holds_after host transcript cpu command sound holds =
-    memory-changed host command (reply_of (memory host) command) sound refl
-    ∙ ap (λ m. after m command) holds
-    ∙ sym (memory_from-push no_memory transcript (entry_of host cpu command))
+holds_after host transcript cpu command sound holds = grind (arith, nat_tests, memory-changed, memory_from-push)
 
 pub flat_after : (host : Host) (transcript : List Entry) (cpu : ℕ) (command : Command) → memory host ≡ memory_of transcript → IsFlatRun transcript →
     IsFlatRun (transcript ++ entry_of host cpu command ∷ [])

@@ -13,7 +13,7 @@ use Rattle.mig_base.specs.declared.command.Command.TheVariants.{Load, Store}
 use Rattle.mig_base.specs.declared.phase.SourcePhase.{SourcePhase}
 use Rattle.mig_base.specs.Flat.{Memory, is_aligned, is_mapped, mapped_count, memory_of}
 use Rattle.mig_model.specs.Space.{Space}
-use Rattle.mig_model.specs.Wire.{Frame, Sent}
+use Rattle.mig_model.specs.Wire.{Frame}
 use Rattle.mig_model.specs.Wire.Frame.{Advise, Page, Zero, Run, Discard, Package, End, Resume, Request, Recv, Done}
 use Rattle.mig_model.specs.Log.{present}
 use Rattle.mig_model.specs.Source.{is_released, space_of}
@@ -100,14 +100,3 @@ IsFrame Resume = Unit {0}
 IsFrame (Request page) = IsPage page
 IsFrame (Recv state owed) = AreFewPages owed
 IsFrame Done = Unit {0}
-
--- each frame of a wire is one, and of an epoch that is a number of 32 bits
-abbrev pub AreFrames : List Sent → Type 0
-AreFrames [] = Unit {0}
-AreFrames (sent ∷ rest) = (sent.epoch < 2 ^ 32) × IsFrame sent.frame × AreFrames rest
-
--- so on all three wires
-pub record HasGoodFrames (world : World) : Type 0 where
-  pub forward : AreFrames world.forward.frames
-  pub back : AreFrames world.back.frames
-  pub urgent : AreFrames world.urgent.frames

@@ -20,7 +20,7 @@ use Rattle.mig_base.specs.Flat.{IsFlatRun, memory_of}
 use Rattle.mig_model.specs.Host.{Host, memory}
 use Rattle.mig_model.specs.Userfault.{Noted}
 use Rattle.mig_model.specs.Space.{Space, fresh_space, IsSoundSpace}
-use Rattle.mig_model.specs.Texts.{text_len}
+use Rattle.mig_model.specs.Lengths.{text_len}
 use Rattle.mig_model.specs.Wire.{Wire, Frame, Sent, Copy, copies_in, is_copy, kept_after}
 use Rattle.mig_model.specs.Wire.Frame.{Advise, Page, Zero, Run, Discard, Package, End, Resume, Request, Recv, Done}
 use Rattle.mig_model.specs.Migration.{World}

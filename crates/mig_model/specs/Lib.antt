@@ -8,7 +8,7 @@ pub mod Ioctls
 pub mod Cpus
 pub mod Guest
 pub mod Wire
-pub mod Texts
+pub mod Lengths
 pub mod Log
 pub mod Owed
 pub mod Source

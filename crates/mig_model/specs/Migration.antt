@@ -23,7 +23,7 @@ use Rattle.mig_base.specs.Tests.{first_by, is_empty}
 use Rattle.mig_model.specs.Userfault.{Noted, next_message, changing}
 use Rattle.mig_model.specs.Cpus.Took.{Sleep, Call}
 use Rattle.mig_model.specs.Wire.{Frame, Sent, Copy, Wire, empty_wire, is_zeros, page_frame, wire_behind, wire_if, wire_moved, wire_with}
-use Rattle.mig_model.specs.Texts.{text_len}
+use Rattle.mig_model.specs.Lengths.{text_len}
 use Rattle.mig_model.specs.Wire.Frame.{Advise, Page, Zero, Run, Discard, Package, End, Resume, Request, Recv, Done}
 use Rattle.mig_model.specs.Guest.Act.{Unprotected, Zeroed, Woke, Forgot, Requested}
 use Rattle.mig_model.specs.Cpus.{Took, entries_of, handed_over, is_idle, is_woken, outstanding, processor_at}

@@ -7,17 +7,16 @@
 //!   `specs/Kept.antt` for what every world keeps.
 //! - The whole migration, which no program makes: `specs/Cpus.antt` and `specs/Guest.antt` for the processors and their memory,
 //!   `specs/Log.antt` and `specs/Source.antt`, `specs/Owed.antt` and `specs/Destination.antt` for the two nodes, `specs/Wire.antt` for
-//!   what they tell each other, `specs/Texts.antt` for the bytes of that, `specs/Migration.antt` for the world and its steps,
+//!   what they tell each other, `specs/Lengths.antt` for how many bytes that has, `specs/Migration.antt` for the world and its steps,
 //!   `specs/Faults.antt` for the frames that a node does not take, `specs/Invariant.antt`, `specs/Parts.antt`, `specs/Promises.antt`,
 //!   `specs/Replies.antt` and `specs/Unbroken.antt` for what holds of it, with bounds in `specs/Bounds.antt`, `specs/Handlers.antt` for
 //!   the calls of the userfault objects that its steps stand for, `specs/Views.antt` for what a world tells, and `specs/Runs.antt` for
 //!   runs that are short of memory.
 //!
-//! [`laws`] has what is proved of the first two, and [`migration`], [`bounds`], [`frames`] and [`handlers`] what is proved of the third.
+//! [`laws`] has what is proved of the first two, and [`migration`], [`bounds`] and [`handlers`] what is proved of the third.
 #![tactic(auto)]
 
 pub mod bounds;
-pub mod frames;
 pub mod handlers;
 pub mod laws;
 pub mod migration;

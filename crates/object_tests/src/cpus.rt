@@ -3,6 +3,7 @@
 ghost use Rattle.std.specs.Prelude.{◌≡◌, true};
 ghost use Rattle.mig_base.specs.Commands.{is_access};
 
+use crate::same::same;
 use mig_base::cpu_state::CpuState;
 use mig_base::refusal::Refusal;
 use mig_base::{Addr, Command, Errno, NoMemory, PageNo, Reply};
@@ -99,54 +100,101 @@ fn new_cpus(alloc: Global, n: u8) -> Result<Cpus, NewFault> {
     }
 }
 
-/// Looks that the commands are those of the processors, and that a copy is equal, and is not touched when the processors are.
-fn copied(rt: &impl Abort, cpus: &mut Cpus) -> Result<(), Fail> {
-    let commands = match cpus.commands() {
-        Ok(commands) => commands,
-        Err(NoMemory) => cpus.commands()?,
-    };
-    assert_eq!(rt; commands.len(), usize::from(cpus.count()));
-    for (k, command) in (0u8..16).zip(commands.iter()) {
-        assert_eq!(rt; cpus.outstanding(k), Ok(*command), "processor {k}");
+fn commands_of(cpus: &Cpus) -> Result<Vec<Option<Command>>, NoMemory> {
+    match cpus.commands() {
+        Err(NoMemory) => cpus.commands(),
+        answer => answer,
     }
-    let copy = match cpus.copy() {
-        Ok(copy) => copy,
-        Err(NoMemory) => cpus.copy()?,
-    };
+}
+
+fn copy_of(cpus: &Cpus) -> Result<Cpus, NoMemory> {
+    match cpus.copy() {
+        Err(NoMemory) => cpus.copy(),
+        answer => answer,
+    }
+}
+
+/// Looks that the commands are those of the processors.
+fn told(rt: &impl Abort, cpus: &Cpus, commands: &[Option<Command>]) {
+    same(
+        rt,
+        &commands.len(),
+        &usize::from(cpus.count()),
+        "commands",
+        0,
+    );
+    for (k, command) in (0u8..16).zip(commands) {
+        same(
+            rt,
+            &cpus.outstanding(k),
+            &Ok(*command),
+            "processor",
+            usize::from(k),
+        );
+    }
+}
+
+/// Looks that a copy is equal, and is not touched when the processors are.
+fn copied(rt: &impl Abort, cpus: &mut Cpus, copy: &Cpus) {
     let before = states(cpus);
-    assert_eq!(rt; states(&copy), before);
+    same(rt, &states(copy), &before, "copy", 0);
     cpus.wake_all();
-    assert_eq!(rt; states(&copy), before);
+    same(rt, &states(copy), &before, "copy", 1);
+}
+
+/// Makes the calls of a table.
+fn play_on(rt: &impl Abort, cpus: &mut Cpus, steps: &[(Call, Answer)]) {
+    for (i, (call, wanted)) in steps.iter().enumerate() {
+        let before = states(cpus);
+        let answer = answered(rt, cpus, *call);
+        same(rt, &answer, wanted, "step", i);
+        if let Refused(_) = answer {
+            same(rt, &states(cpus), &before, "refused step", i);
+        }
+    }
+}
+
+/// Plays a table with three processors, and then looks at their commands and at a copy.
+fn play(rt: &impl Abort, alloc: Global, steps: &[(Call, Answer)]) -> Result<(), Fail> {
+    let mut cpus = new_cpus(alloc, 3)?;
+    play_on(rt, &mut cpus, steps);
+    told(rt, &cpus, commands_of(&cpus)?.as_slice());
+    let copy = copy_of(&cpus)?;
+    copied(rt, &mut cpus, &copy);
     Ok(())
 }
 
-/// Plays a table with three processors.
-fn play(rt: &impl Abort, alloc: Global, steps: &[(Call, Answer)]) -> Result<(), Fail> {
-    let mut cpus = new_cpus(alloc, 3)?;
-    for (i, (call, wanted)) in steps.iter().enumerate() {
-        let before = states(&cpus);
-        let answer = answered(rt, &mut cpus, *call);
-        assert_eq!(rt; answer, *wanted, "step {i}");
-        if let Refused(_) = answer {
-            assert_eq!(rt; states(&cpus), before, "step {i}");
-        }
+/// Looks that there are this many processors, all idle.
+fn all_idle(rt: &impl Abort, cpus: &Cpus, n: u8) {
+    same(rt, &cpus.count(), &n, "count", usize::from(n));
+    for k in 0..n {
+        same(
+            rt,
+            &cpus.state(k),
+            &Ok(CpuState::Idle),
+            "processor",
+            usize::from(k),
+        );
     }
-    copied(rt, &mut cpus)
+    same(
+        rt,
+        &cpus.state(n),
+        &Err(Refusal::NoCpu),
+        "processor",
+        usize::from(n),
+    );
 }
 
 /// A guest has 1 to 16 processors, all idle at first.
 #[test]
 fn a_guest_has_one_to_sixteen_processors(rt: HostRuntime) -> Result<(), Fail> {
-    for n in [0, 17, 255] {
-        assert_eq!(rt; new_cpus(rt.alloc(), n).err(), Some(NewFault::NoCpu), "{n}");
+    for n in [0u8, 17, 255] {
+        let fault = new_cpus(rt.alloc(), n).err();
+        same(&rt, &fault, &Some(NewFault::NoCpu), "count", usize::from(n));
     }
     for n in 1..17u8 {
         let cpus = new_cpus(rt.alloc(), n)?;
-        assert_eq!(rt; cpus.count(), n);
-        for k in 0..n {
-            assert_eq!(rt; cpus.state(k), Ok(CpuState::Idle), "{k} of {n}");
-        }
-        assert_eq!(rt; cpus.state(n), Err(Refusal::NoCpu), "{n}");
+        all_idle(&rt, &cpus, n);
     }
     Ok(())
 }

@@ -1,6 +1,7 @@
 //! `Owed`, call by call.
 
 use crate::ranges::{apart, inside};
+use crate::same::same;
 use fault_handler::Owed;
 use mig_base::{NoMemory, PageNo, PageSet, Run};
 use std::alloc::Global;
@@ -97,6 +98,25 @@ fn own(rt: &impl Abort, alloc: Global, runs: [(PageNo, u32); 2]) -> Result<Owed,
     Owed::new(alloc, &pages)
 }
 
+fn play_on(rt: &impl Abort, alloc: Global, owed: &mut Owed, steps: &[(Call, Answer)]) {
+    for (i, (call, wanted)) in steps.iter().enumerate() {
+        let before = seen(owed);
+        let mut answer = make(rt, alloc, owed, *call);
+        if answer == Err(NoMemory) {
+            same(rt, &seen(owed), &before, "refused step", i);
+            answer = make(rt, alloc, owed, *call);
+        }
+        same(rt, &answer, &Ok(*wanted), "step", i);
+        same(
+            rt,
+            &owed.is_empty(),
+            &(owed.len() == 0),
+            "emptiness at step",
+            i,
+        );
+    }
+}
+
 fn play(
     rt: &impl Abort,
     alloc: Global,
@@ -107,16 +127,7 @@ fn play(
         Ok(owed) => owed,
         Err(NoMemory) => own(rt, alloc, runs)?,
     };
-    for (i, (call, wanted)) in steps.iter().enumerate() {
-        let before = seen(&owed);
-        let mut answer = make(rt, alloc, &mut owed, *call);
-        if answer == Err(NoMemory) {
-            assert_eq!(rt; seen(&owed), before, "step {i}");
-            answer = make(rt, alloc, &mut owed, *call);
-        }
-        assert_eq!(rt; answer, Ok(*wanted), "step {i}");
-        assert_eq!(rt; owed.is_empty(), owed.len() == 0, "step {i}");
-    }
+    play_on(rt, alloc, &mut owed, steps);
     Ok(())
 }
 
@@ -190,16 +201,31 @@ fn ranges_with_nothing_owed(rt: HostRuntime) -> Result<(), Fail> {
     play(&rt, rt.alloc(), [(0x10, 1), (0xf_ffff, 1)], &NOWHERE)
 }
 
+/// Looks that a table is empty, before and after calls that find nothing.
+fn stays_empty(rt: &impl Abort, owed: &mut Owed) {
+    let empty = (0, true, None, None);
+    let before = (
+        owed.len(),
+        owed.is_empty(),
+        owed.home(0x10),
+        owed.origin(0x10),
+    );
+    same(rt, &before, &empty, "empty table", 0);
+    owed.settle(0x10);
+    owed.remove_range(0x10, 0x20);
+    same(rt, &owed.move_range(0x10, 0x30, 0x20), &Ok(()), "move", 0);
+    let after = (
+        owed.len(),
+        owed.is_empty(),
+        owed.home(0x10),
+        owed.origin(0x10),
+    );
+    same(rt, &after, &empty, "empty table", 1);
+}
+
 #[test]
 fn an_empty_table(rt: HostRuntime) -> Result<(), Fail> {
     let mut owed = Owed::empty(rt.alloc());
-    assert!(&rt; owed.is_empty());
-    owed.settle(0x10);
-    owed.remove_range(0x10, 0x20);
-    assert_eq!(&rt; owed.move_range(0x10, 0x30, 0x20), Ok(()));
-    assert_eq!(&rt;
-        (owed.len(), owed.home(0x10), owed.origin(0x10)),
-        (0, None, None)
-    );
+    stays_empty(&rt, &mut owed);
     Ok(())
 }

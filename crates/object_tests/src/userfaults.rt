@@ -1,6 +1,7 @@
 //! `Userfault`, call by call.
 
 use crate::ranges::{apart, inside};
+use crate::same::same;
 use mig_base::{Addr, HIGH_PAGE, Message, NoMemory, PageNo};
 use std::alloc::Global;
 use std::process::Abort;
@@ -125,35 +126,56 @@ fn answered(rt: &impl Abort, object: &mut Userfault, call: Call) -> Answer {
     Done
 }
 
+fn copy_of(object: &Userfault) -> Result<Userfault, NoMemory> {
+    match object.copy() {
+        Err(NoMemory) => object.copy(),
+        answer => answer,
+    }
+}
+
 /// Looks that a copy is equal, and is not touched when the object is.
-fn copied(rt: &impl Abort, object: &mut Userfault) -> Result<(), Fail> {
-    let mut copy = match object.copy() {
-        Ok(copy) => copy,
-        Err(NoMemory) => object.copy()?,
-    };
+fn copied(rt: &impl Abort, object: &mut Userfault, copy: &mut Userfault) {
     let before = seen(object);
     object.unregister(0, HIGH_PAGE);
-    assert_eq!(rt; seen(&copy), before);
-    assert_eq!(rt; copy.features(), object.features());
+    same(rt, &seen(copy), &before, "copy", 0);
+    same(rt, &copy.features(), &object.features(), "features", 0);
     for i in 0..8 {
-        assert_eq!(rt; copy.read_message(), object.read_message(), "message {i}");
+        same(
+            rt,
+            &copy.read_message(),
+            &object.read_message(),
+            "message",
+            i,
+        );
     }
-    assert_eq!(rt; modes(object), [NONE; 20]);
-    assert_eq!(rt; modes(&copy), before.0);
+    same(rt, &modes(object), &[NONE; 20], "modes", 0);
+    same(rt, &modes(copy), &before.0, "modes", 1);
+}
+
+/// Makes the calls of a table.
+fn play_on(
+    rt: &impl Abort,
+    object: &mut Userfault,
+    steps: &[(Call, Answer)],
+) -> Result<(), NoMemory> {
+    for (i, (call, wanted)) in steps.iter().enumerate() {
+        let before = seen(object);
+        if change(rt, object, *call).is_err() {
+            same(rt, &seen(object), &before, "refused step", i);
+            change(rt, object, *call)?;
+        }
+        same(rt, &answered(rt, object, *call), wanted, "step", i);
+    }
     Ok(())
 }
 
+/// Plays a table, and then looks at a copy.
 fn play(rt: &impl Abort, alloc: Global, steps: &[(Call, Answer)]) -> Result<(), Fail> {
     let mut object = Userfault::new(alloc);
-    for (i, (call, wanted)) in steps.iter().enumerate() {
-        let before = seen(&object);
-        if change(rt, &mut object, *call).is_err() {
-            assert_eq!(rt; seen(&object), before, "step {i}");
-            change(rt, &mut object, *call)?;
-        }
-        assert_eq!(rt; answered(rt, &mut object, *call), *wanted, "step {i}");
-    }
-    copied(rt, &mut object)
+    play_on(rt, &mut object, steps)?;
+    let mut copy = copy_of(&object)?;
+    copied(rt, &mut object, &mut copy);
+    Ok(())
 }
 
 const NONE: Mode = Mode {

@@ -16,8 +16,8 @@ use Rattle.mig_base.specs.Ranges.{count_below}
 use Rattle.mig_base.proofs.RangeLemmas.{count_below-append, count_below-constant, count_below-few, count_below-same}
 use Rattle.mig_base.proofs.TestLemmas.{and_first, eqb-above, eqb-self}
 use Rattle.mig_model.specs.Ioctls.{same_prot}
-use Rattle.mig_model.proofs.RunsAndAreas.{same_prot-self}
-use Rattle.mig_model.specs.Texts.{begins_run, begins_area, run_count, area_count}
+use Rattle.mig_model.proofs.IoctlLemmas.{same_prot-self}
+use Rattle.mig_model.specs.Lengths.{begins_run, begins_area, run_count, area_count}
 
 -- Runs
 

@@ -8,7 +8,7 @@
 //! The crate decides nothing about a migration: which node sends a frame, when, and what is made of it, is for the nodes.
 //!
 //! Contracts see a frame as the machine's (`mig_model`, `specs/Wire.antt`), by `frame_of` of `specs/Frames.antt`. The rules are
-//! `IsFrame` of `specs/Bounds.antt` there, and the text of a frame is that of `specs/Texts.antt`.
+//! `IsFrame` of `specs/Bounds.antt` there, and the length of its text that of `specs/Lengths.antt`.
 #![tactic(auto)]
 
 pub mod frame;

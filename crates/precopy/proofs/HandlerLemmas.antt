@@ -1,6 +1,6 @@
 -- What the machine's handler makes of a source.
-use Rattle.std.proofs.Common.{◌≡◌, ℕ, ◌*◌, ◌+◌, ◌&&◌, Bool, true, false, not, ltb, Option, Some, None, List, [], ◌∷◌, length, refl, sym, ap, ◌∙◌, inl, inr, ◌⊎◌, is_some, if◌then◌else◌, arith}
-use Rattle.std.specs.Prelude.{Ok, Err, Result, IsOk}
+use Rattle.std.proofs.Common.{◌≡◌, ℕ, ◌*◌, Bool, true, false, ltb, Option, Some, None, List, [], ◌∷◌, refl, sym, ap, ◌∙◌, inl, inr, ◌⊎◌, if◌then◌else◌, arith}
+use Rattle.std.specs.Prelude.{Ok, Err, Result}
 use Rattle.std.specs.Option.{IsSome}
 use Rattle.std.proofs.lemmas.Bool.{false≢true}
 use Rattle.mig_base.specs.declared.message.Message.{Message}
@@ -15,7 +15,7 @@ use Rattle.mig_base.specs.declared.schedule.Step.{Step}
 use Rattle.mig_model.specs.Userfault.{Noted, changing, next_message}
 use Rattle.mig_model.specs.Guest as machine
 use Rattle.mig_model.specs.Guest.{Fault, Guest, counted, fault_count, read_guest}
-use Rattle.mig_model.specs.Log.{Log, log_read}
+use Rattle.mig_model.specs.Log.{Log}
 use Rattle.mig_model.specs.Space.{Space}
 use Rattle.mig_model.specs.Migration.{act_effect, event_effect, outcome, read_effect, unless}
 use Rattle.mig_model.specs.Source.{Source, source_act, source_acted, source_acted_by, source_read, space_of}
@@ -138,9 +138,9 @@ acted_is node space cpus log fault same = ap (λ other. record node { guest = ot
 pub told_is : (done : Act) (act : machine.Act) (addr at : ℕ) → act_is done ≡ act → addr ≡ at → act_told done addr ≡ act_effect act at
 told_is done act addr at is same = rw (is, same) refl
 
-pub act_done : (node new : Source) (effect : Effect) (held : IsHeld node.log (space_of node)) → run_answer node ≡ Ok tt → effect ≡ act_effect (source_act node held.fault) (4096 * held.fault.page) → new ≡ source_acted node held.fault →
-    IsMade node Step.SourceAct effect [] new
-act_done node new effect held runs told is = rw (told, is) (acted_by node held.fault held.rest runs held.is held.quiet)
+pub act_done : (node new : Source) (effect : Effect) (fault : Fault) (rest : List Fault) → run_answer node ≡ Ok tt → node.log.held ≡ fault ∷ rest → changing (space_of node).object ≡ 0 →
+    effect ≡ act_effect (source_act node fault) (4096 * fault.page) → new ≡ source_acted node fault → IsMade node Step.SourceAct effect [] new
+act_done node new effect fault rest runs held quiet told is = rw (told, is) (acted_by node fault rest runs held quiet)
 
 act_why : (node : Source) (held : List Fault) (busy : Bool) (refusal : Refusal) → run_answer node ≡ Ok tt → node.log.held ≡ held → ltb 0 (changing (space_of node).object) ≡ busy →
     IsRefusedFor (if is_empty held then Some Refusal.NothingThere else if busy then Some Refusal.Changing else None) refusal → IsRefused node Step.SourceAct refusal

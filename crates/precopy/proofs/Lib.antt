@@ -1,7 +1,9 @@
 pub mod CommandLemmas
 pub mod HandlerLemmas
 pub mod OrderLemmas
+pub mod PushLemmas
 pub mod RecoveryLemmas
+pub mod RunLemmas
 pub mod SendLemmas
 pub mod StepLemmas
 pub mod TodoLemmas

@@ -10,13 +10,13 @@ use Rattle.mig_base.specs.Tests.{first_holding}
 use Rattle.mig_base.specs.declared.command.Errno.TheVariants.{Einval}
 use Rattle.std.proofs.lemmas.Bool.{and_parts, false≢true}
 use Rattle.mig_base.specs.declared.phase.SourcePhase.{SourcePhase}
-use Rattle.mig_model.specs.Userfault.{Noted, enabled_with, fresh_object, next_message}
+use Rattle.mig_model.specs.Userfault.{Noted, next_message}
 use Rattle.mig_model.specs.Space.{IsSoundSpace, Space, fresh_space}
 use Rattle.mig_model.specs.Ioctls.{all_features, answered_by, handshake_answer, handshaken, has_events, has_unknown, is_feature, left_by, protected_in}
 use Rattle.mig_model.specs.Log.{Log, dirty, empty_log, log_read, log_run_sent, present}
 use Rattle.mig_model.specs.Guest.{Fault, Guest, is_present, read_guest}
 use Rattle.mig_model.proofs.Stopping.{member_less}
-use Rattle.mig_model.specs.Source.{Source, all_registered, enabled_space, is_released, source_act, source_acted, space_of}
+use Rattle.mig_model.specs.Source.{Source, all_registered, enabled_space, source_act, source_acted, space_of}
 use Rattle.dirty_log.specs.Spaces.{IsLent}
 use Rattle.dirty_log.specs.Answers.{send_refusal}
 use Rattle.mig_base.proofs.SetLemmas.{member_below}

@@ -1,10 +1,10 @@
 -- What the machine's steps make of a source, and why they are refused.
-use Rattle.std.proofs.Common.{◌≡◌, ℕ, ◌+◌, Bool, true, false, not, Some, None, List, [], ◌∷◌, refl, sym, ap, ◌∙◌, inl, inr, min, ◌-◌, ◌^◌, arith}
-use Rattle.std.specs.Prelude.{Ok, Err, IsOk}
+use Rattle.std.proofs.Common.{◌≡◌, ℕ, ◌+◌, List, [], ◌∷◌, refl, inl, inr, min, ◌-◌, ◌^◌, arith}
+use Rattle.std.specs.Prelude.{Ok, Err}
 use Rattle.mig_base.specs.declared.effect.Effect.{Effect}
 use Rattle.mig_base.specs.declared.refusal.Refusal.{Refusal}
 use Rattle.mig_base.specs.declared.schedule.Step.{Step}
-use Rattle.mig_model.specs.Migration.{is_used, page_effect, unless, outcome}
+use Rattle.mig_model.specs.Migration.{page_effect, unless, outcome}
 use Rattle.mig_model.specs.Source.{Source, bytes_of, not_clean, page_sent, round_made, source_started}
 use Rattle.mig_model.specs.Guest.{counted}
 use Rattle.mig_model.specs.Wire.{Frame, page_frame}
@@ -59,7 +59,7 @@ sent_by : (node : Source) (page : ℕ) → send_answer node ≡ Ok page → IsMa
 unfolding unless
 sent_by node page is = grind arith
 
-effect_is : (page : ℕ) (bytes : List ℕ) (sent : Sent) → log.frame_of page sent ≡ page_frame page bytes → sent_effect page sent ≡ page_effect page bytes
+pub effect_is : (page : ℕ) (bytes : List ℕ) (sent : Sent) → log.frame_of page sent ≡ page_frame page bytes → sent_effect page sent ≡ page_effect page bytes
 effect_is page bytes (Sent.Page box) is = grind arith
 effect_is page bytes Sent.Zero is = grind arith
 

@@ -1,9 +1,12 @@
 -- What a source looks at before it makes a step: why the step is refused, or what it is made with.
-use Rattle.std.specs.Prelude.{ℕ, ◌+◌, ◌&&◌, not, Bool, true, false, if◌then◌else◌, Option, Some, None, Result, Ok, Err}
+use Rattle.std.specs.Prelude.{ℕ, ◌+◌, ◌==◌, ◌&&◌, not, is_some, Bool, if◌then◌else◌, Option, Some, None, Result, Ok, Err}
 use Rattle.mig_base.specs.declared.refusal.Refusal.{Refusal}
+use Rattle.std.specs.FinSet.{contains}
+use Rattle.mig_base.specs.declared.schedule.Ticket.{Ticket}
+use Rattle.mig_model.specs.Guest.{is_present}
 use Rattle.mig_model.specs.Log.{least_of}
 use Rattle.mig_model.specs.Migration.{is_changing, is_used}
-use Rattle.mig_model.specs.Source.{Source, is_precopy, is_source_idle}
+use Rattle.mig_model.specs.Source.{Source, is_precopy, is_source_idle, is_stopped, space_of}
 
 -- the next number of a count
 abbrev pub next_count : ℕ → Result ℕ Refusal
@@ -28,3 +31,28 @@ send_answer node = if is_precopy node.phase then first_sent (least_of node.log.t
 -- SourceRead and SourceAct
 abbrev pub run_answer : Source → Result (Unit {0}) Refusal
 run_answer node = if not (is_source_idle node.phase) && not node.switched then Ok tt else Err Refusal.Phase
+
+-- Push, Serve and End: whether it has stopped, and is not paused
+abbrev pub stop_answer : Source → Result (Unit {0}) Refusal
+stop_answer node = if is_stopped node.phase then Ok tt else Err Refusal.Phase
+
+-- Push and PushUrgent: whether the page of the ticket can be sent
+abbrev pub push_answer : Source → Ticket → Result (Unit {0}) Refusal
+push_answer node ticket =
+    if not (is_stopped node.phase) then Err Refusal.Phase
+    else if not (ticket.epoch == node.epoch) then Err Refusal.StaleEpoch
+    else if not (is_present (space_of node) ticket.page) then Err Refusal.PageNotSendable
+    else if not (contains node.remaining ticket.page) then Err Refusal.NotRemaining
+    else Ok tt
+
+-- End
+abbrev pub end_answer : Source → Result (Unit {0}) Refusal
+end_answer node =
+    if not (is_stopped node.phase) then Err Refusal.Phase
+    else if node.end_epoch == node.epoch then Err Refusal.Phase
+    else if is_some (least_of node.remaining) then Err Refusal.PagesLeft
+    else Ok tt
+
+-- Switch: whether it is in pre-copy, and no event is unread
+abbrev pub switch_answer : Source → Result (Unit {0}) Refusal
+switch_answer node = if is_precopy node.phase then (if is_changing node.guest then Err Refusal.Changing else Ok tt) else Err Refusal.Phase

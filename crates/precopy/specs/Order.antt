@@ -5,7 +5,7 @@ use Rattle.mig_base.specs.declared.phase.SourcePhase.{SourcePhase}
 use Rattle.mig_model.specs.Space.{Space}
 use Rattle.mig_model.specs.Invariant.{is_unread}
 use Rattle.mig_model.specs.Log.{Log}
-use Rattle.mig_model.specs.Source.{is_released, is_stopped}
+use Rattle.mig_model.specs.Source.{Source, is_released, is_stopped, space_of}
 use Rattle.dirty_log.specs.Spaces.{AreProtected, IsLent, is_sendable}
 
 -- each page that the round still has to send can be sent, unless an unread event has changed it
@@ -20,3 +20,7 @@ pub record IsInOrder (phase : SourcePhase) (switched : Bool) (space : Space) (lo
   pub todo : AreSendable log space
   pub stopped : is_stopped phase ≡ true → switched ≡ true
   pub released : is_released phase ≡ true → switched ≡ true
+
+-- a page is clean, and no unread event has changed it
+abbrev pub IsClean : Source → ℕ → Type 0
+IsClean node page = (contains node.log.clean page ≡ true) × (is_unread (space_of node).object.events page ≡ false)

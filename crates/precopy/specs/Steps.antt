@@ -1,12 +1,12 @@
 -- What a call of a source answers: what the machine's step of its name does in a world that has this source.
-use Rattle.std.specs.Prelude.{◌≡◌, ◌⊎◌, List, Err, IsOk}
+use Rattle.std.specs.Prelude.{◌≡◌, ◌⊎◌, List, [], ◌∷◌, Err, IsOk}
 use Rattle.mig_base.specs.declared.command.Entry.{Entry}
 use Rattle.mig_base.specs.declared.effect.Effect.{Effect}
 use Rattle.mig_base.specs.declared.refusal.Refusal.{Refusal}
 use Rattle.mig_base.specs.declared.schedule.Step.{Step}
 use Rattle.mig_model.specs.Migration.{World, answer, first_world, made, outcome, source_sends}
 use Rattle.mig_model.specs.Source.{Source}
-use Rattle.mig_model.specs.Wire.{Frame}
+use Rattle.mig_model.specs.Wire.{Frame, empty_wire, wire_with}
 
 -- a world that has this source, whose link is up, and in which nothing is in flight
 abbrev pub world_of : Source → World
@@ -15,6 +15,11 @@ world_of node = record (first_world 0) { source = node }
 -- the step was made: its effect, the frames that the source sends in its epoch, and the source after it
 abbrev pub IsMade : Source → Step → Effect → List Frame → Source → Type 0
 IsMade old step effect frames new = answer (world_of old) step ≡ made effect (source_sends (world_of old) new frames)
+
+-- the same, where the frame goes on the urgent wire
+abbrev pub IsMadeUrgently : Source → Step → Effect → Frame → Source → Type 0
+IsMadeUrgently old step effect frame new =
+    answer (world_of old) step ≡ made effect (record (world_of old) { source = new; urgent = wire_with empty_wire old.epoch (frame ∷ []) })
 
 -- a command was tried: its effect, what it enters in the transcript, and the source after it
 abbrev pub IsTried : Source → Step → Effect → List Entry → Source → Type 0

@@ -7,8 +7,11 @@ ghost use Rattle.vcpu.specs.Answers.{is_count};
 mod back;
 mod commands;
 mod handler;
+mod laws;
+mod pushes;
 mod recovery;
 mod rounds;
+mod runs;
 
 use dirty_log::DirtyLog;
 use mig_base::flags::{ALL_FEATURES, API};

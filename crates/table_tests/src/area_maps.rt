@@ -1,6 +1,7 @@
 //! `AreaMap`, call by call.
 
 use crate::ranges::{apart, inside};
+use crate::same::same;
 use area_map::AreaMap;
 use mig_base::{Addr, Area, NoMemory, PageNo, Prot};
 use std::alloc::Global;
@@ -95,22 +96,39 @@ fn answered(rt: &impl Abort, map: &AreaMap, call: Call) -> Answer {
     }
 }
 
+/// Makes the calls of a table.
+fn play_on(rt: &impl Abort, map: &mut AreaMap, steps: &[(Call, Answer)]) -> Result<(), NoMemory> {
+    for (i, (call, wanted)) in steps.iter().enumerate() {
+        let before = (picture(map), map.mapped_pages());
+        if change(rt, map, *call).is_err() {
+            same(
+                rt,
+                &(picture(map), map.mapped_pages()),
+                &before,
+                "refused step",
+                i,
+            );
+            change(rt, map, *call)?;
+        }
+        same(rt, &answered(rt, map, *call), wanted, "step", i);
+    }
+    Ok(())
+}
+
+fn copy_of(map: &AreaMap) -> Result<AreaMap, NoMemory> {
+    match map.copy() {
+        Err(NoMemory) => map.copy(),
+        answer => answer,
+    }
+}
+
+/// Plays a table, and then looks at a copy.
 fn play(rt: &impl Abort, alloc: Global, steps: &[(Call, Answer)]) -> Result<(), Fail> {
     let mut map = AreaMap::new(alloc);
-    for (i, (call, wanted)) in steps.iter().enumerate() {
-        let before = (picture(&map), map.mapped_pages());
-        if change(rt, &mut map, *call).is_err() {
-            assert_eq!(rt; (picture(&map), map.mapped_pages()), before, "step {i}");
-            change(rt, &mut map, *call)?;
-        }
-        assert_eq!(rt; answered(rt, &map, *call), *wanted, "step {i}");
-    }
-    let copy = match map.copy() {
-        Ok(copy) => copy,
-        Err(NoMemory) => map.copy()?,
-    };
-    assert_eq!(rt; copy.areas(), map.areas());
-    assert_eq!(rt; copy.mapped_pages(), map.mapped_pages());
+    play_on(rt, &mut map, steps)?;
+    let copy = copy_of(&map)?;
+    same(rt, &copy.areas(), &map.areas(), "copy", 0);
+    same(rt, &copy.mapped_pages(), &map.mapped_pages(), "copy", 1);
     Ok(())
 }
 

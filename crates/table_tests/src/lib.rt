@@ -15,3 +15,5 @@ mod page_sets;
 mod page_tables;
 #[cfg(test)]
 mod ranges;
+#[cfg(test)]
+mod same;

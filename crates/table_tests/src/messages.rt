@@ -1,5 +1,6 @@
 //! The bytes of `Message`, after `struct uffd_msg` of userfaultfd(2).
 
+use crate::same::same;
 use mig_base::Message;
 
 /// The event, and the bytes from the ninth on, eight for each number.
@@ -97,6 +98,6 @@ fn a_message_has_the_bytes_of_uffd_msg(rt: HostRuntime) {
         wanted[8..16].copy_from_slice(first);
         wanted[16..24].copy_from_slice(second);
         wanted[24..].copy_from_slice(third);
-        assert_eq!(rt; message.to_bytes(), wanted, "message {i}");
+        same(&rt, &message.to_bytes(), &wanted, "message", i);
     }
 }

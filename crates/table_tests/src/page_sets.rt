@@ -1,6 +1,7 @@
 //! `PageSet`, call by call.
 
 use crate::ranges::inside;
+use crate::same::same;
 use mig_base::{HIGH_PAGE, NoMemory, PageNo, PageSet, Run};
 use std::alloc::Global;
 use std::process::Abort;
@@ -84,26 +85,41 @@ fn make(rt: &impl Abort, alloc: Global, set: &mut PageSet, call: Call) -> Result
     Ok(Done)
 }
 
+/// Makes the calls of a table.
+fn play_on(rt: &impl Abort, alloc: Global, set: &mut PageSet, steps: &[(Call, Answer)]) {
+    for (i, (call, wanted)) in steps.iter().enumerate() {
+        let before = seen(rt, set);
+        let mut answer = make(rt, alloc, set, *call);
+        if answer == Err(NoMemory) {
+            same(rt, &seen(rt, set), &before, "refused step", i);
+            answer = make(rt, alloc, set, *call);
+        }
+        same(rt, &answer, &Ok(*wanted), "step", i);
+    }
+}
+
+fn copy_of(set: &PageSet) -> Result<PageSet, NoMemory> {
+    match set.copy() {
+        Err(NoMemory) => set.copy(),
+        answer => answer,
+    }
+}
+
+/// Looks that a copy is equal, and that the set is not touched when the copy is.
+fn copied(rt: &impl Abort, set: &PageSet, copy: &mut PageSet) {
+    let before = seen(rt, set);
+    same(rt, &seen(rt, copy), &before, "copy", 0);
+    copy.remove_range(0, HIGH_PAGE);
+    same(rt, &copy.len(), &0, "copy", 1);
+    same(rt, &seen(rt, set), &before, "set", 0);
+}
+
+/// Plays a table, and then looks at a copy.
 fn play(rt: &impl Abort, alloc: Global, steps: &[(Call, Answer)]) -> Result<(), Fail> {
     let mut set = PageSet::new(alloc);
-    for (i, (call, wanted)) in steps.iter().enumerate() {
-        let before = seen(rt, &set);
-        let mut answer = make(rt, alloc, &mut set, *call);
-        if answer == Err(NoMemory) {
-            assert_eq!(rt; seen(rt, &set), before, "step {i}");
-            answer = make(rt, alloc, &mut set, *call);
-        }
-        assert_eq!(rt; answer, Ok(*wanted), "step {i}");
-    }
-    let before = seen(rt, &set);
-    let mut copy = match set.copy() {
-        Ok(copy) => copy,
-        Err(NoMemory) => set.copy()?,
-    };
-    assert_eq!(rt; seen(rt, &copy), before);
-    copy.remove_range(0, HIGH_PAGE);
-    assert_eq!(rt; copy.len(), 0);
-    assert_eq!(rt; seen(rt, &set), before);
+    play_on(rt, alloc, &mut set, steps);
+    let mut copy = copy_of(&set)?;
+    copied(rt, &set, &mut copy);
     Ok(())
 }
 

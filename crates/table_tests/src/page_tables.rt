@@ -1,6 +1,7 @@
 //! `PageTable`, call by call.
 
 use crate::ranges::{apart, inside};
+use crate::same::same;
 use mig_base::PageNo;
 use page_table::{PageTable, PutFault};
 use std::alloc::Global;
@@ -78,7 +79,7 @@ fn put(
     match table.put(page, bytes) {
         Ok(()) => Ok(Done),
         Err((fault, back)) => {
-            assert_eq!(rt; *back, [byte; 4096]);
+            same(rt, &*back, &[byte; 4096], "page that comes back", 0);
             Err(fault)
         }
     }
@@ -171,23 +172,28 @@ fn make(
     Ok(Done)
 }
 
-fn play(rt: &impl Abort, alloc: Global, steps: &[(Call, Answer)]) {
-    let mut table = PageTable::new(alloc);
+/// Makes the calls of a table.
+fn play_on(rt: &impl Abort, alloc: Global, table: &mut PageTable, steps: &[(Call, Answer)]) {
     for (i, (call, wanted)) in steps.iter().enumerate() {
-        let before = seen(&table);
-        let mut outcome = make(rt, alloc, &mut table, *call);
+        let before = seen(table);
+        let mut outcome = make(rt, alloc, table, *call);
         if outcome.is_err() {
-            assert_eq!(rt; seen(&table), before, "step {i}");
+            same(rt, &seen(table), &before, "refused step", i);
         }
         if outcome == Err(PutFault::NoMemory) {
-            outcome = make(rt, alloc, &mut table, *call);
+            outcome = make(rt, alloc, table, *call);
         }
         let answer = match outcome {
             Err(PutFault::Present) => Ok(Refused),
             outcome => outcome,
         };
-        assert_eq!(rt; answer, Ok(*wanted), "step {i}");
+        same(rt, &answer, &Ok(*wanted), "step", i);
     }
+}
+
+fn play(rt: &impl Abort, alloc: Global, steps: &[(Call, Answer)]) {
+    let mut table = PageTable::new(alloc);
+    play_on(rt, alloc, &mut table, steps);
 }
 
 const PUT_ONCE: [(Call, Answer); 8] = [

@@ -1,12 +1,16 @@
 //! Pre-copy: the start of a migration, its rounds, and the pages that a round sends.
 
-ghost use Rattle.std.specs.Prelude.{◌≡◌, ◌<◌, [], ◌∷◌, IfOk, IfErr, OnErr};
+ghost use Rattle.std.specs.Prelude.{◌≡◌, ◌↔◌, ◌<◌, [], ◌∷◌, true, Some, IfOk, IfErr, OnErr};
+ghost use Rattle.std.specs.FinMap.{get};
+ghost use Rattle.std.specs.FinSet.{contains};
+ghost use Rattle.mig_base.specs.Bytes.{zero_page};
+ghost use Rattle.mig_model.specs.Wire as wire;
 ghost use Rattle.mig_base.specs.declared.schedule.Step.{Step};
 ghost use Rattle.dirty_log.specs.Sending as log;
 ghost use Rattle.mig_base.specs.declared.TheConstants.{HIGH_PAGE};
 ghost use Rattle.page_stream.specs.Frames.{frame_of};
 ghost use Rattle.precopy.specs.Answers.{next_count as counted_on, round_answer, send_answer, start_answer};
-ghost use Rattle.precopy.specs.Sending.{sent_effect};
+ghost use Rattle.precopy.specs.Sending.{SendsPage, sent_effect};
 ghost use Rattle.precopy.specs.Steps.{IsMade, IsRefused};
 
 use super::Source;
@@ -64,6 +68,11 @@ impl Source {
         ensures made { IfOk result (λ told. IsMade self.old Step.Send told.0 (frame_of told.1 ∷ []) self.new) }
         ensures refused { IfErr result (λ refusal. IsRefused self.old Step.Send refusal) }
         ensures err { OnErr result (self.new ≡ self.old) }
+
+        // The same in the words of a reader: what is sent is what the page has when it is protected.
+        ensures bytes { IfOk result (λ told. SendsPage (frame_of told.1) (λ page bytes. get self.new.guest.space.host.bytes page ≡ Some bytes)) }
+        ensures protected { IfOk result (λ told. SendsPage (frame_of told.1) (λ page bytes. contains self.new.guest.space.protected page ≡ true)) }
+        ensures zero { IfOk result (λ told. SendsPage (frame_of told.1) (λ page bytes. (frame_of told.1 ≡ wire.Frame.Zero page) ↔ (get self.new.guest.space.host.bytes page ≡ Some zero_page))) }
     {
         let page = self.next_to_send()?;
         self.space.is_in_order();
@@ -97,7 +106,7 @@ impl Source {
     }
 
     /// The page that the round would send next.
-    fn next_to_send(&self) -> Result<PageNo, Refusal>
+    pub(super) fn next_to_send(&self) -> Result<PageNo, Refusal>
         ensures answer { result ≡ send_answer self.now }
         ensures below { IfOk result (λ page. page < HIGH_PAGE) }
     {
@@ -116,7 +125,7 @@ impl Source {
 }
 
 /// What is told of a page that was sent, and its frame.
-fn told_page(page: PageNo, sent: Sent) -> (Effect, Frame)
+pub(super) fn told_page(page: PageNo, sent: Sent) -> (Effect, Frame)
     ensures effect { result.0 ≡ sent_effect page sent }
     ensures frame { frame_of result.1 ≡ log.frame_of page sent }
 {
@@ -134,7 +143,7 @@ fn told_page(page: PageNo, sent: Sent) -> (Effect, Frame)
 }
 
 /// The next number of a count, or `CountUsed` where it is at its greatest value.
-fn next_count(count: u32) -> Result<u32, Refusal>
+pub(super) fn next_count(count: u32) -> Result<u32, Refusal>
     ensures { result ≡ counted_on count }
 {
     if count == u32::MAX {

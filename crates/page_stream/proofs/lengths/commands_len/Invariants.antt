@@ -1,5 +1,5 @@
 use Rattle.std.proofs.Common.{◌≡◌, ◌+◌, drop}
-use Rattle.mig_model.specs.Texts.{commands_len}
+use Rattle.mig_model.specs.Lengths.{commands_len}
 use Rattle.page_stream.proofs.lengths.commands_len.Given as goal
 
 abbrev pub invariant-loop-command : goal.invariant-loop-command

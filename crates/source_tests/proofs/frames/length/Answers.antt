@@ -1,5 +1,5 @@
 use Rattle.std.proofs.Common.{arith}
-use Rattle.mig_model.proofs.LengthBounds.{text_short}
+use Rattle.frame_texts.proofs.LengthBounds.{text_short}
 use Rattle.page_stream.specs.Frames.{frame_of}
 use Rattle.source_tests.proofs.frames.length.Goals as goal
 

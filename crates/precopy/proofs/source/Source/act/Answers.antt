@@ -1,8 +1,9 @@
-use Rattle.std.proofs.Common.{◌≡◌, rules, refl, subst, sym, ap, ◌∙◌}
+use Rattle.std.proofs.Common.{◌≡◌, rules, refl, subst, sym, ap, ◌∙◌, ◌∷◌, ◌*◌}
 use Rattle.std.proofs.lemmas.Result.{err_from_is_err_and}
-use Rattle.std.specs.Prelude.{Ok}
-use Rattle.precopy.specs.Answers.{run_answer}
-use Rattle.mig_model.specs.Source.{source_acted, space_of}
+use Rattle.mig_model.specs.Migration.{act_effect}
+use Rattle.mig_model.specs.Userfault.{changing}
+use Rattle.precopy.specs.contracts.source.Source.{the_view}
+use Rattle.mig_model.specs.Source.{source_act, source_acted, space_of}
 use Rattle.dirty_log.specs.Spaces.{source_of}
 use Rattle.precopy.proofs.HandlerLemmas.{IsHeld, act_done, act_refused, act_stopped, acted_is, told_is, some_held}
 use Rattle.precopy.proofs.OrderLemmas.{acted_order}
@@ -29,6 +30,10 @@ invariant_of-self-2 c =
 
 pub returns-clause-made : goal.returns-clause-made
 returns-clause-made c =
-    let done = c.in_ok-act.ensures.act (held c).fault (held c).rest (held c).is in
-    let runs = sym c.ensure_running.ensures ∙ c.in_ok-ensure_running.was in
-    rw (← c.self.view_is) (act_done _ _ _ (held c) (subst (λ node. run_answer node ≡ Ok tt) (sym c.self.view_is) runs) (c.told_act.ensures ∙ told_is _ _ _ _ done.0 done.1) (acted_is _ _ _ _ (held c).fault (acted c)))
+    let fault = (held c).fault in
+    let done = c.in_ok-act.ensures.act fault (held c).rest (held c).is in
+    act_done c.args.self.now _ c.told_act.result fault (held c).rest (sym c.ensure_running.ensures ∙ c.in_ok-ensure_running.was)
+    (subst (λ node. node.log.held ≡ fault ∷ (held c).rest) c.self.view_is (held c).is)
+    (subst (λ node. changing (space_of node).object ≡ 0) c.self.view_is (held c).quiet)
+    (subst (λ node. c.told_act.result ≡ act_effect (source_act node fault) (4096 * fault.page)) c.self.view_is (c.told_act.ensures ∙ told_is _ _ _ _ done.0 done.1))
+    (acted_is (the_view c.self.inside) c.act.new.space c.act.new.cpus c.act.new.self fault (acted c) ∙ ap (λ node. source_acted node fault) c.self.view_is)

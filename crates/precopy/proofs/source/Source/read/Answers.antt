@@ -1,6 +1,5 @@
 use Rattle.std.proofs.Common.{rules, refl, sym, ap, ◌∙◌}
 use Rattle.std.proofs.lemmas.Result.{err_from_is_err_and}
-use Rattle.mig_base.specs.declared.refusal.Refusal.{Refusal}
 use Rattle.precopy.specs.Telling.{faults_told}
 use Rattle.precopy.proofs.HandlerLemmas.{faults_read, read_done, read_refused, read_stopped, some_noted}
 use Rattle.precopy.proofs.OrderLemmas.{read_order}

@@ -1,11 +1,11 @@
-use Rattle.std.proofs.Common.{rules, refl, sym, ap, ◌∙◌}
+use Rattle.std.proofs.Common.{rules, refl, sym, ◌∙◌}
 use Rattle.std.proofs.lemmas.Result.{err_from_is_err_and}
 use Rattle.mig_base.specs.declared.refusal.Refusal.{Refusal}
 use Rattle.dirty_log.specs.Answers.{IsRefusedFor, send_refusal}
 use Rattle.dirty_log.proofs.SendLemmas.{one_sent}
 use Rattle.precopy.proofs.OrderLemmas.{sent_order}
-use Rattle.precopy.proofs.SendLemmas.{send_stopped}
-use Rattle.precopy.proofs.StepLemmas.{counted_is, send_done, send_lacks, send_refused}
+use Rattle.precopy.proofs.SendLemmas.{send_stopped, sends, zero_told}
+use Rattle.precopy.proofs.StepLemmas.{counted_is, send_done, send_refused}
 use Rattle.precopy.proofs.source.Source.send_next.Goals as goal
 
 pub returns-in_err-page-clause-refused : goal.returns-in_err-page-clause-refused
@@ -27,3 +27,14 @@ pub returns-clause-made : goal.returns-clause-made
 returns-clause-made c =
     send_done c.args.self.now _ c.in_ok-page.page c.in_ok-sent.sent _ _ (sym c.next_to_send.ensures.answer ∙ c.in_ok-page.was) (rw (← c.self.view_is) c.in_ok-sent.ensures.frame) c.told_page.ensures.effect c.told_page.ensures.frame
     (rw (c.in_ok-sent.ensures.log, c.in_ok-sent.ensures.space, c.saturating_add-self-inside.ensures, counted_is, ← c.self.view_is) refl)
+
+-- the same of the page that the frame names
+
+pub returns-clause-bytes : goal.returns-clause-bytes
+returns-clause-bytes c = sends c.in_ok-page.page c.in_ok-sent.sent _ _ c.told_page.ensures.frame c.in_ok-sent.ensures.bytes
+
+pub returns-clause-protected : goal.returns-clause-protected
+returns-clause-protected c = sends c.in_ok-page.page c.in_ok-sent.sent _ _ c.told_page.ensures.frame c.in_ok-sent.ensures.protected
+
+pub returns-clause-zero : goal.returns-clause-zero
+returns-clause-zero c = sends c.in_ok-page.page c.in_ok-sent.sent _ _ c.told_page.ensures.frame (zero_told c.in_ok-page.page c.in_ok-sent.sent _ c.told_page.ensures.frame c.in_ok-sent.ensures.zero)

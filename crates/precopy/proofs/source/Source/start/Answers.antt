@@ -1,5 +1,4 @@
-use Rattle.std.proofs.Common.{rules, refl, sym, ap, ◌∙◌}
-use Rattle.mig_model.specs.Source.{source_started}
+use Rattle.std.proofs.Common.{rules, refl, sym, ◌∙◌}
 use Rattle.precopy.proofs.OrderLemmas.{registered_order}
 use Rattle.precopy.proofs.StepLemmas.{start_made, start_refused, start_lacks}
 use Rattle.precopy.proofs.source.Source.start.Goals as goal

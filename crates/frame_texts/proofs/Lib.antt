@@ -1,0 +1,12 @@
+pub mod TextLemmas
+pub mod RunsAndAreas
+pub mod RunsInOrder
+pub mod OneArea
+pub mod OneText
+pub mod LengthBounds
+pub mod Encodable
+pub mod TextsInFlight
+pub mod PageBytes
+pub mod FrameBounds
+pub mod FrameSteps
+pub mod GoodFrames

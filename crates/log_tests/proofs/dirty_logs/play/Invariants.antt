@@ -1,0 +1,5 @@
+use Rattle.dirty_log.specs.Spaces.{IsLent}
+use Rattle.log_tests.proofs.dirty_logs.play.Given as goal
+
+abbrev pub invariant-loop-i : goal.invariant-loop-i
+invariant-loop-i g l = IsLent l.space

@@ -1,0 +1,213 @@
+//! Post-copy: the switch, and the owed pages that a stopped source sends.
+
+ghost use Rattle.std.specs.Prelude.{◌≡◌, ◌⊎◌, [], ◌∷◌, true, IfOk, IfErr, OnOk, OnErr};
+ghost use Rattle.dirty_log.specs.Sending as log;
+ghost use Rattle.mig_base.specs.Bytes.{contents};
+ghost use Rattle.mig_base.specs.declared.TheConstants.{HIGH_PAGE};
+ghost use Rattle.mig_base.specs.declared.schedule.Step.{Step};
+ghost use Rattle.mig_model.specs.Guest.{is_present};
+ghost use Rattle.mig_model.specs.Log.{least_of};
+ghost use Rattle.mig_base.specs.declared.refusal.Refusal.{Refusal};
+ghost use Rattle.mig_model.specs.Migration.{is_used};
+ghost use Rattle.page_stream.specs.Frames.{frame_of};
+ghost use Rattle.precopy.specs.Answers.{end_answer, push_answer, stop_answer, switch_answer};
+ghost use Rattle.precopy.specs.Handing.{IsHandedOver};
+ghost use Rattle.precopy.specs.Steps.{IsMade, IsMadeUrgently, IsRefused};
+
+use super::Source;
+use super::rounds::{next_count, told_page};
+use area_map::AreaMap;
+use dirty_log::Sent;
+use mig_base::effect::Effect;
+use mig_base::phase::SourcePhase;
+use mig_base::refusal::Refusal;
+use mig_base::schedule::Ticket;
+use mig_base::{HIGH_PAGE, NoMemory, PageNo, PageSet, page_address};
+use page_stream::{Frame, Waiting};
+
+/// What a source hands over as it stops.
+#[derive(Drop)]
+struct HandedOver {
+    discarded: PageSet,
+    remaining: PageSet,
+    owed: PageSet,
+    areas: AreaMap,
+    commands: Waiting,
+}
+
+impl Source {
+    /// Stops the processors for good: the pages that were sent and are not clean are to be discarded, the present pages that are not
+    /// clean are owed, and the commands that the processors still have to make go with them. Unread and held faults are given up, since
+    /// the destination takes those commands over. Refused as `Phase` outside pre-copy, and as `Changing` while an event is unread.
+    pub fn switch(&mut self) -> Result<(Effect, Frame, Frame), Refusal>
+        ensures made { IfOk result (λ told. IsMade self.old Step.Switch told.0 (frame_of told.1 ∷ frame_of told.2 ∷ []) self.new) }
+        ensures refused { IfErr result (λ refusal. IsRefused self.old Step.Switch refusal) }
+        ensures err { OnErr result (self.new ≡ self.old) }
+    {
+        self.ensure_settled()?;
+        let Ok(handed) = self.hand_over() else {
+            return Err(Refusal::NoMemory);
+        };
+        let (discard, owed) = (handed.discarded.len(), handed.owed.len());
+        self.space.drop_faults();
+        self.log.drop_held();
+        self.remaining = handed.remaining;
+        self.packaged = owed;
+        self.switched = true;
+        self.phase = SourcePhase::Stopped;
+        let package = Frame::Package {
+            areas: handed.areas,
+            owed: handed.owed,
+            commands: handed.commands,
+        };
+        let discarded = Frame::Discard {
+            pages: handed.discarded,
+        };
+        Ok((Effect::Switched { discard, owed }, discarded, package))
+    }
+
+    /// What it hands over as it stops.
+    fn hand_over(&self) -> Result<HandedOver, NoMemory>
+        ensures { IfOk result (λ handed. IsHandedOver self.now handed) }
+    {
+        let owed = self.log.dirty(&self.space)?;
+        Ok(HandedOver {
+            discarded: self.log.discarded()?,
+            remaining: owed.copy()?,
+            owed,
+            areas: self.space.areas()?,
+            commands: Waiting::new(self.cpus.commands()?),
+        })
+    }
+
+    /// Whether it is in pre-copy, and no event is unread.
+    fn ensure_settled(&self) -> Result<(), Refusal>
+        ensures { result ≡ switch_answer self.now }
+    {
+        match self.phase {
+            SourcePhase::Precopy => {}
+            _ => return Err(Refusal::Phase),
+        }
+        if self.space.changing() > 0 {
+            return Err(Refusal::Changing);
+        }
+        Ok(())
+    }
+
+    /// Sends an owed page, which does not remain then. Refused as `Phase` unless the source is stopped, as `StaleEpoch` where the ticket
+    /// is of another epoch, as `PageNotSendable` where the page is not present here, and as `NotRemaining` where it is not owed or was
+    /// sent in this epoch.
+    pub fn push(&mut self, ticket: Ticket) -> Result<(Effect, Frame), Refusal>
+        ensures made { IfOk result (λ told. IsMade self.old (Step.Push ticket) told.0 (frame_of told.1 ∷ []) self.new) }
+        ensures refused { IfErr result (λ refusal. IsRefused self.old (Step.Push ticket) refusal) }
+        ensures err { OnErr result (self.new ≡ self.old) }
+    {
+        self.ensure_owed(ticket)?;
+        self.space.is_in_order();
+        let Ok(sent) = Sent::read(self.alloc, &self.space, ticket.page) else {
+            return Err(Refusal::NoMemory);
+        };
+        self.remaining.remove(ticket.page);
+        self.pages_sent = self.pages_sent.saturating_add(1);
+        Ok(told_page(ticket.page, sent))
+    }
+
+    /// The same as [`Source::push`], for the urgent wire: the frame goes there, and is counted. Refused as that call is, and before want
+    /// of memory as `CountUsed` where the count of the epoch is at its greatest value; no source in a world gets there, since it sends a
+    /// page once in an epoch.
+    pub fn push_urgent(&mut self, ticket: Ticket) -> Result<(Effect, Frame), Refusal>
+        ensures made { IfOk result (λ told. IsMadeUrgently self.old (Step.PushUrgent ticket) told.0 (frame_of told.1) self.new) }
+        ensures refused { IfErr result (λ refusal. IsRefused self.old (Step.PushUrgent ticket) refusal ⊎ ((refusal ≡ Refusal.CountUsed) × (is_used self.old.urgent_sent ≡ true))) }
+        ensures err { OnErr result (self.new ≡ self.old) }
+    {
+        self.ensure_owed(ticket)?;
+        let urgent = next_count(self.urgent_sent)?;
+        self.space.is_in_order();
+        let Ok(sent) = Sent::read(self.alloc, &self.space, ticket.page) else {
+            return Err(Refusal::NoMemory);
+        };
+        self.remaining.remove(ticket.page);
+        self.pages_sent = self.pages_sent.saturating_add(1);
+        self.urgent_sent = urgent;
+        Ok(told_page(ticket.page, sent))
+    }
+
+    /// Takes the first request of the destination: the address of the page that is asked for. Refused as `Phase` unless the source is
+    /// stopped, and as `NothingThere` where no request waits. It takes no memory.
+    pub fn serve(&mut self) -> Result<Effect, Refusal>
+        ensures made { IfOk result (λ effect. IsMade self.old Step.Serve effect [] self.new) }
+        ensures refused { IfErr result (λ refusal. IsRefused self.old Step.Serve refusal) }
+        ensures err { OnErr result (self.new ≡ self.old) }
+    {
+        self.ensure_stopped()?;
+        let Some(page) = self.asked.pop_front() else {
+            return Err(Refusal::NothingThere);
+        };
+        Ok(Effect::Asked {
+            addr: page_address(page),
+        })
+    }
+
+    /// Tells the destination that nothing more is sent in this epoch. Refused as `Phase` unless the source is stopped and has not told it in
+    /// this epoch, and as `PagesLeft` while pages remain. It takes no memory.
+    pub fn end(&mut self) -> Result<(Effect, Frame), Refusal>
+        ensures made { IfOk result (λ told. IsMade self.old Step.End told.0 (frame_of told.1 ∷ []) self.new) }
+        ensures refused { IfErr result (λ refusal. IsRefused self.old Step.End refusal) }
+        ensures err { OnErr result (self.new ≡ self.old) }
+    {
+        self.ensure_done()?;
+        self.end_epoch = self.epoch;
+        let urgent = self.urgent_sent;
+        Ok((Effect::EndSent, Frame::End { urgent }))
+    }
+
+    /// Whether the page of a ticket can be sent.
+    fn ensure_owed(&self, ticket: Ticket) -> Result<(), Refusal>
+        ensures answer { result ≡ push_answer self.now ticket }
+        ensures present { OnOk result (is_present self.now.guest.space ticket.page ≡ true) }
+    {
+        self.ensure_stopped()?;
+        if ticket.epoch != self.epoch {
+            return Err(Refusal::StaleEpoch);
+        }
+        if self.space.page(ticket.page).is_none() {
+            return Err(Refusal::PageNotSendable);
+        }
+        if !self.remaining.contains(ticket.page) {
+            return Err(Refusal::NotRemaining);
+        }
+        Ok(())
+    }
+
+    /// Whether End can be sent.
+    fn ensure_done(&self) -> Result<(), Refusal>
+        ensures { result ≡ end_answer self.now }
+    {
+        self.ensure_stopped()?;
+        if self.end_epoch == self.epoch {
+            return Err(Refusal::Phase);
+        }
+        if least_page(&self.remaining).is_some() {
+            return Err(Refusal::PagesLeft);
+        }
+        Ok(())
+    }
+
+    /// Whether it has stopped, and is not paused.
+    fn ensure_stopped(&self) -> Result<(), Refusal>
+        ensures { result ≡ stop_answer self.now }
+    {
+        match self.phase {
+            SourcePhase::Stopped => Ok(()),
+            _ => Err(Refusal::Phase),
+        }
+    }
+}
+
+/// The least page of a set.
+fn least_page(pages: &PageSet) -> Option<PageNo>
+    ensures { result ≡ least_of pages.now }
+{
+    let page = pages.next(0, true);
+    if page < HIGH_PAGE { Some(page) } else { None }
+}

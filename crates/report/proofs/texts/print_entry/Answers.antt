@@ -1,0 +1,8 @@
+use Rattle.std.proofs.Common.{arith}
+use Rattle.std.proofs.lemmas.Grind.{common_steps}
+use Rattle.report.specs.Texts.{entry_line}
+use Rattle.report.proofs.texts.print_entry.Goals as goal
+
+pub returns-clause-ok : goal.returns-clause-ok
+unfolding entry_line
+returns-clause-ok c = grind (arith, common_steps)
