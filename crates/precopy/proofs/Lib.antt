@@ -7,3 +7,4 @@ pub mod RunLemmas
 pub mod SendLemmas
 pub mod StepLemmas
 pub mod TodoLemmas
+pub mod WorldLemmas

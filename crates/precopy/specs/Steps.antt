@@ -1,16 +1,29 @@
 -- What a call of a source answers: what the machine's step of its name does in a world that has this source.
-use Rattle.std.specs.Prelude.{◌≡◌, ◌⊎◌, List, [], ◌∷◌, Err, IsOk}
+use Rattle.std.specs.Prelude.{◌≡◌, ◌⊎◌, List, [], ◌∷◌, ◌++◌, Ok, Err, IsOk}
 use Rattle.mig_base.specs.declared.command.Entry.{Entry}
 use Rattle.mig_base.specs.declared.effect.Effect.{Effect}
 use Rattle.mig_base.specs.declared.refusal.Refusal.{Refusal}
 use Rattle.mig_base.specs.declared.schedule.Step.{Step}
-use Rattle.mig_model.specs.Migration.{World, answer, first_world, made, outcome, source_sends}
+use Rattle.mig_model.specs.Migration.{Answer, World, answer, first_world, made, outcome, source_sends}
 use Rattle.mig_model.specs.Source.{Source}
 use Rattle.mig_model.specs.Wire.{Frame, empty_wire, wire_with}
 
 -- a world that has this source, whose link is up, and in which nothing is in flight
 abbrev pub world_of : Source → World
 world_of node = record (first_world 0) { source = node }
+
+-- what a step that was answered so beside no other part of a world answers in a world: it changes the source, and what it sends and enters
+-- comes behind what is there
+abbrev pub in_world : World → Answer → Answer
+in_world world (Ok result) =
+    made result.effect
+    (record world {
+      source = result.world.source;
+      forward = record world.forward { frames = world.forward.frames ++ result.world.forward.frames };
+      urgent = record world.urgent { frames = world.urgent.frames ++ result.world.urgent.frames };
+      transcript = world.transcript ++ result.world.transcript;
+    })
+in_world world (Err refusal) = Err refusal
 
 -- the step was made: its effect, the frames that the source sends in its epoch, and the source after it
 abbrev pub IsMade : Source → Step → Effect → List Frame → Source → Type 0

@@ -9,6 +9,7 @@
 //! or the same refusal, or want of memory, and nothing is changed.
 #![tactic(auto)]
 
+pub mod laws;
 pub mod source;
 
 pub use crate::source::Source;

@@ -19,7 +19,7 @@ impl Source {
         self.packaged
     }
 
-    /// The channel is broken: the source waits for a new one.
+    /// The channel is broken: the source, which is not released, waits for a new one.
     pub fn pause(&mut self)
         requires { is_released self.old.phase ≡ false }
         ensures { self.new ≡ record self.old { phase = SourcePhase.Paused } }
@@ -35,7 +35,7 @@ impl Source {
         self.urgent_sent = 0;
     }
 
-    /// The source goes on with pre-copy, of which the destination has kept nothing.
+    /// A source that has not switched goes on with pre-copy, of which the destination has kept nothing. Held faults stay.
     pub fn to_precopy(&mut self)
         requires { self.old.switched ≡ false }
         ensures { self.new ≡ record self.old { phase = SourcePhase.Precopy; asked = []; log = forgotten self.old.log } }
@@ -45,7 +45,7 @@ impl Source {
         self.log.forget();
     }
 
-    /// The source goes on with these pages left to send, after a Package that owed `packaged` pages.
+    /// A source that has switched and is not released goes on with these pages left to send; the last Package owed `packaged` pages.
     pub fn to_stopped(&mut self, remaining: PageSet, packaged: u32)
         requires switched { self.old.switched ≡ true }
         requires kept { is_released self.old.phase ≡ false }
@@ -57,7 +57,7 @@ impl Source {
         self.packaged = packaged;
     }
 
-    /// The migration is complete: the source gives up its memory.
+    /// The migration is complete: a source that has switched gives up its memory.
     pub fn release(&mut self)
         requires { self.old.switched ≡ true }
         ensures { self.new ≡ released self.old }

@@ -1,4 +1,4 @@
-use Rattle.std.proofs.Common.{◌≡◌, false, sym, subst, ◌∙◌}
+use Rattle.std.proofs.Common.{◌≡◌, false, sym, subst}
 use Rattle.precopy.proofs.RecoveryLemmas.{precopy_order}
 use Rattle.precopy.proofs.source.Source.to_precopy.Goals as goal
 

@@ -1,0 +1,27 @@
+//! What holds of all steps of a source, as a law: a function that does nothing, whose contract is the law.
+
+ghost use Rattle.std.specs.Prelude.{◌≡◌, ℕ, true, false};
+ghost use Rattle.mig_base.specs.declared.command.Command.{Command};
+ghost use Rattle.mig_base.specs.declared.schedule.Step.{Step};
+ghost use Rattle.mig_base.specs.declared.schedule.Ticket.{Ticket};
+ghost use Rattle.mig_model.specs.Migration.{World, answer};
+ghost use Rattle.precopy.specs.Steps.{in_world, world_of};
+
+/// A step of the source reads nothing of a world but its source and that the link is up: in any world it has the effect, sends the
+/// frames and leaves the source that it has, sends and leaves where nothing else is there. Commands are the source's while the
+/// destination has not run.
+pub fn a_step_of_the_source()
+    ensures start { (world : World) → answer world Step.Start ≡ in_world world (answer (world_of world.source) Step.Start) }
+    ensures round { (world : World) → answer world Step.Round ≡ in_world world (answer (world_of world.source) Step.Round) }
+    ensures send { (world : World) → world.up ≡ true → answer world Step.Send ≡ in_world world (answer (world_of world.source) Step.Send) }
+    ensures send_run { (world : World) (count : ℕ) → world.up ≡ true → answer world (Step.SendRun count) ≡ in_world world (answer (world_of world.source) (Step.SendRun count)) }
+    ensures read { (world : World) → answer world Step.SourceRead ≡ in_world world (answer (world_of world.source) Step.SourceRead) }
+    ensures act { (world : World) → answer world Step.SourceAct ≡ in_world world (answer (world_of world.source) Step.SourceAct) }
+    ensures switch { (world : World) → world.up ≡ true → answer world Step.Switch ≡ in_world world (answer (world_of world.source) Step.Switch) }
+    ensures push { (world : World) (ticket : Ticket) → world.up ≡ true → answer world (Step.Push ticket) ≡ in_world world (answer (world_of world.source) (Step.Push ticket)) }
+    ensures push_urgent { (world : World) (ticket : Ticket) → world.up ≡ true → answer world (Step.PushUrgent ticket) ≡ in_world world (answer (world_of world.source) (Step.PushUrgent ticket)) }
+    ensures serve { (world : World) → world.up ≡ true → answer world Step.Serve ≡ in_world world (answer (world_of world.source) Step.Serve) }
+    ensures end { (world : World) → world.up ≡ true → answer world Step.End ≡ in_world world (answer (world_of world.source) Step.End) }
+    ensures issue { (world : World) (cpu : ℕ) (command : Command) → world.destination.has_run ≡ false → answer world (Step.Issue cpu command) ≡ in_world world (answer (world_of world.source) (Step.Issue cpu command)) }
+    ensures retry { (world : World) (cpu : ℕ) → world.destination.has_run ≡ false → answer world (Step.Retry cpu) ≡ in_world world (answer (world_of world.source) (Step.Retry cpu)) }
+{}
