@@ -1,4 +1,5 @@
 pub mod Answers
+pub mod Back
 pub mod Codes
 pub mod Handing
 pub mod Order

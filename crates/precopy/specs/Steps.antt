@@ -1,5 +1,6 @@
 -- What a call of a source answers: what the machine's step of its name does in a world that has this source.
 use Rattle.std.specs.Prelude.{◌≡◌, ◌⊎◌, List, [], ◌∷◌, Err, IsOk}
+use Rattle.mig_base.specs.declared.command.Entry.{Entry}
 use Rattle.mig_base.specs.declared.effect.Effect.{Effect}
 use Rattle.mig_base.specs.declared.refusal.Refusal.{Refusal}
 use Rattle.mig_base.specs.declared.schedule.Step.{Step}
@@ -19,6 +20,9 @@ IsMade old step effect frames new = answer (world_of old) step ≡ made effect (
 abbrev pub IsMadeUrgently : Source → Step → Effect → Frame → Source → Type 0
 IsMadeUrgently old step effect frame new =
     answer (world_of old) step ≡ made effect (record (world_of old) { source = new; urgent = wire_with empty_wire old.epoch (frame ∷ []) })
+-- a command was tried: its effect, what it enters in the transcript, and the source after it
+abbrev pub IsTried : Source → Step → Effect → List Entry → Source → Type 0
+IsTried old step effect entries new = answer (world_of old) step ≡ made effect (record (world_of old) { source = new; transcript = entries })
 
 -- it was refused: for the machine's reason, or for want of memory where the machine makes the step
 abbrev pub IsRefused : Source → Step → Refusal → Type 0

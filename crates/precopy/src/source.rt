@@ -4,8 +4,11 @@ ghost use Rattle.std.specs.Prelude.{◌≡◌, ◌↔◌, false, IfOk, Err};
 ghost use Rattle.mig_model.specs.Source as machine;
 ghost use Rattle.vcpu.specs.Answers.{is_count};
 
+mod back;
+mod commands;
 mod handler;
 mod pushes;
+mod recovery;
 mod rounds;
 
 use dirty_log::DirtyLog;
