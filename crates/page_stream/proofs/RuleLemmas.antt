@@ -2,6 +2,8 @@
 use Rattle.std.proofs.Common.{◌≡◌, ℕ, zero, suc, ◌+◌, ◌<◌, ◌≤◌, Bool, true, false, cond, Option, Some, None, is_some, List, [], ◌∷◌, length, get_or, sym, ap, ◌∙◌, arith, zero-add}
 use Rattle.std.proofs.lemmas.Bool.Decides.{nat_tests}
 use Rattle.std.specs.Ordering.{nat_cmp}
+use Rattle.std.specs.declared.alloc.Global.{Global}
+use Rattle.std.specs.declared.boxed.Box.{Box}
 use Rattle.std.specs.FinMap.{FinMap, contains_key, get, len}
 use Rattle.mig_base.specs.declared.Prot.{Prot}
 use Rattle.mig_base.specs.declared.TheConstants.{LOW_PAGE, HIGH_PAGE, MAX_PAGES}
@@ -9,11 +11,12 @@ use Rattle.mig_base.specs.declared.command.Command.{Command}
 use Rattle.mig_base.specs.Ranges.{count_below}
 use Rattle.mig_base.proofs.RangeLemmas.{count_below-constant}
 use Rattle.mig_model.specs.Bounds.{ArePageBytes, AreRightAccesses, IsMapping, IsPageBytes}
+use Rattle.page_stream.specs.Lists.{bytes_of}
 use Rattle.page_stream.specs.Rules.{IsRight}
 
-pub page_bytes_each : (pages : List (List ℕ)) → ((k : ℕ) → k < length pages → IsPageBytes (get_or pages k [])) → ArePageBytes pages
+pub page_bytes_each : (pages : List (Box (List ℕ) Global)) → ((k : ℕ) (d : Box (List ℕ) Global) → k < length pages → IsPageBytes (get_or pages k d).value) → ArePageBytes (bytes_of pages)
 page_bytes_each [] each = tt
-page_bytes_each (bytes ∷ pages) each = (each 0 (omega arith), page_bytes_each pages (λ k l. each (suc k) (omega arith)))
+page_bytes_each (page ∷ pages) each = (each 0 page (omega arith), page_bytes_each pages (λ k d l. each (suc k) d (omega arith)))
 
 pub right_each : (commands : List (Option Command)) → ((k : ℕ) → k < length commands → IsRight (get_or commands k None)) → AreRightAccesses commands
 right_each [] each = tt

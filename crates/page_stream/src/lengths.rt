@@ -31,7 +31,7 @@ impl Frame {
             Frame::Advise | Frame::Resume | Frame::Done => 0,
             Frame::Page { .. } => 4 + PAGE_SIZE,
             Frame::Zero { .. } | Frame::Request { .. } | Frame::End { .. } => 4,
-            Frame::Run { pages, .. } => 8 + PAGE_SIZE * pages.as_slice().len() as u64,
+            Frame::Run { pages, .. } => 8 + PAGE_SIZE * pages.len() as u64,
             Frame::Discard { pages } => runs_len(pages),
             Frame::Package {
                 areas,

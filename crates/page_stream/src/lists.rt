@@ -1,8 +1,9 @@
 //! The bytes and lists that frames hold: callers see each as a list.
 
-ghost use Rattle.std.specs.Prelude.{◌≡◌, ◌<◌};
+ghost use Rattle.std.specs.Prelude.{◌≡◌, ◌<◌, length};
 ghost use Rattle.std.specs.List.{All};
 ghost use Rattle.mig_model.specs.Bounds.{ArePageBytes, IsPageBytes};
+ghost use Rattle.page_stream.specs.Lists.{bytes_of};
 
 use mig_base::{Command, PAGE_BYTES};
 use std::marker::Model;
@@ -65,29 +66,37 @@ fn are_bytes(bytes: &[u8])
 /// The bytes of neighbouring pages, in order.
 #[derive(Drop)]
 pub struct Pages {
-    pages: Vec<PageBytes>,
+    pages: Vec<Box<[u8; PAGE_BYTES]>>,
 }
 
 impl Model for Pages {
     ghost use Rattle.std.specs.Prelude.{List, ℕ};
+    ghost use Rattle.page_stream.specs.Lists.{bytes_of};
 
     ghost Value = { List (List ℕ) };
 
-    ghost view = { λ run. run.pages.items };
+    ghost view = { λ run. bytes_of run.pages.items };
 }
 
 impl Pages {
-    pub fn new(pages: Vec<PageBytes>) -> Self
-        ensures { result ≡ pages.items }
+    pub fn new(pages: Vec<Box<[u8; PAGE_BYTES]>>) -> Self
+        ensures { result ≡ bytes_of pages.items }
     {
         Pages { pages }
     }
 
     /// The pages, in order.
-    pub fn as_slice(&self) -> &[PageBytes]
-        ensures { result.now ≡ self.now }
+    pub fn as_slice(&self) -> &[Box<[u8; PAGE_BYTES]>]
+        ensures { bytes_of result.now ≡ self.now }
     {
         self.pages.as_slice()
+    }
+
+    /// How many pages they are.
+    pub fn len(&self) -> usize
+        ensures { result ≡ length self.now }
+    {
+        self.pages.len()
     }
 
     /// A law of all pages: each has its bytes. The call does nothing.
@@ -95,13 +104,13 @@ impl Pages {
         ensures { ArePageBytes self.now }
     {
         for page in self.as_slice() {
-            page.are_whole();
+            fill_a_page(&**page);
         }
     }
 
     /// Hands the pages over.
-    pub fn into_vec(self) -> Vec<PageBytes>
-        ensures { result.items ≡ self }
+    pub fn into_vec(self) -> Vec<Box<[u8; PAGE_BYTES]>>
+        ensures { bytes_of result.items ≡ self }
     {
         self.pages
     }

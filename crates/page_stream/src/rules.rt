@@ -56,7 +56,7 @@ fn is_run(first: PageNo, pages: &Pages) -> bool
     ensures { IsTrue result ↔ IsRunOf first pages.now }
 {
     pages.are_whole();
-    let count = pages.as_slice().len();
+    let count = pages.len();
     0 < count
         && count <= usize::from(MAX_RUN)
         && LOW_PAGE <= first

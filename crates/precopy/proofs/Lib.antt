@@ -3,6 +3,7 @@ pub mod HandlerLemmas
 pub mod OrderLemmas
 pub mod PushLemmas
 pub mod RecoveryLemmas
+pub mod RunLemmas
 pub mod SendLemmas
 pub mod StepLemmas
 pub mod TodoLemmas

@@ -27,7 +27,7 @@ least_sent node page is = grind arith
 pub quiet : (node : Source) (page : ℕ) → send_answer node ≡ Ok page → is_changing node.guest ≡ false
 quiet node page is = grind arith
 
-no_unread : (events : List Noted) (page : ℕ) → ltb 0 (length events) ≡ false → is_unread events page ≡ false
+pub no_unread : (events : List Noted) (page : ℕ) → ltb 0 (length events) ≡ false → is_unread events page ≡ false
 no_unread [] page h = refl
 no_unread (noted ∷ events) page h = grind arith
 
@@ -42,7 +42,7 @@ pub send_accepted : (node : Source) (page : ℕ) → send_answer node ≡ Ok pag
 send_accepted node page is kept = next_accepted node page is (least_below_tells (contains node.log.todo) HIGH_PAGE page (least_sent node page is)) kept
 
 -- what a send that is refused then lacks is memory
-only_memory : (refusal : Refusal) (reason : Option Refusal) → reason ≡ None → IsRefusedFor reason refusal → refusal ≡ Refusal.NoMemory
+pub only_memory : (refusal : Refusal) (reason : Option Refusal) → reason ≡ None → IsRefusedFor reason refusal → refusal ≡ Refusal.NoMemory
 only_memory refusal reason none (inl is) = absurd (let other : Some refusal ≡ None = sym is ∙ none in grind arith)
 only_memory refusal reason none (inr is) = is.1
 

@@ -10,6 +10,7 @@ mod handler;
 mod pushes;
 mod recovery;
 mod rounds;
+mod runs;
 
 use dirty_log::DirtyLog;
 use mig_base::flags::{ALL_FEATURES, API};

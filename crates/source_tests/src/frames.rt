@@ -51,7 +51,7 @@ fn page(alloc: Global) -> Result<PageBytes, NoMemory> {
 fn pages(alloc: Global, count: usize) -> Result<Pages, NoMemory> {
     let mut pages = Vec::new(alloc);
     for _ in 0..count {
-        pages.push(page(alloc)?)?;
+        pages.push(Box::new(alloc, [0; PAGE_BYTES])?)?;
     }
     Ok(Pages::new(pages))
 }

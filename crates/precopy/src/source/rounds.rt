@@ -97,7 +97,7 @@ impl Source {
     }
 
     /// The page that the round would send next.
-    fn next_to_send(&self) -> Result<PageNo, Refusal>
+    pub(super) fn next_to_send(&self) -> Result<PageNo, Refusal>
         ensures answer { result ≡ send_answer self.now }
         ensures below { IfOk result (λ page. page < HIGH_PAGE) }
     {

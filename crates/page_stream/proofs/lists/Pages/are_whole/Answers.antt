@@ -4,4 +4,4 @@ use Rattle.page_stream.proofs.RuleLemmas.{page_bytes_each}
 use Rattle.page_stream.proofs.lists.Pages.are_whole.Goals as goal
 
 pub returns : goal.returns
-returns c = subst ArePageBytes c.as_slice-page-items.ensures (page_bytes_each c.as_slice-page-items.result.now (λ k l. c.loop-page.invariant k (omega arith)))
+returns c = subst ArePageBytes c.as_slice-page-items.ensures (page_bytes_each c.as_slice-page-items.result.now (λ k d l. c.loop-page.invariant k d (omega arith)))

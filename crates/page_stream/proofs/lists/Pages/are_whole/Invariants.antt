@@ -1,6 +1,8 @@
-use Rattle.std.proofs.Common.{ℕ, ◌<◌, get_or, []}
+use Rattle.std.proofs.Common.{ℕ, ◌<◌, List, get_or}
+use Rattle.std.specs.declared.boxed.Box.{Box}
+use Rattle.std.specs.declared.alloc.Global.{Global}
 use Rattle.mig_model.specs.Bounds.{IsPageBytes}
 use Rattle.page_stream.proofs.lists.Pages.are_whole.Given as goal
 
 abbrev pub invariant-loop-page : goal.invariant-loop-page
-invariant-loop-page l = (k : ℕ) → k < l.page-index → IsPageBytes (get_or l.page-items k [])
+invariant-loop-page l = (k : ℕ) (d : Box (List ℕ) Global) → k < l.page-index → IsPageBytes (get_or l.page-items k d).value

@@ -1,0 +1,76 @@
+-- What the machine's SendRun makes of a source, and why it is refused; the pages of a run can be sent.
+use Rattle.std.proofs.Common.{◌≡◌, ℕ, ◌+◌, ◌*◌, ◌<◌, true, false, not, ltb, None, [], ◌∷◌, length, refl, ap, ◌∙◌, inl, inr, arith}
+use Rattle.std.specs.Prelude.{Ok, Err}
+use Rattle.std.specs.FinSet.{contains}
+use Rattle.std.proofs.lemmas.Bool.Decides.{nat_tests}
+use Rattle.mig_base.specs.declared.effect.Effect.{Effect}
+use Rattle.mig_base.specs.declared.refusal.Refusal.{Refusal}
+use Rattle.mig_base.specs.declared.schedule.Step.{Step}
+use Rattle.mig_base.specs.declared.TheConstants.{HIGH_PAGE, PAGE_SIZE}
+use Rattle.mig_base.specs.Ranges.{in_range}
+use Rattle.mig_base.specs.Sets.{run_length}
+use Rattle.mig_base.specs.Tests.{is_every}
+use Rattle.mig_base.proofs.RangeLemmas.{in_range-true, least_below_tells, none_below-from}
+use Rattle.mig_base.proofs.SetLemmas.{member_run, run_length-some}
+use Rattle.mig_model.specs.Migration.{outcome, run_bound, unless}
+use Rattle.mig_model.specs.Source.{Source, run_of, run_sent, space_of}
+use Rattle.mig_model.specs.Space.{Space}
+use Rattle.mig_model.specs.Wire.{Frame}
+use Rattle.dirty_log.specs.Answers.{IsRefusedFor, send_refusal}
+use Rattle.dirty_log.specs.Spaces.{is_sendable}
+use Rattle.precopy.specs.Answers.{send_answer}
+use Rattle.precopy.specs.Order.{AreSendable}
+use Rattle.precopy.specs.Steps.{IsMade, IsRefused}
+use Rattle.precopy.proofs.SendLemmas.{least_sent, no_unread, only_memory, quiet}
+
+-- how many pages a run from here has
+abbrev pub pages_from : Source → ℕ → ℕ → ℕ
+pages_from node first count = run_length node.log.todo first (run_bound count)
+
+pub few_are : (node : Source) (first count most pages : ℕ) → pages ≡ run_length node.log.todo first most → most ≡ run_bound count → pages ≡ pages_from node first count
+few_are node first count most pages is bound = is ∙ ap (run_length node.log.todo first) bound
+
+-- The machine's step
+
+sent_by : (node : Source) (first count : ℕ) → send_answer node ≡ Ok first →
+    IsMade node (Step.SendRun count) (Effect.SentRun (PAGE_SIZE * first) (pages_from node first count)) (Frame.Run first (run_of node first (pages_from node first count)) ∷ []) (run_sent node first (pages_from node first count))
+unfolding unless
+sent_by node first count is = grind arith
+
+pub run_done : (node new : Source) (first count pages : ℕ) (effect : Effect) (frame : Frame) → send_answer node ≡ Ok first → pages ≡ pages_from node first count → effect ≡ Effect.SentRun (PAGE_SIZE * first) pages →
+    frame ≡ Frame.Run first (run_of node first pages) → new ≡ run_sent node first pages → IsMade node (Step.SendRun count) effect (frame ∷ []) new
+run_done node new first count pages effect frame is few told carried new_is = rw (new_is, told, carried, few) (sent_by node first count is)
+
+pub run_refused : (node : Source) (count : ℕ) (refusal : Refusal) → send_answer node ≡ Err refusal → IsRefused node (Step.SendRun count) refusal
+unfolding unless outcome
+run_refused node count refusal is = inl (grind arith)
+
+pub run_lacks : (node : Source) (first count : ℕ) → send_answer node ≡ Ok first → IsRefused node (Step.SendRun count) Refusal.NoMemory
+unfolding unless outcome
+run_lacks node first count is = inr (refl, grind arith)
+
+-- Its pages
+
+bound_some : (count : ℕ) → 0 < run_bound count
+bound_some count = grind (arith, nat_tests)
+
+-- the first page is one of the run
+pub run_some : (node : Source) (first count : ℕ) → send_answer node ≡ Ok first → 0 < pages_from node first count
+run_some node first count is = run_length-some node.log.todo first (run_bound count) (least_below_tells (contains node.log.todo) HIGH_PAGE first (least_sent node first is)) (bound_some count)
+
+all_sendable : (space : Space) (first pages : ℕ) → ((page : ℕ) → in_range first pages page ≡ true → is_sendable space page ≡ true) → is_every (is_sendable space) first pages ≡ true
+all_sendable space first pages each = none_below-from (λ i. not (is_sendable space (first + i))) pages (λ i l. ap not (each (first + i) (in_range-true first pages (first + i) (omega arith) (omega arith))))
+
+quiet_accepted : (space : Space) (first pages : ℕ) → ltb 0 (length space.object.events) ≡ false → is_every (is_sendable space) first pages ≡ true → send_refusal space first pages ≡ None
+quiet_accepted space first pages quiet every = rw (quiet, every) refl
+
+pub run_accepted : (node : Source) (first bound : ℕ) → send_answer node ≡ Ok first → AreSendable node.log (space_of node) → send_refusal (space_of node) first (run_length node.log.todo first bound) ≡ None
+run_accepted node first bound is kept =
+    let none = quiet node first is in
+    quiet_accepted (space_of node) first _ none (all_sendable (space_of node) first _ (λ page inside. kept page (member_run node.log.todo first bound page inside) (no_unread (space_of node).object.events page none)))
+
+-- what a run that is refused then lacks is memory
+pub run_stopped : (node : Source) (first count pages : ℕ) (refusal : Refusal) → send_answer node ≡ Ok first → pages ≡ pages_from node first count → AreSendable node.log (space_of node) → IsRefusedFor (send_refusal (space_of node) first pages) refusal →
+    IsRefused node (Step.SendRun count) refusal
+run_stopped node first count pages refusal is few kept why =
+    rw (only_memory refusal _ (ap (send_refusal (space_of node) first) few ∙ run_accepted node first (run_bound count) is kept) why) (run_lacks node first count is)

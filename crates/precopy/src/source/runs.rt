@@ -1,0 +1,57 @@
+//! Pre-copy: runs of pages in one frame.
+
+ghost use Rattle.std.specs.Prelude.{◌≡◌, ◌*◌, [], ◌∷◌, IfOk, IfErr, OnErr};
+ghost use Rattle.mig_base.specs.declared.TheConstants.{MAX_RUN, PAGE_SIZE};
+ghost use Rattle.mig_base.specs.declared.effect.Effect.{Effect};
+ghost use Rattle.mig_base.specs.declared.schedule.Step.{Step};
+ghost use Rattle.mig_model.specs.Migration.{run_bound};
+ghost use Rattle.mig_model.specs.Wire as wire;
+ghost use Rattle.dirty_log.specs.Sending.{bytes_of_run};
+ghost use Rattle.page_stream.specs.Frames.{frame_of};
+ghost use Rattle.precopy.specs.Steps.{IsMade, IsRefused};
+
+use super::Source;
+use mig_base::effect::Effect;
+use mig_base::refusal::Refusal;
+use mig_base::{MAX_RUN, PAGE_BYTES, PageNo, page_address};
+use page_stream::{Frame, Pages};
+
+impl Source {
+    /// Sends the least page of the round and those that follow it in the round without a gap, at most `count` pages, in one frame: they are
+    /// write-protected, then read, and are clean from then on. A count of 0 is taken as 1, and one above [`MAX_RUN`] as that. Refused as
+    /// [`Source::send_next`] is.
+    pub fn send_run(&mut self, count: u8) -> Result<(Effect, Frame), Refusal>
+        ensures made { IfOk result (λ told. IsMade self.old (Step.SendRun count) told.0 (frame_of told.1 ∷ []) self.new) }
+        ensures refused { IfErr result (λ refusal. IsRefused self.old (Step.SendRun count) refusal) }
+        ensures err { OnErr result (self.new ≡ self.old) }
+    {
+        let first = self.next_to_send()?;
+        self.space.is_in_order();
+        let pages = self.log.run_length(first, most_of(count));
+        let sent = self.log.send_run(&mut self.space, first, pages)?;
+        self.pages_sent = self.pages_sent.saturating_add(u64::from(pages));
+        Ok(told_run(first, pages, sent))
+    }
+}
+
+/// How many pages a run may have where `count` are asked for.
+fn most_of(count: u8) -> u32
+    ensures { result ≡ run_bound count }
+{
+    u32::from(count.clamp(1, MAX_RUN))
+}
+
+/// What is told of a run that was sent, and its frame.
+fn told_run(first: PageNo, count: u32, sent: Vec<Box<[u8; PAGE_BYTES]>>) -> (Effect, Frame)
+    ensures effect { result.0 ≡ Effect.SentRun (PAGE_SIZE * first) count }
+    ensures frame { frame_of result.1 ≡ wire.Frame.Run first (bytes_of_run sent.items) }
+{
+    let addr = page_address(first);
+    (
+        Effect::SentRun { addr, pages: count },
+        Frame::Run {
+            first,
+            pages: Pages::new(sent),
+        },
+    )
+}
