@@ -1,6 +1,6 @@
 //! `Source`, call by call. No wire: the frames that it sends are looked at, and those that come back are handed to it.
 
-ghost use Rattle.std.specs.Prelude.{◌≡◌, true, false};
+ghost use Rattle.std.specs.Prelude.{◌≡◌, false};
 ghost use Rattle.mig_model.specs.Source.{is_released};
 
 use crate::ranges::inside;
@@ -107,7 +107,8 @@ enum Answer {
     NotTaken(BackFault),
     /// The phase, whether the source has switched, and its epoch.
     Stands(SourcePhase, bool, u32),
-    /// How many pages are present, remaining, clean, to be sent and ever sent, how many were owed, and how many faults are held.
+    /// How many pages are present, remaining, clean, to be sent and ever sent, how many were owed, and how many faults
+    /// are held.
     Counted([u32; 6], usize),
     Is(CpuState),
 }
@@ -393,8 +394,8 @@ fn new_source(alloc: Global, cpus: u8, epoch: u32, rounds: u32) -> Result<Source
     }
 }
 
-/// Plays a table on a source of two processors, whose counts of epochs and of rounds stand at the numbers given. A call that is refused
-/// leaves the source as it was.
+/// Plays a table on a source of two processors, whose counts of epochs and of rounds stand at the numbers given. A call that
+/// is refused leaves the source as it was.
 fn play(
     rt: &impl Abort,
     alloc: Global,
@@ -560,7 +561,8 @@ fn a_page_is_written_again_and_pushed(rt: HostRuntime) -> Result<(), Fail> {
     play(&rt, rt.alloc(), (0, 0), &WRITTEN_AGAIN)
 }
 
-/// A page of zeros, a missing page, and commands that go over with the switch. The urgent push is counted, and the last Done releases.
+/// A page of zeros, a missing page, and a command that goes over with the switch. The urgent push is counted, and Done
+/// releases the source.
 const ZEROS: Steps<41> = [
     (Map(0, 0x3000), Ok(Tries(AT_10))),
     (Store(0, 0x10000, 0), Ok(Tries(DONE_0))),
@@ -868,7 +870,8 @@ fn a_run_has_at_least_one_page(rt: HostRuntime) -> Result<(), Fail> {
     play(&rt, rt.alloc(), (0, 0), &SHORT_RUNS)
 }
 
-/// A break before the switch: what was sent is forgotten. Then one behind it: what remains is said anew, and requests are dropped.
+/// A break before the switch: what was sent is forgotten. Then one after it: what remains is set anew, and requests are
+/// dropped.
 const BROKEN: Steps<43> = [
     (Map(0, 0x2000), Ok(Tries(AT_10))),
     (Store(0, 0x10000, 1), Ok(Tries(DONE_0))),
