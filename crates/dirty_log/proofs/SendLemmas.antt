@@ -11,7 +11,7 @@ use Rattle.std.proofs.lemmas.Bool.Decides.{nat_tests}
 use Rattle.std.proofs.lemmas.List.{map-append, take_more_set}
 use Rattle.mig_base.specs.declared.TheConstants.{HIGH_PAGE}
 use Rattle.mig_base.specs.declared.refusal.Refusal.{Refusal}
-use Rattle.mig_base.specs.Bytes.{contents, zero_page}
+use Rattle.mig_base.specs.Bytes.{boxed_bytes, contents, zero_page}
 use Rattle.mig_base.specs.Ranges.{in_range}
 use Rattle.mig_base.specs.Sets.{with_range}
 use Rattle.mig_base.specs.Tests.{first_holding, is_every}
@@ -29,7 +29,7 @@ use Rattle.mig_model.proofs.IoctlLemmas.{every_page}
 use Rattle.mig_model.proofs.SourceSending.{present_bytes, protected_now, whole_bytes}
 use Rattle.mig_model.proofs.WireLemmas.{copies_in-page}
 use Rattle.dirty_log.specs.Answers.{send_refusal}
-use Rattle.dirty_log.specs.Sending.{frame_of, bytes_of as sent_bytes, bytes_of_run}
+use Rattle.dirty_log.specs.Sending.{frame_of, bytes_of as sent_bytes}
 use Rattle.dirty_log.specs.Spaces.{is_sendable}
 use Rattle.dirty_log.specs.declared.sent.Sent.{Sent}
 
@@ -134,9 +134,9 @@ run_more node first zero = ap (λ q. bytes_of node q ∷ []) (omega arith)
 run_more node first (suc n) = ap (λ pages. bytes_of node first ∷ pages) (run_more node (1 + first) n ∙ ap (λ q. run_of node (1 + first) n ++ bytes_of node q ∷ []) (omega arith))
 
 -- one more page of a run is read
-pub run_read : (pages : List (Box (List ℕ) Global)) (page : Box (List ℕ) Global) (node : Source) (first i : ℕ) → i < length pages → page.value ≡ bytes_of node (first + i) → bytes_of_run (take i pages) ≡ run_of node first i
-    → bytes_of_run (take (i + 1) (set pages i page)) ≡ run_of node first (i + 1)
+pub run_read : (pages : List (Box (List ℕ) Global)) (page : Box (List ℕ) Global) (node : Source) (first i : ℕ) → i < length pages → page.value ≡ bytes_of node (first + i) → boxed_bytes (take i pages) ≡ run_of node first i
+    → boxed_bytes (take (i + 1) (set pages i page)) ≡ run_of node first (i + 1)
 run_read pages page node first i low value before =
     let more : suc i ≡ i + 1 = omega arith in
-    ap bytes_of_run (take_more_set pages i page low) ∙ map-append (λ b. b.value) (take i pages) (page ∷ []) ∙ ap (λ xs. xs ++ page.value ∷ []) before ∙ ap (λ bytes. run_of node first i ++ bytes ∷ []) value
+    ap boxed_bytes (take_more_set pages i page low) ∙ map-append (λ b. b.value) (take i pages) (page ∷ []) ∙ ap (λ xs. xs ++ page.value ∷ []) before ∙ ap (λ bytes. run_of node first i ++ bytes ∷ []) value
     ∙ sym (run_more node first i) ∙ ap (run_of node first) more

@@ -1,7 +1,5 @@
 -- What is sent of pages, as the code has it.
-use Rattle.std.specs.Prelude.{ℕ, List, map}
-use Rattle.std.specs.declared.boxed.Box.{Box}
-use Rattle.std.specs.declared.alloc.Global.{Global}
+use Rattle.std.specs.Prelude.{ℕ, List}
 use Rattle.mig_base.specs.Bytes.{zero_page}
 use Rattle.mig_model.specs.Wire.{Frame}
 use Rattle.dirty_log.specs.declared.sent.Sent.{Sent}
@@ -15,7 +13,3 @@ frame_of page Sent.Zero = Frame.Zero page
 abbrev pub bytes_of : Sent → List ℕ
 bytes_of (Sent.Page bytes) = bytes.value
 bytes_of Sent.Zero = zero_page
-
--- the bytes of the pages of a run
-abbrev pub bytes_of_run : List (Box (List ℕ) Global) → List (List ℕ)
-bytes_of_run pages = map (λ page. page.value) pages

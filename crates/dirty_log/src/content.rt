@@ -2,11 +2,10 @@
 
 ghost use Rattle.std.specs.Prelude.{◌≡◌, ℕ, ◌+◌, ◌<◌, ◌≤◌, ◌==◌, length, true, IfOk};
 ghost use Rattle.std.specs.List.{list_all};
-ghost use Rattle.mig_base.specs.Bytes.{contents};
+ghost use Rattle.mig_base.specs.Bytes.{boxed_bytes, contents};
 ghost use Rattle.mig_model.specs.Guest.{is_present};
 ghost use Rattle.mig_base.specs.declared.TheConstants.{HIGH_PAGE};
 ghost use Rattle.mig_model.specs.Source.{Source, run_of, space_of};
-ghost use Rattle.dirty_log.specs.Sending.{bytes_of_run};
 
 use mig_base::{NoMemory, PAGE_BYTES, PageNo};
 use std::alloc::Global;
@@ -50,7 +49,7 @@ pub fn read_page(space: &Space, page: PageNo, into: &mut [u8; PAGE_BYTES])
 pub fn read_pages(space: &Space, first: PageNo, into: &mut Vec<Box<[u8; PAGE_BYTES]>>)
     requires inside { first + length into.old.items ≤ HIGH_PAGE }
     requires present { (i : ℕ) → i < length into.old.items → is_present space.now (first + i) ≡ true }
-    ensures { (node : Source) → (space_of node).host.bytes ≡ space.now.host.bytes → bytes_of_run into.new.items ≡ run_of node first (length into.old.items) }
+    ensures { (node : Source) → (space_of node).host.bytes ≡ space.now.host.bytes → boxed_bytes into.new.items ≡ run_of node first (length into.old.items) }
 {
     for i in 0..into.len() {
         read_page(space, first + i as PageNo, &mut into[i]);

@@ -1,4 +1,0 @@
-pub mod TableLemmas
-pub mod LinkLemmas
-pub mod GatherLemmas
-pub mod OwedLemmas

@@ -1,2 +1,5 @@
-pub mod Tables
-pub mod Owed
+pub mod Arrivals
+pub mod Codes
+pub mod Order
+pub mod Steps
+pub mod Taking

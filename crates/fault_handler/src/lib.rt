@@ -1,13 +1,18 @@
-//! What the destination of a post-copy migration keeps so that it can resolve page faults.
+//! The destination of a migration: the node that the memory moves to.
 //!
-//! [`Owed`] is the table of the pages that the source still owes: which page of the source is to fill which page here, now that
-//! pages may have moved since the switch. The crate knows no bytes of pages, reads no message and sends no request.
+//! [`Destination`] keeps the copies of pages that come before it runs, builds the address space of the guest from the Package, and from then
+//! on resolves the page faults of its processors: a page that is owed is asked for, a copy that arrives is installed where its page
+//! belongs now, and any other missing page becomes zeros. It knows no wire: a call answers what it did and the frames that are to be
+//! sent, and whoever calls moves them, and knows whether the link is up.
 //!
-//! Contracts see an `Owed` as a finite map from a page to its page at the source, in the words of `mig_model` for such a map.
-//! The parts of `owed`: `table` (a number, or none, for each page, in leaves that are made when first needed) and `links` (two
-//! such tables, one for each direction, that have the same pairs). `specs/Tables.antt` and `specs/Owed.antt` say what they show.
+//! Contracts see a destination as the machine's (`mig_model`, `specs/Destination.antt`): a frame that is taken as the machine takes it, or the
+//! reason for which the machine does not; and each other call as the machine's step of the same name in a world that has this
+//! destination, whose link is up (`specs/Steps.antt`), or as the same refusal, or want of memory, and nothing is changed.
 #![tactic(auto)]
 
-pub mod owed;
+mod arrival;
+pub mod destination;
+mod kept;
+mod requests;
 
-pub use crate::owed::Owed;
+pub use crate::destination::Destination;

@@ -1,7 +1,8 @@
 //! The commands of processors, and the replies to them.
 
-ghost use Rattle.std.specs.Prelude.{◌≡◌, ◌<◌};
+ghost use Rattle.std.specs.Prelude.{◌≡◌, ◌<◌, ◌^◌, nat_lt, true};
 ghost use Rattle.mig_base.specs.Commands as commands;
+ghost use Rattle.mig_base.specs.Flat.{is_aligned as is_access, is_width};
 ghost use Rattle.mig_base.specs.declared.TheConstants.{HIGH_PAGE};
 
 use crate::{Addr, PAGE_SIZE, PageNo, Prot};
@@ -132,4 +133,23 @@ pub struct Entry {
     pub cpu: u8,
     pub command: Command,
     pub reply: Reply,
+}
+
+/// Whether an access of that width may stand at the address: the width is 1, 2, 4 or 8 bytes, and the address a multiple of it.
+pub fn is_aligned(addr: Addr, width: u8) -> bool
+    ensures { result ≡ is_access addr width }
+{
+    matches!(width, 1 | 2 | 4 | 8) && addr % u64::from(width) == 0
+}
+
+/// Whether a number has room in `width` bytes, of which there are 1, 2, 4 or 8.
+pub fn fits(value: u64, width: u8) -> bool
+    ensures { is_width width ≡ true → result ≡ nat_lt value (256 ^ width) }
+{
+    match width {
+        1 => value <= 0xff,
+        2 => value <= 0xffff,
+        4 => value <= 0xffff_ffff,
+        _ => true,
+    }
 }

@@ -2,7 +2,7 @@
 
 use crate::ranges::{apart, inside};
 use crate::same::same;
-use fault_handler::Owed;
+use owed_pages::Owed;
 use mig_base::{NoMemory, PageNo, PageSet, Run};
 use std::alloc::Global;
 use std::process::Abort;

@@ -11,10 +11,10 @@ use Rattle.mig_base.specs.declared.command.Command.{Command}
 use Rattle.mig_base.specs.Ranges.{count_below}
 use Rattle.mig_base.proofs.RangeLemmas.{count_below-constant}
 use Rattle.mig_model.specs.Bounds.{ArePageBytes, AreRightAccesses, IsMapping, IsPageBytes}
-use Rattle.page_stream.specs.Lists.{bytes_of}
+use Rattle.mig_base.specs.Bytes.{boxed_bytes}
 use Rattle.page_stream.specs.Rules.{IsRight}
 
-pub page_bytes_each : (pages : List (Box (List ℕ) Global)) → ((k : ℕ) (d : Box (List ℕ) Global) → k < length pages → IsPageBytes (get_or pages k d).value) → ArePageBytes (bytes_of pages)
+pub page_bytes_each : (pages : List (Box (List ℕ) Global)) → ((k : ℕ) (d : Box (List ℕ) Global) → k < length pages → IsPageBytes (get_or pages k d).value) → ArePageBytes (boxed_bytes pages)
 page_bytes_each [] each = tt
 page_bytes_each (page ∷ pages) each = (each 0 page (omega arith), page_bytes_each pages (λ k d l. each (suc k) d (omega arith)))
 

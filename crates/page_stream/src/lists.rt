@@ -3,7 +3,7 @@
 ghost use Rattle.std.specs.Prelude.{◌≡◌, ◌<◌, length};
 ghost use Rattle.std.specs.List.{All};
 ghost use Rattle.mig_model.specs.Bounds.{ArePageBytes, IsPageBytes};
-ghost use Rattle.page_stream.specs.Lists.{bytes_of};
+ghost use Rattle.mig_base.specs.Bytes.{boxed_bytes};
 
 use mig_base::{Command, PAGE_BYTES};
 use std::marker::Model;
@@ -71,23 +71,23 @@ pub struct Pages {
 
 impl Model for Pages {
     ghost use Rattle.std.specs.Prelude.{List, ℕ};
-    ghost use Rattle.page_stream.specs.Lists.{bytes_of};
+    ghost use Rattle.mig_base.specs.Bytes.{boxed_bytes};
 
     ghost Value = { List (List ℕ) };
 
-    ghost view = { λ run. bytes_of run.pages.items };
+    ghost view = { λ run. boxed_bytes run.pages.items };
 }
 
 impl Pages {
     pub fn new(pages: Vec<Box<[u8; PAGE_BYTES]>>) -> Self
-        ensures { result ≡ bytes_of pages.items }
+        ensures { result ≡ boxed_bytes pages.items }
     {
         Pages { pages }
     }
 
     /// The pages, in order.
     pub fn as_slice(&self) -> &[Box<[u8; PAGE_BYTES]>]
-        ensures { bytes_of result.now ≡ self.now }
+        ensures { boxed_bytes result.now ≡ self.now }
     {
         self.pages.as_slice()
     }
@@ -110,7 +110,7 @@ impl Pages {
 
     /// Hands the pages over.
     pub fn into_vec(self) -> Vec<Box<[u8; PAGE_BYTES]>>
-        ensures { bytes_of result.items ≡ self }
+        ensures { boxed_bytes result.items ≡ self }
     {
         self.pages
     }

@@ -1,7 +1,6 @@
 //! Which frames are well formed.
 
-ghost use Rattle.std.specs.Prelude.{◌≡◌, ◌^◌, ◌↔◌, nat_lt, true, length, IsTrue};
-ghost use Rattle.mig_base.specs.Flat.{is_aligned as is_access, is_width};
+ghost use Rattle.std.specs.Prelude.{◌↔◌, length, IsTrue};
 ghost use Rattle.mig_model.specs.Bounds.{AreFewPages, ArePages, AreRightAccesses, IsCpuCount, IsFrame, IsMapping, IsPage};
 ghost use Rattle.page_stream.specs.Frames.{frame_of};
 ghost use Rattle.page_stream.specs.Rules.{IsRight, IsRunOf};
@@ -9,7 +8,8 @@ ghost use Rattle.page_stream.specs.Rules.{IsRight, IsRunOf};
 use crate::frame::Frame;
 use crate::lists::Pages;
 use area_map::AreaMap;
-use mig_base::{Addr, Command, HIGH_PAGE, LOW_PAGE, MAX_CPUS, MAX_PAGES, MAX_RUN, PageNo, PageSet};
+use mig_base::command::{fits, is_aligned};
+use mig_base::{Command, HIGH_PAGE, LOW_PAGE, MAX_CPUS, MAX_PAGES, MAX_RUN, PageNo, PageSet};
 
 impl Frame {
     /// Whether it may be sent. Its pages lie from `LOW_PAGE` up to `HIGH_PAGE`, and no map, and no set but that of a Discard, has
@@ -116,24 +116,5 @@ fn is_right(command: Option<Command>) -> bool
         Some(Command::Store { addr, width, value }) => is_aligned(addr, width)
             && fits(value, width),
         Some(_) => false,
-    }
-}
-
-/// Whether an access of that width may stand at the address.
-fn is_aligned(addr: Addr, width: u8) -> bool
-    ensures { result ≡ is_access addr width }
-{
-    matches!(width, 1 | 2 | 4 | 8) && addr % u64::from(width) == 0
-}
-
-/// Whether a number has room in `width` bytes, of which there are 1, 2, 4 or 8.
-fn fits(value: u64, width: u8) -> bool
-    ensures { is_width width ≡ true → result ≡ nat_lt value (256 ^ width) }
-{
-    match width {
-        1 => value <= 0xff,
-        2 => value <= 0xffff,
-        4 => value <= 0xffff_ffff,
-        _ => true,
     }
 }

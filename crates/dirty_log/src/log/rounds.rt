@@ -4,7 +4,7 @@ ghost use Rattle.std.specs.Prelude.{◌≡◌, ◌+◌, ◌<◌, ◌≤◌, ◌�
 ghost use Rattle.std.specs.Option.{IfSome};
 ghost use Rattle.std.specs.FinMap.{get};
 ghost use Rattle.std.specs.FinSet.{contains};
-ghost use Rattle.mig_base.specs.Bytes.{contents, zero_page};
+ghost use Rattle.mig_base.specs.Bytes.{boxed_bytes, contents, zero_page};
 ghost use Rattle.mig_base.specs.Sets.{run_length};
 ghost use Rattle.mig_base.specs.declared.TheConstants.{HIGH_PAGE};
 ghost use Rattle.mig_model.specs.Ioctls.{protected_in};
@@ -12,7 +12,7 @@ ghost use Rattle.mig_model.specs.Log as machine;
 ghost use Rattle.mig_model.specs.Source.{Source, all_registered, run_of, space_of};
 ghost use Rattle.mig_model.specs.Wire.{page_frame};
 ghost use Rattle.dirty_log.specs.Answers.{IsRefusedFor, send_refusal};
-ghost use Rattle.dirty_log.specs.Sending.{frame_of, bytes_of, bytes_of_run};
+ghost use Rattle.dirty_log.specs.Sending.{frame_of, bytes_of};
 ghost use Rattle.dirty_log.specs.Spaces.{IsLent};
 
 use super::DirtyLog;
@@ -126,7 +126,7 @@ impl DirtyLog {
         ensures refused { IfErr result (λ refusal. IsRefusedFor (send_refusal space.old first count) refusal) }
         ensures log { OnOk result (self.new ≡ machine.log_run_sent self.old first count) }
         ensures space { OnOk result (space.new ≡ protected_in space.old first count true) }
-        ensures bytes { IfOk result (λ pages. (node : Source) → space_of node ≡ space.old → bytes_of_run pages.items ≡ run_of node first count) }
+        ensures bytes { IfOk result (λ pages. (node : Source) → space_of node ≡ space.old → boxed_bytes pages.items ≡ run_of node first count) }
         ensures err { OnErr result ((self.new ≡ self.old) × (space.new ≡ space.old)) }
         ensures lent { IsLent space.new }
     {

@@ -6,7 +6,7 @@ ghost use Rattle.mig_base.specs.declared.effect.Effect.{Effect};
 ghost use Rattle.mig_base.specs.declared.schedule.Step.{Step};
 ghost use Rattle.mig_model.specs.Migration.{run_bound};
 ghost use Rattle.mig_model.specs.Wire as wire;
-ghost use Rattle.dirty_log.specs.Sending.{bytes_of_run};
+ghost use Rattle.mig_base.specs.Bytes.{boxed_bytes};
 ghost use Rattle.page_stream.specs.Frames.{frame_of};
 ghost use Rattle.precopy.specs.Steps.{IsMade, IsRefused};
 
@@ -44,7 +44,7 @@ fn most_of(count: u8) -> u32
 /// What is told of a run that was sent, and its frame.
 fn told_run(first: PageNo, count: u32, sent: Vec<Box<[u8; PAGE_BYTES]>>) -> (Effect, Frame)
     ensures effect { result.0 ≡ Effect.SentRun (PAGE_SIZE * first) count }
-    ensures frame { frame_of result.1 ≡ wire.Frame.Run first (bytes_of_run sent.items) }
+    ensures frame { frame_of result.1 ≡ wire.Frame.Run first (boxed_bytes sent.items) }
 {
     let addr = page_address(first);
     (

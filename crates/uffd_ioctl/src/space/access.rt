@@ -11,7 +11,8 @@ ghost use Rattle.mig_model.specs.Space as machine;
 ghost use Rattle.uffd_ioctl.specs.Spaces.{memory_after};
 
 use super::Space;
-use crate::access::{fits, is_aligned, is_made, number};
+use crate::access::{is_made, number};
+use mig_base::command::{fits, is_aligned};
 use mig_base::{
     Access, Addr, Command, HIGH, NoMemory, PAGE_SIZE, PageNo, Prot, Reply, page_address,
 };

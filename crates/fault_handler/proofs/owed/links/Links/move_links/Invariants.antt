@@ -1,9 +1,0 @@
-use Rattle.std.proofs.Common.{◌≡◌, ◌≤◌, ◌-◌, ℕ}
-use Rattle.fault_handler.specs.Tables.{number_at, has_place, moved_number}
-use Rattle.fault_handler.proofs.owed.links.Links.move_links.Given as goal
-
-abbrev pub invariant-loop-moved : goal.invariant-loop-moved
-invariant-loop-moved l = record { moved : (q : ℕ) → number_at l.self.forth.items q ≡ moved_number (number_at l.fn.self.forth.items) l.from l.to l.moved q; stay : (q : ℕ) → has_place l.self.forth.items q ≡ has_place l.fn.self.forth.items q; few : l.moved ≤ l.count }
-
-abbrev pub decreases-loop-moved : goal.decreases-loop-moved
-decreases-loop-moved l = l.count - l.moved

@@ -1,0 +1,169 @@
+//! The type that callers see: the destination of a migration.
+
+ghost use Rattle.std.specs.Prelude.{◌≡◌, ◌↔◌, false, length, IfOk, Err};
+ghost use Rattle.mig_model.specs.Destination as machine;
+ghost use Rattle.vcpu.specs.Answers.{is_count};
+
+mod commands;
+mod frames;
+mod handler;
+mod installs;
+mod recovery;
+
+use crate::arrival::Arrival;
+use crate::kept::Kept;
+use crate::requests::Requests;
+use guest::Fault;
+use mig_base::PageNo;
+use mig_base::phase::DestPhase;
+use owed_pages::Owed;
+use std::alloc::Global;
+use std::collections::VecDeque;
+use std::marker::Model;
+use uffd_ioctl::Space;
+use vcpu::{Cpus, NewFault};
+
+/// The destination of a migration.
+///
+/// A call that is refused changes nothing. Where several refusals apply the first is given, in the order of
+/// [`mig_base::refusal::Refusal`] or of [`mig_base::fault::TakeFault`]; `NoMemory` comes after all others, and the same call may
+/// succeed later.
+#[derive(Drop)]
+pub struct Destination {
+    alloc: Global,
+    phase: DestPhase,
+    has_run: bool,
+    ended: bool,
+    epoch: u32,
+    kept: Kept,
+    space: Space,
+    cpus: Cpus,
+    held: VecDeque<Fault>,
+    owed: Owed,
+    requests: Requests,
+    arrivals: VecDeque<Arrival>,
+    urgent_taken: u64,
+    installed: u64,
+    dropped: u64,
+    faults: u64,
+}
+
+impl Model for Destination {
+    ghost use Rattle.mig_model.specs.Destination as machine;
+    ghost use Rattle.fault_handler.specs.Codes.{coded_destination};
+    ghost use Rattle.fault_handler.specs.Order.{IsInOrder};
+
+    ghost Value = { machine.Destination };
+
+    ghost coded = { coded_destination };
+
+    ghost view = { λ d. record { phase = d.phase; has_run = d.has_run; ended = d.ended; epoch = d.epoch; kept = d.kept; guest = record { space = d.space; cpus = d.cpus }; held = d.held.items; owed = d.owed; requests = d.requests; arrivals = d.arrivals.items; urgent_taken = d.urgent_taken; installed = d.installed; dropped = d.dropped; faults = d.faults } };
+
+    ghost invariant = { λ d. IsInOrder d.has_run d.space d.owed };
+}
+
+impl Destination {
+    /// A destination of `cpus` idle processors, which knows of no migration, and on which nothing is mapped. `NoCpu` unless there are 1 to
+    /// 16 processors.
+    pub fn new(alloc: Global, cpus: u8) -> Result<Self, NewFault>
+        ensures ok { IfOk result (λ destination. destination ≡ machine.first_destination cpus) }
+        ensures no_cpu { (result ≡ Err NewFault.NoCpu) ↔ (is_count cpus ≡ false) }
+    {
+        let cpus = Cpus::new(alloc, cpus)?;
+        Ok(Destination {
+            alloc,
+            phase: DestPhase::Idle,
+            has_run: false,
+            ended: false,
+            epoch: 0,
+            kept: Kept::new(alloc),
+            space: Space::new(alloc),
+            cpus,
+            held: VecDeque::new(alloc),
+            owed: Owed::empty(alloc),
+            requests: Requests::new(alloc),
+            arrivals: VecDeque::new(alloc),
+            urgent_taken: 0,
+            installed: 0,
+            dropped: 0,
+            faults: 0,
+        })
+    }
+
+    /// How far it is.
+    pub fn phase(&self) -> DestPhase
+        ensures { result ≡ self.now.phase }
+    {
+        self.phase
+    }
+
+    /// Whether it runs the processors, or did before it noticed a break or ended.
+    pub fn has_run(&self) -> bool
+        ensures { result ≡ self.now.has_run }
+    {
+        self.has_run
+    }
+
+    /// The epoch of the last Advise or Resume that it took, 0 at first.
+    pub fn epoch(&self) -> u32
+        ensures { result ≡ self.now.epoch }
+    {
+        self.epoch
+    }
+
+    /// The pages that it still has to get, each with its page at the source.
+    pub fn owed(&self) -> &Owed
+        ensures { result.now ≡ self.now.owed }
+    {
+        &self.owed
+    }
+
+    /// The pages of the source that it has asked for, each once, in the order in which they were first asked for.
+    pub fn requests(&self) -> &[PageNo]
+        ensures { result.now ≡ self.now.requests }
+    {
+        self.requests.as_slice()
+    }
+
+    /// The address space of its guest.
+    pub fn space(&self) -> &Space
+        ensures { result.now ≡ self.now.guest.space }
+    {
+        &self.space
+    }
+
+    /// The processors of its guest.
+    pub fn cpus(&self) -> &Cpus
+        ensures { result.now ≡ self.now.guest.cpus }
+    {
+        &self.cpus
+    }
+
+    /// How many copies wait to be installed.
+    pub fn arrivals(&self) -> usize
+        ensures { result ≡ length self.now.arrivals }
+    {
+        self.arrivals.len()
+    }
+
+    /// How many copies were installed. The count stops at its greatest value.
+    pub fn installed(&self) -> u64
+        ensures { result ≡ self.now.installed }
+    {
+        self.installed
+    }
+
+    /// How many copies were given up, since no page was owed them. The count stops at its greatest value.
+    pub fn dropped(&self) -> u64
+        ensures { result ≡ self.now.dropped }
+    {
+        self.dropped
+    }
+
+    /// How many messages of page faults were read. The count stops at its greatest value.
+    pub fn faults(&self) -> u64
+        ensures { result ≡ self.now.faults }
+    {
+        self.faults
+    }
+}

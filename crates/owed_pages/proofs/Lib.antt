@@ -1,0 +1,4 @@
+pub mod TableLemmas
+pub mod LinkLemmas
+pub mod GatherLemmas
+pub mod OwedLemmas

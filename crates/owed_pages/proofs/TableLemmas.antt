@@ -1,0 +1,80 @@
+-- Tables of numbers: one number changed, and leaves that are made.
+use Rattle.std.proofs.Common.{◌≡◌, ℕ, zero, suc, ◌/◌, ◌%◌, ◌<◌, ◌≤◌, true, false, cond, eqb, refl, ap, ◌∙◌, List, ◌∷◌, [], ◌++◌, length, get_or, set, get_or-set_same, get_or-set_other, Option, Some, None, is_some, replicate}
+use mathlib.Core.Logic.{dite}
+use native.Mathlib.Decide.{ℕ_discrete}
+use Rattle.std.proofs.lemmas.Bool.{eq-eqb, ne_eqb}
+use Rattle.owed_pages.specs.Tables.{Place, number_in, number_at, is_place, has_place}
+use Rattle.mig_base.proofs.PlaceLemmas.{said_at, said_here, said_past, said_same, said-push, said-put}
+
+abbrev pub Places : Type 0
+Places = List Place
+
+-- a page, by its table
+pub at_place : (places : Places) (q at : ℕ) → q / 1024 ≡ at → number_in (get_or places at None) (q % 1024) ≡ number_at places q
+unfolding number_at
+at_place places q at e = said_at number_in places q at e
+
+pub at_own_place : (places : Places) (place : Place) (q : ℕ) → q / 1024 < length places → place ≡ get_or places (q / 1024) place → number_in place (q % 1024) ≡ number_at places q
+unfolding number_at
+at_own_place places place q inside h = said_here number_in places place q inside h
+
+pub past_places : (places : Places) (q : ℕ) → length places ≤ q / 1024 → number_at places q ≡ None
+unfolding number_at
+past_places places q h = said_past number_in places q h
+
+-- a table with the same cells
+pub numbers_stay : (places : Places) (at : ℕ) (place : Place) → at < length places → ((i : ℕ) → number_in place i ≡ number_in (get_or places at None) i) → (q : ℕ) → number_at (set places at place) q ≡ number_at places q
+unfolding number_at
+numbers_stay places at place inside h q = said_same number_in places at place inside h q
+
+pub number_at-push : (places : Places) (q : ℕ) → number_at (places ++ None ∷ []) q ≡ number_at places q
+unfolding number_at
+number_at-push places q = said-push number_in places q
+
+-- one page changed
+pub one_number : (places : Places) (page : ℕ) (place : Place) (number : Option ℕ) → page / 1024 < length places → ((i : ℕ) → number_in place i ≡ cond (eqb i (page % 1024)) number (number_in (get_or places (page / 1024) None) i)) → (q : ℕ) → number_at (set places (page / 1024) place) q ≡ cond (eqb q page) number (number_at places q)
+unfolding number_at
+one_number places page place number inside h q = said-put number_in places page place number inside h q
+
+pub gone_already : (places : Places) (page q : ℕ) → number_at places page ≡ None → number_at places q ≡ cond (eqb q page) None (number_at places q)
+gone_already places page q h =
+    dite (ℕ_discrete q page)
+    (λ e. rw (eq-eqb q page e) (ap (number_at places) e ∙ h))
+    (λ n. rw (ne_eqb q page n) refl)
+
+-- leaves that are made
+
+-- a page with a number has a leaf
+pub place_of_number : (places : Places) (page number : ℕ) → number_at places page ≡ Some number → has_place places page ≡ true
+unfolding number_at has_place
+place_of_number places page number h = in_place (get_or places (page / 1024) None) h
+  where
+    in_place : (place : Place) → number_in place (page % 1024) ≡ Some number → is_place place ≡ true
+    in_place None h = cc
+    in_place (Some leaf) h = refl
+
+-- a page with no leaf has no number
+pub none_without_place : (places : Places) (page : ℕ) → has_place places page ≡ false → number_at places page ≡ None
+unfolding number_at has_place
+none_without_place places page h = in_place (get_or places (page / 1024) None) h
+  where
+    in_place : (place : Place) → is_place place ≡ false → number_in place (page % 1024) ≡ None
+    in_place None h = refl
+    in_place (Some leaf) h = cc
+
+pub is_some_place : (place : Place) → is_some place ≡ is_place place
+is_some_place None = refl
+is_some_place (Some leaf) = refl
+
+-- one number of a leaf changed
+pub one_set : (leaf : List (Option ℕ)) (i j : ℕ) (number : Option ℕ) → i < length leaf → get_or (set leaf i number) j None ≡ cond (eqb j i) number (get_or leaf j None)
+one_set leaf i j number inside =
+    dite (ℕ_discrete j i)
+    (λ e. rw (eq-eqb j i e) (ap (λ k. get_or (set leaf i number) k None) e ∙ get_or-set_same leaf i number None inside))
+    (λ n. rw (ne_eqb j i n) (get_or-set_other leaf i j number None n))
+
+-- a leaf with no number
+pub all_none : (count i : ℕ) → get_or {A = Option ℕ} (replicate count None) i None ≡ None
+all_none zero i = refl
+all_none (suc count) zero = refl
+all_none (suc count) (suc i) = all_none count i

@@ -1,0 +1,177 @@
+//! Pairs of a page and its origin, in two tables: the origin of each page, and the page of each origin.
+//!
+//! `specs/Owed.antt` says when both tables have the same pairs (`AreLinks`). So the contracts here speak of the pages'
+//! origins alone.
+
+ghost use Rattle.std.specs.Prelude.{◌≡◌, ◌≢◌, ℕ, ◌+◌, ◌<◌, ◌≤◌, ◌⊎◌, true, nat_eq, if◌then◌else◌, Some, None, OnOk, OnErr};
+ghost use Rattle.mig_base.specs.Ranges.{in_range};
+ghost use Rattle.mig_base.specs.declared.TheConstants.{HIGH_PAGE};
+ghost use Rattle.owed_pages.specs.Tables.{number_at, has_place, moved_number};
+ghost use Rattle.owed_pages.specs.Owed.{AreLinks, HasRoom};
+
+use crate::owed::table::{
+    Place, get_number, has_leaf, make_leaf, make_leaves, next_leaf, put_number,
+};
+use mig_base::{NoMemory, PageNo};
+use std::alloc::Global;
+
+/// The pairs, in both directions.
+#[derive(Drop)]
+pub struct Links {
+    /// The origin of each page.
+    pub forth: Vec<Place>,
+    /// The page of each origin.
+    pub back: Vec<Place>,
+    /// How many pairs there are.
+    pub count: u32,
+    pub ghost kept: { AreLinks forth.items back.items count },
+}
+
+impl Links {
+    /// No pair.
+    pub fn new(alloc: Global) -> Self
+        ensures { (q : ℕ) → number_at result.forth.items q ≡ None }
+    {
+        Links {
+            forth: Vec::new(alloc),
+            back: Vec::new(alloc),
+            count: 0,
+        }
+    }
+
+    /// Takes the pair of a page out, if there is one.
+    pub fn unlink(&mut self, page: PageNo)
+        ensures pairs { (q : ℕ) → number_at self.new.forth.items q ≡ (if nat_eq q page then None else number_at self.old.forth.items q) }
+        ensures free { (s : ℕ) → number_at self.old.forth.items page ≡ Some s → number_at self.new.back.items s ≡ None }
+        ensures stay { (q : ℕ) → has_place self.new.forth.items q ≡ has_place self.old.forth.items q }
+        ensures stay_back { (s : ℕ) → has_place self.new.back.items s ≡ has_place self.old.back.items s }
+    {
+        if let Some(origin) = get_number(&self.forth, page) {
+            put_number(&mut self.forth, page, None);
+            put_number(&mut self.back, origin, None);
+            self.count -= 1;
+        }
+    }
+
+    /// Puts a pair in.
+    pub fn link(&mut self, page: PageNo, origin: PageNo)
+        requires room { (has_place self.old.forth.items page ≡ true) × (has_place self.old.back.items origin ≡ true) }
+        requires free { (number_at self.old.forth.items page ≡ None) × (number_at self.old.back.items origin ≡ None) }
+        ensures pairs { (q : ℕ) → number_at self.new.forth.items q ≡ (if nat_eq q page then Some origin else number_at self.old.forth.items q) }
+        ensures stay { (q : ℕ) → has_place self.new.forth.items q ≡ has_place self.old.forth.items q }
+    {
+        put_number(&mut self.forth, page, Some(origin));
+        put_number(&mut self.back, origin, Some(page));
+        self.count += 1;
+    }
+
+    /// Puts the pair of a page with itself in.
+    pub fn link_itself(&mut self, alloc: Global, page: PageNo) -> Result<(), NoMemory>
+        requires page { page < HIGH_PAGE }
+        requires free { (number_at self.old.forth.items page ≡ None) × (number_at self.old.back.items page ≡ None) }
+        ensures pairs { OnOk result ((q : ℕ) → number_at self.new.forth.items q ≡ (if nat_eq q page then Some page else number_at self.old.forth.items q)) }
+    {
+        make_leaf(alloc, &mut self.forth, page)?;
+        make_leaf(alloc, &mut self.back, page)?;
+        self.link(page, page);
+        Ok(())
+    }
+
+    /// Makes the room for the pairs of a range of pages at another range. The pairs stay. Where a leaf is missing, there is no
+    /// pair to make room for.
+    pub fn make_room(
+        &mut self,
+        alloc: Global,
+        from: PageNo,
+        to: PageNo,
+        count: u32,
+    ) -> Result<(), NoMemory>
+        requires inside { (from + count ≤ HIGH_PAGE) × (to + count ≤ HIGH_PAGE) }
+        ensures same { (q : ℕ) → number_at self.new.forth.items q ≡ number_at self.old.forth.items q }
+        ensures room { OnOk result (HasRoom (number_at self.new.forth.items) (has_place self.new.forth.items) from to count) }
+    {
+        let mut made = 0;
+        while made < count {
+            let next = next_leaf(from + made, from + count) - from;
+            if has_leaf(&self.forth, from + made) {
+                make_leaves(alloc, &mut self.forth, to + made, next - made)?;
+            }
+            made = next;
+        }
+        Ok(())
+    }
+
+    /// Takes the pairs of a range of pages out, page by page.
+    fn unlink_run(&mut self, first: PageNo, count: u32)
+        requires { first + count ≤ HIGH_PAGE }
+        ensures pairs { (q : ℕ) → number_at self.new.forth.items q ≡ (if in_range first count q then None else number_at self.old.forth.items q) }
+        ensures stay { (q : ℕ) → has_place self.new.forth.items q ≡ has_place self.old.forth.items q }
+    {
+        for i in 0..count {
+            self.unlink(first + i);
+        }
+    }
+
+    /// Takes the pairs of a range of pages out, leaf by leaf. Missing leaves are skipped.
+    pub fn unlink_range(&mut self, first: PageNo, count: u32)
+        requires { first + count ≤ HIGH_PAGE }
+        ensures pairs { (q : ℕ) → number_at self.new.forth.items q ≡ (if in_range first count q then None else number_at self.old.forth.items q) }
+        ensures stay { (q : ℕ) → has_place self.new.forth.items q ≡ has_place self.old.forth.items q }
+    {
+        let end = first + count;
+        let mut page = first;
+        while page < end {
+            let next = next_leaf(page, end);
+            if has_leaf(&self.forth, page) {
+                self.unlink_run(page, next - page);
+            }
+            page = next;
+        }
+    }
+
+    /// Moves the pair of a page, if there is one, to another page that has none.
+    fn move_link(&mut self, from: PageNo, to: PageNo)
+        requires room { (s : ℕ) → number_at self.old.forth.items from ≡ Some s → has_place self.old.forth.items to ≡ true }
+        requires free { number_at self.old.forth.items to ≡ None }
+        requires apart { from ≢ to }
+        ensures moved { (q : ℕ) → number_at self.new.forth.items q ≡ moved_number (number_at self.old.forth.items) from to 1 q }
+        ensures stay { (q : ℕ) → has_place self.new.forth.items q ≡ has_place self.old.forth.items q }
+    {
+        if let Some(origin) = get_number(&self.forth, from) {
+            self.unlink(from);
+            self.link(to, origin);
+        }
+    }
+
+    /// Moves the pairs of a range of pages to another that has none, page by page.
+    fn move_run(&mut self, from: PageNo, to: PageNo, count: u32)
+        requires inside { (from + count ≤ HIGH_PAGE) × (to + count ≤ HIGH_PAGE) }
+        requires apart { (from + count ≤ to) ⊎ (to + count ≤ from) }
+        requires room { HasRoom (number_at self.old.forth.items) (has_place self.old.forth.items) from to count }
+        requires free { (q : ℕ) → to ≤ q → q < to + count → number_at self.old.forth.items q ≡ None }
+        ensures moved { (q : ℕ) → number_at self.new.forth.items q ≡ moved_number (number_at self.old.forth.items) from to count q }
+        ensures stay { (q : ℕ) → has_place self.new.forth.items q ≡ has_place self.old.forth.items q }
+    {
+        for i in 0..count {
+            self.move_link(from + i, to + i);
+        }
+    }
+
+    /// Moves the pairs of a range of pages to another that has none, leaf by leaf. Missing leaves are skipped.
+    pub fn move_links(&mut self, from: PageNo, to: PageNo, count: u32)
+        requires inside { (from + count ≤ HIGH_PAGE) × (to + count ≤ HIGH_PAGE) }
+        requires apart { (from + count ≤ to) ⊎ (to + count ≤ from) }
+        requires room { HasRoom (number_at self.old.forth.items) (has_place self.old.forth.items) from to count }
+        requires free { (q : ℕ) → to ≤ q → q < to + count → number_at self.old.forth.items q ≡ None }
+        ensures moved { (q : ℕ) → number_at self.new.forth.items q ≡ moved_number (number_at self.old.forth.items) from to count q }
+    {
+        let mut moved = 0;
+        while moved < count {
+            let next = next_leaf(from + moved, from + count) - from;
+            if has_leaf(&self.forth, from + moved) {
+                self.move_run(from + moved, to + moved, next - moved);
+            }
+            moved = next;
+        }
+    }
+}
