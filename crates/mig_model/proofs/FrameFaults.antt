@@ -32,7 +32,7 @@ use Rattle.mig_model.proofs.Facts.{low_or}
 
 -- Sets and maps without members
 
-none_empty : (set : FinSet nat_cmp) → ((q : ℕ) → contains set q ≡ false) → not (eqb (finset.len set) 0) ≡ false
+pub none_empty : (set : FinSet nat_cmp) → ((q : ℕ) → contains set q ≡ false) → not (eqb (finset.len set) 0) ≡ false
 none_empty set h = ap (λ s. not (eqb (finset.len s) 0)) (same_members set finset.empty (λ q. h q ∙ sym (contains-empty nat_cmp q))) ∙ ap (λ n. not (eqb n 0)) (len-empty nat_cmp)
 
 and_none : (a b : Bool) → (a ≡ true → b ≡ false) → (a && b) ≡ false
