@@ -6,11 +6,27 @@ use Rattle.mig_base.specs.declared.refusal.Refusal.{Refusal}
 use Rattle.mig_base.specs.declared.schedule.Step.{Step}
 use Rattle.mig_model.specs.Destination.{Destination}
 use Rattle.mig_model.specs.Migration.{Answer, World, answer, destination_sends, first_world, made, outcome}
-use Rattle.mig_model.specs.Wire.{Frame}
+use Rattle.mig_model.specs.Wire.{Frame, Wire}
 
 -- a world that has this destination, whose link is up, and in which nothing is in flight
 abbrev pub world_of : Destination → World
 world_of node = record (first_world 0) { destination = node }
+
+-- what is sent in a world comes behind what is there, unless the link is down
+abbrev pub sent_behind : Bool → Wire → Wire → Wire
+sent_behind true wire sent = record wire { frames = wire.frames ++ sent.frames }
+sent_behind false wire sent = wire
+
+-- what a step that was answered so beside no other part of a world answers in a world
+abbrev pub in_world : World → Answer → Answer
+in_world world (Ok result) =
+    made result.effect
+    (record world {
+      destination = result.world.destination;
+      back = sent_behind world.up world.back result.world.back;
+      transcript = world.transcript ++ result.world.transcript;
+    })
+in_world world (Err refusal) = Err refusal
 
 -- the step was made: its effect, the frames that the destination sends in its epoch, and the destination after it
 abbrev pub IsMade : Destination → Step → Effect → List Frame → Destination → Type 0

@@ -13,6 +13,7 @@
 mod arrival;
 pub mod destination;
 mod kept;
+pub mod laws;
 mod requests;
 
 pub use crate::destination::Destination;
