@@ -12,7 +12,7 @@ ghost use Rattle.mig_model.specs.Migration.{is_used};
 ghost use Rattle.page_stream.specs.Frames.{frame_of};
 ghost use Rattle.precopy.specs.Answers.{end_answer, push_answer, stop_answer, switch_answer};
 ghost use Rattle.precopy.specs.Handing.{IsHandedOver};
-ghost use Rattle.precopy.specs.Steps.{IsMade, IsMadeUrgently, IsRefused};
+ghost use Rattle.precopy.specs.Steps.{IsMade, IsMadeUrgently, IsRefused, IsRefusedAs};
 
 use super::Source;
 use super::rounds::{next_count, told_page};
@@ -136,7 +136,7 @@ impl Source {
     /// stopped, and as `NothingThere` where no request waits. It takes no memory.
     pub fn serve(&mut self) -> Result<Effect, Refusal>
         ensures made { IfOk result (λ effect. IsMade self.old Step.Serve effect [] self.new) }
-        ensures refused { IfErr result (λ refusal. IsRefused self.old Step.Serve refusal) }
+        ensures refused { IfErr result (λ refusal. IsRefusedAs self.old Step.Serve refusal) }
         ensures err { OnErr result (self.new ≡ self.old) }
     {
         self.ensure_stopped()?;
@@ -152,7 +152,7 @@ impl Source {
     /// this epoch, and as `PagesLeft` while pages remain. It takes no memory.
     pub fn end(&mut self) -> Result<(Effect, Frame), Refusal>
         ensures made { IfOk result (λ told. IsMade self.old Step.End told.0 (frame_of told.1 ∷ []) self.new) }
-        ensures refused { IfErr result (λ refusal. IsRefused self.old Step.End refusal) }
+        ensures refused { IfErr result (λ refusal. IsRefusedAs self.old Step.End refusal) }
         ensures err { OnErr result (self.new ≡ self.old) }
     {
         self.ensure_done()?;
