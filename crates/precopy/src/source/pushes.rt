@@ -16,23 +16,20 @@ ghost use Rattle.precopy.specs.Steps.{IsMade, IsMadeUrgently, IsRefused, IsRefus
 
 use super::Source;
 use super::rounds::{next_count, told_page};
-use area_map::AreaMap;
 use dirty_log::Sent;
 use mig_base::effect::Effect;
 use mig_base::phase::SourcePhase;
 use mig_base::refusal::Refusal;
 use mig_base::schedule::Ticket;
 use mig_base::{HIGH_PAGE, NoMemory, PageNo, PageSet, page_address};
-use page_stream::{Frame, Waiting};
+use page_stream::Frame;
 
 /// What a source hands over as it stops.
 #[derive(Drop)]
 struct HandedOver {
     discarded: PageSet,
-    remaining: PageSet,
     owed: PageSet,
-    areas: AreaMap,
-    commands: Waiting,
+    package: Frame,
 }
 
 impl Source {
@@ -51,19 +48,18 @@ impl Source {
         let (discard, owed) = (handed.discarded.len(), handed.owed.len());
         self.space.drop_faults();
         self.log.drop_held();
-        self.remaining = handed.remaining;
+        self.remaining = handed.owed;
         self.packaged = owed;
         self.switched = true;
         self.phase = SourcePhase::Stopped;
-        let package = Frame::Package {
-            areas: handed.areas,
-            owed: handed.owed,
-            commands: handed.commands,
-        };
         let discarded = Frame::Discard {
             pages: handed.discarded,
         };
-        Ok((Effect::Switched { discard, owed }, discarded, package))
+        Ok((
+            Effect::Switched { discard, owed },
+            discarded,
+            handed.package,
+        ))
     }
 
     /// What it hands over as it stops.
@@ -73,10 +69,8 @@ impl Source {
         let owed = self.log.dirty(&self.space)?;
         Ok(HandedOver {
             discarded: self.log.discarded()?,
-            remaining: owed.copy()?,
+            package: self.package(&owed)?,
             owed,
-            areas: self.space.areas()?,
-            commands: Waiting::new(self.cpus.commands()?),
         })
     }
 
