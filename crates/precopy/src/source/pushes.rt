@@ -10,7 +10,7 @@ ghost use Rattle.mig_model.specs.Log.{least_of};
 ghost use Rattle.mig_base.specs.declared.refusal.Refusal.{Refusal};
 ghost use Rattle.mig_model.specs.Migration.{is_used};
 ghost use Rattle.page_stream.specs.Frames.{frame_of};
-ghost use Rattle.precopy.specs.Answers.{end_answer, push_answer, stop_answer, switch_answer};
+ghost use Rattle.precopy.specs.Answers.{end_answer, push_answer, stop_answer};
 ghost use Rattle.precopy.specs.Handing.{IsHandedOver};
 ghost use Rattle.precopy.specs.Steps.{IsMade, IsMadeUrgently, IsRefused, IsRefusedAs};
 
@@ -72,20 +72,6 @@ impl Source {
             package: self.package(&owed)?,
             owed,
         })
-    }
-
-    /// Whether it is in pre-copy, and no event is unread.
-    fn ensure_settled(&self) -> Result<(), Refusal>
-        ensures { result ≡ switch_answer self.now }
-    {
-        match self.phase {
-            SourcePhase::Precopy => {}
-            _ => return Err(Refusal::Phase),
-        }
-        if self.space.changing() > 0 {
-            return Err(Refusal::Changing);
-        }
-        Ok(())
     }
 
     /// Sends an owed page, which does not remain then. Refused as `Phase` unless the source is stopped, as `StaleEpoch` where the ticket
