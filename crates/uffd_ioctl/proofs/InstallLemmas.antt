@@ -23,6 +23,7 @@ use Rattle.mig_model.specs.Ioctls.{put_pages, handed, installed, is_one_area, sa
 use Rattle.mig_base.specs.Tests.{same_bool, is_every}
 use Rattle.mig_base.proofs.TestLemmas.{eqb-self}
 use Rattle.mig_model.proofs.IoctlLemmas.{CanPut, IsSoundSpace-installed, get-put_pages, every_page, none_holds, protect_told, can_put, length-handed}
+use Rattle.mig_model.proofs.Registering.{pages_again}
 use Rattle.page_table.specs.Views.{Pages}
 use Rattle.page_table.specs.declared.page_table.PutFault.{PutFault}
 use Rattle.page_table.specs.declared.page_table.PutFault.TheVariants as stop
@@ -35,7 +36,7 @@ use Rattle.uffd_ioctl.specs.declared.fault.Copied.{Copied}
 use Rattle.uffd_ioctl.specs.declared.fault.CopyFault.{CopyFault}
 use Rattle.uffd_ioctl.specs.Puts.{IsPut, IsShort, put_result, result_by, result_of, fault_of, stop_fault, own_fault, pages_put}
 use Rattle.uffd_ioctl.specs.Spaces.{space_of}
-use Rattle.uffd_ioctl.proofs.CallLemmas.{page_again, protected_below}
+use Rattle.uffd_ioctl.proofs.CallLemmas.{protected_below}
 
 -- One page
 
@@ -316,7 +317,7 @@ row_of error old new start count bits done bytes protect quiet (Some stop.Presen
 row_of error old new start count bits done bytes protect quiet (Some stop.NoMemory) result fine same put is after =
     let run = run_is old (start / 4096) count done (Some stop.NoMemory) put in
     let less = run.short refl in
-    let at : pages_put result ≡ done = ap pages_put is ∙ page_again done in
+    let at : pages_put result ≡ done = ap pages_put is ∙ pages_again done in
     inr (
       fine,
       record {
