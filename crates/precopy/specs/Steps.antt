@@ -38,6 +38,10 @@ IsMadeUrgently old step effect frame new =
 abbrev pub IsTried : Source → Step → Effect → List Entry → Source → Type 0
 IsTried old step effect entries new = answer (world_of old) step ≡ made effect (record (world_of old) { source = new; transcript = entries })
 
+-- it was refused for the machine's reason
+abbrev pub IsRefusedAs : Source → Step → Refusal → Type 0
+IsRefusedAs old step refusal = outcome (world_of old) step ≡ Err refusal
+
 -- it was refused: for the machine's reason, or for want of memory where the machine makes the step
 abbrev pub IsRefused : Source → Step → Refusal → Type 0
-IsRefused old step refusal = (outcome (world_of old) step ≡ Err refusal) ⊎ ((refusal ≡ Refusal.NoMemory) × IsOk (outcome (world_of old) step))
+IsRefused old step refusal = IsRefusedAs old step refusal ⊎ ((refusal ≡ Refusal.NoMemory) × IsOk (outcome (world_of old) step))
