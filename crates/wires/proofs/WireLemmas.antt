@@ -28,12 +28,6 @@ pub held_with : (items : List Sent) (sent : Sent) (held : ℕ) → IsHeld items 
 held_with [] sent held none = rw none (some_bytes (frame_of sent.frame))
 held_with (first ∷ rest) sent held is = is
 
--- the bytes of a frame that are with the decoder
-pub moved_fits : (items : List Sent) (held n : ℕ) (sent : machine.Sent) (rest : List machine.Sent) → AreFrames items → map sent_of items ≡ sent ∷ rest →
-    is_short (record { frames = map sent_of items; held = held }) sent.frame n ≡ true → held + n < 2 ^ 64
-moved_fits [] held n sent rest are is short = grind (arith, nat_tests)
-moved_fits (first ∷ more) held n sent rest are is short = let fits = text_short (frame_of first.frame) are.0 in grind (arith, nat_tests)
-
 -- the first frame
 pub first_is : (items : List Sent) (sent : Sent) → true ≡ ltb 0 (length items) → sent ≡ get_or items 0 sent → (rest : List machine.Sent) × (map sent_of items ≡ sent_of sent ∷ rest)
 first_is [] sent some is = absurd (false≢true (sym some))

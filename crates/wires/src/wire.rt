@@ -88,23 +88,23 @@ impl Wire {
         };
     }
 
-    /// Whether `n` more bytes do not complete the first frame, which is in flight.
-    pub fn is_short(&self, n: u64) -> bool
-        ensures { (sent : machine.Sent) (rest : List machine.Sent) → self.now.wire.frames ≡ sent ∷ rest → result ≡ is_short self.now.wire sent.frame n }
-    {
-        match self.frames.front() {
-            Some(sent) => n < sent.frame.text_len() - self.held,
-            None => true,
-        }
-    }
-
-    /// `n` more bytes of the first frame, which they do not complete, are with the decoder.
-    pub fn advance(&mut self, n: u64)
-        requires { (sent : machine.Sent) × (rest : List machine.Sent) × (self.old.wire.frames ≡ sent ∷ rest) × (is_short self.old.wire sent.frame n ≡ true) }
-        ensures wire { self.new.wire ≡ machine.wire_moved self.old.wire n }
+    /// Hands `n` more bytes of the first frame to the decoder, unless they complete it: whether they were handed over. Where nothing is in
+    /// flight they are not.
+    pub fn advance(&mut self, n: u64) -> bool
+        ensures answer { (sent : machine.Sent) (rest : List machine.Sent) → self.old.wire.frames ≡ sent ∷ rest → result ≡ is_short self.old.wire sent.frame n }
+        ensures none { self.old.wire.frames ≡ [] → result ≡ false }
+        ensures moved { result ≡ true → self.new.wire ≡ machine.wire_moved self.old.wire n }
+        ensures stays { result ≡ false → self.new ≡ self.old }
         ensures room { self.new.room ≡ self.old.room }
     {
+        let Some(sent) = self.frames.front() else {
+            return false;
+        };
+        if n >= sent.frame.text_len() - self.held {
+            return false;
+        }
         self.held += n;
+        true
     }
 
     /// Takes the first frame off the wire, with how many of its bytes were with the decoder.

@@ -1,13 +1,6 @@
-use Rattle.std.proofs.Common.{ap, ◌∙◌, arith}
-use Rattle.mig_model.specs.Migration.{is_short}
-use Rattle.wires.proofs.WireLemmas.{moved_fits}
+use Rattle.wires.proofs.WireLemmas.{first_formed, text_fits}
 use Rattle.wires.proofs.wire.Wire.advance.Goals as goal
 
-pub overflow_add-self : goal.overflow_add-self
-overflow_add-self c =
-    let sent = c.requires.0 in
-    let rest = c.requires.1 in
-    let fits =
-    moved_fits c.self.inside.frames.items c.self.inside.held c.args.n sent rest c.self.invariant.0 (ap (λ lane. lane.wire.frames) c.self.view_is ∙ c.requires.2)
-    (ap (λ lane. is_short lane.wire sent.frame c.args.n) c.self.view_is ∙ c.requires.3) in
-    omega arith
+pub text_len-requires : goal.text_len-requires
+text_len-requires c =
+    text_fits c.in-Some.sent.now (first_formed c.self.inside.frames.items c.in-Some.sent.now c.in-Some.ensures.item.0 c.in-Some.ensures.item.1 c.self.invariant.0)
