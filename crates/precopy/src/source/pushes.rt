@@ -142,7 +142,7 @@ impl Source {
     }
 
     /// Whether the page of a ticket can be sent.
-    fn ensure_owed(&self, ticket: Ticket) -> Result<(), Refusal>
+    pub(super) fn ensure_owed(&self, ticket: Ticket) -> Result<(), Refusal>
         ensures answer { result ≡ push_answer self.now ticket }
         ensures present { OnOk result (is_present self.now.guest.space ticket.page ≡ true) }
     {
@@ -160,7 +160,7 @@ impl Source {
     }
 
     /// Whether End can be sent.
-    fn ensure_done(&self) -> Result<(), Refusal>
+    pub(super) fn ensure_done(&self) -> Result<(), Refusal>
         ensures { result ≡ end_answer self.now }
     {
         self.ensure_stopped()?;

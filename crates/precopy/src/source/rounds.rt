@@ -82,7 +82,7 @@ impl Source {
     }
 
     /// The epoch that a migration would begin with.
-    fn next_epoch(&self) -> Result<u32, Refusal>
+    pub(super) fn next_epoch(&self) -> Result<u32, Refusal>
         ensures { result ≡ start_answer self.now }
     {
         match self.phase {
