@@ -1,5 +1,6 @@
 pub mod Arrivals
 pub mod Codes
+pub mod Kept
 pub mod Order
 pub mod Steps
 pub mod Taking
