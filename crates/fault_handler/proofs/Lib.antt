@@ -1,2 +1,3 @@
 pub mod InsideLemmas
+pub mod ReadyLemmas
 pub mod RequestLemmas
