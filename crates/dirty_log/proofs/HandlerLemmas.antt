@@ -1,14 +1,12 @@
--- What the reading of a message and the resolution of a fault make of a log.
-use Rattle.std.proofs.Common.{◌≡◌, ℕ, Bool, ◌∙◌}
+-- What the reading of a message makes of a log.
+use Rattle.std.proofs.Common.{◌≡◌, refl}
+use Rattle.std.specs.Ordering.{nat_cmp}
+use Rattle.std.specs.FinSet.{FinSet}
 use Rattle.mig_base.specs.declared.message.Message.{Message}
-use Rattle.mig_base.specs.declared.message.Message.TheVariants.{PageFault}
 use Rattle.mig_model.specs.Guest.{held_after}
-use Rattle.mig_model.specs.Log.{Log, log_read}
-use Rattle.dirty_log.proofs.PageLemmas.{none_out}
+use Rattle.mig_model.specs.Log.{Log, log_read, unchanged}
 
-fault_kept : (log : Log) (addr : ℕ) (write wp : Bool) (tid : ℕ) → record log { held = held_after log.held (PageFault addr write wp tid) } ≡ log_read log (PageFault addr write wp tid)
-fault_kept log addr write wp tid = λ i. record { clean = none_out log.clean i; todo = none_out log.todo i; sent = log.sent; held = held_after log.held (PageFault addr write wp tid) }
-
--- a page fault takes no page out
-pub fault_read : (log now : Log) (message : Message) (addr : ℕ) (write wp : Bool) (tid : ℕ) → message ≡ PageFault addr write wp tid → now ≡ record log { held = held_after log.held message } → now ≡ log_read log message
-fault_read log now message addr write wp tid e h = h ∙ rw e (fault_kept log addr write wp tid)
+-- the message is held if it is a page fault, and then its pages are taken out
+pub read_log : (log now : Log) (clean todo : FinSet nat_cmp) (peeked read message : Message) → peeked ≡ message → read ≡ message → now ≡ record log { held = held_after log.held peeked } → clean ≡ unchanged now.clean read → todo ≡ unchanged now.todo read →
+    record { clean = clean; todo = todo; sent = now.sent; held = now.held } ≡ log_read log message
+read_log log now clean todo peeked read message same also is out past = rw (out, past, is, same, also) refl

@@ -7,8 +7,6 @@ use Rattle.mig_base.specs.declared.TheConstants.{HIGH_PAGE}
 use Rattle.mig_base.specs.declared.command.Access.{Access}
 use Rattle.mig_base.specs.declared.command.Access.TheVariants.{Answered, Missing, Protected}
 use Rattle.mig_base.specs.declared.command.Command.{Command}
-use Rattle.mig_base.specs.declared.message.Message.{Message}
-use Rattle.mig_base.specs.declared.message.Message.TheVariants.{PageFault, Remap, Remove, Unmap}
 use Rattle.mig_base.specs.Flat.{reply_of}
 use Rattle.mig_base.specs.Ranges.{in_range}
 use Rattle.mig_base.proofs.RangeLemmas.{ranges}
@@ -28,11 +26,12 @@ use Rattle.mig_model.proofs.SourceKept.{no_page_absurd}
 use Rattle.mig_model.proofs.SourceMessages.{events_queued, is_unread-append, noted_all, tells}
 use Rattle.mig_model.proofs.SourceRounds.{watched_below, present_mapped}
 use Rattle.mig_model.proofs.SourceSending.{protected_now}
+use Rattle.guest.proofs.LentLemmas.{read_space}
+use Rattle.guest.proofs.SpaceLemmas.{below_high}
 use Rattle.dirty_log.specs.Answers.{send_refusal}
 use Rattle.dirty_log.specs.Spaces.{AreProtected}
 use Rattle.dirty_log.proofs.PageLemmas.{member_kept}
 use Rattle.dirty_log.proofs.SendLemmas.{page_there}
-use Rattle.dirty_log.proofs.SpaceLemmas.{below_high}
 
 pub none_clean : (log : Log) (space : Space) → log.clean ≡ no_pages → AreProtected log space
 none_clean log space none page h u = no_page_absurd log.clean page none h
@@ -72,12 +71,6 @@ rest_unread (event ∷ rest) noted page first out u = rw (ap (λ n. is_changed_b
 pub was_unread : (faults : List Noted) (object : Object) (noted : Noted) (page : ℕ) → next_of faults object.events ≡ Some noted → is_changed_by noted.message page ≡ false → is_unread (read_by faults object).events page ≡ false → is_unread object.events page ≡ false
 was_unread [] object noted page next out u = rest_unread object.events noted page next out u
 was_unread (fault ∷ faults) object noted page next out u = u
-
-pub read_space : (guest : Guest) (cpu : ℕ) (message : Message) → (read_guest guest cpu message).space ≡ record guest.space { object = read_by guest.space.object.faults guest.space.object }
-read_space guest cpu (PageFault addr write wp tid) = refl
-read_space guest cpu (Remap from to len) = refl
-read_space guest cpu (Remove start end) = refl
-read_space guest cpu (Unmap start end) = refl
 
 pub read_kept : (log : Log) (guest : Guest) (noted : Noted) → next_message guest.space.object ≡ Some noted → AreProtected log guest.space → AreProtected (log_read log noted.message) (read_guest guest noted.cpu noted.message).space
 read_kept log guest noted next kept page h u =

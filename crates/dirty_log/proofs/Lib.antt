@@ -3,4 +3,3 @@ pub mod SpaceLemmas
 pub mod SendLemmas
 pub mod HandlerLemmas
 pub mod KeptLemmas
-pub mod LentLemmas

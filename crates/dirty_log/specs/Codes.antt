@@ -1,14 +1,11 @@
 -- How a proof tells logs apart, for models that contain them.
-use Rattle.std.specs.Prelude.{ℕ, Bool, List, refl}
+use Rattle.std.specs.Prelude.{List, refl}
 use Rattle.std.specs.Ordering.{nat_cmp}
 use Rattle.std.specs.FinSet as set
-use Rattle.std.specs.Coded.{Coded, code_by, coded×, coded_ℕ, coded_bool, coded_list}
+use Rattle.std.specs.Coded.{Coded, code_by, coded×, coded_ℕ, coded_list}
 use Rattle.mig_model.specs.Guest.{Fault}
 use Rattle.mig_model.specs.Log.{Log}
-
--- the code of a fault that is held
-abbrev pub coded_fault : Coded Fault
-coded_fault = code_by (ℕ × Bool) (coded× coded_ℕ coded_bool) (λ fault. (fault.page, fault.wp)) (λ p. record { page = p.0; wp = p.1 }) (λ _. refl)
+use Rattle.guest.specs.Codes.{coded_fault}
 
 -- the code of a log
 abbrev pub coded_log : Coded Log

@@ -1,21 +1,12 @@
 -- The space that is lent to a log.
-use Rattle.std.specs.Prelude.{◌≡◌, ℕ, ◌<◌, ◌&&◌, Bool, true, false}
-use Rattle.std.specs.FinMap.{contains_key}
+use Rattle.std.specs.Prelude.{◌≡◌, ℕ, ◌&&◌, Bool, true, false}
 use Rattle.std.specs.FinSet.{contains}
-use Rattle.mig_base.specs.declared.TheConstants.{LOW_PAGE}
 use Rattle.mig_model.specs.Space.{Space}
 use Rattle.mig_model.specs.Cpus.{Cpus}
 use Rattle.mig_model.specs.Guest.{is_present}
 use Rattle.mig_model.specs.Invariant.{is_unread}
-use Rattle.mig_model.specs.Ioctls.{has_events}
 use Rattle.mig_model.specs.Log.{Log}
 use Rattle.mig_model.specs.Source.{Source, first_source}
-
--- what a log asks of the space: its object is enabled, for the three events at least, and nothing is mapped below the lowest address
-pub record IsLent (space : Space) : Type 0 where
-  pub enabled : space.object.enabled ≡ true
-  pub events : has_events space.object ≡ true
-  pub low : (page : ℕ) → page < LOW_PAGE → contains_key space.host.areas page ≡ false
 
 -- whether a page can be sent: it is present, and registered for write-protect faults
 abbrev pub is_sendable : Space → ℕ → Bool

@@ -1,20 +1,19 @@
-//! What holds of a log and its space over all calls, as laws: each is a function that does nothing, whose contract is the law. The
-//! calls stand in them as what the machine makes, which their contracts say that they make.
+//! What holds of a log and its space over all calls, as a law: a function that does nothing, whose contract is the law. The
+//! calls stand in it as what the machine makes, which their contracts say that they make.
 
-ghost use Rattle.std.specs.Prelude.{◌≡◌, ℕ, ◌+◌, ◌≤◌, true, false, Some, None};
+ghost use Rattle.std.specs.Prelude.{◌≡◌, ℕ, true, false, Some, None};
 ghost use Rattle.std.specs.FinSet.{contains};
 ghost use Rattle.mig_base.specs.Commands.{is_access};
-ghost use Rattle.mig_base.specs.declared.TheConstants.{HIGH_PAGE};
 ghost use Rattle.mig_base.specs.declared.command.Command.{Command};
-ghost use Rattle.mig_model.specs.Userfault.{Noted, enabled_with, fresh_object, next_message};
-ghost use Rattle.mig_model.specs.Space.{Space, IsSoundSpace, accessed, called, fresh_space};
+ghost use Rattle.mig_model.specs.Userfault.{Noted, next_message};
+ghost use Rattle.mig_model.specs.Space.{Space, IsSoundSpace, accessed, called};
 ghost use Rattle.mig_model.specs.Guest.{Fault, Guest, is_present, read_guest};
 ghost use Rattle.mig_model.specs.Invariant.{is_unread};
-ghost use Rattle.mig_model.specs.Ioctls.{has_events, protected_in};
+ghost use Rattle.mig_model.specs.Ioctls.{protected_in};
 ghost use Rattle.mig_model.specs.Log.{Log, empty_log, forgotten, log_read, log_run_sent};
 ghost use Rattle.mig_model.specs.Source.{Source, all_registered, source_acted, space_of};
 ghost use Rattle.dirty_log.specs.Answers.{send_refusal};
-ghost use Rattle.dirty_log.specs.Spaces.{IsLent, AreProtected};
+ghost use Rattle.dirty_log.specs.Spaces.{AreProtected};
 
 /// A clean page that no unread event has changed is protected, and so it is present and registered for write-protect faults. This holds
 /// of an empty log; each call of a log keeps it, and so does each load, store and map call of a processor.
@@ -29,17 +28,4 @@ pub fn clean_pages_are_protected()
     ensures act { (node : Source) (fault : Fault) → IsSoundSpace (space_of node) → AreProtected node.log (space_of node) → AreProtected (source_acted node fault).log (space_of (source_acted node fault)) }
     ensures access { (log : Log) (space : Space) (cpu : ℕ) (command : Command) → AreProtected log space → AreProtected log (accessed space cpu command) }
     ensures call { (log : Log) (space : Space) (cpu : ℕ) (command : Command) → is_access command ≡ false → IsSoundSpace space → AreProtected log space → AreProtected log (called space cpu command) }
-{}
-
-/// A space that may be lent stays one: its object stays enabled for the events, and no page below the lowest address is mapped, after
-/// each call of a log and after each load, store and map call of a processor. A space in which nothing is mapped may be lent once
-/// its object is enabled for the events.
-pub fn a_lent_space_stays_lent()
-    ensures new { (features : ℕ) → has_events (enabled_with fresh_object features) ≡ true → IsLent (record fresh_space { object = enabled_with fresh_object features }) }
-    ensures register_new { (space : Space) → IsLent space → IsLent (all_registered space) }
-    ensures send { (space : Space) (first count : ℕ) → IsLent space → IsLent (protected_in space first count true) }
-    ensures read { (guest : Guest) (noted : Noted) → IsLent guest.space → IsLent (read_guest guest noted.cpu noted.message).space }
-    ensures act { (node : Source) (fault : Fault) → IsLent (space_of node) → IsLent (space_of (source_acted node fault)) }
-    ensures access { (space : Space) (cpu : ℕ) (command : Command) → is_access command ≡ true → IsLent space → IsLent (accessed space cpu command) }
-    ensures call { (space : Space) (cpu : ℕ) (command : Command) → is_access command ≡ false → IsSoundSpace space → IsLent space → IsLent (called space cpu command) }
 {}

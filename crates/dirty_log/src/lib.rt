@@ -10,13 +10,12 @@
 //!
 //! Contracts see a log as the machine's (`mig_model`, `specs/Log.antt`), and each call as what the machine does with log, space and
 //! processors, or as a refusal that changes nothing; `specs/Answers.antt` says when each is refused. The modules follow: `log` (the
-//! type that callers see, and its calls in two families: `rounds` and `handler`), `fault` (a fault that is held), `act` (what is made
-//! of one), `sent` (what is sent of a page), `content` (bytes of pages), `spaces` (the calls that a log makes of a space), and `sets` (what pages a set loses).
+//! type that callers see, and its calls in two families: `rounds` and `handler`), `act` (what is made
+//! of a fault), `sent` (what is sent of a page), `content` (bytes of pages), `spaces` (the calls that a log makes of a space), and `sets` (what pages a set loses).
 #![tactic(auto)]
 
 mod act;
 mod content;
-mod fault;
 pub mod laws;
 pub mod log;
 mod sent;
@@ -24,6 +23,5 @@ mod sets;
 mod spaces;
 
 pub use crate::act::Act;
-pub use crate::fault::Fault;
 pub use crate::log::DirtyLog;
 pub use crate::sent::Sent;

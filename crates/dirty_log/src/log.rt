@@ -6,8 +6,8 @@ ghost use Rattle.mig_model.specs.Log as machine;
 mod handler;
 mod rounds;
 
-use crate::fault::Fault;
 use crate::sets::subtract;
+use guest::Fault;
 use mig_base::{NoMemory, PageSet};
 use std::alloc::Global;
 use std::collections::VecDeque;

@@ -5,14 +5,15 @@ ghost use Rattle.std.specs.FinSet.{contains};
 ghost use Rattle.mig_base.specs.Tests.{is_every};
 ghost use Rattle.mig_base.specs.declared.TheConstants.{HIGH_PAGE};
 ghost use Rattle.mig_model.specs.Userfault as object;
-ghost use Rattle.mig_model.specs.Guest.{is_forgotten, is_present, zero_installed};
+ghost use Rattle.mig_model.specs.Guest.{is_forgotten, is_present};
 ghost use Rattle.mig_model.specs.Ioctls.{protected_in};
 ghost use Rattle.mig_model.specs.Source.{all_registered, source_act_by};
-ghost use Rattle.dirty_log.specs.Spaces.{IsLent, is_sendable as sendable};
+ghost use Rattle.guest.specs.Lent.{IsLent};
+ghost use Rattle.dirty_log.specs.Spaces.{is_sendable as sendable};
 ghost use Rattle.dirty_log.specs.Acts.{act_is};
 
 use crate::act::Act;
-use crate::fault::Fault;
+use guest::Fault;
 use mig_base::flags::{REGISTER_MISSING_BIT, REGISTER_WP_BIT, WRITEPROTECT_WP_BIT};
 use mig_base::refusal::Refusal;
 use mig_base::{HIGH, HIGH_PAGE, LOW, NoMemory, PAGE_SIZE, PageNo, page_address};
@@ -83,22 +84,6 @@ pub fn unprotect(space: &mut Space, page: PageNo)
     let Ok(_) = space.writeprotect(page_address(page), PAGE_SIZE, 0) else {
         unreachable!();
     };
-}
-
-/// Makes a missing page present, with zeros.
-pub fn make_zeros(space: &mut Space, page: PageNo) -> Result<(), NoMemory>
-    requires lent { IsLent space.old }
-    requires quiet { object.changing space.old.object ≡ 0 }
-    requires watched { is_forgotten space.old page ≡ false }
-    requires missing { is_present space.old page ≡ false }
-    ensures ok { OnOk result (space.new ≡ zero_installed space.old page) }
-    ensures err { OnErr result (space.new ≡ space.old) }
-{
-    space.is_in_order();
-    match space.zeropage(page_address(page), PAGE_SIZE, 0) {
-        Ok(_) => Ok(()),
-        Err(_) => Err(NoMemory),
-    }
 }
 
 /// What is to be made of a fault, by what its page is now.

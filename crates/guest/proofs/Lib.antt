@@ -1,1 +1,3 @@
 pub mod CommandLemmas
+pub mod SpaceLemmas
+pub mod LentLemmas

@@ -1,2 +1,4 @@
 pub mod Answers
 pub mod Outcomes
+pub mod Codes
+pub mod Lent

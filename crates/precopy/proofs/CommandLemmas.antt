@@ -13,9 +13,10 @@ use Rattle.mig_model.specs.Log.{Log}
 use Rattle.mig_model.specs.Migration.{outcome, try_effect, unless}
 use Rattle.mig_model.specs.Source.{Source, space_of}
 use Rattle.mig_model.specs.Space.{IsSoundSpace, Space, access_of}
-use Rattle.dirty_log.specs.Spaces.{AreProtected, IsLent}
+use Rattle.guest.specs.Lent.{IsLent}
+use Rattle.guest.proofs.LentLemmas.{access_lent, call_lent}
+use Rattle.dirty_log.specs.Spaces.{AreProtected}
 use Rattle.dirty_log.proofs.KeptLemmas.{access_kept, call_kept}
-use Rattle.dirty_log.proofs.LentLemmas.{access_lent, call_lent}
 use Rattle.guest.specs.Answers.{IsOutstanding, issue_refusal, retry_refusal, took_in}
 use Rattle.precopy.specs.Order.{AreSendable, IsInOrder}
 use Rattle.precopy.specs.Steps.{IsRefused, IsTried}

@@ -17,7 +17,7 @@ use Rattle.mig_model.specs.Log.{Log, dirty, empty_log, log_read, log_run_sent, p
 use Rattle.mig_model.specs.Guest.{Fault, Guest, is_present, read_guest}
 use Rattle.mig_model.proofs.Stopping.{member_less}
 use Rattle.mig_model.specs.Source.{Source, all_registered, enabled_space, source_act, source_acted, space_of}
-use Rattle.dirty_log.specs.Spaces.{IsLent}
+use Rattle.guest.specs.Lent.{IsLent}
 use Rattle.dirty_log.specs.Answers.{send_refusal}
 use Rattle.mig_base.proofs.SetLemmas.{member_below}
 use Rattle.mig_base.specs.declared.TheConstants.{HIGH_PAGE}

@@ -31,7 +31,8 @@ use Rattle.mig_model.proofs.SourceKept.{no_page_absurd}
 use Rattle.mig_model.proofs.SourceMessages.{events_queued, is_unread-append, noted_all, tells}
 use Rattle.mig_model.proofs.SourceRounds.{mapped_registered, present_mapped}
 use Rattle.dirty_log.specs.Spaces.{is_sendable}
-use Rattle.dirty_log.proofs.KeptLemmas.{queued_by, read_space, was_unread}
+use Rattle.guest.proofs.LentLemmas.{read_space}
+use Rattle.dirty_log.proofs.KeptLemmas.{queued_by, was_unread}
 use Rattle.dirty_log.proofs.PageLemmas.{member_kept}
 use Rattle.precopy.specs.Order.{AreSendable}
 

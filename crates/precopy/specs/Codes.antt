@@ -3,21 +3,13 @@ use Rattle.std.specs.Prelude.{ℕ, Bool, List, refl}
 use Rattle.std.specs.Ordering.{nat_cmp}
 use Rattle.std.specs.FinSet as set
 use Rattle.std.specs.Coded.{Coded, code_by, coded×, coded_ℕ, coded_bool, coded_list}
-use Rattle.mig_base.specs.declared.cpu_state.CpuState.{CpuState}
 use Rattle.mig_base.specs.declared.phase.SourcePhase.{SourcePhase}
-use Rattle.mig_base.specs.contracts.cpu_state.CpuState as cpu_state
 use Rattle.mig_base.specs.contracts.phase.SourcePhase as phase
 use Rattle.mig_model.specs.Guest.{Guest}
 use Rattle.mig_model.specs.Log.{Log}
 use Rattle.mig_model.specs.Source.{Source}
-use Rattle.mig_model.specs.Space.{Space}
+use Rattle.guest.specs.Codes.{coded_guest}
 use Rattle.dirty_log.specs.Codes.{coded_log}
-use Rattle.uffd_ioctl.specs.Spaces.{coded_space}
-
--- the code of a guest
-abbrev pub coded_guest : Coded Guest
-coded_guest =
-    code_by (Space × List CpuState) (coded× coded_space (coded_list cpu_state.the_row.coded)) (λ guest. (guest.space, guest.cpus)) (λ p. record { space = p.0; cpus = p.1 }) (λ _. refl)
 
 -- how far a source is: its phase, whether it has switched, and its two epochs
 abbrev pub Progress : Type 0

@@ -6,7 +6,8 @@ use Rattle.mig_model.specs.Space.{Space}
 use Rattle.mig_model.specs.Invariant.{is_unread}
 use Rattle.mig_model.specs.Log.{Log}
 use Rattle.mig_model.specs.Source.{Source, is_released, is_stopped, space_of}
-use Rattle.dirty_log.specs.Spaces.{AreProtected, IsLent, is_sendable}
+use Rattle.guest.specs.Lent.{IsLent}
+use Rattle.dirty_log.specs.Spaces.{AreProtected, is_sendable}
 
 -- each page that the round still has to send can be sent, unless an unread event has changed it
 abbrev pub AreSendable : Log → Space → Type 0

@@ -1,12 +1,12 @@
 -- Pages that are put over a range.
-use Rattle.std.proofs.Common.{◌≡◌, ℕ, zero, suc, ◌+◌, ◌-◌, ◌*◌, ◌/◌, ◌<◌, ◌≤◌, ◌&&◌, ◌||◌, ◌↔◌, ◌⊎◌, inl, inr, ⊎_elim, Bool, true, false, cond, not, eqb, Option, Some, None, IfSome, IfNone, Result, List, length, refl, sym, ap, subst, ◌∙◌, arith, is_some, unwrap_or, take, drop, below_more, add-one}
+use Rattle.std.proofs.Common.{◌≡◌, ℕ, zero, suc, ◌+◌, ◌-◌, ◌*◌, ◌/◌, ◌<◌, ◌≤◌, ◌&&◌, ◌||◌, ◌↔◌, ◌⊎◌, inl, inr, ⊎_elim, Bool, true, false, cond, not, eqb, Option, Some, None, IfSome, IfNone, Result, List, [], length, refl, sym, ap, subst, ◌∙◌, arith, is_some, unwrap_or, take, drop, below_more, add-one}
 use Rattle.std.specs.Ordering.{nat_cmp}
 use Rattle.std.specs.FinMap.{FinMap, get, insert, contains_key}
 use Rattle.std.specs.FinSet as set
 use Rattle.std.specs.FinSet.{FinSet, contains}
 use Rattle.std.proofs.lemmas.Bool.Decides.{nat_tests}
 use Rattle.std.proofs.lemmas.Bool.{false≢true, eq-eqb, eqb-true, not-false, false_from_ne_true, and_parts}
-use Rattle.mig_base.specs.declared.TheConstants.{HIGH_PAGE}
+use Rattle.mig_base.specs.declared.TheConstants.{HIGH_PAGE, LOW_PAGE}
 use Rattle.mig_base.specs.declared.Prot.{Prot}
 use Rattle.mig_base.specs.declared.command.Errno.{Errno}
 use Rattle.mig_base.specs.declared.command.Errno.TheVariants.{Eagain, Eexist}
@@ -19,10 +19,12 @@ use Rattle.mig_base.proofs.SetLemmas.{member_inserted}
 use Rattle.mig_base.proofs.RangeLemmas.{none_below-from, none_below-not, least_below-is, least_below-none, least_below_tells, in_range-end}
 use Rattle.mig_model.specs.Userfault.{Object, is_registered}
 use Rattle.mig_model.specs.Space.{Space, IsSoundSpace}
-use Rattle.mig_model.specs.Ioctls.{put_pages, handed, installed, is_one_area, same_prot, missing_run, copy_errors, copy_error, zeropage_errors, zeropage_error, stop_error, wakes, put_answer, put_by, left_by}
+use Rattle.mig_model.specs.Ioctls.{put_pages, handed, installed, is_bad_range, is_one_area, same_area, same_prot, missing_run, copied, copy_errors, copy_error, zeropage_errors, zeropage_error, stop_error, wakes, put_answer, put_by, left_by}
 use Rattle.mig_base.specs.Tests.{same_bool, is_every}
 use Rattle.mig_base.proofs.TestLemmas.{eqb-self}
-use Rattle.mig_model.proofs.IoctlLemmas.{CanPut, IsSoundSpace-installed, get-put_pages, every_page, none_holds, protect_told, can_put, length-handed}
+use Rattle.mig_model.proofs.IoctlLemmas.{CanPut, IsSoundSpace-installed, IsSoundSpace-copied, get-put_pages, every_page, none_holds, protect_told, can_put, length-handed}
+use Rattle.mig_model.proofs.PageCalls.{IsCalled, copy_made}
+use Rattle.mig_model.proofs.Registering.{pages_again}
 use Rattle.page_table.specs.Views.{Pages}
 use Rattle.page_table.specs.declared.page_table.PutFault.{PutFault}
 use Rattle.page_table.specs.declared.page_table.PutFault.TheVariants as stop
@@ -35,6 +37,7 @@ use Rattle.uffd_ioctl.specs.declared.fault.Copied.{Copied}
 use Rattle.uffd_ioctl.specs.declared.fault.CopyFault.{CopyFault}
 use Rattle.uffd_ioctl.specs.Puts.{IsPut, IsShort, put_result, result_by, result_of, fault_of, stop_fault, own_fault, pages_put}
 use Rattle.uffd_ioctl.specs.Spaces.{space_of}
+use Rattle.uffd_ioctl.proofs.AnswerLemmas.{get-put_same}
 use Rattle.uffd_ioctl.proofs.CallLemmas.{page_again, protected_below}
 
 -- One page
@@ -378,3 +381,44 @@ zeropage_call areas old new object now start len bits first count done quiet why
     subst (λ s. IsCall (zeropage_error s start len bits) s (space_of areas new object) start (len / 4096) bits (λ i. zero_page) false result) view
     (call_of (zeropage_error space start len bits) areas old new object start (len / 4096) bits done (λ i. zero_page) false quiet why result sound none can (omega (arith, at, size, inside)) same
     (subst (λ f. HasPut old new f (len / 4096) done (λ i. zero_page) false why) at (subst (λ n. HasPut old new first n done (λ i. zero_page) false why) size put)) is)
+
+-- One page that is moved in
+
+in_low : (page : ℕ) → is_bad_range (4096 * page) 4096 ≡ false → LOW_PAGE ≤ page
+in_low page h = grind (arith, nat_tests)
+
+-- what UFFDIO_COPY leaves of one page that can be copied
+copied_one : (space : Space) (page : ℕ) (bytes : List ℕ) → IsSoundSpace space → page < HIGH_PAGE → copy_error space (4096 * page) 4096 0 ≡ None → contains_key space.host.bytes page ≡ false → length bytes ≡ 4096 →
+    installed space page 1 (λ i. bytes) false ≡ copied space (4096 * page) bytes 0
+copied_one space page bytes sound high none missing whole =
+    let told = none_holds (copy_errors space (4096 * page) 4096 0) none in
+    let area : is_one_area space page 1 ≡ true = ap (λ q. is_one_area space q 1) (sym (pages_again page)) ∙ not-false (is_one_area space (4096 * page / 4096) 1) told.1.1.1.1.0 in
+    let registered = (and_parts (is_registered space.object page) (same_area space page page) (every_page (λ q. is_registered space.object q && same_area space page q) page 1 page area (omega arith) (omega arith))).0 in
+    let called : IsCalled space page = record { enabled = not-false space.object.enabled told.0; quiet = told.1.1.1.0; inside = (in_low page told.1.1.0, high) } in
+    (copy_made (record { space = space; cpus = [] }) page bytes called (sound.mapped page registered) registered missing whole).leaves
+
+put_one_page : (pages : FinMap nat_cmp (List ℕ)) (page : ℕ) (bytes : List ℕ) → insert pages page bytes ≡ put_pages pages page 1 (λ i. bytes)
+unfolding put_pages
+put_one_page pages page bytes = ap (λ q. insert pages q bytes) (omega arith)
+
+-- what a space is once a page is moved in
+pub record IsMovedIn (old new : Space) (page : ℕ) (bytes : List ℕ) : Type 0 where
+  pub sound : IsSoundSpace new
+  pub copied : new ≡ copied old (4096 * page) bytes 0
+  pub installed : new ≡ installed old page 1 (λ i. bytes) false
+
+pub moved_in : (areas : FinMap nat_cmp Prot) (old new : Pages) (object : Object) (now : Space) (page : ℕ) (bytes : List ℕ) → space_of areas old object ≡ now → IsSoundSpace (space_of areas old object) → page < HIGH_PAGE
+    → copy_error now (4096 * page) 4096 0 ≡ None → contains_key now.host.bytes page ≡ false → new.bytes ≡ insert old.bytes page bytes → new.protected ≡ old.protected
+    → ((q : ℕ) (held : List ℕ) → get new.bytes q ≡ Some held → length held ≡ 4096) → IsMovedIn now (space_of areas new object) page bytes
+moved_in areas old new object now page bytes view sound high none missing put same all =
+    let space = space_of areas old object in
+    let whole = all page bytes (ap (λ m. get m page) put ∙ get-put_same old.bytes page bytes) in
+    let after : space_of areas new object ≡ installed space page 1 (λ i. bytes) false =
+    is_installed areas old new object page 1 (λ i. bytes) false sound (omega (arith, high)) (put ∙ put_one_page old.bytes page bytes) (λ q. same_protected old.protected new.protected page 1 q same) in
+    let copied_now = copied_one now page bytes (subst IsSoundSpace view sound) high none missing whole in
+    let installed_now = after ∙ ap (λ s. installed s page 1 (λ i. bytes) false) view in
+    record {
+      sound = subst IsSoundSpace (sym (installed_now ∙ copied_now)) (IsSoundSpace-copied now (4096 * page) bytes 0 (subst IsSoundSpace view sound));
+      copied = installed_now ∙ copied_now;
+      installed = installed_now;
+    }

@@ -145,8 +145,7 @@ impl Space {
         self.object.next_message()
     }
 
-    /// Gives up the unread page faults, which nobody will read any more, as when the last descriptor of the object is closed. Unread
-    /// events stay.
+    /// Gives up the unread page faults, which nobody will read any more. Unread events stay.
     pub fn drop_faults(&mut self)
         ensures { self.new ≡ record self.old { object = record self.old.object { faults = [] } } }
     {

@@ -1,22 +1,21 @@
 //! What the source's handler makes of a log: messages that are read, and faults that are resolved.
 
-ghost use Rattle.std.specs.Prelude.{◌≡◌, ℕ, ◌*◌, ◌⊎◌, nat_lt, set, List, ◌∷◌, Some, None, Err, IfOk, IfErr, OnOk, OnErr};
+ghost use Rattle.std.specs.Prelude.{◌≡◌, ℕ, ◌*◌, ◌⊎◌, List, ◌∷◌, Some, None, Err, IfOk, IfErr, OnOk, OnErr};
 ghost use Rattle.std.specs.Option.{IsSome};
 ghost use Rattle.mig_model.specs.Userfault.{Noted, next_message};
-ghost use Rattle.mig_model.specs.Cpus.{all_woken, handed_over, message_less, processor_at};
 ghost use Rattle.mig_model.specs.Guest as guest;
 ghost use Rattle.mig_model.specs.Log as machine;
-ghost use Rattle.mig_model.specs.Migration.{event_effect};
 ghost use Rattle.mig_model.specs.Source.{source_act, source_acted};
+ghost use Rattle.guest.specs.Lent.{IsLent};
 ghost use Rattle.dirty_log.specs.Acts.{act_is};
 ghost use Rattle.dirty_log.specs.Answers.{IsRefusedFor, act_refusal, read_answer};
-ghost use Rattle.dirty_log.specs.Spaces.{IsLent, source_of};
+ghost use Rattle.dirty_log.specs.Spaces.{source_of};
 
 use super::DirtyLog;
 use crate::act::Act;
-use crate::fault::Fault;
 use crate::sets::remove_changed;
-use crate::spaces::{act_of, make_zeros, unprotect};
+use crate::spaces::{act_of, unprotect};
+use guest::{Fault, make_zeros};
 use mig_base::effect::Effect;
 use mig_base::refusal::Refusal;
 use mig_base::{Addr, Message, NoMemory, PAGE_SIZE, PageNo};
@@ -42,13 +41,12 @@ impl DirtyLog {
         let Ok(()) = self.hold(message) else {
             return Err(Refusal::NoMemory);
         };
-        let Ok((message, cpu)) = space.read_message() else {
+        let Some((message, effect)) = guest::read(space, cpus) else {
             unreachable!();
         };
-        match message {
-            Message::PageFault { addr, wp, .. } => Ok(Effect::ReadFault { addr, wp }),
-            event => Ok(self.read_event(cpus, event, cpu)),
-        }
+        remove_changed(&mut self.clean, message);
+        remove_changed(&mut self.todo, message);
+        Ok(effect)
     }
 
     /// Holds a message if it is a page fault.
@@ -60,23 +58,6 @@ impl DirtyLog {
             self.held.push_back(Fault::new(addr, wp))?;
         }
         Ok(())
-    }
-
-    /// An event of a processor was read.
-    fn read_event(&mut self, cpus: &mut Cpus, event: Message, cpu: u8) -> Effect
-        requires { guest.fault_count event ≡ 0 }
-        ensures effect { result ≡ event_effect event cpu (handed_over (processor_at cpus.old cpu)) }
-        ensures log { self.new ≡ record self.old { clean = machine.unchanged self.old.clean event; todo = machine.unchanged self.old.todo event } }
-        ensures cpus { cpus.new ≡ all_woken (guest.is_left_by event) (set cpus.old cpu (message_less (processor_at cpus.old cpu))) }
-    {
-        remove_changed(&mut self.clean, event);
-        remove_changed(&mut self.todo, event);
-        let reply = cpus.message_read(cpu).unwrap_or(None);
-        wake_left(cpus, event);
-        match reply {
-            Some(reply) => Effect::ReadLast { event, cpu, reply },
-            None => Effect::ReadEvent { event },
-        }
     }
 
     /// Resolves the first fault that is held, by what its page is now, and wakes those that sleep on the page: what was made of it, and
@@ -113,19 +94,5 @@ impl DirtyLog {
         self.held.pop_front();
         cpus.wake_span(addr, PAGE_SIZE);
         Ok((act, addr))
-    }
-}
-
-/// Wakes those that sleep on pages that are gone, or have moved away.
-fn wake_left(cpus: &mut Cpus, event: Message)
-    requires { guest.fault_count event ≡ 0 }
-    ensures { cpus.new ≡ all_woken (guest.is_left_by event) cpus.old }
-{
-    match event {
-        Message::PageFault { .. } => unreachable!(),
-        Message::Remap { from, len, .. } => cpus.wake_span(from, len),
-        Message::Remove { start, end } | Message::Unmap { start, end } => {
-            cpus.wake_range(start, end);
-        }
     }
 }

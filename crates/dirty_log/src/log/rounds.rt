@@ -11,9 +11,9 @@ ghost use Rattle.mig_model.specs.Ioctls.{protected_in};
 ghost use Rattle.mig_model.specs.Log as machine;
 ghost use Rattle.mig_model.specs.Source.{Source, all_registered, run_of, space_of};
 ghost use Rattle.mig_model.specs.Wire.{page_frame};
+ghost use Rattle.guest.specs.Lent.{IsLent};
 ghost use Rattle.dirty_log.specs.Answers.{IsRefusedFor, send_refusal};
 ghost use Rattle.dirty_log.specs.Sending.{frame_of, bytes_of};
-ghost use Rattle.dirty_log.specs.Spaces.{IsLent};
 
 use super::DirtyLog;
 use crate::content::{blank_page, blank_pages, read_page, read_pages};

@@ -1,6 +1,7 @@
 //! The calls of the userfault object.
 
-ghost use Rattle.std.specs.Prelude.{◌≡◌, ◌+◌, ◌/◌, ◌<◌, ◌≤◌, ◌⊎◌, IfOk, IfErr, OnOk, OnErr, None, false, length};
+ghost use Rattle.std.specs.Prelude.{◌≡◌, ◌+◌, ◌*◌, ◌/◌, ◌<◌, ◌≤◌, ◌⊎◌, IfOk, IfErr, OnOk, OnErr, None, false, length};
+ghost use Rattle.std.specs.FinMap.{contains_key};
 ghost use Rattle.std.specs.Option.{option_map};
 ghost use Rattle.mig_base.specs.Bits.{is_one};
 ghost use Rattle.mig_base.specs.Bytes.{zero_page};
@@ -21,7 +22,7 @@ use crate::register::registered;
 use mig_base::flags::{
     ALL_FEATURES, API, COPY_WP_BIT, INSTALL_DONTWAKE_BIT, WRITEPROTECT_WP_BIT, has_bit,
 };
-use mig_base::{Addr, Errno, HIGH_PAGE, Message, Wake};
+use mig_base::{Addr, Errno, HIGH_PAGE, Message, PAGE_BYTES, PageNo, Wake};
 use userfault::Mode;
 
 impl Space {
@@ -143,6 +144,29 @@ impl Space {
         let protect = has_bit(mode, COPY_WP_BIT);
         let (done, stop) = put_copies(self.alloc, &mut self.pages, range.first, bytes, protect);
         outcome(start, done, has_bit(mode, INSTALL_DONTWAKE_BIT), stop)
+    }
+
+    /// UFFDIO_COPY of one missing page that can be copied, with no mode: makes it present with the bytes of the box, and copies none of
+    /// them. It wakes nobody. On an error, which is want of memory, the box comes back, and nothing is changed.
+    pub fn install(
+        &mut self,
+        page: PageNo,
+        bytes: Box<[u8; PAGE_BYTES]>,
+    ) -> Result<(), Box<[u8; PAGE_BYTES]>>
+        requires page { page < HIGH_PAGE }
+        requires accepted { table.copy_error self.old (4096 * page) 4096 0 ≡ None }
+        requires missing { contains_key self.old.host.bytes page ≡ false }
+        ensures ok { OnOk result (self.new ≡ table.copied self.old (4096 * page) bytes.value 0) }
+        ensures err { IfErr result (λ back. (back ≡ bytes) × (self.new ≡ self.old)) }
+
+        // The same in the words of a page.
+        ensures page { OnOk result (self.new ≡ table.installed self.old page 1 (λ i. bytes.value) false) }
+    {
+        if let Err((_, bytes)) = self.pages.put(page, bytes) {
+            return Err(bytes);
+        }
+        self.pages.has_whole_pages();
+        Ok(())
     }
 
     fn copy_error(&self, start: Addr, len: u64, mode: u64) -> Option<Errno>

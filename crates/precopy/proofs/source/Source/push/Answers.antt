@@ -2,7 +2,7 @@ use Rattle.std.proofs.Common.{◌≡◌, true, rules, refl, sym, subst, ◌∙�
 use Rattle.mig_model.specs.Guest.{is_present}
 use Rattle.mig_model.specs.Source.{space_of}
 use Rattle.mig_model.proofs.SourceRounds.{present_mapped}
-use Rattle.dirty_log.proofs.SpaceLemmas.{below_high}
+use Rattle.guest.proofs.SpaceLemmas.{below_high}
 use Rattle.precopy.proofs.PushLemmas.{push_done, push_lacks, push_refused}
 use Rattle.precopy.proofs.StepLemmas.{counted_is}
 use Rattle.precopy.proofs.source.Source.push.Goals as goal

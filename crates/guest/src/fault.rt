@@ -1,4 +1,4 @@
-//! A page fault that the handler has read, and not resolved yet.
+//! A page fault that a handler has read, and not resolved yet.
 
 ghost use Rattle.std.specs.Prelude.{◌≡◌, ◌*◌};
 
@@ -15,7 +15,7 @@ pub struct Fault {
 impl Model for Fault {
     ghost use Rattle.std.specs.Prelude.{◌/◌};
     ghost use Rattle.mig_model.specs.Guest as machine;
-    ghost use Rattle.dirty_log.specs.Codes.{coded_fault};
+    ghost use Rattle.guest.specs.Codes.{coded_fault};
 
     ghost Value = { machine.Fault };
 
@@ -28,7 +28,7 @@ impl Fault {
     ghost use Rattle.std.specs.Prelude.{◌/◌};
 
     /// A fault of the page of an address.
-    pub(crate) fn new(addr: Addr, wp: bool) -> Self
+    pub fn new(addr: Addr, wp: bool) -> Self
         ensures { result ≡ record { page = addr / 4096; wp = wp } }
     {
         Fault { addr, wp }

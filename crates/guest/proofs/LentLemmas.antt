@@ -10,6 +10,7 @@ use Rattle.mig_base.specs.declared.command.Command.TheVariants.{Load, Store, Mma
 use Rattle.mig_base.specs.declared.command.Reply.{Reply}
 use Rattle.mig_base.specs.declared.command.Reply.TheVariants.{At, Done}
 use Rattle.mig_base.specs.declared.message.Message.{Message}
+use Rattle.mig_base.specs.declared.message.Message.TheVariants.{PageFault, Remap, Remove, Unmap}
 use Rattle.mig_base.specs.Flat.{reply_of}
 use Rattle.mig_base.proofs.BoundLemmas.{IsBounded, changed_bounded}
 use Rattle.mig_model.specs.Host.{Host, host_after, host_changed, memory}
@@ -24,8 +25,7 @@ use Rattle.mig_model.specs.Source.{Source, source_acted_by, space_of}
 use Rattle.mig_model.proofs.CommandLemmas.{memory-changed}
 use Rattle.mig_model.proofs.Facts.{none_absurd}
 use Rattle.mig_model.proofs.HostLemmas.{memory-none, memory-some}
-use Rattle.dirty_log.specs.Spaces.{IsLent}
-use Rattle.dirty_log.proofs.KeptLemmas.{read_space}
+use Rattle.guest.specs.Lent.{IsLent}
 use Rattle.mig_base.proofs.TestLemmas.{missing_none}
 
 -- the object is enabled as before
@@ -39,6 +39,12 @@ still_lent space new lent same low = record { enabled = same.enabled ∙ lent.en
   where
     features_events : (object new : Object) → new.features ≡ object.features → has_events object ≡ true → has_events new ≡ true
     features_events object new e h = rw e h
+
+pub read_space : (guest : Guest) (cpu : ℕ) (message : Message) → (read_guest guest cpu message).space ≡ record guest.space { object = read_by guest.space.object.faults guest.space.object }
+read_space guest cpu (PageFault addr write wp tid) = refl
+read_space guest cpu (Remap from to len) = refl
+read_space guest cpu (Remove start end) = refl
+read_space guest cpu (Unmap start end) = refl
 
 same_read : (faults : List Noted) (object : Object) → SameFeatures object (read_by faults object)
 same_read [] object = record { enabled = refl; features = refl }

@@ -1,5 +1,5 @@
-use Rattle.dirty_log.proofs.SpaceLemmas.{zero_refused}
-use Rattle.dirty_log.proofs.spaces.make_zeros.Goals as goal
+use Rattle.guest.proofs.SpaceLemmas.{zero_refused}
+use Rattle.guest.proofs.pages.make_zeros.Goals as goal
 
 pub returns-in-Err-clause-err : goal.returns-in-Err-clause-err
 returns-in-Err-clause-err c =

@@ -1,0 +1,17 @@
+-- How a proof tells guests apart, and faults that are held, for models that contain them.
+use Rattle.std.specs.Prelude.{ℕ, Bool, List, refl}
+use Rattle.std.specs.Coded.{Coded, code_by, coded×, coded_ℕ, coded_bool, coded_list}
+use Rattle.mig_base.specs.declared.cpu_state.CpuState.{CpuState}
+use Rattle.mig_base.specs.contracts.cpu_state.CpuState as cpu_state
+use Rattle.mig_model.specs.Guest.{Fault, Guest}
+use Rattle.mig_model.specs.Space.{Space}
+use Rattle.uffd_ioctl.specs.Spaces.{coded_space}
+
+-- the code of a guest
+abbrev pub coded_guest : Coded Guest
+coded_guest =
+    code_by (Space × List CpuState) (coded× coded_space (coded_list cpu_state.the_row.coded)) (λ guest. (guest.space, guest.cpus)) (λ p. record { space = p.0; cpus = p.1 }) (λ _. refl)
+
+-- the code of a fault that is held
+abbrev pub coded_fault : Coded Fault
+coded_fault = code_by (ℕ × Bool) (coded× coded_ℕ coded_bool) (λ fault. (fault.page, fault.wp)) (λ p. record { page = p.0; wp = p.1 }) (λ _. refl)

@@ -1,0 +1,44 @@
+//! Pages that a handler makes present.
+
+ghost use Rattle.std.specs.Prelude.{◌≡◌, false, OnOk, OnErr, IfErr};
+ghost use Rattle.mig_model.specs.Userfault as object;
+ghost use Rattle.mig_model.specs.Guest.{is_forgotten, is_present, zero_installed};
+ghost use Rattle.mig_model.specs.Ioctls.{installed};
+ghost use Rattle.guest.specs.Lent.{IsLent};
+
+use mig_base::{NoMemory, PAGE_BYTES, PAGE_SIZE, PageNo, page_address};
+use uffd_ioctl::Space;
+
+/// Makes a missing page present, with zeros. Out of memory changes nothing.
+pub fn make_zeros(space: &mut Space, page: PageNo) -> Result<(), NoMemory>
+    requires lent { IsLent space.old }
+    requires quiet { object.changing space.old.object ≡ 0 }
+    requires watched { is_forgotten space.old page ≡ false }
+    requires missing { is_present space.old page ≡ false }
+    ensures ok { OnOk result (space.new ≡ zero_installed space.old page) }
+    ensures err { OnErr result (space.new ≡ space.old) }
+{
+    space.is_in_order();
+    match space.zeropage(page_address(page), PAGE_SIZE, 0) {
+        Ok(_) => Ok(()),
+        Err(_) => Err(NoMemory),
+    }
+}
+
+/// Makes a missing page present, with the bytes of the box, which are not copied. On an error, which is want of memory, the box comes
+/// back, and nothing is changed.
+pub fn install(
+    space: &mut Space,
+    page: PageNo,
+    bytes: Box<[u8; PAGE_BYTES]>,
+) -> Result<(), Box<[u8; PAGE_BYTES]>>
+    requires lent { IsLent space.old }
+    requires quiet { object.changing space.old.object ≡ 0 }
+    requires watched { is_forgotten space.old page ≡ false }
+    requires missing { is_present space.old page ≡ false }
+    ensures ok { OnOk result (space.new ≡ installed space.old page 1 (λ i. bytes.value) false) }
+    ensures err { IfErr result (λ back. (back ≡ bytes) × (space.new ≡ space.old)) }
+{
+    space.is_in_order();
+    space.install(page, bytes)
+}
