@@ -1,2 +1,5 @@
+pub mod InsideLemmas
 mod KeptLemmas
+pub mod ReadyLemmas
+pub mod RequestLemmas
 mod TornLemmas

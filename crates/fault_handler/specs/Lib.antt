@@ -1,3 +1,5 @@
+pub mod Acts
+pub mod Answers
 pub mod Arrivals
 pub mod Codes
 pub mod Kept
