@@ -149,29 +149,31 @@ none_of_two pages one other =
     let parts = both_of (has_none pages one) (has_none pages other) both in
     has_none_from pages (λ page. one page || other page) (λ q here. neither (one q) (other q) (has_none_tells pages one parts.0 q here) (has_none_tells pages other parts.1 q here)))
 
--- the pages of a map, by the set of its keys
+-- the pages of a map that pass a test
+kept_by : (kept : FinMap nat_cmp (List ℕ)) (test : ℕ → Bool) (q : ℕ) → get (retain_keys kept test) q ≡ cond (test q) (get kept q) None
+kept_by kept test q = get-retain_keys kept test q (λ x e. ap test (sym (nat_cmp-IsAntisymmetric q x e)))
+
+failed_by : (b : Bool) (o : Option (List ℕ)) → cond b o None ≡ None → is_some o ≡ true → b ≡ false
+failed_by false o h e = refl
+failed_by true o h e = absurd (false≢true (ap is_some (sym h) ∙ e))
+
+none_kept_tells : (kept : FinMap nat_cmp (List ℕ)) (test : ℕ → Bool) → eqb (finmap.len (retain_keys kept test)) 0 ≡ true → (q : ℕ) → contains_key kept q ≡ true → test q ≡ false
+none_kept_tells kept test none q here =
+    failed_by (test q) (get kept q) (sym (kept_by kept test q) ∙ ap (λ m. get m q) (finmap.empty_of_len (retain_keys kept test) (eqb-true (finmap.len (retain_keys kept test)) 0 none)) ∙ get-empty nat_cmp q) here
+
+-- so by the set of its keys
 none_kept : (kept : FinMap nat_cmp (List ℕ)) (pages : FinSet nat_cmp) (test : ℕ → Bool) → ((q : ℕ) → contains pages q ≡ contains_key kept q) → has_none pages test ≡ eqb (finmap.len (retain_keys kept test)) 0
 none_kept kept pages test same =
     same_truth _ _
     (λ none.
     ap (λ m. eqb (finmap.len m) 0)
     (same_pages (retain_keys kept test) finmap.empty
-    (λ q. kept_by q ∙ nothing_by (test q) (get kept q) (λ here. has_none_tells pages test none q (same q ∙ here)) ∙ sym (get-empty nat_cmp q))) ∙ ap (λ n. eqb n 0) (finmap.len-empty nat_cmp (List ℕ)))
-    (λ none.
-    has_none_from pages test
-    (λ q here.
-    failed_by (test q) (get kept q) (sym (kept_by q) ∙ ap (λ m. get m q) (finmap.empty_of_len (retain_keys kept test) (eqb-true (finmap.len (retain_keys kept test)) 0 none)) ∙ get-empty nat_cmp q) (sym (same q) ∙ here)))
+    (λ q. kept_by kept test q ∙ nothing_by (test q) (get kept q) (λ here. has_none_tells pages test none q (same q ∙ here)) ∙ sym (get-empty nat_cmp q))) ∙ ap (λ n. eqb n 0) (finmap.len-empty nat_cmp (List ℕ)))
+    (λ none. has_none_from pages test (λ q here. none_kept_tells kept test none q (sym (same q) ∙ here)))
   where
-    kept_by : (q : ℕ) → get (retain_keys kept test) q ≡ cond (test q) (get kept q) None
-    kept_by q = get-retain_keys kept test q (λ x e. ap test (sym (nat_cmp-IsAntisymmetric q x e)))
-
     nothing_by : (b : Bool) (o : Option (List ℕ)) → (is_some o ≡ true → b ≡ false) → cond b o None ≡ None
     nothing_by b None h = grind arith
     nothing_by b (Some bytes) h = ap (λ c. cond c (Some bytes) None) (h refl)
-
-    failed_by : (b : Bool) (o : Option (List ℕ)) → cond b o None ≡ None → is_some o ≡ true → b ≡ false
-    failed_by false o h e = refl
-    failed_by true o h e = absurd (false≢true (ap is_some (sym h) ∙ e))
 
 pub torn_by_sets : (kept : FinMap nat_cmp (List ℕ)) (pages owed : FinSet nat_cmp) (areas : FinMap nat_cmp Prot) → ((q : ℕ) → contains pages q ≡ contains_key kept q) →
     ((not (has_none owed (λ page. contains pages page)) || not (has_none owed (λ page. not (contains_key areas page)))) || not (has_none pages (λ page. not (contains_key areas page)))) ≡ is_torn kept areas owed
@@ -201,3 +203,30 @@ holds_third a b c t h e k = grind arith
 pub one_mode : mode_of 1 ≡ for_missing
 unfolding is_one
 one_mode = refl
+
+-- What a Package that is not torn tells
+
+both_false : (a b : Bool) → (not a || not b) ≡ false → (a ≡ true) × (b ≡ true)
+both_false true true h = (refl, refl)
+both_false true false h = absurd (false≢true (sym h))
+both_false false b h = absurd (false≢true (sym h))
+
+not_false : (b : Bool) → not b ≡ false → b ≡ true
+not_false true h = refl
+not_false false h = absurd (false≢true (sym h))
+
+-- an owed page is not kept, and is mapped
+pub owed_whole : (kept : FinMap nat_cmp (List ℕ)) (areas : FinMap nat_cmp Prot) (owed : FinSet nat_cmp) → is_torn kept areas owed ≡ false → (page : ℕ) → contains owed page ≡ true → (contains_key kept page ≡ false) × (contains_key areas page ≡ true)
+owed_whole kept areas owed whole page here =
+    let none = has_none_tells owed (λ q. contains_key kept q || not (contains_key areas q)) (both_false _ _ whole).0 page here in (
+      first_of_or (contains_key kept page) (not (contains_key areas page)) none,
+      not_false (contains_key areas page) (second_of_or (contains_key kept page) (not (contains_key areas page)) none),
+    )
+
+-- what is not mapped is not kept
+pub kept_whole : (kept : FinMap nat_cmp (List ℕ)) (areas : FinMap nat_cmp Prot) (owed : FinSet nat_cmp) → is_torn kept areas owed ≡ false → (page : ℕ) → get areas page ≡ None → get kept page ≡ None
+kept_whole kept areas owed whole page unmapped = unkept (get kept page) (λ here. none_kept_tells kept (λ q. not (contains_key areas q)) (both_false _ _ whole).1 page here) (ap (λ o. not (is_some o)) unmapped)
+  where
+    unkept : (o : Option (List ℕ)) → (is_some o ≡ true → not (contains_key areas page) ≡ false) → not (contains_key areas page) ≡ true → o ≡ None
+    unkept None h passes = refl
+    unkept (Some bytes) h passes = absurd (false≢true (sym (h refl) ∙ passes))
