@@ -71,6 +71,7 @@ watched_low space first count sound watched =
   where
     no_key : (o : Bool) (r : Bool) → (r ≡ true → o ≡ true) → o ≡ false → r ≡ false
     no_key o r h none = grind arith
+
     beyond : (space : Space) (page : ℕ) → IsSoundSpace space → HIGH_PAGE ≤ page → is_registered space.object page ≡ false
     beyond space page sound h = no_key (contains_key space.host.areas page) (is_registered space.object page) (sound.mapped page) (ap is_some (sound.host.bound page h))
 
@@ -115,8 +116,10 @@ done_lies space addr len sound is =
   where
     some_bytes : (len : ℕ) → eqb len 0 ≡ false → 0 < rounded len
     some_bytes len h = grind (arith, nat_tests)
+
     mapped_at : (m : Memory) (addr size i : ℕ) → is_all_mapped m addr size ≡ true → i < size → is_some (m (addr + i)) ≡ true
     mapped_at m addr size i all l = not-false (is_some (m (addr + i))) (none_below_tells (λ k. not (is_mapped m (addr + k))) size i all l)
+
     by_len : (b : Bool) → eqb len 0 ≡ b → (eqb len 0 ≡ false → AllInside (told (is_watched space.object (addr / 4096) (pages_of len)) (Remove addr (addr + rounded len)))) → AllInside (told (is_watched space.object (addr / 4096) (pages_of len)) (Remove addr (addr + rounded len)))
     by_len true is inside = empty_told space (addr / 4096) len (Remove addr (addr + rounded len)) is
     by_len false is inside = inside is

@@ -93,6 +93,7 @@ next_lies space owed noted next ready = by space.object.faults space.object.even
     fault_lies (Remap from to len) fault = absurd fault
     fault_lies (Remove start end) fault = absurd fault
     fault_lies (Unmap start end) fault = absurd fault
+
     by : (faults events : List Noted) → next_of faults events ≡ Some noted → AreFaults faults → AreInside events → LiesInside noted.message
     by [] [] is faults inside = absurd (none_some is)
       where
@@ -149,9 +150,9 @@ ready_put space owed now page bytes quiet left ready =
       inside = ready.inside;
       faults = ready.faults;
       pairs = λ q origin h.
-      let was = left q origin (settled_now space.object.events quiet q ∙ h) in
-      let pair = pairs_now space owed q origin quiet ready was.1 in
-      (pair.0, put-missing space page q bytes was.0 pair.1);
+          let was = left q origin (settled_now space.object.events quiet q ∙ h) in
+          let pair = pairs_now space owed q origin quiet ready was.1 in
+          (pair.0, put-missing space page q bytes was.0 pair.1);
     }
   where
     settled_now : (events : List Noted) → length events ≡ 0 → (q : ℕ) → get now q ≡ settled_by events (get now) q

@@ -25,11 +25,7 @@ impl Destination {
     /// not map one that it owes or one that is kept, or is of another number of processors, and for an End that tells of fewer
     /// urgent frames than came; then, for an End, `InstallFirst` while a copy waits and `UrgentFirst` while urgent frames are still to
     /// come; and last `NoMemory`, for a copy, a run or a Package.
-    pub fn take(
-        &mut self,
-        epoch: u32,
-        frame: Frame,
-    ) -> Result<Option<Frame>, (TakeFault, Frame)>
+    pub fn take(&mut self, epoch: u32, frame: Frame) -> Result<Option<Frame>, (TakeFault, Frame)>
         requires { IsFrame (frame_of frame) }
         ensures accepted { OnOk result (take_fault self.old epoch (frame_of frame) ≡ None) }
         ensures refused { IfErr result (λ refused. refused.0 ≡ unwrap_or (take_fault self.old epoch (frame_of frame)) TakeFault.NoMemory) }

@@ -65,7 +65,10 @@ impl Destination {
             return Err(bytes);
         };
         // There is room, so that no copy is lost.
-        match self.arrivals.push_back(Arrival::new(page, Some(bytes.into_box()))) {
+        match self
+            .arrivals
+            .push_back(Arrival::new(page, Some(bytes.into_box())))
+        {
             Ok(()) => Ok(()),
             Err(_) => unreachable!(),
         }
