@@ -2,7 +2,9 @@
 use Rattle.std.proofs.lemmas.Bool.Decides.{nat_tests}
 use Rattle.std.proofs.Common.{◌≡◌, ℕ, ◌<◌, Bool, true, false, cond, eqb, length, Option, Some, None, List, [], ◌∷◌, refl, sym, ap, ◌∙◌, subst, is_some, ◌⊎◌, inl, inr, arith}
 use Rattle.std.specs.FinMap as finmap
-use Rattle.std.specs.FinMap.{get}
+use Rattle.std.specs.FinMap.{get, get-remove}
+use Rattle.std.specs.Cmp.{nat_cmp_total, unsigned_tied}
+use Rattle.std.proofs.lemmas.Bool.{eqb-true}
 use Rattle.std.specs.FinSet.{contains}
 use Rattle.mig_base.specs.Bytes.{zero_page}
 use Rattle.mig_base.specs.Commands.{is_access}
@@ -157,3 +159,50 @@ ready_put space owed now page bytes quiet left ready =
     settled_now : (events : List Noted) → length events ≡ 0 → (q : ℕ) → get now q ≡ settled_by events (get now) q
     settled_now [] none q = refl
     settled_now (noted ∷ events) none q = absurd (omega arith)
+
+-- a page that becomes zeros is owed from nowhere
+pub ready_zeroed : (space : Space) (owed : Owed) (page : ℕ) → changing space.object ≡ 0 → get owed page ≡ None → IsReady space owed → IsReady (zero_installed space page) owed
+ready_zeroed space owed page quiet nothing ready = ready_put space owed owed page zero_page quiet (λ q origin h. (other_page q origin h, h)) ready
+  where
+    some_none : (o : Option ℕ) (origin : ℕ) → o ≡ None → o ≡ Some origin → ⊥
+    some_none o origin none some = cc
+    other_page : (q origin : ℕ) → get owed q ≡ Some origin → eqb q page ≡ false
+    other_page q origin h = by (eqb q page) refl
+      where
+        by : (b : Bool) → eqb q page ≡ b → b ≡ false
+        by false is = refl
+        by true is = absurd (some_none (get owed page) origin nothing (ap (get owed) (sym (eqb-true q page is)) ∙ h))
+
+-- a page that is installed is owed no longer
+pub ready_installed : (space : Space) (owed : Owed) (page : ℕ) (bytes : List ℕ) → changing space.object ≡ 0 → IsReady space owed → IsReady (installed space page 1 (λ i. bytes) false) (finmap.remove owed page)
+ready_installed space owed page bytes quiet ready = ready_put space owed (finmap.remove owed page) page bytes quiet left ready
+  where
+    by : (b : Bool) (o : Option ℕ) (origin : ℕ) → cond b None o ≡ Some origin → (b ≡ false) × (o ≡ Some origin)
+    by b o origin h = grind arith
+    left : (q origin : ℕ) → get (finmap.remove owed page) q ≡ Some origin → (eqb q page ≡ false) × (get owed q ≡ Some origin)
+    left q origin h = by (eqb q page) (get owed q) origin (sym (get-remove nat_cmp_total owed page q ∙ ap (λ b. cond b None (get owed q)) (unsigned_tied q page)) ∙ h)
+
+-- What a message that is read leaves settled
+
+settled_after : (faults events : List Noted) (space : Space) (owed : Owed) (noted : Noted) (page : ℕ) → next_of faults events ≡ Some noted → AreFaults faults →
+    settled_by (message_read (with_queues faults events space).object).events (get (owed_table_after noted.message owed)) page ≡ settled_by events (get owed) page
+settled_after [] [] space owed noted page is are = absurd (none_some is)
+  where
+    none_some : None ≡ Some noted → ⊥
+    none_some h = cc
+settled_after [] (first ∷ events) space owed noted page is are =
+    subst (λ (n : Noted). settled_by events (get (owed_table_after n.message owed)) page ≡ settled_by (first ∷ events) (get owed) page) (some_is first noted is) (ap (λ f. f page) (settled_by-applied first events owed))
+settled_after (first ∷ faults) events space owed noted page is are =
+    subst (λ (n : Noted). settled_by events (get (owed_table_after n.message owed)) page ≡ settled_by events (get owed) page) (some_is first noted is) (same first.message are.0)
+  where
+    same : (message : Message) → IsFault message → settled_by events (get (owed_table_after message owed)) page ≡ settled_by events (get owed) page
+    same (PageFault addr write wp tid) fault = refl
+    same (Remap from to len) fault = absurd fault
+    same (Remove start end) fault = absurd fault
+    same (Unmap start end) fault = absurd fault
+
+pub settled_read : (guest : Guest) (owed : Owed) (noted : Noted) (page : ℕ) → next_message guest.space.object ≡ Some noted → IsReady guest.space owed →
+    settled_by (read_guest guest noted.cpu noted.message).space.object.events (get (owed_table_after noted.message owed)) page ≡ settled_by guest.space.object.events (get owed) page
+settled_read guest owed noted page next ready =
+    ap (λ (s : Space). settled_by s.object.events (get (owed_table_after noted.message owed)) page) (read_space guest noted.cpu noted.message)
+    ∙ settled_after guest.space.object.faults guest.space.object.events guest.space owed noted page next ready.faults
