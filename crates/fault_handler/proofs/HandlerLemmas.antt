@@ -1,5 +1,5 @@
 -- What the machine's handler makes of a destination.
-use Rattle.std.proofs.Common.{◌≡◌, ℕ, ◌+◌, ◌-◌, ◌*◌, ◌^◌, min, Bool, true, false, ltb, not, Option, Some, None, List, [], ◌∷◌, refl, sym, ap, ◌∙◌, subst, unwrap_or, inl, inr, ◌⊎◌, arith}
+use Rattle.std.proofs.Common.{◌≡◌, ℕ, ◌+◌, ◌-◌, ◌*◌, ◌^◌, min, Bool, true, false, ltb, not, Option, Some, None, List, [], ◌∷◌, refl, sym, ap, ◌∙◌, subst, unwrap_or, eqb, drop, ◌/◌, inl, inr, ◌⊎◌, arith}
 use Rattle.std.specs.Prelude.{Ok, Err, IsOk, Result}
 use Rattle.std.specs.FinMap.{get}
 use Rattle.std.specs.Option.{option_map}
@@ -8,12 +8,14 @@ use Rattle.mig_base.specs.Tests.{first_holding, is_empty}
 use Rattle.mig_base.specs.declared.effect.Effect.{Effect}
 use Rattle.mig_base.specs.declared.refusal.Refusal.{Refusal}
 use Rattle.mig_base.specs.declared.schedule.Step.{Step}
-use Rattle.mig_model.specs.Cpus.{Cpus}
+use Rattle.mig_model.specs.Cpus.{Cpus, all_woken}
+use Rattle.mig_base.specs.Ranges.{in_range}
+use Rattle.mig_model.proofs.Facts.{only_one, page_again}
 use Rattle.mig_model.specs.Destination.{Destination, act_frames, destination_act, destination_act_by, destination_acted, destination_acted_by, destination_read, settled}
 use Rattle.mig_model.specs.Guest as machine
-use Rattle.mig_model.specs.Guest.{Fault, Guest, counted, fault_count, held_after, is_forgotten, is_present, read_guest}
+use Rattle.mig_model.specs.Guest.{Fault, Guest, counted, fault_count, held_after, in_bytes, is_forgotten, is_present, read_guest, rest_held, zero_installed}
 use Rattle.mig_model.specs.Migration.{act_effect, outcome, read_effect, unless}
-use Rattle.mig_model.specs.Owed.{Owed, owed_table_after}
+use Rattle.mig_model.specs.Owed.{Owed, owed_table_after, requesting}
 use Rattle.mig_model.specs.Space.{Space}
 use Rattle.mig_model.specs.Userfault.{Noted, changing, next_message}
 use Rattle.mig_model.specs.Wire.{Frame}
@@ -22,7 +24,7 @@ use Rattle.guest.specs.Lent.{IsLent}
 use Rattle.fault_handler.specs.Answers.{act_refusal, run_answer}
 use Rattle.fault_handler.specs.Order.{IsInOrder, IsReady}
 use Rattle.fault_handler.specs.Steps.{IsMade, IsRefused, world_of}
-use Rattle.fault_handler.proofs.ReadyLemmas.{ready_read, settled_read}
+use Rattle.fault_handler.proofs.ReadyLemmas.{ready_read, ready_zeroed, settled_read}
 
 -- a count of 64 bits
 pub counted_is : (count more : ℕ) → min (count + more) (2 ^ 64 - 1) ≡ counted count more
@@ -138,7 +140,7 @@ pub record IsMissing (space : Space) (owed : Owed) (page : ℕ) : Type 0 where
   pub missing : is_present space page ≡ false
   pub nothing : get owed page ≡ None
 
-pub zeroed_missing : (space : Space) (owed : Owed) (page : ℕ) → destination_act_by (is_forgotten space page) (is_present space page) (get owed page) ≡ machine.Act.Zeroed → IsMissing space owed page
+zeroed_missing : (space : Space) (owed : Owed) (page : ℕ) → destination_act_by (is_forgotten space page) (is_present space page) (get owed page) ≡ machine.Act.Zeroed → IsMissing space owed page
 zeroed_missing space owed page is =
     let all = by (is_forgotten space page) (is_present space page) (get owed page) is in
     record { watched = all.0; missing = all.1.0; nothing = all.1.1 }
@@ -148,3 +150,44 @@ zeroed_missing space owed page is =
     by false true o h = absurd (let other : machine.Act.Woke ≡ machine.Act.Zeroed = h in cc)
     by false false (Some origin) h = absurd (let other : machine.Act.Requested origin ≡ machine.Act.Zeroed = h in cc)
     by false false None h = (refl, (refl, refl))
+
+-- The destination after a fault
+
+rest_is : (held : List Fault) → drop 1 held ≡ rest_held held
+rest_is [] = refl
+rest_is (fault ∷ rest) = refl
+
+-- those that sleep on a page
+one_page : (page q : ℕ) → in_bytes (4096 * page) (4096 * page + 4096) q ≡ eqb q page
+one_page page q =
+    let first : 4096 * page / 4096 ≡ page = omega arith in
+    let count : (4096 * page + 4096) / 4096 - 4096 * page / 4096 ≡ 1 = omega arith in
+    ap (λ f. in_range f ((4096 * page + 4096) / 4096 - 4096 * page / 4096) q) first ∙ ap (λ n. in_range page n q) count ∙ only_one page q
+
+woken_page : (page addr : ℕ) (cpus : Cpus) → addr ≡ 4096 * page → all_woken (in_bytes addr (addr + 4096)) cpus ≡ all_woken (λ q. eqb q page) cpus
+woken_page page addr cpus is = ap (λ a. all_woken (in_bytes a (a + 4096)) cpus) is ∙ (λ i. all_woken (λ q. one_page page q i) cpus)
+
+-- the page is asked for
+pub requested_is : (node was : Destination) (held : List Fault) (origin page : ℕ) → was ≡ record node { requests = requesting node.requests origin } → held ≡ drop 1 was.held →
+    record was { held = held } ≡ destination_acted_by (machine.Act.Requested origin) node page
+requested_is node was held origin page is rest = rw (rest, is, rest_is) refl
+
+-- the page has become zeros
+pub zeroed_is : (node was : Destination) (space : Space) (cpus : Cpus) (held : List Fault) (addr page : ℕ) → was ≡ record node { guest = record node.guest { space = space } } → addr ≡ 4096 * page → space ≡ zero_installed node.guest.space page →
+    cpus ≡ all_woken (in_bytes addr (addr + 4096)) was.guest.cpus → held ≡ drop 1 was.held → record was { guest = record { space = was.guest.space; cpus = cpus }; held = held } ≡ destination_acted_by machine.Act.Zeroed node page
+zeroed_is node was space cpus held addr page same at is woken rest = rw (woken, rest, same, is, rest_is, woken_page page addr node.guest.cpus at) refl
+
+-- its sleepers are woken
+pub woken_is : (node was : Destination) (cpus : Cpus) (held : List Fault) (addr page : ℕ) (act : machine.Act) → was ≡ node → addr ≡ 4096 * page → cpus ≡ all_woken (in_bytes addr (addr + 4096)) was.guest.cpus → held ≡ drop 1 was.held →
+    (act ≡ machine.Act.Woke) ⊎ (act ≡ machine.Act.Forgot) → record was { guest = record { space = was.guest.space; cpus = cpus }; held = held } ≡ destination_acted_by act node page
+woken_is node was cpus held addr page act same at woken rest (inl is) = rw (is, woken, rest, rest_is, woken_page page addr was.guest.cpus at, same) refl
+woken_is node was cpus held addr page act same at woken rest (inr is) = rw (is, woken, rest, rest_is, woken_page page addr was.guest.cpus at, same) refl
+
+-- a destination whose page has become zeros is in order
+pub zeroed_order : (has_run : Bool) (space new : Space) (owed : Owed) (page : ℕ) → changing space.object ≡ 0 → get owed page ≡ None → new ≡ zero_installed space page → IsInOrder has_run space owed → IsInOrder has_run new owed
+zeroed_order has_run space new owed page quiet nothing is old = record { ready = λ run. rw is (ready_zeroed space owed page quiet nothing (old.ready run)) }
+
+pub missing_at : (node was : Destination) (fault : Fault) (addr : ℕ) → was ≡ node → destination_act node fault ≡ machine.Act.Zeroed → addr ≡ 4096 * fault.page → IsMissing was.guest.space was.owed (addr / 4096)
+missing_at node was fault addr same is at =
+    subst (λ page. IsMissing was.guest.space was.owed page) (page_again fault.page addr (sym at))
+    (zeroed_missing was.guest.space was.owed fault.page (ap (λ (n : Destination). destination_act n fault) same ∙ is))
