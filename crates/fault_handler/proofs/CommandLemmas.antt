@@ -1,6 +1,5 @@
 -- What the machine makes of a command of the destination's guest.
-use Rattle.std.proofs.Common.{◌≡◌, ℕ, Bool, true, false, not, Option, Some, None, List, refl, sym, ap, ◌∙◌, inl, inr, unwrap_or, arith}
-use Rattle.std.proofs.lemmas.Bool.{false≢true}
+use Rattle.std.proofs.Common.{◌≡◌, ℕ, Bool, true, false, Option, Some, None, List, refl, sym, ap, ◌∙◌, inl, inr, unwrap_or, arith}
 use Rattle.mig_base.specs.Commands.{is_access}
 use Rattle.mig_base.specs.declared.command.Command.{Command}
 use Rattle.mig_base.specs.declared.command.Entry.{Entry}
@@ -31,8 +30,8 @@ pub tried_order : (has_run : Bool) (guest : Guest) (space : Space) (owed : Owed)
 tried_order has_run guest space owed cpu command sound is old =
     record {
       ready = λ run.
-      let ready = old.ready run in
-      rw is (ready_tried (is_access command) guest.space owed cpu command refl sound (space_lent (is_access command) guest.space cpu command refl sound ready.lent) ready);
+          let ready = old.ready run in
+          rw is (ready_tried (is_access command) guest.space owed cpu command refl sound (space_lent (is_access command) guest.space cpu command refl sound ready.lent) ready);
     }
 
 -- Issue

@@ -1,10 +1,9 @@
 -- What the machine's handler makes of a destination.
-use Rattle.std.proofs.Common.{◌≡◌, ℕ, ◌+◌, ◌-◌, ◌*◌, ◌^◌, min, Bool, true, false, ltb, not, Option, Some, None, List, [], ◌∷◌, refl, sym, ap, ◌∙◌, subst, unwrap_or, eqb, drop, ◌/◌, inl, inr, ◌⊎◌, arith}
-use Rattle.std.specs.Prelude.{Ok, Err, IsOk, Result}
+use Rattle.std.proofs.Common.{◌≡◌, ℕ, ◌+◌, ◌-◌, ◌*◌, ◌^◌, min, Bool, true, false, Option, Some, None, List, [], ◌∷◌, refl, sym, ap, ◌∙◌, subst, unwrap_or, eqb, drop, ◌/◌, inl, inr, ◌⊎◌, arith}
+use Rattle.std.specs.Prelude.{Ok, Err, IsOk}
 use Rattle.std.specs.FinMap.{get}
 use Rattle.std.specs.Option.{option_map}
 use Rattle.mig_base.specs.declared.message.Message.{Message}
-use Rattle.mig_base.specs.Tests.{first_holding, is_empty}
 use Rattle.mig_base.specs.declared.effect.Effect.{Effect}
 use Rattle.mig_base.specs.declared.refusal.Refusal.{Refusal}
 use Rattle.mig_base.specs.declared.schedule.Step.{Step}
@@ -22,7 +21,7 @@ use Rattle.mig_model.specs.Wire.{Frame}
 use Rattle.guest.specs.Answers.{guest_with}
 use Rattle.guest.specs.Lent.{IsLent}
 use Rattle.fault_handler.specs.Answers.{act_refusal, run_answer}
-use Rattle.fault_handler.specs.Order.{IsInOrder, IsReady}
+use Rattle.fault_handler.specs.Order.{IsInOrder}
 use Rattle.fault_handler.specs.Steps.{IsMade, IsRefused, world_of}
 use Rattle.fault_handler.proofs.ReadyLemmas.{ready_read, ready_zeroed, settled_read}
 

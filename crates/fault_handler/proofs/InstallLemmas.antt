@@ -1,6 +1,6 @@
 -- What the machine makes of a copy that has arrived.
-use Rattle.std.proofs.Common.{◌≡◌, ℕ, ◌*◌, Bool, true, false, not, ◌||◌, Option, Some, None, List, [], ◌∷◌, refl, sym, ap, ◌∙◌, subst, cond, eqb, drop, length, inl, inr, arith}
-use Rattle.std.specs.Prelude.{Ok, Err, IsOk, Result}
+use Rattle.std.proofs.Common.{◌≡◌, ℕ, ◌*◌, Bool, true, false, not, ◌||◌, Option, Some, None, List, [], ◌∷◌, refl, sym, ap, ◌∙◌, cond, eqb, drop, length, inl, inr, arith}
+use Rattle.std.specs.Prelude.{Ok, Err, IsOk}
 use Rattle.std.specs.Cmp.{nat_cmp_total, unsigned_tied}
 use Rattle.std.specs.FinMap as finmap
 use Rattle.std.specs.FinMap.{contains_key, get, get-remove}
@@ -15,10 +15,10 @@ use Rattle.mig_model.specs.Ioctls.{installed}
 use Rattle.mig_model.specs.Migration.{install_effect, outcome, unless}
 use Rattle.mig_model.specs.Owed.{Owed, home, settled_by, without_request}
 use Rattle.mig_model.specs.Space.{IsSoundSpace, Space}
-use Rattle.mig_model.specs.Userfault.{Noted, changing, is_registered}
+use Rattle.mig_model.specs.Userfault.{Noted, changing}
 use Rattle.mig_model.specs.Wire.{Copy}
 use Rattle.mig_model.proofs.Facts.{eqb-self}
-use Rattle.fault_handler.specs.Answers.{first_arrival, install_answer}
+use Rattle.fault_handler.specs.Answers.{install_answer}
 use Rattle.fault_handler.specs.Order.{IsInOrder, IsReady}
 use Rattle.fault_handler.specs.Steps.{IsMade, IsRefused, world_of}
 use Rattle.fault_handler.proofs.ReadyLemmas.{pairs_now, ready_installed}
@@ -114,9 +114,10 @@ without_it owed page = get-remove nat_cmp_total owed page page ∙ ap (λ b. con
 
 -- the pair of the copy, which ends
 pub pair_ends : (node new : Destination) (page origin : ℕ) (copy : Copy) (rest : List Copy) → changing node.guest.space.object ≡ 0 → get node.owed page ≡ Some origin → new ≡ installed_at node copy rest page → (settled node page ≡ Some origin) × (settled new page ≡ None)
-pair_ends node new page origin copy rest quiet pair is =
-    (settled_now node.guest.space.object.events (get node.owed) page quiet ∙ pair,
-    ap (λ (n : Destination). settled n page) is ∙ settled_now node.guest.space.object.events (get (finmap.remove node.owed page)) page quiet ∙ without_it node.owed page)
+pair_ends node new page origin copy rest quiet pair is = (
+  settled_now node.guest.space.object.events (get node.owed) page quiet ∙ pair,
+  ap (λ (n : Destination). settled n page) is ∙ settled_now node.guest.space.object.events (get (finmap.remove node.owed page)) page quiet ∙ without_it node.owed page,
+)
 
 -- the addresses of an effect tell its pages
 pub same_pages : (page origin other same : ℕ) → Effect.Installed (4096 * page) (4096 * origin) ≡ Effect.Installed (4096 * other) (4096 * same) → (page ≡ other) × (origin ≡ same)

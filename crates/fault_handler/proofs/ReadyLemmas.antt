@@ -1,6 +1,6 @@
 -- What keeps the space of a destination ready: a command, a message that is read, and a page that is put.
 use Rattle.std.proofs.lemmas.Bool.Decides.{nat_tests}
-use Rattle.std.proofs.Common.{◌≡◌, ℕ, ◌<◌, Bool, true, false, cond, eqb, length, Option, Some, None, List, [], ◌∷◌, refl, sym, ap, ◌∙◌, subst, is_some, ◌⊎◌, inl, inr, arith}
+use Rattle.std.proofs.Common.{◌≡◌, ℕ, Bool, true, false, cond, eqb, length, Option, Some, None, List, [], ◌∷◌, refl, sym, ap, ◌∙◌, subst, arith}
 use Rattle.std.specs.FinMap as finmap
 use Rattle.std.specs.FinMap.{get, get-remove}
 use Rattle.std.specs.Cmp.{nat_cmp_total, unsigned_tied}
@@ -14,21 +14,21 @@ use Rattle.mig_base.specs.declared.command.Access.TheVariants.{Answered, Missing
 use Rattle.mig_base.specs.declared.command.Command.{Command}
 use Rattle.mig_base.specs.declared.message.Message.{Message}
 use Rattle.mig_base.specs.declared.message.Message.TheVariants.{PageFault, Remap, Remove, Unmap}
-use Rattle.mig_model.specs.Guest.{Guest, is_forgotten, is_present, read_guest, space_by, zero_installed}
+use Rattle.mig_model.specs.Guest.{Guest, is_present, read_guest, space_by, zero_installed}
 use Rattle.mig_model.specs.Host.{memory}
-use Rattle.mig_model.specs.Invariant.{AreFaults, AreRight, IsFault}
+use Rattle.mig_model.specs.Invariant.{AreFaults, IsFault}
 use Rattle.mig_model.specs.Ioctls.{installed}
 use Rattle.mig_model.specs.Owed.{Owed, owed_table_after, settled_by}
 use Rattle.mig_model.specs.Space.{IsSoundSpace, Space, access_of, accessed_by, call_messages, modes_after}
-use Rattle.mig_model.specs.Userfault.{Noted, changing, message_read, next_message, next_of, waits_fault}
-use Rattle.mig_model.proofs.DestinationAct.{get-put_one, put-missing, put-unprotected}
-use Rattle.mig_model.proofs.Facts.{modes_events, none_absurd, some_is}
+use Rattle.mig_model.specs.Userfault.{Noted, changing, message_read, next_message, next_of}
+use Rattle.mig_model.proofs.DestinationAct.{put-missing, put-unprotected}
+use Rattle.mig_model.proofs.Facts.{modes_events, some_is}
 use Rattle.mig_model.proofs.FaultLemmas.{AreFaults-tried}
 use Rattle.mig_model.proofs.SettledLemmas.{settled_by-applied}
 use Rattle.mig_model.proofs.TriedLemmas as tried
 use Rattle.mig_model.proofs.TriedLemmas.{command_tries}
 use Rattle.guest.specs.Lent.{IsLent}
-use Rattle.fault_handler.specs.Order.{AreInside, IsInOrder, IsReady, LiesInside}
+use Rattle.fault_handler.specs.Order.{AreInside, IsReady}
 use Rattle.fault_handler.proofs.InsideLemmas.{called_inside, inside_queued}
 
 -- Commands
@@ -86,23 +86,6 @@ fault_read (Remap from to len) cpu faults events space owed fault lent ready = a
 fault_read (Remove start end) cpu faults events space owed fault lent ready = absurd fault
 fault_read (Unmap start end) cpu faults events space owed fault lent ready = absurd fault
 
--- what is read is a page fault, or an event whose pages lie in the address space
-pub next_lies : (space : Space) (owed : Owed) (noted : Noted) → next_message space.object ≡ Some noted → IsReady space owed → LiesInside noted.message
-next_lies space owed noted next ready = by space.object.faults space.object.events next ready.faults ready.inside
-  where
-    fault_lies : (message : Message) → IsFault message → LiesInside message
-    fault_lies (PageFault addr write wp tid) fault = tt
-    fault_lies (Remap from to len) fault = absurd fault
-    fault_lies (Remove start end) fault = absurd fault
-    fault_lies (Unmap start end) fault = absurd fault
-    by : (faults events : List Noted) → next_of faults events ≡ Some noted → AreFaults faults → AreInside events → LiesInside noted.message
-    by [] [] is faults inside = absurd (none_some is)
-      where
-        none_some : None ≡ Some noted → ⊥
-        none_some h = cc
-    by [] (first ∷ events) is faults inside = subst (λ n. LiesInside n.message) (some_is first noted is) inside.0
-    by (first ∷ rest) events is faults inside = subst (λ n. LiesInside n.message) (some_is first noted is) (fault_lies first.message faults.0)
-
 pub read_space : (guest : Guest) (cpu : ℕ) (message : Message) → (read_guest guest cpu message).space ≡ record guest.space { object = message_read guest.space.object }
 read_space guest cpu (PageFault addr write wp tid) = refl
 read_space guest cpu (Remap from to len) = refl
@@ -151,9 +134,9 @@ ready_put space owed now page bytes quiet left ready =
       inside = ready.inside;
       faults = ready.faults;
       pairs = λ q origin h.
-      let was = left q origin (settled_now space.object.events quiet q ∙ h) in
-      let pair = pairs_now space owed q origin quiet ready was.1 in
-      (pair.0, put-missing space page q bytes was.0 pair.1);
+          let was = left q origin (settled_now space.object.events quiet q ∙ h) in
+          let pair = pairs_now space owed q origin quiet ready was.1 in
+          (pair.0, put-missing space page q bytes was.0 pair.1);
     }
   where
     settled_now : (events : List Noted) → length events ≡ 0 → (q : ℕ) → get now q ≡ settled_by events (get now) q
@@ -166,6 +149,7 @@ ready_zeroed space owed page quiet nothing ready = ready_put space owed owed pag
   where
     some_none : (o : Option ℕ) (origin : ℕ) → o ≡ None → o ≡ Some origin → ⊥
     some_none o origin none some = cc
+
     other_page : (q origin : ℕ) → get owed q ≡ Some origin → eqb q page ≡ false
     other_page q origin h = by (eqb q page) refl
       where
@@ -179,6 +163,7 @@ ready_installed space owed page bytes quiet ready = ready_put space owed (finmap
   where
     by : (b : Bool) (o : Option ℕ) (origin : ℕ) → cond b None o ≡ Some origin → (b ≡ false) × (o ≡ Some origin)
     by b o origin h = grind arith
+
     left : (q origin : ℕ) → get (finmap.remove owed page) q ≡ Some origin → (eqb q page ≡ false) × (get owed q ≡ Some origin)
     left q origin h = by (eqb q page) (get owed q) origin (sym (get-remove nat_cmp_total owed page q ∙ ap (λ b. cond b None (get owed q)) (unsigned_tied q page)) ∙ h)
 

@@ -20,13 +20,7 @@ impl Destination {
         ensures err { OnErr result (self.new ≡ self.old) }
     {
         self.space.is_in_order();
-        let tried = guest::issue(
-            &mut self.space,
-            &mut self.cpus,
-            cpu,
-            command,
-            self.has_run,
-        )?;
+        let tried = guest::issue(&mut self.space, &mut self.cpus, cpu, command, self.has_run)?;
         Ok(tried)
     }
 

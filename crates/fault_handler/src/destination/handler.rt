@@ -137,7 +137,11 @@ fn note(held: &mut VecDeque<Fault>, owed: &mut Owed, message: Message) -> Result
         Message::PageFault { addr, wp, .. } => held.push_back(Fault::new(addr, wp))?,
         Message::Remap { from, to, len } => {
             let count = (len / PAGE_SIZE) as u32;
-            owed.move_range((from / PAGE_SIZE) as PageNo, (to / PAGE_SIZE) as PageNo, count)?;
+            owed.move_range(
+                (from / PAGE_SIZE) as PageNo,
+                (to / PAGE_SIZE) as PageNo,
+                count,
+            )?;
         }
         Message::Remove { start, end } | Message::Unmap { start, end } => {
             let first = (start / PAGE_SIZE) as PageNo;

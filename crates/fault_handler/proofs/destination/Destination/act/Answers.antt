@@ -1,4 +1,4 @@
-use Rattle.std.proofs.Common.{rules, ◌≡◌, ◌*◌, ◌∷◌, ◌/◌, [], ◌⊎◌, ⊎_elim, inl, inr, refl, sym, ap, ◌∙◌, subst}
+use Rattle.std.proofs.Common.{rules, ◌≡◌, ◌*◌, ◌/◌, [], ◌⊎◌, ⊎_elim, inl, inr, refl, sym, ap, ◌∙◌}
 use Rattle.std.proofs.lemmas.Result.{err_from_is_err_and}
 use Rattle.mig_model.specs.Destination.{Destination, act_frames}
 use Rattle.mig_model.specs.Guest as machine
@@ -11,7 +11,7 @@ use Rattle.mig_model.specs.Userfault.{changing}
 use Rattle.mig_model.proofs.Facts.{page_again}
 use Rattle.fault_handler.specs.Acts.{act_is}
 use Rattle.fault_handler.specs.contracts.destination.Destination.{the_view}
-use Rattle.fault_handler.proofs.HandlerLemmas.{IsHeld, IsMissing, act_done, act_lacks, act_refused, requested_is, some_held, woken_is, missing_at, zeroed_is, zeroed_order}
+use Rattle.fault_handler.proofs.HandlerLemmas.{IsMissing, act_done, act_lacks, act_refused, requested_is, some_held, woken_is, missing_at, zeroed_is, zeroed_order}
 use Rattle.fault_handler.proofs.destination.Destination.act.Goals as goal
 use Rattle.fault_handler.proofs.destination.Destination.act.Goals.{in-Zeroed+in-Ok, in-Woke}
 
@@ -53,9 +53,9 @@ invariant_of-self-2 c =
     let next = c.in_ok-act.ensures.act h.fault h.rest h.is in
     elim c.match-act.branch [
       | in-Zeroed+in-Ok w ↦
-        let quiet : changing c.self.inside.space.object ≡ 0 = ap (λ (node : Destination). changing node.guest.space.object) c.self.view_is ∙ h.quiet in
-        let nothing = (missing_at c.args.self.now (the_view c.self.inside) h.fault c.in_ok-act.addr c.self.view_is (sym next.0 ∙ ap act_is w.in-Zeroed.is) next.1).nothing in
-        rw w.self-inside-is (zeroed_order _ c.self.inside.space _ c.self.inside.owed (c.in_ok-act.addr / 4096) quiet nothing w.in-Ok.ensures.ok c.self.invariant)
+          let quiet : changing c.self.inside.space.object ≡ 0 = ap (λ (node : Destination). changing node.guest.space.object) c.self.view_is ∙ h.quiet in
+          let nothing = (missing_at c.args.self.now (the_view c.self.inside) h.fault c.in_ok-act.addr c.self.view_is (sym next.0 ∙ ap act_is w.in-Zeroed.is) next.1).nothing in
+          rw w.self-inside-is (zeroed_order _ c.self.inside.space _ c.self.inside.owed (c.in_ok-act.addr / 4096) quiet nothing w.in-Ok.ensures.ok c.self.invariant)
       | in-Woke w ↦ rw w.self-inside-is c.self.invariant
     ]
 
@@ -67,15 +67,15 @@ returns-clause-made c =
     let told = c.told-2.ensures ∙ ap (λ addr. act_effect (act_is c.in_ok-act.act) addr) next.1 in
     elim c.match-act.branch [
       | in-Zeroed+in-Ok w ↦
-        let zeroed = ap act_is w.in-Zeroed.is in
-        act_done node _ c.told-2.result [] h.fault h.rest machine.Act.Zeroed c.in_ok-act.ensures.accepted h.is (sym zeroed ∙ next.0) (told ∙ ap (λ act. act_effect act (4096 * h.fault.page)) zeroed) refl
-        (zeroed_is node (the_view c.match-act.self-inside) w.make_zeros.new.space c.wake_span.new.self c.pop_front-2.new.self.items c.in_ok-act.addr h.fault.page
-        (ap the_view w.self-inside-is ∙ ap (λ (n : Destination). record n { guest = record n.guest { space = w.make_zeros.new.space } }) c.self.view_is) next.1
-        (w.in-Ok.ensures.ok ∙ ap (λ (n : Destination). zero_installed n.guest.space (c.in_ok-act.addr / 4096)) c.self.view_is ∙ ap (λ page. zero_installed node.guest.space page) (sym (page_again h.fault.page c.in_ok-act.addr (sym next.1))))
-        c.wake_span.ensures c.pop_front-2.ensures.rest)
+          let zeroed = ap act_is w.in-Zeroed.is in
+          act_done node _ c.told-2.result [] h.fault h.rest machine.Act.Zeroed c.in_ok-act.ensures.accepted h.is (sym zeroed ∙ next.0) (told ∙ ap (λ act. act_effect act (4096 * h.fault.page)) zeroed) refl
+          (zeroed_is node (the_view c.match-act.self-inside) w.make_zeros.new.space c.wake_span.new.self c.pop_front-2.new.self.items c.in_ok-act.addr h.fault.page
+          (ap the_view w.self-inside-is ∙ ap (λ (n : Destination). record n { guest = record n.guest { space = w.make_zeros.new.space } }) c.self.view_is) next.1
+          (w.in-Ok.ensures.ok ∙ ap (λ (n : Destination). zero_installed n.guest.space (c.in_ok-act.addr / 4096)) c.self.view_is ∙ ap (λ page. zero_installed node.guest.space page) (sym (page_again h.fault.page c.in_ok-act.addr (sym next.1))))
+          c.wake_span.ensures c.pop_front-2.ensures.rest)
       | in-Woke w ↦
-        ⊎_elim (λ (is : c.in_ok-act.act ≡ Act.Woke). woken c machine.Act.Woke (ap act_is is) (inl refl) (ap the_view w.self-inside-is ∙ c.self.view_is) refl)
-        (λ (is : c.in_ok-act.act ≡ Act.Forgot). woken c machine.Act.Forgot (ap act_is is) (inr refl) (ap the_view w.self-inside-is ∙ c.self.view_is) refl) w.in-Woke.is
+          ⊎_elim (λ (is : c.in_ok-act.act ≡ Act.Woke). woken c machine.Act.Woke (ap act_is is) (inl refl) (ap the_view w.self-inside-is ∙ c.self.view_is) refl)
+          (λ (is : c.in_ok-act.act ≡ Act.Forgot). woken c machine.Act.Forgot (ap act_is is) (inr refl) (ap the_view w.self-inside-is ∙ c.self.view_is) refl) w.in-Woke.is
     ]
   where
     woken : (c : goal.After-told-2) (act : machine.Act) → act_is c.in_ok-act.act ≡ act → (act ≡ machine.Act.Woke) ⊎ (act ≡ machine.Act.Forgot) → the_view c.match-act.self-inside ≡ c.args.self.now → [] ≡ act_frames act c.args.self.now →

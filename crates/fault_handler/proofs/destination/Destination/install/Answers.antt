@@ -1,10 +1,8 @@
-use Rattle.std.proofs.Common.{◌≡◌, ◌∷◌, [], None, Some, rules, refl, sym, ap, ◌∙◌, subst, ℕ, ◌*◌, false}
+use Rattle.std.proofs.Common.{◌≡◌, ◌∷◌, None, Some, rules, refl, sym, ap, ◌∙◌, subst, ℕ, ◌*◌, false}
 use Rattle.mig_base.specs.declared.effect.Effect.{Effect}
-use Rattle.std.specs.FinMap as finmap
 use Rattle.std.specs.FinMap.{get}
 use Rattle.mig_model.specs.Destination.{Destination, installed_at}
 use Rattle.mig_model.specs.Guest.{is_present}
-use Rattle.mig_model.specs.Migration.{install_effect}
 use Rattle.mig_model.specs.Owed.{home}
 use Rattle.mig_model.specs.Userfault.{changing}
 use Rattle.fault_handler.specs.contracts.destination.Destination.{the_view}
