@@ -1,8 +1,8 @@
 -- The events of every map call lie in the address space.
 use Rattle.std.proofs.lemmas.Bool.Decides.{nat_tests}
-use Rattle.std.proofs.Common.{◌≡◌, ℕ, ◌+◌, ◌-◌, ◌*◌, ◌/◌, ◌%◌, ◌<◌, ◌≤◌, ◌&&◌, ◌⊎◌, Option, inl, inr, ⊎_elim, Bool, true, false, not, eqb, ltb, leb, cond, List, [], ◌∷◌, ◌++◌, None, Some, is_some, ◌^◌, refl, sym, ap, ◌∙◌, subst, arith}
+use Rattle.std.proofs.Common.{◌≡◌, ℕ, ◌+◌, ◌-◌, ◌*◌, ◌/◌, ◌%◌, ◌<◌, ◌≤◌, ◌&&◌, ◌⊎◌, Option, inl, inr, ⊎_elim, Bool, true, false, not, eqb, ltb, leb, cond, List, [], ◌∷◌, ◌++◌, None, is_some, ◌^◌, refl, sym, ap, ◌∙◌, subst, arith}
 use Rattle.std.proofs.lemmas.Bool.{false≢true, eqb-true, not-false}
-use Rattle.std.specs.FinMap.{get, contains_key}
+use Rattle.std.specs.FinMap.{contains_key}
 use Rattle.mig_base.specs.declared.TheConstants.{HIGH, HIGH_PAGE}
 use Rattle.mig_base.specs.declared.command.Errno.TheVariants.{Einval, Enomem}
 use Rattle.mig_base.specs.declared.command.Command.{Command}
@@ -12,13 +12,11 @@ use Rattle.mig_base.specs.declared.command.Reply.TheVariants.{Done, At, Refused}
 use Rattle.mig_base.specs.declared.message.Message.{Message}
 use Rattle.mig_base.specs.declared.message.Message.TheVariants.{Remap, Remove, Unmap}
 use Rattle.mig_base.specs.Ranges.{lesser, none_below, pages_of, rounded}
-use Rattle.mig_base.specs.Flat.{Memory, is_all_mapped, is_mapped, is_page_start, dontneed_reply, first_refusal, has_one_prot, munmap_reply, reply_of}
+use Rattle.mig_base.specs.Flat.{Memory, is_all_mapped, is_mapped, is_page_start, dontneed_reply, first_refusal, munmap_reply, reply_of}
 use Rattle.mig_base.proofs.BoundLemmas.{one_prot_some}
 use Rattle.mig_base.proofs.RangeLemmas.{none_below-from, none_below_tells}
-use Rattle.mig_base.proofs.ReplyLemmas.{done_passed, mmap_inside, mremap_told, munmap_whole, dontneed_done, dontneed_hole}
-use Rattle.mig_base.proofs.TestLemmas.{missing_none}
+use Rattle.mig_base.proofs.ReplyLemmas.{done_passed, mmap_inside, mremap_told}
 use Rattle.mig_model.specs.Host.{Host, IsSound, memory}
-use Rattle.mig_model.specs.Invariant.{IsRight}
 use Rattle.mig_model.specs.Space.{IsSoundSpace, Space, all_queued, call_messages, told}
 use Rattle.mig_model.specs.Userfault.{Noted, Object, is_registered, is_watched}
 use Rattle.mig_model.proofs.CalledLemmas.{IsLaid, remapped_laid}

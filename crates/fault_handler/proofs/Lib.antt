@@ -1,6 +1,9 @@
+pub mod CommandLemmas
+pub mod HandlerLemmas
 pub mod InsideLemmas
-mod KeptLemmas
-mod PackageLemmas
+pub mod InstallLemmas
+pub mod KeptLemmas
+pub mod PackageLemmas
 pub mod ReadyLemmas
 pub mod RequestLemmas
-mod TornLemmas
+pub mod TornLemmas

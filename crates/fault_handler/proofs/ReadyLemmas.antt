@@ -1,8 +1,10 @@
 -- What keeps the space of a destination ready: a command, a message that is read, and a page that is put.
 use Rattle.std.proofs.lemmas.Bool.Decides.{nat_tests}
-use Rattle.std.proofs.Common.{◌≡◌, ℕ, ◌<◌, Bool, true, false, cond, eqb, length, Option, Some, None, List, [], ◌∷◌, refl, sym, ap, ◌∙◌, subst, is_some, ◌⊎◌, inl, inr, arith}
+use Rattle.std.proofs.Common.{◌≡◌, ℕ, Bool, true, false, cond, eqb, length, Option, Some, None, List, [], ◌∷◌, refl, sym, ap, ◌∙◌, subst, arith}
 use Rattle.std.specs.FinMap as finmap
-use Rattle.std.specs.FinMap.{get}
+use Rattle.std.specs.FinMap.{get, get-remove}
+use Rattle.std.specs.Cmp.{nat_cmp_total, unsigned_tied}
+use Rattle.std.proofs.lemmas.Bool.{eqb-true}
 use Rattle.std.specs.FinSet.{contains}
 use Rattle.mig_base.specs.Bytes.{zero_page}
 use Rattle.mig_base.specs.Commands.{is_access}
@@ -12,21 +14,21 @@ use Rattle.mig_base.specs.declared.command.Access.TheVariants.{Answered, Missing
 use Rattle.mig_base.specs.declared.command.Command.{Command}
 use Rattle.mig_base.specs.declared.message.Message.{Message}
 use Rattle.mig_base.specs.declared.message.Message.TheVariants.{PageFault, Remap, Remove, Unmap}
-use Rattle.mig_model.specs.Guest.{Guest, is_forgotten, is_present, read_guest, space_by, zero_installed}
+use Rattle.mig_model.specs.Guest.{Guest, is_present, read_guest, space_by, zero_installed}
 use Rattle.mig_model.specs.Host.{memory}
-use Rattle.mig_model.specs.Invariant.{AreFaults, AreRight, IsFault}
+use Rattle.mig_model.specs.Invariant.{AreFaults, IsFault}
 use Rattle.mig_model.specs.Ioctls.{installed}
 use Rattle.mig_model.specs.Owed.{Owed, owed_table_after, settled_by}
 use Rattle.mig_model.specs.Space.{IsSoundSpace, Space, access_of, accessed_by, call_messages, modes_after}
-use Rattle.mig_model.specs.Userfault.{Noted, changing, message_read, next_message, next_of, waits_fault}
-use Rattle.mig_model.proofs.DestinationAct.{get-put_one, put-missing, put-unprotected}
-use Rattle.mig_model.proofs.Facts.{modes_events, none_absurd, some_is}
+use Rattle.mig_model.specs.Userfault.{Noted, changing, message_read, next_message, next_of}
+use Rattle.mig_model.proofs.DestinationAct.{put-missing, put-unprotected}
+use Rattle.mig_model.proofs.Facts.{modes_events, some_is}
 use Rattle.mig_model.proofs.FaultLemmas.{AreFaults-tried}
 use Rattle.mig_model.proofs.SettledLemmas.{settled_by-applied}
 use Rattle.mig_model.proofs.TriedLemmas as tried
 use Rattle.mig_model.proofs.TriedLemmas.{command_tries}
 use Rattle.guest.specs.Lent.{IsLent}
-use Rattle.fault_handler.specs.Order.{AreInside, IsInOrder, IsReady, LiesInside}
+use Rattle.fault_handler.specs.Order.{AreInside, IsReady}
 use Rattle.fault_handler.proofs.InsideLemmas.{called_inside, inside_queued}
 
 -- Commands
@@ -84,24 +86,6 @@ fault_read (Remap from to len) cpu faults events space owed fault lent ready = a
 fault_read (Remove start end) cpu faults events space owed fault lent ready = absurd fault
 fault_read (Unmap start end) cpu faults events space owed fault lent ready = absurd fault
 
--- what is read is a page fault, or an event whose pages lie in the address space
-pub next_lies : (space : Space) (owed : Owed) (noted : Noted) → next_message space.object ≡ Some noted → IsReady space owed → LiesInside noted.message
-next_lies space owed noted next ready = by space.object.faults space.object.events next ready.faults ready.inside
-  where
-    fault_lies : (message : Message) → IsFault message → LiesInside message
-    fault_lies (PageFault addr write wp tid) fault = tt
-    fault_lies (Remap from to len) fault = absurd fault
-    fault_lies (Remove start end) fault = absurd fault
-    fault_lies (Unmap start end) fault = absurd fault
-
-    by : (faults events : List Noted) → next_of faults events ≡ Some noted → AreFaults faults → AreInside events → LiesInside noted.message
-    by [] [] is faults inside = absurd (none_some is)
-      where
-        none_some : None ≡ Some noted → ⊥
-        none_some h = cc
-    by [] (first ∷ events) is faults inside = subst (λ n. LiesInside n.message) (some_is first noted is) inside.0
-    by (first ∷ rest) events is faults inside = subst (λ n. LiesInside n.message) (some_is first noted is) (fault_lies first.message faults.0)
-
 pub read_space : (guest : Guest) (cpu : ℕ) (message : Message) → (read_guest guest cpu message).space ≡ record guest.space { object = message_read guest.space.object }
 read_space guest cpu (PageFault addr write wp tid) = refl
 read_space guest cpu (Remap from to len) = refl
@@ -158,3 +142,52 @@ ready_put space owed now page bytes quiet left ready =
     settled_now : (events : List Noted) → length events ≡ 0 → (q : ℕ) → get now q ≡ settled_by events (get now) q
     settled_now [] none q = refl
     settled_now (noted ∷ events) none q = absurd (omega arith)
+
+-- a page that becomes zeros is owed from nowhere
+pub ready_zeroed : (space : Space) (owed : Owed) (page : ℕ) → changing space.object ≡ 0 → get owed page ≡ None → IsReady space owed → IsReady (zero_installed space page) owed
+ready_zeroed space owed page quiet nothing ready = ready_put space owed owed page zero_page quiet (λ q origin h. (other_page q origin h, h)) ready
+  where
+    some_none : (o : Option ℕ) (origin : ℕ) → o ≡ None → o ≡ Some origin → ⊥
+    some_none o origin none some = cc
+
+    other_page : (q origin : ℕ) → get owed q ≡ Some origin → eqb q page ≡ false
+    other_page q origin h = by (eqb q page) refl
+      where
+        by : (b : Bool) → eqb q page ≡ b → b ≡ false
+        by false is = refl
+        by true is = absurd (some_none (get owed page) origin nothing (ap (get owed) (sym (eqb-true q page is)) ∙ h))
+
+-- a page that is installed is owed no longer
+pub ready_installed : (space : Space) (owed : Owed) (page : ℕ) (bytes : List ℕ) → changing space.object ≡ 0 → IsReady space owed → IsReady (installed space page 1 (λ i. bytes) false) (finmap.remove owed page)
+ready_installed space owed page bytes quiet ready = ready_put space owed (finmap.remove owed page) page bytes quiet left ready
+  where
+    by : (b : Bool) (o : Option ℕ) (origin : ℕ) → cond b None o ≡ Some origin → (b ≡ false) × (o ≡ Some origin)
+    by b o origin h = grind arith
+
+    left : (q origin : ℕ) → get (finmap.remove owed page) q ≡ Some origin → (eqb q page ≡ false) × (get owed q ≡ Some origin)
+    left q origin h = by (eqb q page) (get owed q) origin (sym (get-remove nat_cmp_total owed page q ∙ ap (λ b. cond b None (get owed q)) (unsigned_tied q page)) ∙ h)
+
+-- What a message that is read leaves settled
+
+settled_after : (faults events : List Noted) (space : Space) (owed : Owed) (noted : Noted) (page : ℕ) → next_of faults events ≡ Some noted → AreFaults faults →
+    settled_by (message_read (with_queues faults events space).object).events (get (owed_table_after noted.message owed)) page ≡ settled_by events (get owed) page
+settled_after [] [] space owed noted page is are = absurd (none_some is)
+  where
+    none_some : None ≡ Some noted → ⊥
+    none_some h = cc
+settled_after [] (first ∷ events) space owed noted page is are =
+    subst (λ (n : Noted). settled_by events (get (owed_table_after n.message owed)) page ≡ settled_by (first ∷ events) (get owed) page) (some_is first noted is) (ap (λ f. f page) (settled_by-applied first events owed))
+settled_after (first ∷ faults) events space owed noted page is are =
+    subst (λ (n : Noted). settled_by events (get (owed_table_after n.message owed)) page ≡ settled_by events (get owed) page) (some_is first noted is) (same first.message are.0)
+  where
+    same : (message : Message) → IsFault message → settled_by events (get (owed_table_after message owed)) page ≡ settled_by events (get owed) page
+    same (PageFault addr write wp tid) fault = refl
+    same (Remap from to len) fault = absurd fault
+    same (Remove start end) fault = absurd fault
+    same (Unmap start end) fault = absurd fault
+
+pub settled_read : (guest : Guest) (owed : Owed) (noted : Noted) (page : ℕ) → next_message guest.space.object ≡ Some noted → IsReady guest.space owed →
+    settled_by (read_guest guest noted.cpu noted.message).space.object.events (get (owed_table_after noted.message owed)) page ≡ settled_by guest.space.object.events (get owed) page
+settled_read guest owed noted page next ready =
+    ap (λ (s : Space). settled_by s.object.events (get (owed_table_after noted.message owed)) page) (read_space guest noted.cpu noted.message)
+    ∙ settled_after guest.space.object.faults guest.space.object.events guest.space owed noted page next ready.faults

@@ -1,5 +1,5 @@
 -- What a destination looks at before it makes a step: why the step is refused, or what it is made with.
-use Rattle.std.specs.Prelude.{ℕ, not, nat_lt, Bool, if◌then◌else◌, Option, Result, Ok, Err, List, [], ◌∷◌}
+use Rattle.std.specs.Prelude.{ℕ, not, Bool, if◌then◌else◌, Option, Result, Ok, Err, List, [], ◌∷◌}
 use Rattle.mig_base.specs.Tests.{first_holding, is_empty}
 use Rattle.mig_base.specs.declared.refusal.Refusal.{Refusal}
 use Rattle.mig_model.specs.Destination.{Destination}

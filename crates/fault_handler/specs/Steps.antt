@@ -1,11 +1,11 @@
 -- What a call of a destination answers: what the machine's step of its name does in a world that has this destination.
-use Rattle.std.specs.Prelude.{◌≡◌, ◌⊎◌, Bool, true, false, List, ◌++◌, Ok, Err, IsOk}
+use Rattle.std.specs.Prelude.{◌≡◌, ◌⊎◌, List, Err, IsOk}
 use Rattle.mig_base.specs.declared.command.Entry.{Entry}
 use Rattle.mig_base.specs.declared.effect.Effect.{Effect}
 use Rattle.mig_base.specs.declared.refusal.Refusal.{Refusal}
 use Rattle.mig_base.specs.declared.schedule.Step.{Step}
 use Rattle.mig_model.specs.Destination.{Destination}
-use Rattle.mig_model.specs.Migration.{Answer, World, answer, destination_sends, first_world, made, outcome}
+use Rattle.mig_model.specs.Migration.{World, answer, destination_sends, first_world, made, outcome}
 use Rattle.mig_model.specs.Wire.{Frame}
 
 -- a world that has this destination, whose link is up, and in which nothing is in flight

@@ -1,6 +1,6 @@
 //! Copies that are installed.
 
-ghost use Rattle.std.specs.Prelude.{◌≡◌, ℕ, ◌*◌, false, [], ◌∷◌, List, if◌then◌else◌, ◌==◌, None, IfOk, IfErr, OnOk, OnErr};
+ghost use Rattle.std.specs.Prelude.{◌≡◌, ℕ, ◌*◌, false, [], ◌∷◌, List, Some, None, IfOk, IfErr, OnOk, OnErr};
 ghost use Rattle.mig_base.specs.declared.TheConstants.{PAGE_SIZE};
 ghost use Rattle.mig_base.specs.declared.effect.Effect as effects;
 ghost use Rattle.mig_base.specs.declared.schedule.Step.{Step};
@@ -32,7 +32,9 @@ impl Destination {
         ensures refused { IfErr result (λ refusal. IsRefused self.old Step.Install refusal) }
         ensures err { OnErr result (self.new ≡ self.old) }
 
-        // The same in the words of a reader: no page is installed over one that is present.
+        // The same in the words of a reader: a copy is installed at the page that its page of the source is owed at, which is owed nothing
+        // then, and never over a page that is present.
+        ensures pair { IfOk result (λ effect. (page origin : ℕ) → effect ≡ effects.Effect.Installed (PAGE_SIZE * page) (PAGE_SIZE * origin) → (settled self.old page ≡ Some origin) × (settled self.new page ≡ None)) }
         ensures missing { IfOk result (λ effect. (page origin : ℕ) → effect ≡ effects.Effect.Installed (PAGE_SIZE * page) (PAGE_SIZE * origin) → is_present self.old.guest.space page ≡ false) }
     {
         let origin = self.next_arrival()?;
@@ -43,6 +45,7 @@ impl Destination {
                 origin: page_address(origin),
             });
         };
+        self.space.is_in_order();
         let Ok(()) = put_first(&mut self.arrivals, &mut self.space, page) else {
             return Err(Refusal::NoMemory);
         };
