@@ -23,7 +23,7 @@ use Rattle.guest.specs.Lent.{IsLent}
 use Rattle.fault_handler.specs.Answers.{act_refusal, run_answer}
 use Rattle.fault_handler.specs.Order.{IsInOrder}
 use Rattle.fault_handler.specs.Steps.{IsMade, IsRefused, world_of}
-use Rattle.fault_handler.proofs.ReadyLemmas.{ready_read, ready_zeroed, settled_read}
+use Rattle.fault_handler.proofs.ReadyLemmas.{ready_read, ready_zeroed, settled_now, settled_read}
 
 -- a count of 64 bits
 pub counted_is : (count more : ℕ) → min (count + more) (2 ^ 64 - 1) ≡ counted count more
@@ -190,3 +190,19 @@ pub missing_at : (node was : Destination) (fault : Fault) (addr : ℕ) → was �
 missing_at node was fault addr same is at =
     subst (λ page. IsMissing was.guest.space was.owed page) (page_again fault.page addr (sym at))
     (zeroed_missing was.guest.space was.owed fault.page (ap (λ (n : Destination). destination_act n fault) same ∙ is))
+
+-- what is told of a page that has become zeros
+pub zeroed_told : (node : Destination) (fault : Fault) (effect : Effect) (page : ℕ) → changing node.guest.space.object ≡ 0 → effect ≡ act_effect (destination_act node fault) (4096 * fault.page) → effect ≡ Effect.Zeroed (4096 * page) →
+    (settled node page ≡ None) × (is_present node.guest.space page ≡ false)
+zeroed_told node fault effect page quiet is zeroed =
+    let told = by (destination_act node fault) (4096 * fault.page) (sym is ∙ zeroed) in
+    let same : fault.page ≡ page = let at = told.1 in omega (arith, at) in
+    let missing = subst (λ q. IsMissing node.guest.space node.owed q) same (zeroed_missing node.guest.space node.owed fault.page told.0) in
+    (settled_now node.guest.space.object.events (get node.owed) page quiet ∙ missing.nothing, missing.missing)
+  where
+    by : (act : machine.Act) (addr : ℕ) → act_effect act addr ≡ Effect.Zeroed (4096 * page) → (act ≡ machine.Act.Zeroed) × (addr ≡ 4096 * page)
+    by machine.Act.Unprotected addr h = absurd (let other : Effect.Unprotected addr ≡ Effect.Zeroed (4096 * page) = h in cc)
+    by machine.Act.Zeroed addr h = (refl, let same : Effect.Zeroed addr ≡ Effect.Zeroed (4096 * page) = h in cc)
+    by machine.Act.Woke addr h = absurd (let other : Effect.Woke addr ≡ Effect.Zeroed (4096 * page) = h in cc)
+    by machine.Act.Forgot addr h = absurd (let other : Effect.Forgot addr ≡ Effect.Zeroed (4096 * page) = h in cc)
+    by (machine.Act.Requested origin) addr h = absurd (let other : Effect.Requested (4096 * origin) addr ≡ Effect.Zeroed (4096 * page) = h in cc)

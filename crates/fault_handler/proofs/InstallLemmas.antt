@@ -21,7 +21,7 @@ use Rattle.mig_model.proofs.Facts.{eqb-self}
 use Rattle.fault_handler.specs.Answers.{install_answer}
 use Rattle.fault_handler.specs.Order.{IsInOrder, IsReady}
 use Rattle.fault_handler.specs.Steps.{IsMade, IsRefused, world_of}
-use Rattle.fault_handler.proofs.ReadyLemmas.{pairs_now, ready_installed}
+use Rattle.fault_handler.proofs.ReadyLemmas.{pairs_now, ready_installed, settled_now}
 
 -- The refusals
 
@@ -103,11 +103,6 @@ vacant space owed page origin sound quiet ready pair =
 
 pub installed_order : (has_run : Bool) (space new : Space) (owed now : Owed) (page : ℕ) (bytes : List ℕ) → changing space.object ≡ 0 → new ≡ installed space page 1 (λ i. bytes) false → now ≡ finmap.remove owed page → IsInOrder has_run space owed → IsInOrder has_run new now
 installed_order has_run space new owed now page bytes quiet is settles old = record { ready = λ run. rw (is, settles) (ready_installed space owed page bytes quiet (old.ready run)) }
-
--- where no event is unread what is settled is what the table has
-settled_now : (events : List Noted) (owed : ℕ → Option ℕ) (page : ℕ) → length events ≡ 0 → settled_by events owed page ≡ owed page
-settled_now [] owed page quiet = refl
-settled_now (noted ∷ events) owed page quiet = absurd (omega arith)
 
 without_it : (owed : Owed) (page : ℕ) → get (finmap.remove owed page) page ≡ None
 without_it owed page = get-remove nat_cmp_total owed page page ∙ ap (λ b. cond b None (get owed page)) (unsigned_tied page page ∙ eqb-self page)

@@ -113,6 +113,11 @@ ready_read guest owed noted next lent ready =
 
 -- Pages that are put
 
+-- where no event is unread what is settled is what the table has
+pub settled_now : (events : List Noted) (owed : ℕ → Option ℕ) (page : ℕ) → length events ≡ 0 → settled_by events owed page ≡ owed page
+settled_now [] owed page quiet = refl
+settled_now (noted ∷ events) owed page quiet = absurd (omega arith)
+
 -- the pairs of a space in which no event is unread
 pub pairs_now : (space : Space) (owed : Owed) (page origin : ℕ) → changing space.object ≡ 0 → IsReady space owed → get owed page ≡ Some origin → (contains space.object.missing page ≡ true) × (is_present space page ≡ false)
 pairs_now space owed page origin quiet ready h = by space.object.events quiet ready.pairs
@@ -134,14 +139,10 @@ ready_put space owed now page bytes quiet left ready =
       inside = ready.inside;
       faults = ready.faults;
       pairs = λ q origin h.
-          let was = left q origin (settled_now space.object.events quiet q ∙ h) in
+          let was = left q origin (sym (settled_now space.object.events (get now) q quiet) ∙ h) in
           let pair = pairs_now space owed q origin quiet ready was.1 in
           (pair.0, put-missing space page q bytes was.0 pair.1);
     }
-  where
-    settled_now : (events : List Noted) → length events ≡ 0 → (q : ℕ) → get now q ≡ settled_by events (get now) q
-    settled_now [] none q = refl
-    settled_now (noted ∷ events) none q = absurd (omega arith)
 
 -- a page that becomes zeros is owed from nowhere
 pub ready_zeroed : (space : Space) (owed : Owed) (page : ℕ) → changing space.object ≡ 0 → get owed page ≡ None → IsReady space owed → IsReady (zero_installed space page) owed

@@ -49,8 +49,7 @@ impl Requests {
         self.pages.contains(&origin)
     }
 
-    /// A page is asked for, and comes last unless it was asked for before; whether it is new. Out of memory changes nothing, and is for a
-    /// new page alone.
+    /// A page is asked for, and comes last unless it was asked for before; whether it is new. Out of memory changes nothing.
     pub fn add(&mut self, origin: PageNo) -> Result<bool, NoMemory>
         ensures new { IfOk result (λ is_new. is_new ≡ not (is_requested self.old origin)) }
         ensures ok { OnOk result (self.new ≡ requesting self.old origin) }

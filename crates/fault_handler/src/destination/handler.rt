@@ -1,11 +1,13 @@
 //! The handler of the destination: messages that are read, and faults that are resolved.
 
-ghost use Rattle.std.specs.Prelude.{◌≡◌, ℕ, ◌*◌, ◌<◌, ◌⊎◌, None, Some, [], ◌∷◌, List, map, option_to_list, IfOk, IfErr, OnOk, OnErr};
-ghost use Rattle.mig_base.specs.declared.TheConstants.{HIGH};
+ghost use Rattle.std.specs.Prelude.{◌≡◌, ℕ, ◌*◌, ◌<◌, ◌⊎◌, false, None, Some, [], ◌∷◌, List, map, option_to_list, IfOk, IfErr, OnOk, OnErr};
+ghost use Rattle.mig_base.specs.declared.TheConstants.{HIGH, PAGE_SIZE};
+ghost use Rattle.mig_base.specs.declared.effect.Effect as effects;
 ghost use Rattle.mig_base.specs.declared.refusal.Refusal.{Refusal};
 ghost use Rattle.mig_base.specs.declared.schedule.Step.{Step};
 ghost use Rattle.mig_model.specs.Destination.{act_frames, destination_act, settled};
 ghost use Rattle.mig_model.specs.Guest as machine;
+ghost use Rattle.mig_model.specs.Guest.{is_present};
 ghost use Rattle.mig_model.specs.Owed.{owed_table_after, requesting};
 ghost use Rattle.page_stream.specs.Frames.{frame_of};
 ghost use Rattle.fault_handler.specs.Acts.{act_is};
@@ -60,6 +62,9 @@ impl Destination {
         ensures made { IfOk result (λ told. IsMade self.old Step.DestAct told.0 (map frame_of (option_to_list told.1)) self.new) }
         ensures refused { IfErr result (λ refusal. IsRefused self.old Step.DestAct refusal) }
         ensures err { OnErr result (self.new ≡ self.old) }
+
+        // The same in the words of a reader: no page that is owed, or present, is made zeros.
+        ensures zeroed { IfOk result (λ told. (page : ℕ) → told.0 ≡ effects.Effect.Zeroed (PAGE_SIZE * page) → (settled self.old page ≡ None) × (is_present self.old.guest.space page ≡ false)) }
     {
         let (act, addr) = self.next_act()?;
         match act {

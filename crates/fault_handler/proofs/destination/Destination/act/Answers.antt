@@ -11,7 +11,7 @@ use Rattle.mig_model.specs.Userfault.{changing}
 use Rattle.mig_model.proofs.Facts.{page_again}
 use Rattle.fault_handler.specs.Acts.{act_is}
 use Rattle.fault_handler.specs.contracts.destination.Destination.{the_view}
-use Rattle.fault_handler.proofs.HandlerLemmas.{IsMissing, act_done, act_lacks, act_refused, requested_is, some_held, woken_is, missing_at, zeroed_is, zeroed_order}
+use Rattle.fault_handler.proofs.HandlerLemmas.{IsMissing, act_done, act_lacks, act_refused, requested_is, some_held, woken_is, missing_at, zeroed_is, zeroed_order, zeroed_told}
 use Rattle.fault_handler.proofs.destination.Destination.act.Goals as goal
 use Rattle.fault_handler.proofs.destination.Destination.act.Goals.{in-Zeroed+in-Ok, in-Woke}
 
@@ -87,3 +87,9 @@ returns-clause-made c =
         act_done c.args.self.now _ c.told-2.result [] h.fault h.rest act c.in_ok-act.ensures.accepted h.is (sym is ∙ next.0)
         (c.told-2.ensures ∙ ap (λ a. act_effect a c.in_ok-act.addr) is ∙ ap (λ addr. act_effect act addr) next.1) sent
         (woken_is c.args.self.now (the_view c.match-act.self-inside) c.wake_span.new.self c.pop_front-2.new.self.items c.in_ok-act.addr h.fault.page act same next.1 c.wake_span.ensures c.pop_front-2.ensures.rest which)
+
+pub returns-clause-zeroed : goal.returns-clause-zeroed
+returns-clause-zeroed c page is =
+    let h = some_held c.args.self.now c.in_ok-act.ensures.accepted in
+    let next = c.in_ok-act.ensures.act h.fault h.rest h.is in
+    zeroed_told c.args.self.now h.fault c.told-2.result page h.quiet (c.told-2.ensures ∙ ap (λ addr. act_effect (act_is c.in_ok-act.act) addr) next.1 ∙ ap (λ act. act_effect act (4096 * h.fault.page)) next.0) is
