@@ -83,8 +83,8 @@ pub fn run_of(set: &PageSet, from: PageNo, end: PageNo, want: bool) -> (PageNo, 
     ensures before { (q : ℕ) → from ≤ q → q < result.0 → contains set.now q ≡ not want }
     ensures inside { (q : ℕ) → result.0 ≤ q → q < result.1 → contains set.now q ≡ want }
 {
-    let start = set.next(from, want).min(end);
-    let stop = set.next(start, !want).min(end);
+    let start = set.next_before(from, want, end);
+    let stop = set.next_before(start, !want, end);
     (start, stop)
 }
 
@@ -93,7 +93,7 @@ pub fn has_all(set: &PageSet, first: PageNo, count: u32, asked: bool) -> bool
     requires { first + count ≤ HIGH_PAGE }
     ensures { result ≡ is_every (λ page. not asked || contains set.now page) first count }
 {
-    !asked || set.next(first, false) >= first + count
+    !asked || set.next_before(first, false, first + count) >= first + count
 }
 
 /// Whether a set has all pages of a range, or none of them.
@@ -101,5 +101,5 @@ pub fn is_one_run(set: &PageSet, first: PageNo, count: u32) -> bool
     requires { first + count ≤ HIGH_PAGE }
     ensures { result ≡ is_every (λ page. same_bool (contains set.now first) (contains set.now page)) first count }
 {
-    set.next(first, !set.contains(first)) >= first + count
+    set.next_before(first, !set.contains(first), first + count) >= first + count
 }

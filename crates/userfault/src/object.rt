@@ -137,7 +137,8 @@ impl Userfault {
         ensures { result ≡ is_watched self.now first count }
     {
         let end = first + count;
-        self.missing.next(first, true) < end || self.protect.next(first, true) < end
+        self.missing.next_before(first, true, end) < end
+            || self.protect.next_before(first, true, end) < end
     }
 
     /// Whether each of the `count` pages from `first` on has all modes asked for.

@@ -8,4 +8,4 @@ returns-then-not-asked c = every_unasked c.args.asked (contains c.args.set.now) 
 
 pub returns-else-not-asked : goal.returns-else-not-asked
 returns-else-not-asked c =
-    every_asked c.args.asked (contains c.args.set.now) c.args.first c.args.count c.next.result c.if-not-asked.false c.next.ensures.range.0 c.next.ensures.before (λ l. c.next.ensures.here (omega arith))
+    every_asked c.args.asked (contains c.args.set.now) c.args.first c.args.count c.next_before.result c.if-not-asked.false c.next_before.ensures.range.0 c.next_before.ensures.before (λ l. c.next_before.ensures.here (omega arith))
