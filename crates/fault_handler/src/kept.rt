@@ -12,6 +12,7 @@ ghost use Rattle.mig_model.specs.Faults as machine;
 ghost use Rattle.mig_model.specs.Wire.{kept_with, run_copies};
 
 use area_map::AreaMap;
+use mig_base::flags::REGISTER_MISSING_BIT;
 use mig_base::{HIGH_PAGE, NoMemory, PAGE_BYTES, PageNo, PageSet};
 use page_table::PageTable;
 use std::alloc::Global;
@@ -20,7 +21,7 @@ use std::mem;
 use uffd_ioctl::Space;
 
 /// The word of flags of UFFDIO_REGISTER for missing faults.
-const MISSING_MODE: u64 = 1 << mig_base::flags::REGISTER_MISSING_BIT;
+const MISSING_MODE: u64 = 1 << REGISTER_MISSING_BIT;
 
 /// The newest copy of each page that has come.
 ///
