@@ -1,5 +1,5 @@
 -- What the machine makes of a copy that has arrived.
-use Rattle.std.proofs.Common.{◌≡◌, ℕ, ◌*◌, Bool, true, false, not, ◌||◌, Option, Some, None, List, [], ◌∷◌, refl, sym, ap, ◌∙◌, cond, eqb, drop, length, inl, inr, arith}
+use Rattle.std.proofs.Common.{◌≡◌, ℕ, ◌*◌, Bool, true, false, not, ◌||◌, Option, Some, None, List, [], ◌∷◌, refl, sym, ap, ◌∙◌, cond, eqb, drop, inl, inr, arith}
 use Rattle.std.specs.Prelude.{Ok, Err, IsOk}
 use Rattle.std.specs.Cmp.{nat_cmp_total, unsigned_tied}
 use Rattle.std.specs.FinMap as finmap
@@ -13,9 +13,9 @@ use Rattle.mig_model.specs.Destination.{Destination, copy_dropped, install_by, i
 use Rattle.mig_model.specs.Guest.{counted, is_forgotten, is_present}
 use Rattle.mig_model.specs.Ioctls.{installed}
 use Rattle.mig_model.specs.Migration.{install_effect, outcome, unless}
-use Rattle.mig_model.specs.Owed.{Owed, home, settled_by, without_request}
+use Rattle.mig_model.specs.Owed.{Owed, home, without_request}
 use Rattle.mig_model.specs.Space.{IsSoundSpace, Space}
-use Rattle.mig_model.specs.Userfault.{Noted, changing}
+use Rattle.mig_model.specs.Userfault.{changing}
 use Rattle.mig_model.specs.Wire.{Copy}
 use Rattle.mig_model.proofs.Facts.{eqb-self}
 use Rattle.fault_handler.specs.Answers.{install_answer}

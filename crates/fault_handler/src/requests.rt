@@ -1,6 +1,6 @@
 //! The pages of the source that a destination has asked for.
 
-ghost use Rattle.std.specs.Prelude.{◌≡◌, [], not, IfOk, OnOk, OnErr};
+ghost use Rattle.std.specs.Prelude.{◌≡◌, false, [], not, IfOk, OnOk, OnErr};
 ghost use Rattle.mig_model.specs.Owed.{is_requested, requesting, without_request};
 
 use indexmap::IndexSet;
@@ -49,11 +49,13 @@ impl Requests {
         self.pages.contains(&origin)
     }
 
-    /// A page is asked for, and comes last unless it was asked for before; whether it is new. Out of memory changes nothing.
+    /// A page is asked for, and comes last unless it was asked for before; whether it is new. Out of memory changes nothing, and is for a
+    /// new page alone.
     pub fn add(&mut self, origin: PageNo) -> Result<bool, NoMemory>
         ensures new { IfOk result (λ is_new. is_new ≡ not (is_requested self.old origin)) }
         ensures ok { OnOk result (self.new ≡ requesting self.old origin) }
         ensures err { OnErr result (self.new ≡ self.old) }
+        ensures absent { OnErr result (is_requested self.old origin ≡ false) }
     {
         let is_new = self.pages.insert(origin)?;
         Ok(is_new)

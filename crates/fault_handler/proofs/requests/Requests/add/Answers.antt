@@ -1,4 +1,5 @@
-use Rattle.std.proofs.Common.{not, ap, ◌∙◌, subst, ◌≡◌}
+use Rattle.std.proofs.Common.{sym, not, ap, ◌∙◌, subst, ◌≡◌}
+use Rattle.std.proofs.lemmas.Result.{err_from_is_err_and}
 use Rattle.mig_model.specs.Owed.{is_requested, requesting}
 use Rattle.fault_handler.proofs.RequestLemmas.{same_requested, same_requesting}
 use Rattle.fault_handler.proofs.requests.Requests.add.Goals as goal
@@ -8,3 +9,8 @@ returns-clause-new c = subst (λ pages. c.in_ok-is_new.is_new ≡ not (is_reques
 
 pub returns-clause-ok : goal.returns-clause-ok
 returns-clause-ok c = subst (λ pages. c.insert.new.self.keys ≡ requesting pages c.args.origin) c.self.view_is (c.in_ok-is_new.ensures.keys ∙ same_requesting c.self.inside.pages.keys c.args.origin)
+
+pub returns-in_err-is_new-clause-absent : goal.returns-in_err-is_new-clause-absent
+returns-in_err-is_new-clause-absent c =
+    let p = err_from_is_err_and c.from_residual.result c.from_residual.ensures.1 in
+    rw p.1 (ap (λ pages. is_requested pages c.args.origin) (sym c.self.view_is) ∙ sym (same_requested c.self.inside.pages.keys c.args.origin) ∙ c.in_err-is_new.ensures.absent)
