@@ -2,4 +2,5 @@ pub mod PageLemmas
 pub mod SpaceLemmas
 pub mod SendLemmas
 pub mod HandlerLemmas
+pub mod RoundLemmas
 pub mod KeptLemmas

@@ -35,7 +35,7 @@ use Rattle.dirty_log.specs.declared.sent.Sent.{Sent}
 
 -- A call that is not refused
 
-none_unread : (count : ℕ) → ltb 0 count ≡ false → count ≡ 0
+pub none_unread : (count : ℕ) → ltb 0 count ≡ false → count ≡ 0
 none_unread count h = grind (arith, nat_tests)
 
 two_told : {A : Type 0} (a b : Bool) (x y : A) → first_holding ((a, x) ∷ (b, y) ∷ []) ≡ None → (a ≡ false) × (b ≡ false)

@@ -1,5 +1,6 @@
 pub mod Codes
 pub mod Spaces
+pub mod Rounds
 pub mod Sending
 pub mod Acts
 pub mod Answers

@@ -8,7 +8,7 @@ mod rounds;
 
 use crate::sets::subtract;
 use guest::Fault;
-use mig_base::{NoMemory, PageSet};
+use mig_base::{NoMemory, PageNo, PageSet};
 use std::alloc::Global;
 use std::collections::VecDeque;
 use std::marker::Model;
@@ -23,6 +23,8 @@ pub struct DirtyLog {
     alloc: Global,
     clean: PageSet,
     todo: PageSet,
+    /// No page of `todo` lies below: the next one is looked for from here on.
+    from: PageNo,
     sent: PageSet,
     held: VecDeque<Fault>,
 }
@@ -30,12 +32,15 @@ pub struct DirtyLog {
 impl Model for DirtyLog {
     ghost use Rattle.mig_model.specs.Log as machine;
     ghost use Rattle.dirty_log.specs.Codes.{coded_log};
+    ghost use Rattle.dirty_log.specs.Rounds.{HasComeTo};
 
     ghost Value = { machine.Log };
 
     ghost coded = { coded_log };
 
     ghost view = { λ log. record { clean = log.clean; todo = log.todo; sent = log.sent; held = log.held.items } };
+
+    ghost invariant = { λ log. HasComeTo log.todo log.from };
 }
 
 impl DirtyLog {
@@ -47,6 +52,7 @@ impl DirtyLog {
             alloc,
             clean: PageSet::new(alloc),
             todo: PageSet::new(alloc),
+            from: 0,
             sent: PageSet::new(alloc),
             held: VecDeque::new(alloc),
         }
@@ -95,6 +101,7 @@ impl DirtyLog {
     {
         self.clean = PageSet::new(self.alloc);
         self.todo = PageSet::new(self.alloc);
+        self.from = 0;
         self.sent = PageSet::new(self.alloc);
     }
 

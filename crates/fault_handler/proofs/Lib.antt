@@ -1,1 +1,10 @@
+pub mod CommandLemmas
+pub mod HandlerLemmas
+pub mod InsideLemmas
+pub mod InstallLemmas
+pub mod KeptLemmas
+pub mod PackageLemmas
+pub mod ReadyLemmas
+pub mod RequestLemmas
+pub mod TornLemmas
 pub mod WorldLemmas

@@ -1,9 +1,12 @@
 //! Copies that have arrived, and wait to be installed.
 
 ghost use Rattle.std.specs.Prelude.{◌≡◌};
+ghost use Rattle.mig_base.specs.Bytes.{zero_page};
+ghost use Rattle.fault_handler.specs.Arrivals.{bytes_of};
 
 use mig_base::{PAGE_BYTES, PageNo};
 use std::marker::Model;
+use std::mem::replace;
 
 /// What a copy has: the box of bytes that came, or none where all are zeros.
 pub type Content = Option<Box<[u8; PAGE_BYTES]>>;
@@ -25,4 +28,35 @@ impl Model for Arrival {
     ghost coded = { coded_copy };
 
     ghost view = { λ arrival. record { page = arrival.page; bytes = bytes_of arrival.content } };
+}
+
+impl Arrival {
+    /// A copy of a page.
+    pub fn new(page: PageNo, content: Content) -> Self
+        ensures { result ≡ record { page = page; bytes = bytes_of content } }
+    {
+        Arrival { page, content }
+    }
+
+    /// The page at the source.
+    pub fn page(&self) -> PageNo
+        ensures { result ≡ self.now.page }
+    {
+        self.page
+    }
+
+    /// Moves the content out, and leaves zeros.
+    pub fn take(&mut self) -> Content
+        ensures content { bytes_of result ≡ self.old.bytes }
+        ensures left { self.new ≡ record self.old { bytes = zero_page } }
+    {
+        replace(&mut self.content, None)
+    }
+
+    /// Puts content back that was moved out.
+    pub fn put_back(&mut self, content: Content)
+        ensures { self.new ≡ record self.old { bytes = bytes_of content } }
+    {
+        self.content = content;
+    }
 }

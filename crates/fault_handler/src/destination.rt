@@ -8,6 +8,7 @@ mod commands;
 mod frames;
 mod handler;
 mod installs;
+mod laws;
 mod recovery;
 
 use crate::arrival::Arrival;

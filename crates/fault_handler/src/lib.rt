@@ -10,6 +10,7 @@
 //! destination, whose link is up (`specs/Steps.antt`), or as the same refusal, or want of memory, and nothing is changed.
 #![tactic(auto)]
 
+mod act;
 mod arrival;
 pub mod destination;
 mod kept;

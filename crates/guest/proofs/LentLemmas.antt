@@ -15,9 +15,9 @@ use Rattle.mig_base.specs.Flat.{reply_of}
 use Rattle.mig_base.proofs.BoundLemmas.{IsBounded, changed_bounded}
 use Rattle.mig_model.specs.Host.{Host, host_after, host_changed, memory}
 use Rattle.mig_model.specs.Userfault.{Noted, Object, message_read, read_by, waits_fault}
-use Rattle.mig_model.specs.Space.{Space, IsSoundSpace, accessed_by, all_queued, call_messages, called, modes_after}
+use Rattle.mig_model.specs.Space.{Space, IsSoundSpace, access_of, accessed_by, all_queued, call_messages, called, modes_after}
 use Rattle.mig_model.specs.Guest as machine
-use Rattle.mig_model.specs.Guest.{Fault, Guest, read_guest}
+use Rattle.mig_model.specs.Guest.{Guest, read_guest, space_by}
 use Rattle.mig_base.specs.declared.command.Errno.{Errno}
 use Rattle.mig_model.specs.Ioctls as ioctls
 use Rattle.mig_model.specs.Ioctls.{has_events, left_by}
@@ -128,3 +128,9 @@ call_lent space cpu command sound lent =
     let after : IsBounded (memory (host_after space.host command)) =
     λ addr out. ap (λ m. m addr) (memory-changed space.host command reply sound.host refl) ∙ changed_bounded (memory space.host) command reply (bounded space sound lent) refl addr out in
     still_lent space _ lent (record { enabled = queued.enabled ∙ modes.enabled; features = queued.features ∙ modes.features }) (λ page l. bounded_low (host_after space.host command) page after l)
+
+-- Commands
+
+pub space_lent : (access : Bool) (space : Space) (cpu : ℕ) (command : Command) → is_access command ≡ access → IsSoundSpace space → IsLent space → IsLent (space_by access space cpu command)
+space_lent true space cpu command is sound lent = access_lent (access_of space command) space cpu command is lent
+space_lent false space cpu command is sound lent = call_lent space cpu command sound lent

@@ -144,8 +144,11 @@ fn send_run(
 /// Makes a call that changes no space.
 fn asked(log: &mut DirtyLog, space: &Space, cpus: &Cpus, call: Call) -> Result<Answer, Refusal> {
     match call {
-        Call::Plan => match log.plan(space) {
-            Ok(()) => Ok(Answer::Done),
+        Call::Plan => match log.dirty(space) {
+            Ok(todo) => {
+                log.begin_round(todo);
+                Ok(Answer::Done)
+            }
             Err(NoMemory) => Err(Refusal::NoMemory),
         },
         Call::Discarded => match log.discarded() {
@@ -345,6 +348,49 @@ const ROUNDS: [(Call, Result<Answer, Refusal>); 36] = [
 #[test]
 fn pages_are_sent_and_written_again(rt: HostRuntime) -> Result<(), Fail> {
     play(&rt, rt.alloc(), &ROUNDS)
+}
+
+/// A page that is sent out of its turn does not hide those below it, and a new round begins at its least page.
+const OUT_OF_TURN: [(Call, Result<Answer, Refusal>); 18] = [
+    (
+        Call::Issue(
+            1,
+            Command::Mmap {
+                addr_len: 0x4000,
+                prot: Prot::ReadWrite,
+                place: Place::Anywhere,
+            },
+        ),
+        Ok(Answer::Answered(Reply::At(0x10000))),
+    ),
+    (Call::Issue(0, STORE_10), Ok(Answer::Answered(Reply::Done))),
+    (Call::Issue(0, STORE_11), Ok(Answer::Answered(Reply::Done))),
+    (Call::Issue(0, STORE_12), Ok(Answer::Answered(Reply::Done))),
+    (Call::Register, Ok(Answer::Done)),
+    (Call::Plan, Ok(Answer::Done)),
+    (Call::Send(0x11), Ok(Answer::Sent(0x11, Some(2)))),
+    (Call::SendNext, Ok(Answer::Sent(0x10, Some(1)))),
+    (Call::Send(0x10), Ok(Answer::Sent(0x10, Some(1)))),
+    (Call::SendNext, Ok(Answer::Sent(0x12, None))),
+    (Call::SendNext, Ok(Answer::Nothing)),
+    (Call::Issue(0, STORE_AGAIN), Ok(Answer::Asleep)),
+    (
+        Call::Read,
+        Ok(Answer::Told(Effect::ReadFault {
+            addr: 0x10000,
+            wp: true,
+        })),
+    ),
+    (Call::Act, Ok(Answer::Acted(Act::Unprotected, 0x10000))),
+    (Call::SendNext, Ok(Answer::Nothing)),
+    (Call::Plan, Ok(Answer::Done)),
+    (Call::SendNext, Ok(Answer::Sent(0x10, Some(1)))),
+    (Call::SendNext, Ok(Answer::Nothing)),
+];
+
+#[test]
+fn the_next_page_is_the_least(rt: HostRuntime) -> Result<(), Fail> {
+    play(&rt, rt.alloc(), &OUT_OF_TURN)
 }
 
 /// Faults that are held are given up at a switch.

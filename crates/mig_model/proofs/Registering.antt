@@ -89,7 +89,7 @@ registered_twice space one two mode =
 
 -- Registered where no page passes
 
-past_none : (low here : Bool) → (here ≡ true → low ≡ true) → (low && here) ≡ here
+pub past_none : (low here : Bool) → (here ≡ true → low ≡ true) → (low && here) ≡ here
 past_none low here h = grind (arith, nat_tests)
 
 never : (held protect all : Bool) → (held && (protect || all || not false)) ≡ held

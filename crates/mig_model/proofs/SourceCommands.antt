@@ -31,7 +31,7 @@ use Rattle.mig_model.proofs.WorldLemmas.{entry_of, flat_after, holds_after}
 
 -- Loads and stores that are answered
 
-present_after : (host : Host) (command : Command) (reply : Reply) (page : ℕ) → is_access command ≡ true → contains_key host.bytes page ≡ true → contains_key (host_changed host command reply).bytes page ≡ true
+pub present_after : (host : Host) (command : Command) (reply : Reply) (page : ℕ) → is_access command ≡ true → contains_key host.bytes page ≡ true → contains_key (host_changed host command reply).bytes page ≡ true
 present_after host command reply page access h = grind (arith, nat_tests, get-put)
 
 never_answered : (missing protect : Bool) (reply other : Reply) → protect ≡ true → cond missing Missing (cond protect Protected (Answered reply)) ≡ Answered other → ⊥

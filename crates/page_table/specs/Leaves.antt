@@ -1,5 +1,5 @@
 -- Leaves of 1024 pages each, and what they say of a page.
-use Rattle.std.specs.Prelude.{ℕ, ◌+◌, ◌-◌, ◌/◌, ◌%◌, ◌&&◌, not, if◌then◌else◌, Bool, false, List, Option, Some, None, slice_index_or}
+use Rattle.std.specs.Prelude.{ℕ, ◌+◌, ◌-◌, ◌/◌, ◌%◌, ◌&&◌, not, if◌then◌else◌, Bool, false, List, [], Option, Some, None, length, slice_index_or}
 use Rattle.std.specs.Option.{option_map}
 use Rattle.std.specs.FinSet.{contains}
 use Rattle.std.specs.declared.boxed.Box.{Box}
@@ -53,3 +53,8 @@ written_cell cell offset bytes = (option_map (λ held. overwrite held offset byt
 abbrev pub moved_cell : (ℕ → Cell) → ℕ → ℕ → ℕ → ℕ → Cell
 moved_cell cells from to count q =
     if in_range to count q then cells (from + (q - to)) else if in_range from count q then no_cell else cells q
+
+-- the cells after the pages from one on were given bytes
+abbrev pub put_cell : (ℕ → Cell) → ℕ → List (List ℕ) → ℕ → Cell
+put_cell cells first run q =
+    if in_range first (length run) q then (Some (slice_index_or run (q - first) []), false) else cells q

@@ -5,8 +5,8 @@
 //!
 //! The crate deliberately knows no more. It has no mapping (whether an access is permitted), no registration (who is told of
 //! a missing page or of a store to a protected one) and no messages (how a page gets from one host to another). A missing
-//! page becomes present by [`PageTable::put`], [`PageTable::put_zero`] or [`PageTable::move_range`] alone, and
-//! [`PageTable::write`] changes bytes whether the page is protected or not: the callers keep these rules.
+//! page becomes present by [`PageTable::put`], [`PageTable::put_zero`], [`PageTable::put_run`] or [`PageTable::move_range`] alone,
+//! and [`PageTable::write`] changes bytes whether the page is protected or not: the callers keep these rules.
 //!
 //! Contracts see a table as the record `Pages` of `specs/Views.antt`: `bytes`, a finite map from present pages to their
 //! bytes, and `protected`, a finite set of present pages. The same file says what the representation shows; the words for

@@ -3,16 +3,17 @@
 ghost use Rattle.std.specs.Prelude.{◌≡◌, ℕ, ◌+◌, ◌-◌, ◌/◌, ◌%◌, ◌<◌, ◌≤◌, ◌⊎◌, Bool, true, false, nat_eq, if◌then◌else◌, None, OnOk, IfOk, is_some, length, slice_index_or};
 ghost use Rattle.std.specs.FinSet.{contains};
 ghost use Rattle.std.specs.Option.{option_copied};
+ghost use Rattle.mig_base.specs.Bytes.{boxed_bytes};
 ghost use Rattle.mig_base.specs.Ranges.{in_range};
 ghost use Rattle.mig_base.specs.declared.TheConstants.{HIGH_PAGE, PAGE_SIZE};
 ghost use Rattle.mig_base.specs.declared.chunk.TheConstants.{CHUNKS};
 ghost use Rattle.page_table.specs.Bytes.{IsWhole, bytes_of};
-ghost use Rattle.page_table.specs.Leaves.{Cell, cell_at, has_place, no_cell, with_protection, written_cell, moved_cell};
+ghost use Rattle.page_table.specs.Leaves.{Cell, cell_at, has_place, no_cell, with_protection, written_cell, moved_cell, put_cell};
 
 use crate::leaf::{Page, Place};
 use crate::place::{
-    place_clear, place_gather, place_get, place_is_protected, place_make, place_protect, place_put,
-    place_take, place_write,
+    has_page_size, place_clear, place_gather, place_get, place_is_protected, place_make,
+    place_protect, place_put, place_take, place_write,
 };
 use mig_base::chunk::CHUNK;
 use mig_base::page_set::PageSet;
@@ -173,6 +174,20 @@ pub fn move_cells(places: &mut Vec<Place>, from: PageNo, to: PageNo, count: u32)
     for i in 0..count {
         let (bytes, protected) = take_at(places, from + i);
         put_at(places, to + i, bytes, protected);
+    }
+}
+
+/// Gives the pages from `first` on, which have their leaves, the bytes of the boxes, the last page first. None is protected afterwards.
+pub fn put_cells(places: &mut Vec<Place>, first: PageNo, mut run: Vec<Box<[u8; PAGE_BYTES]>>)
+    requires inside { first + length run.items ≤ HIGH_PAGE }
+    requires there { (q : ℕ) → first ≤ q → q < first + length run.items → has_place places.old.items q ≡ true }
+    ensures put { (q : ℕ) → cell_at places.new.items q ≡ put_cell (cell_at places.old.items) first (boxed_bytes run.items) q }
+    ensures size { length places.new.items ≡ length places.old.items }
+{
+    while let Some(bytes) = run.pop() {
+        has_page_size(&bytes);
+        let page = first + run.len() as u32;
+        put_at(places, page, Some(bytes), false);
     }
 }
 

@@ -13,8 +13,7 @@ use Rattle.mig_model.specs.Log.{Log}
 use Rattle.mig_model.specs.Migration.{outcome, try_effect, unless}
 use Rattle.mig_model.specs.Source.{Source, space_of}
 use Rattle.mig_model.specs.Space.{IsSoundSpace, Space, access_of}
-use Rattle.guest.specs.Lent.{IsLent}
-use Rattle.guest.proofs.LentLemmas.{access_lent, call_lent}
+use Rattle.guest.proofs.LentLemmas.{space_lent}
 use Rattle.dirty_log.specs.Spaces.{AreProtected}
 use Rattle.dirty_log.proofs.KeptLemmas.{access_kept, call_kept}
 use Rattle.guest.specs.Answers.{IsOutstanding, issue_refusal, retry_refusal, took_in}
@@ -23,10 +22,6 @@ use Rattle.precopy.specs.Steps.{IsRefused, IsTried}
 use Rattle.precopy.proofs.TodoLemmas.{access_todo, call_todo}
 
 -- The space after a command
-
-space_lent : (access : Bool) (space : Space) (cpu : ℕ) (command : Command) → is_access command ≡ access → IsSoundSpace space → IsLent space → IsLent (space_by access space cpu command)
-space_lent true space cpu command is sound lent = access_lent (access_of space command) space cpu command is lent
-space_lent false space cpu command is sound lent = call_lent space cpu command sound lent
 
 space_kept : (access : Bool) (log : Log) (space : Space) (cpu : ℕ) (command : Command) → is_access command ≡ access → IsSoundSpace space → AreProtected log space → AreProtected log (space_by access space cpu command)
 space_kept true log space cpu command is sound kept = access_kept (access_of space command) log space cpu command kept

@@ -14,7 +14,7 @@ use Rattle.mig_base.specs.declared.refusal.Refusal.{Refusal}
 use Rattle.mig_base.specs.declared.schedule.Step.{Step}
 use Rattle.mig_model.specs.Userfault.{Noted, changing, next_message}
 use Rattle.mig_model.specs.Guest as machine
-use Rattle.mig_model.specs.Guest.{Fault, Guest, counted, fault_count, read_guest}
+use Rattle.mig_model.specs.Guest.{Fault, Guest, fault_count}
 use Rattle.mig_model.specs.Log.{Log}
 use Rattle.mig_model.specs.Space.{Space}
 use Rattle.mig_model.specs.Migration.{act_effect, event_effect, outcome, read_effect, unless}
@@ -23,14 +23,12 @@ use Rattle.dirty_log.specs.Answers.{IsRefusedFor, act_refusal, read_answer}
 use Rattle.dirty_log.specs.Spaces.{source_of}
 use Rattle.dirty_log.specs.Acts.{act_is}
 use Rattle.dirty_log.specs.declared.act.Act.{Act}
+use Rattle.dirty_log.proofs.SendLemmas.{none_unread}
 use Rattle.precopy.specs.Answers.{run_answer}
 use Rattle.precopy.specs.Steps.{IsMade, IsRefused}
 
 some_is : (one other : Refusal) → Some one ≡ Some other → other ≡ one
 some_is one other is = cc
-
-none_left : (n : ℕ) → ltb 0 n ≡ false → n ≡ 0
-none_left n h = grind arith
 
 err_is : (one other : Refusal) → ◌≡◌ {A = Result Effect Refusal} (Err one) (Err other) → one ≡ other
 err_is one other is = cc
@@ -149,7 +147,7 @@ act_why node [] busy refusal runs is now (inr why) = absurd (let other : Some Re
 act_why node (fault ∷ rest) true refusal runs is now (inl why) = rw (some_is Refusal.Changing refusal why) (act_changing node fault rest runs is now)
 act_why node (fault ∷ rest) true refusal runs is now (inr why) = absurd (let other : Some Refusal.Changing ≡ None = why.0 in grind arith)
 act_why node (fault ∷ rest) false refusal runs is now (inl why) = absurd (let other : None ≡ Some refusal = why in grind arith)
-act_why node (fault ∷ rest) false refusal runs is now (inr why) = rw why.1 (act_lacks node fault rest runs is (none_left _ now))
+act_why node (fault ∷ rest) false refusal runs is now (inr why) = rw why.1 (act_lacks node fault rest runs is (none_unread _ now))
 
 pub act_stopped : (node : Source) (refusal : Refusal) → run_answer node ≡ Ok tt → IsRefusedFor (act_refusal node.log (space_of node)) refusal → IsRefused node Step.SourceAct refusal
 act_stopped node refusal runs why = act_why node node.log.held (ltb 0 (changing (space_of node).object)) refusal runs refl refl why

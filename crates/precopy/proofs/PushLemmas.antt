@@ -14,7 +14,7 @@ use Rattle.dirty_log.specs.Sending as log
 use Rattle.dirty_log.specs.declared.sent.Sent.{Sent}
 use Rattle.precopy.specs.Answers.{end_answer, next_count, push_answer, stop_answer, switch_answer}
 use Rattle.precopy.specs.Sending.{sent_effect}
-use Rattle.precopy.specs.Steps.{IsMade, IsMadeUrgently, IsRefused}
+use Rattle.precopy.specs.Steps.{IsMade, IsMadeUrgently, IsRefused, IsRefusedAs}
 use Rattle.precopy.proofs.StepLemmas.{effect_is}
 
 -- Push
@@ -87,13 +87,13 @@ served_by node page pages is asked = grind arith
 pub serve_done : (node new : Source) (page addr : ℕ) (pages : List ℕ) → stop_answer node ≡ Ok tt → node.asked ≡ page ∷ pages → addr ≡ 4096 * page → new ≡ request_served node pages → IsMade node Step.Serve (Effect.Asked addr) [] new
 serve_done node new page addr pages is asked same new_is = rw (same, new_is) (served_by node page pages is asked)
 
-pub serve_refused : (node : Source) (refusal : Refusal) → stop_answer node ≡ Err refusal → IsRefused node Step.Serve refusal
+pub serve_refused : (node : Source) (refusal : Refusal) → stop_answer node ≡ Err refusal → IsRefusedAs node Step.Serve refusal
 unfolding unless outcome
-serve_refused node refusal is = inl (grind arith)
+serve_refused node refusal is = grind arith
 
-pub serve_nothing : (node : Source) → stop_answer node ≡ Ok tt → node.asked ≡ [] → IsRefused node Step.Serve Refusal.NothingThere
+pub serve_nothing : (node : Source) → stop_answer node ≡ Ok tt → node.asked ≡ [] → IsRefusedAs node Step.Serve Refusal.NothingThere
 unfolding unless outcome
-serve_nothing node is asked = inl (grind arith)
+serve_nothing node is asked = grind arith
 
 -- End
 
@@ -104,6 +104,6 @@ ended_by node is = grind arith
 pub end_done : (node new : Source) (urgent : ℕ) → end_answer node ≡ Ok tt → urgent ≡ node.urgent_sent → new ≡ record node { end_epoch = node.epoch } → IsMade node Step.End Effect.EndSent (Frame.End urgent ∷ []) new
 end_done node new urgent is same new_is = rw (same, new_is) (ended_by node is)
 
-pub end_refused : (node : Source) (refusal : Refusal) → end_answer node ≡ Err refusal → IsRefused node Step.End refusal
+pub end_refused : (node : Source) (refusal : Refusal) → end_answer node ≡ Err refusal → IsRefusedAs node Step.End refusal
 unfolding unless outcome
-end_refused node refusal is = inl (grind arith)
+end_refused node refusal is = grind arith

@@ -1,10 +1,18 @@
--- A source that goes back to pre-copy is in order.
-use Rattle.std.proofs.Common.{◌≡◌, Bool, false, refl, sym, ◌∙◌}
+-- A source that goes back to pre-copy is in order; and what the machine makes of the source in a recovery.
+use Rattle.std.proofs.Common.{◌≡◌, ◌+◌, Bool, true, false, [], refl, sym, ◌∙◌, arith}
+use Rattle.std.specs.Prelude.{IfOk}
+use Rattle.std.specs.FinSet.{FinSet, len}
+use Rattle.std.specs.Ordering.{nat_cmp}
 use Rattle.std.proofs.lemmas.Bool.{false≢true, false_from_ne_true}
+use Rattle.mig_base.specs.declared.phase.Received.{Received}
 use Rattle.mig_base.specs.declared.phase.SourcePhase.{SourcePhase}
-use Rattle.mig_model.specs.Log.{Log, forgotten}
-use Rattle.mig_model.specs.Source.{is_released}
+use Rattle.mig_base.specs.declared.schedule.Side.{Side}
+use Rattle.mig_base.specs.declared.schedule.Step.{Step}
+use Rattle.mig_model.specs.Log.{Log, forgotten, present}
+use Rattle.mig_model.specs.Migration.{World, answer, unless}
+use Rattle.mig_model.specs.Source.{Source, is_released, source_took, space_of}
 use Rattle.mig_model.specs.Space.{Space}
+use Rattle.mig_model.specs.Wire.{Frame}
 use Rattle.dirty_log.proofs.KeptLemmas.{none_clean}
 use Rattle.precopy.specs.Order.{IsInOrder}
 use Rattle.precopy.proofs.TodoLemmas.{none_todo}
@@ -22,3 +30,23 @@ precopy_order phase switched space log now is forgot old =
       stopped = λ h. absurd (false≢true h);
       released = λ h. absurd (false≢true h);
     }
+
+-- In any world
+
+pub notice_in : (world : World) → IfOk (answer world (Step.Notice Side.Source)) (λ made. made.world.source ≡ record world.source { phase = SourcePhase.Paused })
+unfolding unless
+notice_in world = grind arith
+
+pub noticed_in : (world : World) → IfOk (answer world (Step.Notice Side.Source)) (λ made. is_released world.source.phase ≡ false)
+unfolding unless
+noticed_in world = grind arith
+
+pub resume_in : (world : World) → IfOk (answer world Step.Resume) (λ made. made.world.source ≡ record world.source { epoch = world.source.epoch + 1; urgent_sent = 0 })
+unfolding unless
+resume_in world = grind arith
+
+pub not_switched_in : (node : Source) (owed : FinSet nat_cmp) → node.switched ≡ false → source_took node (Frame.Recv Received.NotRun owed) ≡ record node { phase = SourcePhase.Precopy; asked = []; log = forgotten node.log }
+not_switched_in node owed h = rw h refl
+
+pub not_run_in : (node : Source) (owed : FinSet nat_cmp) → node.switched ≡ true → source_took node (Frame.Recv Received.NotRun owed) ≡ record node { phase = SourcePhase.Stopped; asked = []; remaining = present (space_of node); packaged = len (present (space_of node)) }
+not_run_in node owed h = rw h refl

@@ -2,7 +2,6 @@
 use Rattle.std.proofs.Common.{◌≡◌, ℕ, ◌+◌, ◌*◌, ◌<◌, true, false, not, ltb, None, [], ◌∷◌, length, refl, ap, ◌∙◌, inl, inr, arith}
 use Rattle.std.specs.Prelude.{Ok, Err}
 use Rattle.std.specs.FinSet.{contains}
-use Rattle.std.proofs.lemmas.Bool.Decides.{nat_tests}
 use Rattle.mig_base.specs.declared.effect.Effect.{Effect}
 use Rattle.mig_base.specs.declared.refusal.Refusal.{Refusal}
 use Rattle.mig_base.specs.declared.schedule.Step.{Step}
@@ -16,6 +15,7 @@ use Rattle.mig_model.specs.Migration.{outcome, run_bound, unless}
 use Rattle.mig_model.specs.Source.{Source, run_of, run_sent, space_of}
 use Rattle.mig_model.specs.Space.{Space}
 use Rattle.mig_model.specs.Wire.{Frame}
+use Rattle.mig_model.proofs.HandlerCalls.{some_bound}
 use Rattle.dirty_log.specs.Answers.{IsRefusedFor, send_refusal}
 use Rattle.dirty_log.specs.Spaces.{is_sendable}
 use Rattle.precopy.specs.Answers.{send_answer}
@@ -51,12 +51,9 @@ run_lacks node first count is = inr (refl, grind arith)
 
 -- Its pages
 
-bound_some : (count : ℕ) → 0 < run_bound count
-bound_some count = grind (arith, nat_tests)
-
 -- the first page is one of the run
 pub run_some : (node : Source) (first count : ℕ) → send_answer node ≡ Ok first → 0 < pages_from node first count
-run_some node first count is = run_length-some node.log.todo first (run_bound count) (least_below_tells (contains node.log.todo) HIGH_PAGE first (least_sent node first is)) (bound_some count)
+run_some node first count is = run_length-some node.log.todo first (run_bound count) (least_below_tells (contains node.log.todo) HIGH_PAGE first (least_sent node first is)) (some_bound count)
 
 all_sendable : (space : Space) (first pages : ℕ) → ((page : ℕ) → in_range first pages page ≡ true → is_sendable space page ≡ true) → is_every (is_sendable space) first pages ≡ true
 all_sendable space first pages each = none_below-from (λ i. not (is_sendable space (first + i))) pages (λ i l. ap not (each (first + i) (in_range-true first pages (first + i) (omega arith) (omega arith))))

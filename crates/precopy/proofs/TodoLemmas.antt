@@ -1,20 +1,15 @@
 -- Pages that are to be sent can be sent.
-use Rattle.std.proofs.Common.{◌≡◌, ℕ, ◌/◌, Bool, true, false, cond, not, ◌&&◌, Some, List, [], ◌∷◌, ◌++◌, is_some, refl, sym, ap, ◌∙◌, arith}
-use Rattle.std.specs.FinMap.{FinMap, insert, contains_key}
+use Rattle.std.proofs.Common.{◌≡◌, ℕ, Bool, true, false, cond, not, ◌&&◌, Some, List, [], ◌∷◌, ◌++◌, is_some, refl, sym, ap, ◌∙◌, arith}
 use Rattle.std.specs.FinSet.{contains}
-use Rattle.std.specs.Ordering.{nat_cmp}
 use Rattle.std.proofs.lemmas.Bool.Decides.{nat_tests}
-use Rattle.std.proofs.lemmas.Bool.{and_parts, and_from, or_parts, or_right, not-true, false≢true}
+use Rattle.std.proofs.lemmas.Bool.{and_parts, and_from, or_parts, or_right, not-true}
 use Rattle.mig_base.specs.Commands.{is_access}
 use Rattle.mig_base.specs.declared.command.Access.{Access}
 use Rattle.mig_base.specs.declared.command.Access.TheVariants.{Answered, Missing, Protected}
 use Rattle.mig_base.specs.declared.command.Command.{Command}
-use Rattle.mig_base.specs.declared.command.Command.TheVariants.{Load, Store}
-use Rattle.mig_base.specs.declared.command.Reply.{Reply}
-use Rattle.mig_base.specs.declared.command.Reply.TheVariants.{Done}
 use Rattle.mig_base.specs.Flat.{reply_of}
 use Rattle.mig_base.proofs.SetLemmas.{member_without}
-use Rattle.mig_model.specs.Host.{Host, host_changed, memory}
+use Rattle.mig_model.specs.Host.{memory}
 use Rattle.mig_model.specs.Userfault.{Noted, Object, next_message, read_by, waits_fault}
 use Rattle.mig_model.specs.Space.{Space, IsSoundSpace, accessed_by, all_queued, call_messages, called, modes_after}
 use Rattle.mig_model.specs.Guest as machine
@@ -24,9 +19,9 @@ use Rattle.mig_model.specs.Ioctls.{protected_in}
 use Rattle.mig_model.specs.Log.{Log, log_read, log_run_sent, no_pages}
 use Rattle.mig_model.specs.Source.{Source, all_registered, source_acted_by, space_of}
 use Rattle.mig_model.proofs.IoctlLemmas.{get-put_pages}
-use Rattle.mig_model.proofs.HostLemmas.{get-put}
 use Rattle.mig_model.proofs.Facts.{modes_events, queued_protect}
 use Rattle.mig_model.proofs.SourceCalls.{untouched}
+use Rattle.mig_model.proofs.SourceCommands.{present_after}
 use Rattle.mig_model.proofs.SourceKept.{no_page_absurd}
 use Rattle.mig_model.proofs.SourceMessages.{events_queued, is_unread-append, noted_all, tells}
 use Rattle.mig_model.proofs.SourceRounds.{mapped_registered, present_mapped}
@@ -70,9 +65,6 @@ read_todo log guest noted next kept page h u =
 
 -- Faults
 
-put_present : (pages : FinMap nat_cmp (List ℕ)) (page q : ℕ) (bytes : List ℕ) → contains_key pages q ≡ true → contains_key (insert pages page bytes) q ≡ true
-put_present pages page q bytes h = grind (arith, nat_tests, get-put)
-
 zeroed_sendable : (space : Space) (page q : ℕ) → is_sendable space q ≡ true → is_sendable (zero_installed space page) q ≡ true
 zeroed_sendable space page q h = grind (arith, nat_tests, get-put_pages)
 
@@ -85,12 +77,6 @@ acted_todo (machine.Act.Requested origin) node page kept = kept
 
 -- Commands of processors
 
-changed_present : (host : Host) (command : Command) (reply : Reply) (page : ℕ) → is_access command ≡ true → contains_key host.bytes page ≡ true → contains_key (host_changed host command reply).bytes page ≡ true
-changed_present host (Load addr width) reply page access h = h
-changed_present host (Store addr width value) Done page access h = put_present host.bytes (addr / 4096) page _ h
-changed_present host (Store addr width value) _ page access h = h
-changed_present host _ reply page access h = absurd (false≢true access)
-
 same_protect : (waits : Bool) (object new : Object) → new.protect ≡ object.protect → (cond waits object new).protect ≡ object.protect
 same_protect true object new h = refl
 same_protect false object new h = h
@@ -98,7 +84,7 @@ same_protect false object new h = h
 pub access_todo : (access : Access) (log : Log) (space : Space) (cpu : ℕ) (command : Command) → is_access command ≡ true → AreSendable log space → AreSendable log (accessed_by access space cpu command)
 access_todo (Answered reply) log space cpu command access kept = λ page h u.
     let parts = and_parts (is_present space page) (contains space.object.protect page) (kept page h u) in
-    and_from _ (contains space.object.protect page) (changed_present space.host command (reply_of (memory space.host) command) page access parts.0) parts.1
+    and_from _ (contains space.object.protect page) (present_after space.host command (reply_of (memory space.host) command) page access parts.0) parts.1
 access_todo Missing log space cpu command access kept = λ page h u.
     ap (λ s. is_present space page && contains s page) (same_protect (waits_fault space.object.faults _ false) space.object _ refl)
     ∙ kept page h (ap (λ events. is_unread events page) (sym (queued_by (waits_fault space.object.faults _ false) space.object _ refl)) ∙ u)

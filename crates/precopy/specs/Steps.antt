@@ -1,5 +1,5 @@
 -- What a call of a source answers: what the machine's step of its name does in a world that has this source.
-use Rattle.std.specs.Prelude.{◌≡◌, ◌⊎◌, List, [], ◌∷◌, ◌++◌, Ok, Err, IsOk}
+use Rattle.std.specs.Prelude.{◌≡◌, ◌⊎◌, List, [], ◌∷◌, ◌++◌, Result, Ok, Err, IsOk}
 use Rattle.mig_base.specs.declared.command.Entry.{Entry}
 use Rattle.mig_base.specs.declared.effect.Effect.{Effect}
 use Rattle.mig_base.specs.declared.refusal.Refusal.{Refusal}
@@ -38,6 +38,15 @@ IsMadeUrgently old step effect frame new =
 abbrev pub IsTried : Source → Step → Effect → List Entry → Source → Type 0
 IsTried old step effect entries new = answer (world_of old) step ≡ made effect (record (world_of old) { source = new; transcript = entries })
 
+-- it was refused for the machine's reason
+abbrev pub IsRefusedAs : Source → Step → Refusal → Type 0
+IsRefusedAs old step refusal = outcome (world_of old) step ≡ Err refusal
+
 -- it was refused: for the machine's reason, or for want of memory where the machine makes the step
 abbrev pub IsRefused : Source → Step → Refusal → Type 0
-IsRefused old step refusal = (outcome (world_of old) step ≡ Err refusal) ⊎ ((refusal ≡ Refusal.NoMemory) × IsOk (outcome (world_of old) step))
+IsRefused old step refusal = IsRefusedAs old step refusal ⊎ ((refusal ≡ Refusal.NoMemory) × IsOk (outcome (world_of old) step))
+
+-- whether a step would be made, want of memory aside
+abbrev pub IsChecked : Source → Step → Result (Unit {0}) Refusal → Type 0
+IsChecked old step (Ok done) = IsOk (outcome (world_of old) step)
+IsChecked old step (Err refusal) = IsRefusedAs old step refusal

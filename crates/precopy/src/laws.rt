@@ -1,10 +1,18 @@
 //! What holds of all steps of a source, as a law: a function that does nothing, whose contract is the law.
 
-ghost use Rattle.std.specs.Prelude.{◌≡◌, ℕ, true, false};
+ghost use Rattle.std.specs.Prelude.{◌≡◌, ℕ, ◌+◌, [], true, false, IfOk};
+ghost use Rattle.std.specs.FinSet.{FinSet, len};
+ghost use Rattle.std.specs.Ordering.{nat_cmp};
 ghost use Rattle.mig_base.specs.declared.command.Command.{Command};
+ghost use Rattle.mig_base.specs.declared.phase.Received.{Received};
+ghost use Rattle.mig_base.specs.declared.phase.SourcePhase.{SourcePhase};
+ghost use Rattle.mig_base.specs.declared.schedule.Side.{Side};
 ghost use Rattle.mig_base.specs.declared.schedule.Step.{Step};
 ghost use Rattle.mig_base.specs.declared.schedule.Ticket.{Ticket};
+ghost use Rattle.mig_model.specs.Log.{forgotten, present};
 ghost use Rattle.mig_model.specs.Migration.{World, answer};
+ghost use Rattle.mig_model.specs.Source.{Source, is_released, released, source_took, space_of};
+ghost use Rattle.mig_model.specs.Wire.{Frame};
 ghost use Rattle.precopy.specs.Steps.{in_world, world_of};
 
 /// A step of the source reads nothing of a world but its source and that the link is up: in any world it has the effect, sends the
@@ -24,4 +32,18 @@ pub fn a_step_of_the_source()
     ensures end { (world : World) → world.up ≡ true → answer world Step.End ≡ in_world world (answer (world_of world.source) Step.End) }
     ensures issue { (world : World) (cpu : ℕ) (command : Command) → world.destination.has_run ≡ false → answer world (Step.Issue cpu command) ≡ in_world world (answer (world_of world.source) (Step.Issue cpu command)) }
     ensures retry { (world : World) (cpu : ℕ) → world.destination.has_run ≡ false → answer world (Step.Retry cpu) ≡ in_world world (answer (world_of world.source) (Step.Retry cpu)) }
+{}
+
+/// What a broken channel and the recovery from it make of the source of a world is what the calls of a source make. A Notice at the
+/// source makes what `pause` makes, of a source that is not released; a Resume what `set_epoch` makes, in the next epoch; and a Recv, by
+/// what the destination has received, what `to_precopy`, `to_stopped` or `release` makes: nothing has run there, and the source has not
+/// switched, or has; it runs, and the last Package stands; or it has ended.
+pub fn a_recovery_of_the_source()
+    ensures notice { (world : World) → IfOk (answer world (Step.Notice Side.Source)) (λ made. made.world.source ≡ record world.source { phase = SourcePhase.Paused }) }
+    ensures noticed { (world : World) → IfOk (answer world (Step.Notice Side.Source)) (λ made. is_released world.source.phase ≡ false) }
+    ensures resume { (world : World) → IfOk (answer world Step.Resume) (λ made. made.world.source ≡ record world.source { epoch = world.source.epoch + 1; urgent_sent = 0 }) }
+    ensures not_switched { (node : Source) (owed : FinSet nat_cmp) → node.switched ≡ false → source_took node (Frame.Recv Received.NotRun owed) ≡ record node { phase = SourcePhase.Precopy; asked = []; log = forgotten node.log } }
+    ensures not_run { (node : Source) (owed : FinSet nat_cmp) → node.switched ≡ true → source_took node (Frame.Recv Received.NotRun owed) ≡ record node { phase = SourcePhase.Stopped; asked = []; remaining = present (space_of node); packaged = len (present (space_of node)) } }
+    ensures running { (node : Source) (owed : FinSet nat_cmp) → source_took node (Frame.Recv Received.Running owed) ≡ record node { phase = SourcePhase.Stopped; asked = []; remaining = owed; packaged = node.packaged } }
+    ensures ended { (node : Source) (owed : FinSet nat_cmp) → source_took node (Frame.Recv Received.Ended owed) ≡ released node }
 {}

@@ -5,6 +5,7 @@ ghost use Rattle.mig_model.specs.Source as machine;
 ghost use Rattle.vcpu.specs.Answers.{is_count};
 
 mod back;
+mod checks;
 mod commands;
 mod handler;
 mod laws;

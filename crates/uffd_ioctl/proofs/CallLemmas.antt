@@ -30,6 +30,7 @@ use Rattle.mig_base.proofs.TestLemmas.{at_or_below, positive, none_is_some}
 use Rattle.mig_model.specs.Userfault.{Object, Mode, mode_at, is_registered, unregistered, registered_where, moved_modes, event_queued, is_watched}
 use Rattle.mig_model.specs.Space.{Space, IsSoundSpace, told, remap_messages, call_messages, modes_after, protected_after, all_queued, called, queued_by}
 use Rattle.mig_model.proofs.CommandLemmas.{remapped_place}
+use Rattle.mig_model.proofs.Registering.{pages_again}
 use Rattle.mig_model.proofs.SpaceLemmas.{IsSoundSpace-called}
 use Rattle.page_table.specs.Views.{Pages}
 use Rattle.uffd_ioctl.specs.declared.remap.Remap.{Remap}
@@ -176,9 +177,6 @@ queued_more : (object : Object) (one two : List Message) (cpu : ℕ) → all_que
 queued_more object [] two cpu = refl
 queued_more object (message ∷ one) two cpu = queued_more (event_queued object message cpu) one two cpu
 
-pub page_again : (page : ℕ) → 4096 * page / 4096 ≡ page
-page_again page = omega arith
-
 -- the modes once a range is moved
 abbrev pub modes_of : Object → Remap → Object
 modes_of object range = moved_modes object range.from range.count range.to range.new_count (mode_at object (range.from + (range.count - 1)))
@@ -194,8 +192,8 @@ messages_at object addr count target new_count from to =
 
 pub messages_are : (object : Object) (range : Remap) → three_messages object range ≡ remap_messages object (4096 * range.from) range.count (4096 * range.to) range.new_count
 messages_are object range =
-    sym (ap (λ from. messages_at object (4096 * range.from) range.count (4096 * range.to) range.new_count from (4096 * range.to / 4096)) (page_again range.from)
-    ∙ ap (λ to. messages_at object (4096 * range.from) range.count (4096 * range.to) range.new_count range.from to) (page_again range.to))
+    sym (ap (λ from. messages_at object (4096 * range.from) range.count (4096 * range.to) range.new_count from (4096 * range.to / 4096)) (pages_again range.from)
+    ∙ ap (λ to. messages_at object (4096 * range.from) range.count (4096 * range.to) range.new_count range.from to) (pages_again range.to))
 
 pub remap_queued : (object copied modes first second third : Object) (range : Remap) (cpu : ℕ) → copied ≡ object → modes ≡ modes_of copied range → first ≡ all_queued modes (replaced_message object range) cpu → second ≡ all_queued first (cut_message object range) cpu → third ≡ all_queued second (moved_message object range) cpu
     → third ≡ all_queued (modes_of object range) (remap_messages object (4096 * range.from) range.count (4096 * range.to) range.new_count) cpu

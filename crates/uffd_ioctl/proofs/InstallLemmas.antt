@@ -38,7 +38,7 @@ use Rattle.uffd_ioctl.specs.declared.fault.CopyFault.{CopyFault}
 use Rattle.uffd_ioctl.specs.Puts.{IsPut, IsShort, put_result, result_by, result_of, fault_of, stop_fault, own_fault, pages_put}
 use Rattle.uffd_ioctl.specs.Spaces.{space_of}
 use Rattle.uffd_ioctl.proofs.AnswerLemmas.{get-put_same}
-use Rattle.uffd_ioctl.proofs.CallLemmas.{page_again, protected_below}
+use Rattle.uffd_ioctl.proofs.CallLemmas.{protected_below}
 
 -- One page
 
@@ -319,7 +319,7 @@ row_of error old new start count bits done bytes protect quiet (Some stop.Presen
 row_of error old new start count bits done bytes protect quiet (Some stop.NoMemory) result fine same put is after =
     let run = run_is old (start / 4096) count done (Some stop.NoMemory) put in
     let less = run.short refl in
-    let at : pages_put result ≡ done = ap pages_put is ∙ page_again done in
+    let at : pages_put result ≡ done = ap pages_put is ∙ pages_again done in
     inr (
       fine,
       record {

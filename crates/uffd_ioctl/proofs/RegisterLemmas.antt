@@ -24,6 +24,7 @@ use Rattle.mig_model.specs.Host.{IsSound}
 use Rattle.mig_model.specs.Userfault.{Object, Mode, fresh_object, enabled_with, is_registered, has_modes, registered_where, unregistered}
 use Rattle.mig_model.specs.Space.{Space, IsSoundSpace}
 use Rattle.mig_model.specs.Ioctls.{event_features, mode_of, left_by, is_mapped_in, registered_in, unregistered_in, protected_in}
+use Rattle.mig_model.proofs.Registering.{past_none}
 use Rattle.uffd_ioctl.specs.Spaces.{space_of, assembled_object}
 use Rattle.uffd_ioctl.proofs.CallLemmas.{protected_below}
 
@@ -288,11 +289,6 @@ enabled_low fresh object features new is = subst AreLow (sym (is ∙ ap (λ o. e
 in_all : (q bound : ℕ) → (bound ≤ q → ⊥) → in_range 0 bound q ≡ true
 in_all q bound h = grind (arith, nat_tests, h)
 
-second_alone : (low mapped : Bool) → (mapped ≡ true → low ≡ true) → (low && mapped) ≡ mapped
-second_alone low true h = rw (h refl) refl
-second_alone true false h = refl
-second_alone false false h = refl
-
 not_zero : (n : ℕ) → n ≢ 0 → eqb n 0 ≡ false
 not_zero n h = grind (arith, nat_tests)
 
@@ -305,7 +301,7 @@ assembled_watching areas bytes fresh start after mode bits sound some new on ask
     ∙ (λ i. registered_where (on i) (λ page. in_range 0 HIGH_PAGE page && contains_key areas page) (asked i))
     ∙ (λ i. registered_where (enabled_with (new i) event_features) (λ page. in_range 0 HIGH_PAGE page && contains_key areas page) (mode_of bits))
     ∙ same_where watching (λ page. in_range 0 HIGH_PAGE page && contains_key areas page) (λ page. contains_key areas page) (mode_of bits)
-    (λ q. second_alone (in_range 0 HIGH_PAGE q) (contains_key areas q) (λ h. in_all q HIGH_PAGE (λ past. false≢true (sym (ap is_some (sound.bound q past)) ∙ h))))
+    (λ q. past_none (in_range 0 HIGH_PAGE q) (contains_key areas q) (λ h. in_all q HIGH_PAGE (λ past. false≢true (sym (ap is_some (sound.bound q past)) ∙ h))))
     ∙ sym (ap (λ b. cond b fresh_object (registered_where watching (λ page. contains_key areas page) (mode_of bits))) (not_zero bits some))
 
 pub assembled_fresh : (areas : FinMap nat_cmp Prot) (fresh : Object) (bits : ℕ) → fresh ≡ fresh_object → bits ≡ 0 → fresh ≡ assembled_object areas bits

@@ -35,16 +35,6 @@ impl DirtyLog {
         register_mapped(space)
     }
 
-    /// A round begins: it has to send the present pages that are not clean.
-    pub fn plan(&mut self, space: &Space) -> Result<(), NoMemory>
-        ensures ok { OnOk result (self.new ≡ record self.old { todo = machine.dirty space.now self.old }) }
-        ensures err { OnErr result (self.new ≡ self.old) }
-    {
-        let todo = self.dirty(space)?;
-        self.begin_round(todo);
-        Ok(())
-    }
-
     /// The present pages that are not clean, as a set of its own.
     pub fn dirty(&self, space: &Space) -> Result<PageSet, NoMemory>
         ensures { IfOk result (λ pages. pages ≡ machine.dirty space.now self.now) }
@@ -60,6 +50,7 @@ impl DirtyLog {
         ensures { self.new ≡ record self.old { todo = todo } }
     {
         self.todo = todo;
+        self.from = 0;
     }
 
     /// The least page that this round still has to send.
@@ -67,7 +58,7 @@ impl DirtyLog {
         ensures least { result ≡ machine.least_of self.now.todo }
         ensures below { IfSome result (λ page. page < HIGH_PAGE) }
     {
-        let page = self.todo.next(0, true);
+        let page = self.todo.next(self.from, true);
         if page < HIGH_PAGE { Some(page) } else { None }
     }
 
@@ -154,6 +145,9 @@ impl DirtyLog {
         else {
             return Err(Refusal::NoMemory);
         };
+        if self.todo.next(self.from, true) >= first {
+            self.from = self.from.max(first + count);
+        }
         self.todo.remove_range(first, count);
         protect(space, first, count);
         Ok(())

@@ -19,7 +19,9 @@ impl Destination {
         ensures not_run { self.old.has_run ≡ false → result ≡ Err (unwrap_or (issue_refusal self.old.guest.cpus cpu false) Refusal.Phase) }
         ensures err { OnErr result (self.new ≡ self.old) }
     {
-        unreachable!()
+        self.space.is_in_order();
+        let tried = guest::issue(&mut self.space, &mut self.cpus, cpu, command, self.has_run)?;
+        Ok(tried)
     }
 
     /// A processor that was woken tries its load or store again. `NoCpu` where there is no such processor, `NotAsleep` where it is idle
@@ -30,6 +32,8 @@ impl Destination {
         ensures not_run { self.old.has_run ≡ false → result ≡ Err (unwrap_or (retry_refusal self.old.guest.cpus cpu false) Refusal.Phase) }
         ensures err { OnErr result (self.new ≡ self.old) }
     {
-        unreachable!()
+        self.space.is_in_order();
+        let tried = guest::retry(&mut self.space, &mut self.cpus, cpu, self.has_run)?;
+        Ok(tried)
     }
 }

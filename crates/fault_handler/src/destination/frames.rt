@@ -7,7 +7,11 @@ ghost use Rattle.mig_model.specs.Faults.{take_fault, urgent_fault};
 ghost use Rattle.page_stream.specs.Frames.{frame_of};
 ghost use Rattle.fault_handler.specs.Taking.{answered_at_once, takes_memory};
 
+mod kinds;
+mod rules;
+
 use super::Destination;
+use mig_base::NoMemory;
 use mig_base::fault::TakeFault;
 use page_stream::Frame;
 
@@ -21,11 +25,7 @@ impl Destination {
     /// not map one that it owes or one that is kept, or is of another number of processors, and for an End that tells of fewer
     /// urgent frames than came; then, for an End, `InstallFirst` while a copy waits and `UrgentFirst` while urgent frames are still to
     /// come; and last `NoMemory`, for a copy, a run or a Package.
-    pub fn take(
-        &mut self,
-        epoch: u32,
-        frame: Frame,
-    ) -> Result<Option<Frame>, (TakeFault, Frame)>
+    pub fn take(&mut self, epoch: u32, frame: Frame) -> Result<Option<Frame>, (TakeFault, Frame)>
         requires { IsFrame (frame_of frame) }
         ensures accepted { OnOk result (take_fault self.old epoch (frame_of frame) ≡ None) }
         ensures refused { IfErr result (λ refused. refused.0 ≡ unwrap_or (take_fault self.old epoch (frame_of frame)) TakeFault.NoMemory) }
@@ -35,11 +35,18 @@ impl Destination {
         ensures answer { IfOk result (λ answer. map frame_of (option_to_list answer) ≡ answered_at_once self.old (frame_of frame)) }
         ensures err { OnErr result (self.new ≡ self.old) }
     {
-        unreachable!()
+        if let Some(fault) = self.take_fault(epoch, &frame) {
+            return Err((fault, frame));
+        }
+        match self.put_in(epoch, frame) {
+            Ok(answer) => Ok(answer),
+            Err(frame) => Err((TakeFault::NoMemory, frame)),
+        }
     }
 
     /// Takes a frame of the urgent wire, which waits to be installed and is counted. A frame that is refused is handed back, and nothing is
-    /// changed: `OutOfPlace` unless it is the copy of one page and the destination runs, then `StaleEpoch`, and `NoMemory`.
+    /// changed: `OutOfPlace` unless it is the copy of one page and the destination runs, then `StaleEpoch`, and `NoMemory`, which is also for
+    /// the frame after 2^64 - 1 others of its epoch, since it could not be counted.
     pub fn take_urgent(&mut self, epoch: u32, frame: Frame) -> Result<(), (TakeFault, Frame)>
         requires { IsFrame (frame_of frame) }
         ensures accepted { OnOk result (urgent_fault self.old epoch (frame_of frame) ≡ None) }
@@ -48,6 +55,93 @@ impl Destination {
         ensures took { OnOk result (self.new ≡ urgent_took self.old (frame_of frame)) }
         ensures err { OnErr result (self.new ≡ self.old) }
     {
-        unreachable!()
+        if let Some(fault) = self.urgent_fault(epoch, &frame) {
+            return Err((fault, frame));
+        }
+        match self.put_in_urgent(frame) {
+            Ok(()) => Ok(()),
+            Err(frame) => Err((TakeFault::NoMemory, frame)),
+        }
+    }
+    /// Takes a frame that is in place. Where memory is refused the frame is handed back, and nothing is changed.
+    fn put_in(&mut self, epoch: u32, frame: Frame) -> Result<Option<Frame>, Frame>
+        requires frame { IsFrame (frame_of frame) }
+        requires accepted { take_fault self.old epoch (frame_of frame) ≡ None }
+        ensures took { OnOk result (self.new ≡ destination_took self.old epoch (frame_of frame)) }
+        ensures answer { IfOk result (λ answer. map frame_of (option_to_list answer) ≡ answered_at_once self.old (frame_of frame)) }
+        ensures handed_back { IfErr result (λ back. back ≡ frame) }
+        ensures memory { OnErr result (takes_memory (frame_of frame) ≡ true) }
+        ensures err { OnErr result (self.new ≡ self.old) }
+    {
+        match frame {
+            Frame::Advise => {
+                self.advise(epoch);
+                Ok(None)
+            }
+            Frame::Page { page, bytes } => match self.page_came(page, bytes) {
+                Ok(()) => Ok(None),
+                Err(bytes) => Err(Frame::Page { page, bytes }),
+            },
+            Frame::Zero { page } => match self.zero_came(page) {
+                Ok(()) => Ok(None),
+                Err(NoMemory) => Err(Frame::Zero { page }),
+            },
+            Frame::Run { first, pages } => match self.run_came(first, pages) {
+                Ok(()) => Ok(None),
+                Err(pages) => Err(Frame::Run { first, pages }),
+            },
+            Frame::Discard { pages } => {
+                self.discard(&pages);
+                Ok(None)
+            }
+            Frame::Package {
+                areas,
+                owed,
+                commands,
+            } => match self.run(&areas, &owed, &commands) {
+                Ok(()) => Ok(None),
+                Err(NoMemory) => Err(Frame::Package {
+                    areas,
+                    owed,
+                    commands,
+                }),
+            },
+            Frame::End { .. } => {
+                self.end();
+                Ok(Some(Frame::Done))
+            }
+            Frame::Resume => {
+                self.resume(epoch);
+                Ok(None)
+            }
+            // Never in place: these go back to the source.
+            Frame::Request { .. } | Frame::Recv { .. } | Frame::Done => Ok(None),
+        }
+    }
+
+    /// Takes the copy of one page that came on the urgent wire. Where memory is refused the frame is handed back, and nothing is changed.
+    fn put_in_urgent(&mut self, frame: Frame) -> Result<(), Frame>
+        ensures took { OnOk result (self.new ≡ urgent_took self.old (frame_of frame)) }
+        ensures handed_back { IfErr result (λ back. back ≡ frame) }
+        ensures err { OnErr result (self.new ≡ self.old) }
+    {
+        let Some(taken) = self.urgent_taken.checked_add(1) else {
+            return Err(frame);
+        };
+        match frame {
+            Frame::Page { page, bytes } => {
+                if let Err(bytes) = self.page_waits(page, bytes) {
+                    return Err(Frame::Page { page, bytes });
+                }
+            }
+            Frame::Zero { page } => {
+                let Ok(()) = self.zero_waits(page) else {
+                    return Err(Frame::Zero { page });
+                };
+            }
+            _ => return Ok(()),
+        }
+        self.urgent_taken = taken;
+        Ok(())
     }
 }

@@ -1,14 +1,30 @@
 //! The handler of the destination: messages that are read, and faults that are resolved.
 
-ghost use Rattle.std.specs.Prelude.{◌≡◌, [], map, option_to_list, IfOk, IfErr, OnErr};
+ghost use Rattle.std.specs.Prelude.{◌≡◌, ℕ, ◌*◌, ◌<◌, ◌⊎◌, false, None, Some, [], ◌∷◌, List, map, option_to_list, IfOk, IfErr, OnOk, OnErr};
+ghost use Rattle.mig_base.specs.declared.TheConstants.{HIGH, PAGE_SIZE};
+ghost use Rattle.mig_base.specs.declared.effect.Effect as effects;
+ghost use Rattle.mig_base.specs.declared.refusal.Refusal.{Refusal};
 ghost use Rattle.mig_base.specs.declared.schedule.Step.{Step};
+ghost use Rattle.mig_model.specs.Destination.{act_frames, destination_act, settled};
+ghost use Rattle.mig_model.specs.Guest as machine;
+ghost use Rattle.mig_model.specs.Guest.{is_present};
+ghost use Rattle.mig_model.specs.Owed.{owed_table_after, requesting};
 ghost use Rattle.page_stream.specs.Frames.{frame_of};
+ghost use Rattle.fault_handler.specs.Acts.{act_is};
+ghost use Rattle.fault_handler.specs.Answers.{act_refusal, run_answer};
+ghost use Rattle.fault_handler.specs.Order.{LiesInside};
 ghost use Rattle.fault_handler.specs.Steps.{IsMade, IsRefused};
 
 use super::Destination;
+use crate::act::Act;
+use guest::{Fault, make_zeros};
 use mig_base::effect::Effect;
+use mig_base::phase::DestPhase;
 use mig_base::refusal::Refusal;
+use mig_base::{Addr, Message, NoMemory, PAGE_SIZE, PageNo};
+use owed_pages::Owed;
 use page_stream::Frame;
+use std::collections::VecDeque;
 
 impl Destination {
     /// Reads the next message. A page fault is held. An event is applied to the pages that are owed: pairs of pages that are gone end, and
@@ -18,8 +34,23 @@ impl Destination {
         ensures made { IfOk result (λ effect. IsMade self.old Step.DestRead effect [] self.new) }
         ensures refused { IfErr result (λ refusal. IsRefused self.old Step.DestRead refusal) }
         ensures err { OnErr result (self.new ≡ self.old) }
+
+        // The same in the words of a reader: which page of the source is owed where, once the unread events are applied, is as it was.
+        ensures settled { (page : ℕ) → settled self.new page ≡ settled self.old page }
     {
-        unreachable!()
+        self.ensure_run()?;
+        let Some(message) = self.space.next_message() else {
+            return Err(Refusal::NothingThere);
+        };
+        // Both growths come before the message is read, so that want of memory leaves it unread.
+        let Ok(()) = note(&mut self.held, &mut self.owed, message) else {
+            return Err(Refusal::NoMemory);
+        };
+        let Some((_, effect)) = guest::read(&mut self.space, &mut self.cpus) else {
+            unreachable!();
+        };
+        self.faults = self.faults.saturating_add(faults_in(message));
+        Ok(effect)
     }
 
     /// Resolves the first fault that is held, by what its page is now. A page that is owed is asked for: its page at the source is put behind
@@ -31,7 +62,106 @@ impl Destination {
         ensures made { IfOk result (λ told. IsMade self.old Step.DestAct told.0 (map frame_of (option_to_list told.1)) self.new) }
         ensures refused { IfErr result (λ refusal. IsRefused self.old Step.DestAct refusal) }
         ensures err { OnErr result (self.new ≡ self.old) }
+
+        // The same in the words of a reader: no page that is owed, or present, is made zeros.
+        ensures zeroed { IfOk result (λ told. (page : ℕ) → told.0 ≡ effects.Effect.Zeroed (PAGE_SIZE * page) → (settled self.old page ≡ None) × (is_present self.old.guest.space page ≡ false)) }
     {
-        unreachable!()
+        let (act, addr) = self.next_act()?;
+        match act {
+            Act::Requested(origin) => {
+                let request = self.request(origin)?;
+                self.held.pop_front();
+                return Ok((act.told(addr), request));
+            }
+            Act::Zeroed => {
+                let Ok(()) = make_zeros(&mut self.space, (addr / PAGE_SIZE) as PageNo) else {
+                    return Err(Refusal::NoMemory);
+                };
+            }
+            Act::Woke | Act::Forgot => {}
+        }
+        self.held.pop_front();
+        self.cpus.wake_span(addr, PAGE_SIZE);
+        Ok((act.told(addr), None))
+    }
+
+    /// What is to be made of the first fault that is held, and the address of its page.
+    fn next_act(&self) -> Result<(Act, Addr), Refusal>
+        ensures accepted { OnOk result (act_refusal self.now ≡ None) }
+        ensures refused { IfErr result (λ refusal. act_refusal self.now ≡ Some refusal) }
+        ensures act { (fault : machine.Fault) (rest : List machine.Fault) → self.now.held ≡ fault ∷ rest → IfOk result (λ next. (act_is next.0 ≡ destination_act self.now fault) × (next.1 ≡ 4096 * fault.page)) }
+        ensures low { IfOk result (λ next. (next.0 ≡ Act.Forgot) ⊎ (next.1 < HIGH)) }
+    {
+        self.ensure_run()?;
+        let Some(fault) = self.held.front() else {
+            return Err(Refusal::NothingThere);
+        };
+        if self.space.changing() > 0 {
+            return Err(Refusal::Changing);
+        }
+        Ok((Act::of(&self.space, &self.owed, fault), fault.addr()))
+    }
+
+    /// Puts a page of the source behind the requests: the frame that asks for it, unless it was asked for before, or the destination
+    /// is paused or has ended.
+    fn request(&mut self, origin: PageNo) -> Result<Option<Frame>, Refusal>
+        ensures frame { IfOk result (λ frame. map frame_of (option_to_list frame) ≡ act_frames (machine.Act.Requested origin) self.old) }
+        ensures ok { OnOk result (self.new ≡ record self.old { requests = requesting self.old.requests origin }) }
+        ensures refused { IfErr result (λ refusal. refusal ≡ Refusal.NoMemory) }
+        ensures err { OnErr result (self.new ≡ self.old) }
+    {
+        let Ok(is_new) = self.requests.add(origin) else {
+            return Err(Refusal::NoMemory);
+        };
+        match self.phase {
+            DestPhase::Running if is_new => Ok(Some(Frame::Request { page: origin })),
+            _ => Ok(None),
+        }
+    }
+
+    /// Whether it runs the processors.
+    pub(super) fn ensure_run(&self) -> Result<(), Refusal>
+        ensures { result ≡ run_answer self.now }
+    {
+        if self.has_run {
+            Ok(())
+        } else {
+            Err(Refusal::Phase)
+        }
+    }
+}
+
+/// Holds a page fault, and applies an event to the pages that are owed. Out of memory changes nothing.
+fn note(held: &mut VecDeque<Fault>, owed: &mut Owed, message: Message) -> Result<(), NoMemory>
+    requires { LiesInside message }
+    ensures held { OnOk result (held.new.items ≡ machine.held_after held.old.items message) }
+    ensures owed { OnOk result (owed.new ≡ owed_table_after message owed.old) }
+    ensures err { OnErr result ((held.new.items ≡ held.old.items) × (owed.new ≡ owed.old)) }
+{
+    match message {
+        Message::PageFault { addr, wp, .. } => held.push_back(Fault::new(addr, wp))?,
+        Message::Remap { from, to, len } => {
+            let count = (len / PAGE_SIZE) as u32;
+            owed.move_range(
+                (from / PAGE_SIZE) as PageNo,
+                (to / PAGE_SIZE) as PageNo,
+                count,
+            )?;
+        }
+        Message::Remove { start, end } | Message::Unmap { start, end } => {
+            let first = (start / PAGE_SIZE) as PageNo;
+            owed.remove_range(first, (end / PAGE_SIZE) as PageNo - first);
+        }
+    }
+    Ok(())
+}
+
+/// 1 for a page fault.
+fn faults_in(message: Message) -> u64
+    ensures { result ≡ machine.fault_count message }
+{
+    match message {
+        Message::PageFault { .. } => 1,
+        _ => 0,
     }
 }

@@ -1,15 +1,26 @@
 //! Copies that are installed.
 
-ghost use Rattle.std.specs.Prelude.{◌≡◌, ℕ, ◌*◌, false, [], IfOk, IfErr, OnErr};
+ghost use Rattle.std.specs.Prelude.{◌≡◌, ℕ, ◌*◌, false, [], ◌∷◌, List, Some, None, IfOk, IfErr, OnOk, OnErr};
 ghost use Rattle.mig_base.specs.declared.TheConstants.{PAGE_SIZE};
 ghost use Rattle.mig_base.specs.declared.effect.Effect as effects;
 ghost use Rattle.mig_base.specs.declared.schedule.Step.{Step};
-ghost use Rattle.mig_model.specs.Guest.{is_present};
+ghost use Rattle.mig_model.specs.Destination.{settled};
+ghost use Rattle.mig_model.specs.Guest.{is_forgotten, is_present};
+ghost use Rattle.mig_model.specs.Ioctls.{installed};
+ghost use Rattle.mig_model.specs.Userfault as object;
+ghost use Rattle.mig_model.specs.Wire as wire;
+ghost use Rattle.guest.specs.Lent.{IsLent};
+ghost use Rattle.fault_handler.specs.Answers.{install_answer};
 ghost use Rattle.fault_handler.specs.Steps.{IsMade, IsRefused};
 
 use super::Destination;
+use crate::arrival::Arrival;
+use guest::make_zeros;
 use mig_base::effect::Effect;
 use mig_base::refusal::Refusal;
+use mig_base::{NoMemory, PageNo, page_address};
+use std::collections::VecDeque;
+use uffd_ioctl::Space;
 
 impl Destination {
     /// Puts the first copy that has arrived where its page belongs now, by moving its box: UFFDIO_COPY for that page, or UFFDIO_ZEROPAGE
@@ -21,9 +32,86 @@ impl Destination {
         ensures refused { IfErr result (λ refusal. IsRefused self.old Step.Install refusal) }
         ensures err { OnErr result (self.new ≡ self.old) }
 
-        // The same in the words of a reader: no page is installed over one that is present.
+        // The same in the words of a reader: a copy is installed at the page that its page of the source is owed at, which is owed nothing
+        // then, and never over a page that is present.
+        ensures pair { IfOk result (λ effect. (page origin : ℕ) → effect ≡ effects.Effect.Installed (PAGE_SIZE * page) (PAGE_SIZE * origin) → (settled self.old page ≡ Some origin) × (settled self.new page ≡ None)) }
         ensures missing { IfOk result (λ effect. (page origin : ℕ) → effect ≡ effects.Effect.Installed (PAGE_SIZE * page) (PAGE_SIZE * origin) → is_present self.old.guest.space page ≡ false) }
     {
-        unreachable!()
+        let origin = self.next_arrival()?;
+        let Some(page) = self.owed.home(origin) else {
+            self.arrivals.pop_front();
+            self.dropped = self.dropped.saturating_add(1);
+            return Ok(Effect::Dropped {
+                origin: page_address(origin),
+            });
+        };
+        self.space.is_in_order();
+        let Ok(()) = put_first(&mut self.arrivals, &mut self.space, page) else {
+            return Err(Refusal::NoMemory);
+        };
+        self.owed.settle(origin);
+        self.requests.end(origin);
+        self.cpus.wake_page(page);
+        self.installed = self.installed.saturating_add(1);
+        Ok(Effect::Installed {
+            addr: page_address(page),
+            origin: page_address(origin),
+        })
+    }
+
+    /// The page at the source of the first copy that has arrived.
+    fn next_arrival(&self) -> Result<PageNo, Refusal>
+        ensures { result ≡ install_answer self.now }
+    {
+        self.ensure_run()?;
+        let Some(arrival) = self.arrivals.front() else {
+            return Err(Refusal::NothingThere);
+        };
+        if self.space.changing() > 0 {
+            return Err(Refusal::Changing);
+        }
+        Ok(arrival.page())
+    }
+}
+
+/// Takes the first copy out, and puts it at a missing page. Out of memory changes nothing.
+fn put_first(
+    arrivals: &mut VecDeque<Arrival>,
+    space: &mut Space,
+    page: PageNo,
+) -> Result<(), NoMemory>
+    requires lent { IsLent space.old }
+    requires quiet { object.changing space.old.object ≡ 0 }
+    requires watched { is_forgotten space.old page ≡ false }
+    requires missing { is_present space.old page ≡ false }
+    ensures space { (copy : wire.Copy) (rest : List wire.Copy) → arrivals.old.items ≡ copy ∷ rest → OnOk result (space.new ≡ installed space.old page 1 (λ i. copy.bytes) false) }
+    ensures arrivals { (copy : wire.Copy) (rest : List wire.Copy) → arrivals.old.items ≡ copy ∷ rest → OnOk result (arrivals.new.items ≡ rest) }
+    ensures err { OnErr result ((space.new ≡ space.old) × (arrivals.new.items ≡ arrivals.old.items)) }
+{
+    if let Some(arrival) = arrivals.front_mut() {
+        put(space, arrival, page)?;
+    }
+    arrivals.pop_front();
+    Ok(())
+}
+
+/// Moves the content of a copy to a missing page. Out of memory changes nothing.
+fn put(space: &mut Space, arrival: &mut Arrival, page: PageNo) -> Result<(), NoMemory>
+    requires lent { IsLent space.old }
+    requires quiet { object.changing space.old.object ≡ 0 }
+    requires watched { is_forgotten space.old page ≡ false }
+    requires missing { is_present space.old page ≡ false }
+    ensures ok { OnOk result (space.new ≡ installed space.old page 1 (λ i. arrival.old.bytes) false) }
+    ensures err { OnErr result ((space.new ≡ space.old) × (arrival.new ≡ arrival.old)) }
+{
+    let Some(bytes) = arrival.take() else {
+        return make_zeros(space, page);
+    };
+    match guest::install(space, page, bytes) {
+        Ok(()) => Ok(()),
+        Err(bytes) => {
+            arrival.put_back(Some(bytes));
+            Err(NoMemory)
+        }
     }
 }

@@ -1,14 +1,40 @@
 //! Changes of whole ranges.
 
-ghost use Rattle.std.specs.Prelude.{◌≡◌, ◌+◌, ◌≤◌};
+ghost use Rattle.std.specs.Prelude.{◌≡◌, ℕ, ◌+◌, ◌-◌, ◌≤◌, if◌then◌else◌, Some, [], OnOk, IfErr, length, slice_index_or};
+ghost use Rattle.std.specs.FinMap as map;
+ghost use Rattle.mig_base.specs.Bytes.{boxed_bytes};
+ghost use Rattle.mig_base.specs.Ranges.{in_range};
 ghost use Rattle.mig_base.specs.Sets.{without};
 ghost use Rattle.mig_base.specs.declared.TheConstants.{HIGH_PAGE};
 
 use super::PageTable;
+use crate::table::{make_places, put_cells};
 use crate::unprotect::unprotect_cells;
-use mig_base::PageNo;
+use mig_base::{PAGE_BYTES, PageNo};
 
 impl PageTable {
+    /// Gives the pages from `first` on the bytes of the boxes, which are not copied: a missing page becomes present, and a present one
+    /// has them in place of its own. None of these pages is protected afterwards.
+    ///
+    /// It gives all or none: where the room of their leaves is refused the boxes come back, and the table is as it was.
+    pub fn put_run(
+        &mut self,
+        first: PageNo,
+        run: Vec<Box<[u8; PAGE_BYTES]>>,
+    ) -> Result<(), Vec<Box<[u8; PAGE_BYTES]>>>
+        requires { first + length run.items ≤ HIGH_PAGE }
+        ensures bytes { OnOk result ((q : ℕ) → map.get self.new.bytes q ≡ (if in_range first (length run.items) q then Some (slice_index_or (boxed_bytes run.items) (q - first) []) else map.get self.old.bytes q)) }
+        ensures protected { OnOk result (self.new.protected ≡ without self.old.protected first (length run.items)) }
+        ensures err { IfErr result (λ back. (back ≡ run) × (self.new ≡ self.old)) }
+    {
+        let count = run.len() as u32;
+        let Ok(()) = make_places(self.alloc, &mut self.places, first, count) else {
+            return Err(run);
+        };
+        put_cells(&mut self.places, first, run);
+        Ok(())
+    }
+
     /// Ends the protection of the `count` pages from `first` on, by whole words. Those that are missing or not protected stay so.
     pub fn unprotect_range(&mut self, first: PageNo, count: u32)
         requires { first + count ≤ HIGH_PAGE }

@@ -10,29 +10,26 @@ ghost use Rattle.mig_model.specs.Log.{least_of};
 ghost use Rattle.mig_base.specs.declared.refusal.Refusal.{Refusal};
 ghost use Rattle.mig_model.specs.Migration.{is_used};
 ghost use Rattle.page_stream.specs.Frames.{frame_of};
-ghost use Rattle.precopy.specs.Answers.{end_answer, push_answer, stop_answer, switch_answer};
+ghost use Rattle.precopy.specs.Answers.{end_answer, push_answer, stop_answer};
 ghost use Rattle.precopy.specs.Handing.{IsHandedOver};
-ghost use Rattle.precopy.specs.Steps.{IsMade, IsMadeUrgently, IsRefused};
+ghost use Rattle.precopy.specs.Steps.{IsMade, IsMadeUrgently, IsRefused, IsRefusedAs};
 
 use super::Source;
 use super::rounds::{next_count, told_page};
-use area_map::AreaMap;
 use dirty_log::Sent;
 use mig_base::effect::Effect;
 use mig_base::phase::SourcePhase;
 use mig_base::refusal::Refusal;
 use mig_base::schedule::Ticket;
 use mig_base::{HIGH_PAGE, NoMemory, PageNo, PageSet, page_address};
-use page_stream::{Frame, Waiting};
+use page_stream::Frame;
 
 /// What a source hands over as it stops.
 #[derive(Drop)]
 struct HandedOver {
     discarded: PageSet,
-    remaining: PageSet,
     owed: PageSet,
-    areas: AreaMap,
-    commands: Waiting,
+    package: Frame,
 }
 
 impl Source {
@@ -51,19 +48,18 @@ impl Source {
         let (discard, owed) = (handed.discarded.len(), handed.owed.len());
         self.space.drop_faults();
         self.log.drop_held();
-        self.remaining = handed.remaining;
+        self.remaining = handed.owed;
         self.packaged = owed;
         self.switched = true;
         self.phase = SourcePhase::Stopped;
-        let package = Frame::Package {
-            areas: handed.areas,
-            owed: handed.owed,
-            commands: handed.commands,
-        };
         let discarded = Frame::Discard {
             pages: handed.discarded,
         };
-        Ok((Effect::Switched { discard, owed }, discarded, package))
+        Ok((
+            Effect::Switched { discard, owed },
+            discarded,
+            handed.package,
+        ))
     }
 
     /// What it hands over as it stops.
@@ -73,25 +69,9 @@ impl Source {
         let owed = self.log.dirty(&self.space)?;
         Ok(HandedOver {
             discarded: self.log.discarded()?,
-            remaining: owed.copy()?,
+            package: self.package(&owed)?,
             owed,
-            areas: self.space.areas()?,
-            commands: Waiting::new(self.cpus.commands()?),
         })
-    }
-
-    /// Whether it is in pre-copy, and no event is unread.
-    fn ensure_settled(&self) -> Result<(), Refusal>
-        ensures { result ≡ switch_answer self.now }
-    {
-        match self.phase {
-            SourcePhase::Precopy => {}
-            _ => return Err(Refusal::Phase),
-        }
-        if self.space.changing() > 0 {
-            return Err(Refusal::Changing);
-        }
-        Ok(())
     }
 
     /// Sends an owed page, which does not remain then. Refused as `Phase` unless the source is stopped, as `StaleEpoch` where the ticket
@@ -136,7 +116,7 @@ impl Source {
     /// stopped, and as `NothingThere` where no request waits. It takes no memory.
     pub fn serve(&mut self) -> Result<Effect, Refusal>
         ensures made { IfOk result (λ effect. IsMade self.old Step.Serve effect [] self.new) }
-        ensures refused { IfErr result (λ refusal. IsRefused self.old Step.Serve refusal) }
+        ensures refused { IfErr result (λ refusal. IsRefusedAs self.old Step.Serve refusal) }
         ensures err { OnErr result (self.new ≡ self.old) }
     {
         self.ensure_stopped()?;
@@ -152,7 +132,7 @@ impl Source {
     /// this epoch, and as `PagesLeft` while pages remain. It takes no memory.
     pub fn end(&mut self) -> Result<(Effect, Frame), Refusal>
         ensures made { IfOk result (λ told. IsMade self.old Step.End told.0 (frame_of told.1 ∷ []) self.new) }
-        ensures refused { IfErr result (λ refusal. IsRefused self.old Step.End refusal) }
+        ensures refused { IfErr result (λ refusal. IsRefusedAs self.old Step.End refusal) }
         ensures err { OnErr result (self.new ≡ self.old) }
     {
         self.ensure_done()?;
@@ -162,7 +142,7 @@ impl Source {
     }
 
     /// Whether the page of a ticket can be sent.
-    fn ensure_owed(&self, ticket: Ticket) -> Result<(), Refusal>
+    pub(super) fn ensure_owed(&self, ticket: Ticket) -> Result<(), Refusal>
         ensures answer { result ≡ push_answer self.now ticket }
         ensures present { OnOk result (is_present self.now.guest.space ticket.page ≡ true) }
     {
@@ -180,7 +160,7 @@ impl Source {
     }
 
     /// Whether End can be sent.
-    fn ensure_done(&self) -> Result<(), Refusal>
+    pub(super) fn ensure_done(&self) -> Result<(), Refusal>
         ensures { result ≡ end_answer self.now }
     {
         self.ensure_stopped()?;

@@ -9,7 +9,7 @@ ghost use Rattle.mig_base.specs.declared.schedule.Step.{Step};
 ghost use Rattle.dirty_log.specs.Sending as log;
 ghost use Rattle.mig_base.specs.declared.TheConstants.{HIGH_PAGE};
 ghost use Rattle.page_stream.specs.Frames.{frame_of};
-ghost use Rattle.precopy.specs.Answers.{next_count as counted_on, round_answer, send_answer, start_answer};
+ghost use Rattle.precopy.specs.Answers.{next_count as counted_on, round_answer, send_answer, start_answer, switch_answer};
 ghost use Rattle.precopy.specs.Sending.{SendsPage, sent_effect};
 ghost use Rattle.precopy.specs.Steps.{IsMade, IsRefused};
 
@@ -82,7 +82,7 @@ impl Source {
     }
 
     /// The epoch that a migration would begin with.
-    fn next_epoch(&self) -> Result<u32, Refusal>
+    pub(super) fn next_epoch(&self) -> Result<u32, Refusal>
         ensures { result ≡ start_answer self.now }
     {
         match self.phase {
@@ -95,6 +95,14 @@ impl Source {
     fn next_round(&self) -> Result<u32, Refusal>
         ensures { result ≡ round_answer self.now }
     {
+        self.ensure_settled()?;
+        next_count(self.rounds)
+    }
+
+    /// Whether it is in pre-copy, and no event is unread.
+    pub(super) fn ensure_settled(&self) -> Result<(), Refusal>
+        ensures { result ≡ switch_answer self.now }
+    {
         match self.phase {
             SourcePhase::Precopy => {}
             _ => return Err(Refusal::Phase),
@@ -102,7 +110,7 @@ impl Source {
         if self.space.changing() > 0 {
             return Err(Refusal::Changing);
         }
-        next_count(self.rounds)
+        Ok(())
     }
 
     /// The page that the round would send next.

@@ -5,6 +5,7 @@ use Rattle.mig_base.specs.declared.effect.Effect.{Effect}
 use Rattle.mig_base.specs.declared.message.Message.{Message}
 use Rattle.dirty_log.proofs.HandlerLemmas.{read_log}
 use Rattle.dirty_log.specs.contracts.log.DirtyLog.{the_view}
+use Rattle.dirty_log.proofs.RoundLemmas.{read_come}
 use Rattle.dirty_log.proofs.log.DirtyLog.read.Goals as goal
 
 pub returns-clause-log : goal.returns-clause-log
@@ -13,3 +14,6 @@ returns-clause-log c noted next =
     let read : c.in-Some-read.message ≡ noted.message = ap (λ (o : Option (Message × Effect)). (unwrap_or {T = Message × Effect} o (noted.message, c.in-Some-read.effect)).0) (sym c.in-Some-read.is ∙ c.read.ensures.told noted next) in
     read_log c.args.self.now (the_view c.self.inside) c.remove_changed.new.pages c.remove_changed-2.new.pages c.in-Some.message c.in-Some-read.message noted.message peeked read
     (c.self.view_is ∙ IfOk-at_ok _ c.in-Ok.is c.hold.ensures.ok) c.remove_changed.ensures c.remove_changed-2.ensures
+
+pub invariant_of-self : goal.invariant_of-self
+invariant_of-self c = rw c.remove_changed-2.ensures (read_come c.self.inside.todo c.in-Some-read.message c.self.inside.from c.self.invariant)

@@ -1,0 +1,19 @@
+use Rattle.std.proofs.Common.{◌∙◌, ap}
+use Rattle.mig_base.specs.Sets.{without}
+use Rattle.dirty_log.proofs.RoundLemmas.{come_on, stay_on}
+use Rattle.dirty_log.proofs.log.DirtyLog.mark_sent.Goals as goal
+use Rattle.dirty_log.proofs.log.DirtyLog.mark_sent.Goals.{then-next-first, else-next-first}
+
+pub invariant_of-self-2 : goal.invariant_of-self-2
+invariant_of-self-2 c =
+    let log = c.self.inside in
+    let first = c.args.first in
+    let count = c.args.count in
+    let left = c.remove_range.new.self in
+    elim c.if-next-first.branch [
+      | then-next-first w ↦
+          come_on log.todo left first count log.from c.next.result c.if-next-first.self-inside.from c.self.invariant c.requires.inside c.next.ensures.before (c.remove_range.ensures ∙ ap (λ l. without l.todo first count) w.self-inside-is) w.if-next-first.true
+          (ap (λ l. l.from) w.self-inside-is ∙ w.max-self-inside.ensures)
+      | else-next-first w ↦
+          rw (ap (λ l. l.from) w.self-inside-is) (stay_on log.todo left first count log.from c.self.invariant (c.remove_range.ensures ∙ ap (λ l. without l.todo first count) w.self-inside-is))
+    ]

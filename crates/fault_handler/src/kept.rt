@@ -1,0 +1,221 @@
+//! The newest copies of pages, until the destination runs.
+
+ghost use Rattle.std.specs.Prelude.{◌≡◌, ℕ, ◌+◌, ◌==◌, ◌<◌, ◌≤◌, ◌&&◌, ◌||◌, false, true, not, None, IfOk, OnOk, OnErr, IfErr, length};
+ghost use Rattle.std.specs.FinMap as map;
+ghost use Rattle.std.specs.FinSet as set;
+ghost use Rattle.mig_base.specs.Bytes.{boxed_bytes, zero_page};
+ghost use Rattle.mig_base.specs.Pages.{remove_range};
+ghost use Rattle.mig_base.specs.Ranges.{in_range};
+ghost use Rattle.mig_base.specs.declared.TheConstants.{HIGH_PAGE};
+ghost use Rattle.mig_model.specs.Destination.{assembled};
+ghost use Rattle.mig_model.specs.Faults as machine;
+ghost use Rattle.mig_model.specs.Wire.{kept_with, run_copies};
+
+use area_map::AreaMap;
+use mig_base::{HIGH_PAGE, NoMemory, PAGE_BYTES, PageNo, PageSet};
+use page_table::PageTable;
+use std::alloc::Global;
+use std::marker::Model;
+use std::mem;
+use uffd_ioctl::Space;
+
+/// The word of flags of UFFDIO_REGISTER for missing faults.
+const MISSING_MODE: u64 = 1 << mig_base::flags::REGISTER_MISSING_BIT;
+
+/// The newest copy of each page that has come.
+///
+/// Beside the table stands the set of its pages, so that runs of pages are found by whole words.
+#[derive(Drop)]
+pub(crate) struct Kept {
+    alloc: Global,
+    pages: PageTable,
+    set: PageSet,
+}
+
+impl Model for Kept {
+    ghost use Rattle.std.specs.Prelude.{ℕ, List};
+    ghost use Rattle.std.specs.Ordering.{nat_cmp};
+    ghost use Rattle.std.specs.FinMap as map;
+    ghost use Rattle.std.specs.Coded.{coded_ℕ, coded_list};
+    ghost use Rattle.fault_handler.specs.Kept.{IsKept};
+
+    ghost Value = { map.FinMap nat_cmp (List ℕ) };
+
+    ghost coded = { map.code coded_ℕ (coded_list coded_ℕ) };
+
+    ghost view = { λ kept. kept.pages.bytes };
+
+    ghost invariant = { λ kept. IsKept kept.pages kept.set };
+}
+
+impl Kept {
+    /// Nothing is kept. It takes no memory.
+    pub fn new(alloc: Global) -> Self
+        ensures { result ≡ map.empty }
+    {
+        Kept {
+            alloc,
+            pages: PageTable::new(alloc),
+            set: PageSet::new(alloc),
+        }
+    }
+
+    /// Keeps the copy of a page, in place of an older one. Where memory is refused, which is never for a page that is kept, the box
+    /// comes back and nothing is changed.
+    pub fn keep(
+        &mut self,
+        page: PageNo,
+        bytes: Box<[u8; PAGE_BYTES]>,
+    ) -> Result<(), Box<[u8; PAGE_BYTES]>>
+        requires { page < HIGH_PAGE }
+        ensures ok { OnOk result (self.new ≡ map.insert self.old page bytes.value) }
+        ensures err { IfErr result (λ back. (back ≡ bytes) × (self.new ≡ self.old)) }
+    {
+        if self.set.contains(page) {
+            self.pages.replace(page, bytes);
+            return Ok(());
+        }
+        let Ok(()) = self.set.insert(page) else {
+            return Err(bytes);
+        };
+        match self.pages.put(page, bytes) {
+            Ok(()) => Ok(()),
+            Err((_, bytes)) => {
+                self.set.remove(page);
+                Err(bytes)
+            }
+        }
+    }
+
+    /// Keeps a page of zeros, in place of an older copy. On `NoMemory` nothing is changed.
+    pub fn keep_zero(&mut self, page: PageNo) -> Result<(), NoMemory>
+        requires { page < HIGH_PAGE }
+        ensures ok { OnOk result (self.new ≡ map.insert self.old page zero_page) }
+        ensures err { OnErr result (self.new ≡ self.old) }
+    {
+        let zeros = Box::new(self.alloc, [0; PAGE_BYTES])?;
+        let Ok(()) = self.keep(page, zeros) else {
+            return Err(NoMemory);
+        };
+        Ok(())
+    }
+
+    /// Keeps the copies of neighbouring pages, in place of older ones: all of them, or where memory is refused none, and the boxes come
+    /// back.
+    pub fn keep_run(
+        &mut self,
+        first: PageNo,
+        run: Vec<Box<[u8; PAGE_BYTES]>>,
+    ) -> Result<(), Vec<Box<[u8; PAGE_BYTES]>>>
+        requires { first + length run.items ≤ HIGH_PAGE }
+        ensures ok { OnOk result (self.new ≡ kept_with self.old (run_copies first (boxed_bytes run.items))) }
+        ensures err { IfErr result (λ back. (back ≡ run) × (self.new ≡ self.old)) }
+    {
+        let count = run.len() as u32;
+        let Ok(()) = self.set.insert_range(first, count) else {
+            return Err(run);
+        };
+        match self.pages.put_run(first, run) {
+            Ok(()) => Ok(()),
+            Err(run) => {
+                remove_missing(&mut self.set, &self.pages, first, count);
+                Err(run)
+            }
+        }
+    }
+
+    /// Gives up the copies of these pages, run by run.
+    pub fn discard(&mut self, pages: &PageSet)
+        ensures { self.new ≡ map.retain_keys self.old (λ page. not (set.contains pages.now page)) }
+    {
+        pages.ends_by_high_page();
+        let mut at = pages.next(0, true);
+        while at < HIGH_PAGE {
+            let end = pages.next(at, false);
+            self.drop_range(at, end - at);
+            at = pages.next(end, true);
+        }
+    }
+
+    /// Gives up the copies of the `count` pages from `first` on.
+    fn drop_range(&mut self, first: PageNo, count: u32)
+        requires { first + count ≤ HIGH_PAGE }
+        ensures { self.new ≡ remove_range self.old first count }
+    {
+        self.pages.drop_range(first, count);
+        self.set.remove_range(first, count);
+    }
+
+    /// Whether what is kept does not go with a Package of these areas that owes these pages: an owed page is kept, or one that is owed or
+    /// kept is not mapped. It goes by runs of pages, and takes no memory.
+    pub fn is_torn(&self, areas: &AreaMap, owed: &PageSet) -> bool
+        ensures { result ≡ machine.is_torn self.now areas.now owed.now }
+    {
+        meet(owed, &self.set) || !are_mapped(areas, owed) || !are_mapped(areas, &self.set)
+    }
+
+    /// A space of these areas with the pages that are kept, in which every mapped page is registered for missing faults. Nothing is kept
+    /// afterwards; on `NoMemory` nothing is changed.
+    pub fn assemble(&mut self, areas: AreaMap) -> Result<Space, NoMemory>
+        requires { (page : ℕ) → map.get areas page ≡ None → map.get self.old page ≡ None }
+        ensures ok { IfOk result (λ space. space ≡ assembled areas self.old) }
+        ensures empty { OnOk result (self.new ≡ map.empty) }
+        ensures err { OnErr result (self.new ≡ self.old) }
+    {
+        let pages = mem::replace(&mut self.pages, PageTable::new(self.alloc));
+        match Space::assemble(self.alloc, areas, pages, MISSING_MODE) {
+            Ok(space) => {
+                self.set = PageSet::new(self.alloc);
+                Ok(space)
+            }
+            Err((_, pages)) => {
+                self.pages = pages;
+                Err(NoMemory)
+            }
+        }
+    }
+}
+
+/// Takes the pages of a range out of a set that are not present in a table.
+fn remove_missing(kept: &mut PageSet, pages: &PageTable, first: PageNo, count: u32)
+    requires { first + count ≤ HIGH_PAGE }
+    ensures { (q : ℕ) → set.contains kept.new q ≡ (set.contains kept.old q && (not (in_range first count q) || map.contains_key pages.now.bytes q)) }
+{
+    for page in first..first + count {
+        if pages.get(page).is_none() {
+            kept.remove(page);
+        }
+    }
+}
+
+/// Whether a page is in both sets.
+fn meet(one: &PageSet, other: &PageSet) -> bool
+    ensures { result ≡ not (set.len (set.retain one.now (λ page. set.contains other.now page)) == 0) }
+{
+    one.ends_by_high_page();
+    let mut at = one.next(0, true);
+    while at < HIGH_PAGE {
+        let end = one.next(at, false);
+        if other.next(at, true) < end {
+            return true;
+        }
+        at = one.next(end, true);
+    }
+    false
+}
+
+/// Whether every page of a set is mapped.
+fn are_mapped(areas: &AreaMap, pages: &PageSet) -> bool
+    ensures { result ≡ (set.len (set.retain pages.now (λ page. not (map.contains_key areas.now page))) == 0) }
+{
+    pages.ends_by_high_page();
+    let mut at = pages.next(0, true);
+    while at < HIGH_PAGE {
+        let end = pages.next(at, false);
+        if areas.mapped_in(at, end - at) < end - at {
+            return false;
+        }
+        at = pages.next(end, true);
+    }
+    true
+}

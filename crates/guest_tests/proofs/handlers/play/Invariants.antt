@@ -1,0 +1,5 @@
+use Rattle.guest.specs.Lent.{IsLent}
+use Rattle.guest_tests.proofs.handlers.play.Given as goal
+
+abbrev pub invariant-loop-i : goal.invariant-loop-i
+invariant-loop-i g l = IsLent l.space

@@ -1,0 +1,14 @@
+//! The wires between the nodes of a migration.
+//!
+//! A [`Wire`] goes one way. One node appends frames, each with the epoch in which it was sent; the other takes the first once all bytes of
+//! its text have come. It keeps order, and loses frames only when it is cleared. Whoever sends makes room first, so that what a node
+//! sends once it has changed is never refused.
+//!
+//! Contracts see the machine's wire (`mig_model`, `specs/Wire.antt`) and the room (`specs/Lanes.antt`).
+#![tactic(auto)]
+
+pub mod sent;
+pub mod wire;
+
+pub use crate::sent::Sent;
+pub use crate::wire::Wire;
