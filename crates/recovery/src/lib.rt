@@ -7,6 +7,8 @@
 //! Contracts see the nodes as the machine's (`mig_model`), and each call as what the machine's Notice, Resume or Recv makes of them.
 #![tactic(auto)]
 
+mod destination;
 mod source;
 
+pub use crate::destination::{notice_dest, report_received, rerequest};
 pub use crate::source::{notice_source, rebuild};

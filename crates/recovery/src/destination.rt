@@ -1,0 +1,65 @@
+//! The destination: the break is noticed, and the source is told how far the destination has come.
+
+ghost use Rattle.std.specs.Prelude.{◌≡◌, ◌∷◌, ◌++◌, map, IfOk, OnErr};
+ghost use Rattle.mig_base.specs.declared.schedule.Side.{Side};
+ghost use Rattle.mig_base.specs.declared.schedule.Step.{Step};
+ghost use Rattle.mig_model.specs.Destination as machine;
+ghost use Rattle.mig_model.specs.Migration.{answer};
+ghost use Rattle.mig_model.specs.Source.{is_released, is_source_idle};
+ghost use Rattle.mig_model.specs.Wire as wire;
+ghost use Rattle.page_stream.specs.Frames.{frame_of};
+ghost use Rattle.recovery.specs.Breaks.{answered_with, broken_world, frames_of, received_frame};
+
+use fault_handler::Destination;
+use mig_base::effect::Effect;
+use mig_base::phase::{DestPhase, Received, SourcePhase};
+use mig_base::refusal::Refusal;
+use mig_base::schedule::Side;
+use mig_base::{NoMemory, PageSet};
+use page_stream::Frame;
+use precopy::Source;
+use std::alloc::Global;
+
+/// The destination notices that the channel is broken, and is paused; where it has run, its processors go on. Refused as `Phase` before the
+/// start, once the migration is complete, both of which the source knows, and where it has noticed. That the channel is broken is for
+/// whoever calls to know.
+pub fn notice_dest(source: &Source, destination: &mut Destination) -> Result<Effect, Refusal>
+    ensures noticed { answer (broken_world source.now destination.old) (Step.Notice Side.Destination) ≡ answered_with source.now destination.new result }
+    ensures err { OnErr result (destination.new ≡ destination.old) }
+{
+    match source.phase() {
+        SourcePhase::Idle | SourcePhase::Released => return Err(Refusal::Phase),
+        _ => {}
+    }
+    if destination.phase() == DestPhase::Paused {
+        return Err(Refusal::Phase);
+    }
+    destination.pause();
+    Ok(Effect::Noticed {
+        side: Side::Destination,
+    })
+}
+
+/// The frame that tells how far the destination has come, with the pages of the source that it still needs if it runs.
+pub fn report_received(alloc: Global, destination: &Destination) -> Result<Frame, NoMemory>
+    ensures { IfOk result (λ frame. frame_of frame ≡ received_frame destination.now) }
+{
+    let state = destination.received();
+    let owed = match state {
+        Received::Running => destination.owed().origins(alloc)?,
+        Received::NotRun | Received::Ended => PageSet::new(alloc),
+    };
+    Ok(Frame::Recv { state, owed })
+}
+
+/// The requests of the destination once more, in the order in which they were first made: what it sends behind a Recv if it runs.
+pub fn rerequest(alloc: Global, destination: &Destination) -> Result<Vec<Frame>, NoMemory>
+    ensures { IfOk result (λ frames. frames_of frames.items ≡ map wire.Frame.Request destination.now.requests) }
+{
+    let requests = destination.requests();
+    let mut frames = Vec::with_capacity(alloc, requests.len())?;
+    for page in requests {
+        frames.push(Frame::Request { page: *page })?;
+    }
+    Ok(frames)
+}
