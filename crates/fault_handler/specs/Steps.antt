@@ -1,5 +1,5 @@
 -- What a call of a destination answers: what the machine's step of its name does in a world that has this destination.
-use Rattle.std.specs.Prelude.{◌≡◌, ◌⊎◌, List, Err, IsOk}
+use Rattle.std.specs.Prelude.{◌≡◌, ◌⊎◌, Bool, true, false, List, ◌++◌, Ok, Err, IsOk}
 use Rattle.mig_base.specs.declared.command.Entry.{Entry}
 use Rattle.mig_base.specs.declared.effect.Effect.{Effect}
 use Rattle.mig_base.specs.declared.refusal.Refusal.{Refusal}
