@@ -1,16 +1,15 @@
 -- A Package is taken: the space that the destination then runs in.
-use Rattle.std.proofs.Common.{◌≡◌, ℕ, ◌<◌, ◌≤◌, ◌&&◌, Bool, true, false, ltb, List, Option, Some, None, refl, sym, ap, subst, ◌∙◌, arith}
+use Rattle.std.proofs.Common.{◌≡◌, ℕ, true, false, ltb, List, refl, sym, ap, subst, ◌∙◌, arith}
 use Rattle.std.specs.Ordering.{nat_cmp}
-use Rattle.std.specs.FinMap.{FinMap, get, contains_key}
-use Rattle.std.specs.FinSet.{FinSet, contains, contains-empty}
+use Rattle.std.specs.FinMap.{FinMap, contains_key}
+use Rattle.std.specs.FinSet.{FinSet, contains-empty}
 use Rattle.std.proofs.lemmas.Bool.{false_from_ne_true, lt-ltb, and_from}
 use Rattle.mig_base.specs.Bits.{is_one}
-use Rattle.mig_base.specs.declared.TheConstants.{HIGH_PAGE, LOW_PAGE}
+use Rattle.mig_base.specs.declared.TheConstants.{HIGH_PAGE}
 use Rattle.mig_base.specs.declared.Prot.{Prot}
 use Rattle.mig_model.specs.Bounds.{IsMapping}
 use Rattle.mig_model.specs.Destination.{assembled}
 use Rattle.mig_model.specs.Faults.{is_torn}
-use Rattle.mig_model.specs.Guest.{is_present}
 use Rattle.mig_model.specs.Ioctls.{has_events}
 use Rattle.mig_model.specs.Owed.{Owed, own_places}
 use Rattle.mig_model.specs.Space.{Space}

@@ -8,6 +8,7 @@ ghost use Rattle.mig_model.specs.Migration.{answer};
 ghost use Rattle.mig_model.specs.Source.{is_released, is_source_idle};
 ghost use Rattle.mig_model.specs.Wire as wire;
 ghost use Rattle.page_stream.specs.Frames.{frame_of};
+ghost use Rattle.page_stream.specs.declared.frame.Frame as frames;
 ghost use Rattle.recovery.specs.Breaks.{answered_with, broken_world, frames_of, received_frame};
 
 use fault_handler::Destination;
@@ -15,7 +16,7 @@ use mig_base::effect::Effect;
 use mig_base::phase::{DestPhase, Received, SourcePhase};
 use mig_base::refusal::Refusal;
 use mig_base::schedule::Side;
-use mig_base::{NoMemory, PageSet};
+use mig_base::{NoMemory, PageNo, PageSet};
 use page_stream::Frame;
 use precopy::Source;
 use std::alloc::Global;
@@ -31,8 +32,9 @@ pub fn notice_dest(source: &Source, destination: &mut Destination) -> Result<Eff
         SourcePhase::Idle | SourcePhase::Released => return Err(Refusal::Phase),
         _ => {}
     }
-    if destination.phase() == DestPhase::Paused {
-        return Err(Refusal::Phase);
+    match destination.phase() {
+        DestPhase::Paused => return Err(Refusal::Phase),
+        _ => {}
     }
     destination.pause();
     Ok(Effect::Noticed {
@@ -56,10 +58,16 @@ pub fn report_received(alloc: Global, destination: &Destination) -> Result<Frame
 pub fn rerequest(alloc: Global, destination: &Destination) -> Result<Vec<Frame>, NoMemory>
     ensures { IfOk result (λ frames. frames_of frames.items ≡ map wire.Frame.Request destination.now.requests) }
 {
-    let requests = destination.requests();
-    let mut frames = Vec::with_capacity(alloc, requests.len())?;
-    for page in requests {
-        frames.push(Frame::Request { page: *page })?;
-    }
+    requests_for(alloc, destination.requests())
+}
+
+/// A request for each of the pages.
+fn requests_for(alloc: Global, pages: &[PageNo]) -> Result<Vec<Frame>, NoMemory>
+    ensures { IfOk result (λ asked. asked.items ≡ map frames.Frame.Request pages.now) }
+{
+    let frames = pages
+        .iter()
+        .map(|page| Frame::Request { page: *page })
+        .collect(alloc)?;
     Ok(frames)
 }

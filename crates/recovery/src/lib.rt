@@ -8,6 +8,7 @@
 #![tactic(auto)]
 
 mod destination;
+pub mod laws;
 mod source;
 
 pub use crate::destination::{notice_dest, report_received, rerequest};

@@ -1,6 +1,7 @@
 //! `Frame`: which are well formed, and how long their texts are.
 
 use crate::ranges::inside;
+use crate::same::same;
 use area_map::AreaMap;
 use mig_base::phase::Received;
 use mig_base::{Addr, Command, NoMemory, PAGE_BYTES, PageNo, PageSet, Prot};
@@ -139,13 +140,19 @@ fn length(frame: &Frame) -> Option<u64> {
     }
 }
 
+/// How long the text of a sample is.
+fn sample_length(rt: &impl Abort, alloc: Global, sample: Sample) -> Result<Option<u64>, NoMemory> {
+    let frame = made(rt, alloc, sample)?;
+    Ok(length(&frame))
+}
+
 fn play(rt: &impl Abort, alloc: Global, samples: &[(Sample, Option<u64>)]) -> Result<(), Fail> {
     for (i, (sample, wanted)) in samples.iter().enumerate() {
-        let frame = match made(rt, alloc, *sample) {
-            Ok(frame) => frame,
-            Err(NoMemory) => made(rt, alloc, *sample)?,
+        let length = match sample_length(rt, alloc, *sample) {
+            Ok(length) => length,
+            Err(NoMemory) => sample_length(rt, alloc, *sample)?,
         };
-        assert_eq!(rt; length(&frame), *wanted, "sample {i}");
+        same(rt, &length, wanted, "sample", i);
     }
     Ok(())
 }

@@ -9,4 +9,6 @@ mod frames;
 #[cfg(test)]
 mod ranges;
 #[cfg(test)]
+mod same;
+#[cfg(test)]
 mod sources;

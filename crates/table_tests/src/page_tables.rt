@@ -2,7 +2,7 @@
 
 use crate::ranges::{apart, inside};
 use crate::same::same;
-use mig_base::PageNo;
+use mig_base::{NoMemory, PageNo};
 use page_table::{PageTable, PutFault};
 use std::alloc::Global;
 use std::process::Abort;
@@ -16,6 +16,8 @@ enum Call {
     PutZero(PageNo),
     /// A page, and the byte that fills it.
     Replace(PageNo, u8),
+    /// The first of two pages, and the bytes that fill them.
+    PutRun(PageNo, [u8; 2]),
     /// A page, an offset and what is written there.
     Write(PageNo, usize, [u8; 3]),
     WriteOne(PageNo, usize, u8),
@@ -32,8 +34,8 @@ enum Call {
 }
 
 use Call::{
-    ByteAt, DropRange, IsProtected, Move, Present, Protect, Put, PutZero, Replace, Unprotect,
-    Write, WriteOne,
+    ByteAt, DropRange, IsProtected, Move, Present, Protect, Put, PutRun, PutZero, Replace,
+    Unprotect, Write, WriteOne,
 };
 
 #[derive(Clone, Copy, Debug, PartialEq, Eq)]
@@ -100,6 +102,36 @@ fn replace(
     Ok(Done)
 }
 
+fn put_run(
+    rt: &impl Abort,
+    alloc: Global,
+    table: &mut PageTable,
+    first: PageNo,
+    bytes: [u8; 2],
+) -> Result<Answer, PutFault> {
+    inside(rt, first, 2);
+    let Ok(run) = run_of(alloc, bytes) else {
+        return Err(PutFault::NoMemory);
+    };
+    assert!(rt; run.len() == 2);
+    match table.put_run(first, run) {
+        Ok(()) => Ok(Done),
+        Err(back) => {
+            same(rt, &back.len(), &2, "pages that come back", 0);
+            Err(PutFault::NoMemory)
+        }
+    }
+}
+
+/// Two pages, each filled with a byte.
+fn run_of(alloc: Global, bytes: [u8; 2]) -> Result<Vec<Box<[u8; 4096]>>, NoMemory> {
+    let mut run = Vec::new(alloc);
+    for byte in &bytes {
+        run.push(Box::new(alloc, [*byte; 4096])?)?;
+    }
+    Ok(run)
+}
+
 fn write(rt: &impl Abort, table: &mut PageTable, page: PageNo, offset: usize, bytes: &[u8]) {
     assert!(rt; offset <= 4096 && bytes.len() <= 4096 - offset);
     assert!(rt; table.get(page).is_some());
@@ -150,6 +182,7 @@ fn make(
             table.put_zero(page)?;
         }
         Replace(page, byte) => return replace(rt, alloc, table, page, byte),
+        PutRun(first, bytes) => return put_run(rt, alloc, table, first, bytes),
         Write(page, offset, bytes) => write(rt, table, page, offset, bytes.as_slice()),
         WriteOne(page, offset, byte) => write(rt, table, page, offset, [byte].as_slice()),
         DropRange(first, count) => {
@@ -297,4 +330,22 @@ const ACROSS_LEAVES: [(Call, Answer); 18] = [
 #[test]
 fn pages_move_across_leaves(rt: HostRuntime) {
     play(&rt, rt.alloc(), &ACROSS_LEAVES);
+}
+
+/// A run across a leaf's border, over a page that is present and protected.
+const PUT_IN_A_RUN: [(Call, Answer); 9] = [
+    (Put(0x400, 7), Done),
+    (Protect(0x400), Done),
+    (PutRun(0x3ff, [1, 2]), Done),
+    (ByteAt(0x3ff, 0), Byte(Some(1))),
+    (ByteAt(0x3ff, 4095), Byte(Some(1))),
+    (ByteAt(0x400, 0), Byte(Some(2))),
+    (ByteAt(0x400, 4095), Byte(Some(2))),
+    (IsProtected(0x400), Is(false)),
+    (Present(0x3ff), Among(true, 2)),
+];
+
+#[test]
+fn a_run_of_pages_is_put(rt: HostRuntime) {
+    play(&rt, rt.alloc(), &PUT_IN_A_RUN);
 }

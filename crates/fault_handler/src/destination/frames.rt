@@ -11,7 +11,7 @@ mod kinds;
 mod rules;
 
 use super::Destination;
-use mig_base::NoMemory;
+use kinds::Taken;
 use mig_base::fault::TakeFault;
 use page_stream::Frame;
 
@@ -63,8 +63,9 @@ impl Destination {
             Err(frame) => Err((TakeFault::NoMemory, frame)),
         }
     }
+
     /// Takes a frame that is in place. Where memory is refused the frame is handed back, and nothing is changed.
-    fn put_in(&mut self, epoch: u32, frame: Frame) -> Result<Option<Frame>, Frame>
+    fn put_in(&mut self, epoch: u32, frame: Frame) -> Taken
         requires frame { IsFrame (frame_of frame) }
         requires accepted { take_fault self.old epoch (frame_of frame) ≡ None }
         ensures took { OnOk result (self.new ≡ destination_took self.old epoch (frame_of frame)) }
@@ -78,18 +79,9 @@ impl Destination {
                 self.advise(epoch);
                 Ok(None)
             }
-            Frame::Page { page, bytes } => match self.page_came(page, bytes) {
-                Ok(()) => Ok(None),
-                Err(bytes) => Err(Frame::Page { page, bytes }),
-            },
-            Frame::Zero { page } => match self.zero_came(page) {
-                Ok(()) => Ok(None),
-                Err(NoMemory) => Err(Frame::Zero { page }),
-            },
-            Frame::Run { first, pages } => match self.run_came(first, pages) {
-                Ok(()) => Ok(None),
-                Err(pages) => Err(Frame::Run { first, pages }),
-            },
+            Frame::Page { page, bytes } => self.page_came(page, bytes),
+            Frame::Zero { page } => self.zero_came(page),
+            Frame::Run { first, pages } => self.run_came(first, pages),
             Frame::Discard { pages } => {
                 self.discard(&pages);
                 Ok(None)
@@ -98,14 +90,7 @@ impl Destination {
                 areas,
                 owed,
                 commands,
-            } => match self.run(&areas, &owed, &commands) {
-                Ok(()) => Ok(None),
-                Err(NoMemory) => Err(Frame::Package {
-                    areas,
-                    owed,
-                    commands,
-                }),
-            },
+            } => self.package_came(areas, owed, commands),
             Frame::End { .. } => {
                 self.end();
                 Ok(Some(Frame::Done))
@@ -129,16 +114,8 @@ impl Destination {
             return Err(frame);
         };
         match frame {
-            Frame::Page { page, bytes } => {
-                if let Err(bytes) = self.page_waits(page, bytes) {
-                    return Err(Frame::Page { page, bytes });
-                }
-            }
-            Frame::Zero { page } => {
-                let Ok(()) = self.zero_waits(page) else {
-                    return Err(Frame::Zero { page });
-                };
-            }
+            Frame::Page { page, bytes } => self.page_waits(page, bytes)?,
+            Frame::Zero { page } => self.zero_waits(page)?,
             _ => return Ok(()),
         }
         self.urgent_taken = taken;

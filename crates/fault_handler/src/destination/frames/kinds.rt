@@ -1,6 +1,6 @@
-//! What a destination makes of each kind of frame.
+//! What a destination makes of each kind of frame. A frame for which memory is refused is handed back, and nothing is changed.
 
-ghost use Rattle.std.specs.Prelude.{◌≡◌, ◌+◌, ◌<◌, ◌≤◌, true, false, length, IfErr, OnOk, OnErr};
+ghost use Rattle.std.specs.Prelude.{◌≡◌, ◌+◌, ◌<◌, ◌≤◌, true, false, length, None, IfErr, IfOk, OnOk, OnErr};
 ghost use Rattle.mig_base.specs.Bytes.{zero_page};
 ghost use Rattle.mig_base.specs.declared.TheConstants.{HIGH_PAGE};
 ghost use Rattle.mig_base.specs.declared.phase.DestPhase.{DestPhase};
@@ -8,15 +8,19 @@ ghost use Rattle.mig_model.specs.Bounds.{IsMapping};
 ghost use Rattle.mig_model.specs.Destination.{arrived, copy_came, destination_ran, destination_took};
 ghost use Rattle.mig_model.specs.Faults.{is_torn};
 ghost use Rattle.mig_model.specs.Wire as wire;
+ghost use Rattle.page_stream.specs.declared.frame.Frame.{Frame};
 
-use super::super::Destination;
 use crate::arrival::Arrival;
+use crate::destination::Destination;
 use crate::kept::Kept;
 use area_map::AreaMap;
 use mig_base::phase::{DestPhase, Received};
 use mig_base::{NoMemory, PageNo, PageSet};
 use owed_pages::Owed;
-use page_stream::{PageBytes, Pages, Waiting};
+use page_stream::{Frame, PageBytes, Pages, Waiting};
+
+/// What is to be sent back at once, or the frame for which memory is refused.
+pub(super) type Taken = Result<Option<Frame>, Frame>;
 
 impl Destination {
     /// A migration begins.
@@ -29,40 +33,49 @@ impl Destination {
     }
 
     /// The copy of a page has come: it is kept before the run, and waits to be installed from then on.
-    pub(super) fn page_came(&mut self, page: PageNo, bytes: PageBytes) -> Result<(), PageBytes>
+    pub(super) fn page_came(&mut self, page: PageNo, bytes: PageBytes) -> Taken
         requires { page < HIGH_PAGE }
         ensures ok { OnOk result (self.new ≡ copy_came self.old.has_run self.old (record { page = page; bytes = bytes })) }
-        ensures err { IfErr result (λ back. (back ≡ bytes) × (self.new ≡ self.old)) }
+        ensures answer { IfOk result (λ answer. answer ≡ None) }
+        ensures err { IfErr result (λ back. (back ≡ Frame.Page page bytes) × (self.new ≡ self.old)) }
     {
         if self.has_run {
-            return self.page_waits(page, bytes);
+            self.page_waits(page, bytes)?;
+            return Ok(None);
         }
         match self.kept.keep(page, bytes.into_box()) {
-            Ok(()) => Ok(()),
-            Err(bytes) => Err(PageBytes::new(bytes)),
+            Ok(()) => Ok(None),
+            Err(bytes) => Err(Frame::Page {
+                page,
+                bytes: PageBytes::new(bytes),
+            }),
         }
     }
 
     /// The copy of a page of zeros has come.
-    pub(super) fn zero_came(&mut self, page: PageNo) -> Result<(), NoMemory>
+    pub(super) fn zero_came(&mut self, page: PageNo) -> Taken
         requires { page < HIGH_PAGE }
         ensures ok { OnOk result (self.new ≡ copy_came self.old.has_run self.old (record { page = page; bytes = zero_page })) }
-        ensures err { OnErr result (self.new ≡ self.old) }
+        ensures answer { IfOk result (λ answer. answer ≡ None) }
+        ensures err { IfErr result (λ back. (back ≡ Frame.Zero page) × (self.new ≡ self.old)) }
     {
         if self.has_run {
-            self.zero_waits(page)
-        } else {
-            self.kept.keep_zero(page)
+            self.zero_waits(page)?;
+            return Ok(None);
+        }
+        match self.kept.keep_zero(page) {
+            Ok(()) => Ok(None),
+            Err(NoMemory) => Err(Frame::Zero { page }),
         }
     }
 
     /// The copy of a page waits to be installed.
-    pub(super) fn page_waits(&mut self, page: PageNo, bytes: PageBytes) -> Result<(), PageBytes>
+    pub(super) fn page_waits(&mut self, page: PageNo, bytes: PageBytes) -> Result<(), Frame>
         ensures ok { OnOk result (self.new ≡ arrived self.old (record { page = page; bytes = bytes })) }
-        ensures err { IfErr result (λ back. (back ≡ bytes) × (self.new ≡ self.old)) }
+        ensures err { IfErr result (λ back. (back ≡ Frame.Page page bytes) × (self.new ≡ self.old)) }
     {
         let Ok(()) = self.arrivals.reserve(1) else {
-            return Err(bytes);
+            return Err(Frame::Page { page, bytes });
         };
         // There is room, so that no copy is lost.
         match self
@@ -75,23 +88,29 @@ impl Destination {
     }
 
     /// The copy of a page of zeros waits to be installed.
-    pub(super) fn zero_waits(&mut self, page: PageNo) -> Result<(), NoMemory>
+    pub(super) fn zero_waits(&mut self, page: PageNo) -> Result<(), Frame>
         ensures ok { OnOk result (self.new ≡ arrived self.old (record { page = page; bytes = zero_page })) }
-        ensures err { OnErr result (self.new ≡ self.old) }
+        ensures err { IfErr result (λ back. (back ≡ Frame.Zero page) × (self.new ≡ self.old)) }
     {
-        self.arrivals.push_back(Arrival::new(page, None))?;
-        Ok(())
+        match self.arrivals.push_back(Arrival::new(page, None)) {
+            Ok(()) => Ok(()),
+            Err(_) => Err(Frame::Zero { page }),
+        }
     }
 
-    /// Copies of neighbouring pages have come, which a destination takes before it runs alone.
-    pub(super) fn run_came(&mut self, first: PageNo, pages: Pages) -> Result<(), Pages>
+    /// Copies of neighbouring pages have come, which is before the run alone.
+    pub(super) fn run_came(&mut self, first: PageNo, pages: Pages) -> Taken
         requires { first + length pages ≤ HIGH_PAGE }
         ensures ok { OnOk result (self.new ≡ record self.old { kept = wire.kept_after self.old.kept (wire.Frame.Run first pages) }) }
-        ensures err { IfErr result (λ back. (back ≡ pages) × (self.new ≡ self.old)) }
+        ensures answer { IfOk result (λ answer. answer ≡ None) }
+        ensures err { IfErr result (λ back. (back ≡ Frame.Run first pages) × (self.new ≡ self.old)) }
     {
         match self.kept.keep_run(first, pages.into_vec()) {
-            Ok(()) => Ok(()),
-            Err(pages) => Err(Pages::new(pages)),
+            Ok(()) => Ok(None),
+            Err(pages) => Err(Frame::Run {
+                first,
+                pages: Pages::new(pages),
+            }),
         }
     }
 
@@ -103,13 +122,27 @@ impl Destination {
         self.phase = DestPhase::Discarding;
     }
 
+    /// A Package has come, with which the destination runs.
+    pub(super) fn package_came(&mut self, areas: AreaMap, owed: PageSet, commands: Waiting) -> Taken
+        requires mapping { IsMapping areas }
+        requires whole { is_torn self.old.kept areas owed ≡ false }
+        requires cpus { length commands ≡ length self.old.guest.cpus }
+        ensures ok { OnOk result (self.new ≡ destination_ran self.old areas owed commands) }
+        ensures answer { IfOk result (λ answer. answer ≡ None) }
+        ensures err { IfErr result (λ back. (back ≡ Frame.Package areas owed commands) × (self.new ≡ self.old)) }
+    {
+        match self.run(&areas, &owed, &commands) {
+            Ok(()) => Ok(None),
+            Err(NoMemory) => Err(Frame::Package {
+                areas,
+                owed,
+                commands,
+            }),
+        }
+    }
+
     /// The destination runs: it has a space of these areas with the pages that were kept, and is owed these pages.
-    pub(super) fn run(
-        &mut self,
-        areas: &AreaMap,
-        owed: &PageSet,
-        commands: &Waiting,
-    ) -> Result<(), NoMemory>
+    fn run(&mut self, areas: &AreaMap, owed: &PageSet, commands: &Waiting) -> Result<(), NoMemory>
         requires mapping { IsMapping areas.now }
         requires whole { is_torn self.old.kept areas.now owed.now ≡ false }
         requires cpus { length commands.now ≡ length self.old.guest.cpus }

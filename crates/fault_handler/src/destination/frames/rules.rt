@@ -5,7 +5,7 @@ ghost use Rattle.mig_model.specs.Faults as machine;
 ghost use Rattle.mig_model.specs.Wire as wire;
 ghost use Rattle.page_stream.specs.Frames.{frame_of};
 
-use super::super::Destination;
+use crate::destination::Destination;
 use mig_base::fault::TakeFault;
 use mig_base::phase::DestPhase;
 use page_stream::Frame;
