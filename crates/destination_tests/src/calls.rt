@@ -1,0 +1,269 @@
+//! Calls of a destination, and what they answer.
+
+use crate::frames::{Brief, Sending, frame_of};
+use crate::same::same;
+use fault_handler::Destination;
+use guest::Tried;
+use mig_base::cpu_state::CpuState;
+use mig_base::effect::Effect;
+use mig_base::fault::TakeFault;
+use mig_base::phase::DestPhase;
+use mig_base::refusal::Refusal;
+use mig_base::{Addr, Command, NoMemory, PAGE_SIZE, PageNo, Place, Prot, Reply};
+use page_stream::Frame;
+use recovery::{report_received, rerequest};
+use std::alloc::Global;
+use std::process::Abort;
+
+/// A call with its arguments.
+#[derive(Clone, Copy)]
+pub enum Call {
+    /// A frame comes that was sent in an epoch.
+    Take(u32, Sending),
+    /// So on the urgent wire.
+    TakeUrgent(u32, Sending),
+    /// A processor loads one byte.
+    Load(u8, Addr),
+    /// A processor stores 8 bytes.
+    Store(u8, Addr, u64),
+    /// A processor maps one page at an address, to be read and written.
+    Map(u8, Addr),
+    /// A processor unmaps one page.
+    Unmap(u8, Addr),
+    /// A processor moves one page to another address.
+    Move(u8, Addr, Addr),
+    /// A processor makes one page zeros again.
+    DontNeed(u8, Addr),
+    Retry(u8),
+    Read,
+    Act,
+    Install,
+    Pause,
+    /// How far it has come, as the source is told.
+    Report,
+    /// Its requests once more.
+    Rerequest,
+    /// How far it is, whether it has run, and its epoch.
+    Phase,
+    /// What it counts.
+    Counts,
+    /// Where a page of the source belongs.
+    Home(PageNo),
+    /// What a processor does.
+    Cpu(u8),
+}
+
+#[derive(Clone, Copy, Debug, PartialEq, Eq)]
+pub enum Answer {
+    Done,
+    /// A frame was taken, and this is to be sent at once.
+    Took(Option<Brief>),
+    NotTaken(TakeFault),
+    /// A command was answered, and was entered.
+    Replied(u8, Reply),
+    /// The processor sleeps, and nothing was entered.
+    Asleep(u8),
+    /// A map call goes on for so many messages, and was entered with this reply.
+    InCall(u8, u8, Reply),
+    /// A command whose entry does not fit its effect.
+    Unfit(Tried),
+    Told(Effect),
+    /// What was made of a fault, and the frame that is to be sent.
+    Acts(Effect, Option<Brief>),
+    /// The frame that tells how far it has come.
+    Reports(Brief),
+    /// The first of the frames that ask anew.
+    Sends([Option<Brief>; 3]),
+    Stands(DestPhase, bool, u32),
+    /// Copies installed, copies given up and faults read; copies that wait; and pages that are owed.
+    Counted([u64; 3], usize, u32),
+    At(Option<PageNo>),
+    Is(CpuState),
+}
+
+use Answer::{
+    Acts, Asleep, At, Counted, Done, InCall, Is, NotTaken, Replied, Reports, Sends, Stands, Told,
+    Took, Unfit,
+};
+
+/// A call with the answer that is wanted.
+pub type Step = (Call, Result<Answer, Refusal>);
+
+fn brief_of(frame: Option<Frame>) -> Option<Brief> {
+    match frame {
+        Some(frame) => Some(Brief::of(&frame)),
+        None => None,
+    }
+}
+
+/// What a frame came to that was refused, and handed back as it was.
+fn not_taken(
+    rt: &impl Abort,
+    fault: TakeFault,
+    back: &Frame,
+    sent: Brief,
+) -> Result<Answer, Refusal> {
+    same(rt, &Brief::of(back), &sent, "frame handed back", 0);
+    match fault {
+        TakeFault::NoMemory => Err(Refusal::NoMemory),
+        _ => Ok(NotTaken(fault)),
+    }
+}
+
+/// A frame comes.
+fn take(
+    rt: &impl Abort,
+    destination: &mut Destination,
+    epoch: u32,
+    frame: Frame,
+) -> Result<Answer, Refusal> {
+    assert!(rt; frame.is_well_formed());
+    let sent = Brief::of(&frame);
+    match destination.take(epoch, frame) {
+        Ok(answer) => Ok(Took(brief_of(answer))),
+        Err((fault, back)) => not_taken(rt, fault, &back, sent),
+    }
+}
+
+/// A frame comes on the urgent wire.
+fn take_urgent(
+    rt: &impl Abort,
+    destination: &mut Destination,
+    epoch: u32,
+    frame: Frame,
+) -> Result<Answer, Refusal> {
+    assert!(rt; frame.is_well_formed());
+    let sent = Brief::of(&frame);
+    match destination.take_urgent(epoch, frame) {
+        Ok(()) => Ok(Took(None)),
+        Err((fault, back)) => not_taken(rt, fault, &back, sent),
+    }
+}
+
+/// What a command came to.
+fn tried(answer: Result<Tried, Refusal>) -> Result<Answer, Refusal> {
+    answer.map(|tried| match (tried.effect, tried.entry) {
+        (Effect::Asleep { cpu }, None) => Asleep(cpu),
+        (Effect::Answered { cpu, reply }, Some(entry))
+            if entry.cpu == cpu && entry.reply == reply => { Replied(cpu, reply) }
+        (Effect::InCall { cpu, messages }, Some(entry)) if entry.cpu == cpu => {
+            InCall(cpu, messages, entry.reply)
+        }
+        _ => Unfit(tried),
+    })
+}
+
+fn acted(destination: &mut Destination) -> Result<Answer, Refusal> {
+    match destination.act() {
+        Ok((effect, frame)) => Ok(Acts(effect, brief_of(frame))),
+        Err(refusal) => Err(refusal),
+    }
+}
+
+fn report(alloc: Global, destination: &Destination) -> Result<Answer, Refusal> {
+    match report_received(alloc, destination) {
+        Ok(frame) => Ok(Reports(Brief::of(&frame))),
+        Err(NoMemory) => Err(Refusal::NoMemory),
+    }
+}
+
+fn requested(alloc: Global, destination: &Destination) -> Result<Answer, Refusal> {
+    match rerequest(alloc, destination) {
+        Ok(frames) => Ok(Sends(Brief::of_first(&frames))),
+        Err(NoMemory) => Err(Refusal::NoMemory),
+    }
+}
+
+/// Asks for what a destination knows.
+fn asked(alloc: Global, destination: &Destination, call: Call) -> Result<Answer, Refusal> {
+    match call {
+        Call::Report => report(alloc, destination),
+        Call::Rerequest => requested(alloc, destination),
+        Call::Home(origin) => Ok(At(destination.owed().home(origin))),
+        Call::Cpu(cpu) => destination.cpus().state(cpu).map(Is),
+        Call::Phase => Ok(Stands(
+            destination.phase(),
+            destination.has_run(),
+            destination.epoch(),
+        )),
+        _ => Ok(Counted(
+            [
+                destination.installed(),
+                destination.dropped(),
+                destination.faults(),
+            ],
+            destination.arrivals(),
+            destination.owed().len(),
+        )),
+    }
+}
+
+/// The command of a call.
+fn command(call: Call) -> Option<(u8, Command)> {
+    let len = PAGE_SIZE;
+    match call {
+        Call::Load(cpu, addr) => Some((cpu, Command::Load { addr, width: 1 })),
+        Call::Store(cpu, addr, value) => Some((
+            cpu,
+            Command::Store {
+                addr,
+                width: 8,
+                value,
+            },
+        )),
+        Call::Map(cpu, addr) => Some((
+            cpu,
+            Command::Mmap {
+                addr_len: len,
+                prot: Prot::ReadWrite,
+                place: Place::Fixed(addr),
+            },
+        )),
+        Call::Unmap(cpu, addr) => Some((cpu, Command::Munmap { addr, len })),
+        Call::Move(cpu, addr, to) => Some((cpu, moving(addr, to))),
+        Call::DontNeed(cpu, addr) => Some((cpu, Command::DontNeed { addr, len })),
+        _ => None,
+    }
+}
+
+/// One page moves.
+fn moving(addr: Addr, to: Addr) -> Command {
+    Command::Mremap {
+        addr,
+        old_len: PAGE_SIZE,
+        new_len: PAGE_SIZE,
+        may_move: true,
+        fixed: Some(to),
+    }
+}
+
+/// Makes a call.
+pub fn make(
+    rt: &impl Abort,
+    alloc: Global,
+    destination: &mut Destination,
+    call: Call,
+) -> Result<Answer, Refusal> {
+    if let Some((cpu, command)) = command(call) {
+        return tried(destination.issue(cpu, command));
+    }
+    match call {
+        Call::Take(epoch, sending) => match frame_of(rt, alloc, sending) {
+            Ok(frame) => take(rt, destination, epoch, frame),
+            Err(NoMemory) => Err(Refusal::NoMemory),
+        },
+        Call::TakeUrgent(epoch, sending) => match frame_of(rt, alloc, sending) {
+            Ok(frame) => take_urgent(rt, destination, epoch, frame),
+            Err(NoMemory) => Err(Refusal::NoMemory),
+        },
+        Call::Retry(cpu) => tried(destination.retry(cpu)),
+        Call::Read => destination.read().map(Told),
+        Call::Act => acted(destination),
+        Call::Install => destination.install().map(Told),
+        Call::Pause => {
+            destination.pause();
+            Ok(Done)
+        }
+        _ => asked(alloc, destination, call),
+    }
+}

@@ -1,0 +1,179 @@
+//! Frames that a table sends, and what a table says of a frame.
+
+use crate::ranges::inside;
+use area_map::AreaMap;
+use mig_base::phase::Received;
+use mig_base::{Command, NoMemory, PAGE_BYTES, PageNo, PageSet, Prot};
+use page_stream::{Frame, PageBytes, Pages, Waiting};
+use std::alloc::Global;
+use std::process::Abort;
+
+/// A first page, and how many they are.
+pub type Range = (PageNo, u32);
+
+/// A frame to be made.
+#[derive(Clone, Copy)]
+pub enum Sending {
+    Advise,
+    /// A page, each of whose bytes is this one.
+    Page(PageNo, u8),
+    Zero(PageNo),
+    /// The first page, how many they are, and each byte of the first. Those of the next page are one more, and so on.
+    Run(PageNo, u8, u8),
+    Discard(Range),
+    /// The pages that are mapped, to be read and written, and those that are owed; how many processors there are, and what the first
+    /// waits for.
+    Package(Range, Range, usize, Option<Command>),
+    End(u32),
+    Resume,
+    Request(PageNo),
+    Recv,
+    Done,
+}
+
+/// A frame, as far as a table says it.
+#[derive(Clone, Copy, Debug, PartialEq, Eq)]
+pub enum Brief {
+    Advise,
+    /// A page with its first byte.
+    Page(PageNo, Option<u8>),
+    Zero(PageNo),
+    /// The first page, and how many they are.
+    Run(PageNo, usize),
+    Discard(Range),
+    /// How many pages are mapped, those that are owed, and how many processors there are.
+    Package(u32, Range, usize),
+    End(u32),
+    Resume,
+    Request(PageNo),
+    Recv(Received, Range),
+    Done,
+}
+
+/// The first page of a set that has none.
+pub const NOWHERE: PageNo = 0x10_0000;
+
+/// No page.
+pub const NONE: Range = (NOWHERE, 0);
+
+fn page_of(alloc: Global, byte: u8) -> Result<PageBytes, NoMemory> {
+    Ok(PageBytes::new(Box::new(alloc, [byte; PAGE_BYTES])?))
+}
+
+fn pages_of(alloc: Global, count: u8, first: u8) -> Result<Pages, NoMemory> {
+    let mut pages = Vec::new(alloc);
+    for i in 0..count {
+        pages.push(Box::new(alloc, [first.wrapping_add(i); PAGE_BYTES])?)?;
+    }
+    Ok(Pages::new(pages))
+}
+
+/// The pages of a range.
+pub fn set_of(rt: &impl Abort, alloc: Global, range: Range) -> Result<PageSet, NoMemory> {
+    let (first, count) = range;
+    inside(rt, first, count);
+    let mut pages = PageSet::new(alloc);
+    pages.insert_range(first, count)?;
+    Ok(pages)
+}
+
+fn areas_of(rt: &impl Abort, alloc: Global, range: Range) -> Result<AreaMap, NoMemory> {
+    let (first, count) = range;
+    inside(rt, first, count);
+    let mut areas = AreaMap::new(alloc);
+    areas.map(first, count, Prot::ReadWrite)?;
+    Ok(areas)
+}
+
+/// So many processors, of which the first waits for the command, and no other waits.
+fn waiting(alloc: Global, count: usize, command: Option<Command>) -> Result<Waiting, NoMemory> {
+    let mut commands = vec![in alloc; None; count]?;
+    if let Some(first) = commands.first_mut() {
+        *first = command;
+    }
+    Ok(Waiting::new(commands))
+}
+
+fn package(
+    rt: &impl Abort,
+    alloc: Global,
+    mapped: Range,
+    owed: Range,
+    commands: Waiting,
+) -> Result<Frame, NoMemory> {
+    let owed = set_of(rt, alloc, owed)?;
+    Ok(Frame::Package {
+        areas: areas_of(rt, alloc, mapped)?,
+        owed,
+        commands,
+    })
+}
+
+/// Makes a frame.
+pub fn frame_of(rt: &impl Abort, alloc: Global, sending: Sending) -> Result<Frame, NoMemory> {
+    Ok(match sending {
+        Sending::Advise => Frame::Advise,
+        Sending::Page(page, byte) => Frame::Page {
+            page,
+            bytes: page_of(alloc, byte)?,
+        },
+        Sending::Zero(page) => Frame::Zero { page },
+        Sending::Run(first, count, byte) => Frame::Run {
+            first,
+            pages: pages_of(alloc, count, byte)?,
+        },
+        Sending::Discard(range) => Frame::Discard {
+            pages: set_of(rt, alloc, range)?,
+        },
+        Sending::Package(mapped, owed, count, command) => {
+            package(rt, alloc, mapped, owed, waiting(alloc, count, command)?)?
+        }
+        Sending::End(urgent) => Frame::End { urgent },
+        Sending::Resume => Frame::Resume,
+        Sending::Request(page) => Frame::Request { page },
+        Sending::Recv => Frame::Recv {
+            state: Received::NotRun,
+            owed: PageSet::new(alloc),
+        },
+        Sending::Done => Frame::Done,
+    })
+}
+
+fn range_of(pages: &PageSet) -> Range {
+    (pages.next(0, true), pages.len())
+}
+
+impl Brief {
+    pub fn of(frame: &Frame) -> Self {
+        match frame {
+            Frame::Advise => Brief::Advise,
+            Frame::Page { page, bytes } => Brief::Page(*page, bytes.as_slice().first().copied()),
+            Frame::Zero { page } => Brief::Zero(*page),
+            Frame::Run { first, pages } => Brief::Run(*first, pages.len()),
+            Frame::Discard { pages } => Brief::Discard(range_of(pages)),
+            Frame::Package {
+                areas,
+                owed,
+                commands,
+            } => Brief::Package(
+                areas.mapped_pages(),
+                range_of(owed),
+                commands.as_slice().len(),
+            ),
+            Frame::End { urgent } => Brief::End(*urgent),
+            Frame::Resume => Brief::Resume,
+            Frame::Request { page } => Brief::Request(*page),
+            Frame::Recv { state, owed } => Brief::Recv(*state, range_of(owed)),
+            Frame::Done => Brief::Done,
+        }
+    }
+
+    /// The first three of a list of frames.
+    pub fn of_first(frames: &[Frame]) -> [Option<Self>; 3] {
+        let mut found = [None; 3];
+        for (place, frame) in found.iter_mut().zip(frames) {
+            *place = Some(Brief::of(frame));
+        }
+        found
+    }
+}

@@ -1,0 +1,238 @@
+//! A source that goes on from what a destination has received.
+
+ghost use Rattle.std.specs.Prelude.{◌≡◌, false};
+ghost use Rattle.mig_model.specs.Source.{is_released};
+
+use crate::frames::{Brief, NONE, Range, set_of};
+use crate::same::same;
+use mig_base::fault::RebuildFault;
+use mig_base::phase::{Received, SourcePhase};
+use mig_base::refusal::Refusal;
+use mig_base::{Addr, Command, NoMemory, PAGE_SIZE, PageSet, Place, Prot};
+use precopy::Source;
+use recovery::{notice_source, rebuild};
+use std::alloc::Global;
+use std::process::Abort;
+use std::test::Fail;
+use vcpu::NewFault;
+
+/// A call of a source.
+#[derive(Clone, Copy)]
+pub enum Call {
+    /// Pages 0x10 to 0x12 are mapped.
+    Map,
+    /// A processor stores 8 bytes.
+    Store(Addr),
+    Start,
+    Round,
+    Send,
+    Switch,
+    Notice,
+    /// The destination has come so far, and needs these pages.
+    Rebuild(Received, Range),
+    /// How far it is, which pages remain, how many are to be sent and how many were owed.
+    Looks,
+}
+
+use Call::{Looks, Map, Notice, Rebuild, Round, Send, Start, Store, Switch};
+
+#[derive(Clone, Copy, Debug, PartialEq, Eq)]
+pub enum Answer {
+    Done,
+    /// The first of the frames that it sends.
+    Sends([Option<Brief>; 3]),
+    NotRebuilt(RebuildFault),
+    Stands(SourcePhase, Range, u32, u32),
+}
+
+use Answer::{Done, NotRebuilt, Sends, Stands};
+
+pub type Step = (Call, Result<Answer, Refusal>);
+
+/// What a refused call has to leave.
+fn looks(source: &Source) -> Answer {
+    let remaining = source.remaining();
+    Stands(
+        source.phase(),
+        (remaining.next(0, true), remaining.len()),
+        source.log().todo().len(),
+        source.packaged(),
+    )
+}
+
+/// What a call that does what a table does not look at came to.
+fn done<T: Drop>(answer: Result<T, Refusal>) -> Result<Answer, Refusal> {
+    match answer {
+        Ok(_) => Ok(Done),
+        Err(refusal) => Err(refusal),
+    }
+}
+
+/// Stops where a source is released.
+fn not_released(rt: &impl Abort, source: &Source)
+    ensures { is_released source.now.phase ≡ false }
+{
+    assert!(rt; source.phase() != SourcePhase::Released);
+}
+
+/// The source goes on.
+fn rebuilt(
+    rt: &impl Abort,
+    alloc: Global,
+    source: &mut Source,
+    state: Received,
+    owed: &PageSet,
+) -> Result<Answer, Refusal> {
+    not_released(rt, source);
+    match rebuild(alloc, source, state, owed) {
+        Ok(frames) => Ok(Sends(Brief::of_first(&frames))),
+        Err(RebuildFault::NoMemory) => Err(Refusal::NoMemory),
+        Err(fault) => Ok(NotRebuilt(fault)),
+    }
+}
+
+fn map_call() -> Command {
+    Command::Mmap {
+        addr_len: 3 * PAGE_SIZE,
+        prot: Prot::ReadWrite,
+        place: Place::Fixed(0x10000),
+    }
+}
+
+fn store(addr: Addr) -> Command {
+    Command::Store {
+        addr,
+        width: 8,
+        value: 1,
+    }
+}
+
+/// Makes a call.
+fn make(
+    rt: &impl Abort,
+    alloc: Global,
+    source: &mut Source,
+    call: Call,
+) -> Result<Answer, Refusal> {
+    match call {
+        Map => done(source.issue(0, map_call())),
+        Store(addr) => done(source.issue(0, store(addr))),
+        Start => done(source.start()),
+        Round => done(source.round()),
+        Send => done(source.send_next()),
+        Switch => done(source.switch()),
+        Notice => done(notice_source(source)),
+        Looks => Ok(looks(source)),
+        Rebuild(state, range) => match set_of(rt, alloc, range) {
+            Ok(owed) => rebuilt(rt, alloc, source, state, &owed),
+            Err(NoMemory) => Err(Refusal::NoMemory),
+        },
+    }
+}
+
+fn is_refused(answer: Result<Answer, Refusal>) -> bool {
+    matches!(answer, Err(_) | Ok(NotRebuilt(_)))
+}
+
+/// Plays a table on a source.
+pub fn play_on(rt: &impl Abort, alloc: Global, source: &mut Source, steps: &[Step]) {
+    for (i, (call, wanted)) in steps.iter().enumerate() {
+        let before = looks(source);
+        let mut answer = make(rt, alloc, source, *call);
+        if is_refused(answer) {
+            same(rt, &looks(source), &before, "refused step", i);
+        }
+        if answer == Err(Refusal::NoMemory) {
+            answer = make(rt, alloc, source, *call);
+        }
+        same(rt, &answer, wanted, "step", i);
+    }
+}
+
+/// A source of one processor, where memory is refused asked for again.
+pub fn new_source(alloc: Global) -> Result<Source, NewFault> {
+    match Source::new(alloc, 1, 0, 0) {
+        Ok(source) => Ok(source),
+        Err(NewFault::NoMemory) => Source::new(alloc, 1, 0, 0),
+        Err(fault) => Err(fault),
+    }
+}
+
+fn play(rt: &impl Abort, alloc: Global, steps: &[Step]) -> Result<(), Fail> {
+    let mut source = new_source(alloc)?;
+    play_on(rt, alloc, &mut source, steps);
+    Ok(())
+}
+
+const NO_FRAMES: Result<Answer, Refusal> = Ok(Sends([None, None, None]));
+
+const BAD_OWED: Result<Answer, Refusal> = Ok(NotRebuilt(RebuildFault::BadOwed));
+
+/// Before the switch a destination has not run, and pre-copy goes on, of which nothing was kept.
+const BEFORE_THE_SWITCH: [Step; 19] = [
+    (Notice, Err(Refusal::Phase)),
+    (Map, Ok(Done)),
+    (Store(0x10000), Ok(Done)),
+    (Store(0x12000), Ok(Done)),
+    (Start, Ok(Done)),
+    (Round, Ok(Done)),
+    (Send, Ok(Done)),
+    (Looks, Ok(Stands(SourcePhase::Precopy, NONE, 1, 0))),
+    (Notice, Ok(Done)),
+    (Looks, Ok(Stands(SourcePhase::Paused, NONE, 1, 0))),
+    (Notice, Err(Refusal::Phase)),
+    (Rebuild(Received::NotRun, (0x10, 1)), BAD_OWED),
+    (Rebuild(Received::Running, NONE), BAD_OWED),
+    (Rebuild(Received::Ended, NONE), BAD_OWED),
+    (Rebuild(Received::NotRun, NONE), NO_FRAMES),
+    (Looks, Ok(Stands(SourcePhase::Precopy, NONE, 0, 0))),
+    (Send, Err(Refusal::NothingThere)),
+    (Round, Ok(Done)),
+    (Looks, Ok(Stands(SourcePhase::Precopy, NONE, 2, 0))),
+];
+
+#[test]
+fn a_break_before_the_switch(rt: HostRuntime) -> Result<(), Fail> {
+    play(&rt, rt.alloc(), &BEFORE_THE_SWITCH)
+}
+
+/// After the switch a destination that runs may need pages that the source has, and no others. One that has not run is sent a Discard
+/// of none and a Package that owes every present page.
+const AFTER_THE_SWITCH: [Step; 24] = [
+    (Map, Ok(Done)),
+    (Store(0x10000), Ok(Done)),
+    (Store(0x11000), Ok(Done)),
+    (Start, Ok(Done)),
+    (Round, Ok(Done)),
+    (Send, Ok(Done)),
+    (Switch, Ok(Done)),
+    (Looks, Ok(Stands(SourcePhase::Stopped, (0x11, 1), 1, 1))),
+    (Notice, Ok(Done)),
+    (Looks, Ok(Stands(SourcePhase::Paused, (0x11, 1), 1, 1))),
+    (Rebuild(Received::Running, (0x30, 1)), BAD_OWED),
+    (Rebuild(Received::Running, (0x11, 2)), BAD_OWED),
+    (Rebuild(Received::NotRun, (0x10, 1)), BAD_OWED),
+    (Rebuild(Received::Ended, (0x10, 1)), BAD_OWED),
+    (Rebuild(Received::Running, (0x10, 1)), NO_FRAMES),
+    (Looks, Ok(Stands(SourcePhase::Stopped, (0x10, 1), 1, 1))),
+    (Notice, Ok(Done)),
+    (
+        Rebuild(Received::NotRun, NONE),
+        Ok(Sends([
+            Some(Brief::Discard(NONE)),
+            Some(Brief::Package(3, (0x10, 2), 1)),
+            None,
+        ])),
+    ),
+    (Looks, Ok(Stands(SourcePhase::Stopped, (0x10, 2), 1, 2))),
+    (Notice, Ok(Done)),
+    (Rebuild(Received::Ended, NONE), NO_FRAMES),
+    (Looks, Ok(Stands(SourcePhase::Released, NONE, 0, 2))),
+    (Notice, Err(Refusal::Phase)),
+    (Store(0x10000), Err(Refusal::Phase)),
+];
+
+#[test]
+fn a_break_after_the_switch(rt: HostRuntime) -> Result<(), Fail> {
+    play(&rt, rt.alloc(), &AFTER_THE_SWITCH)
+}
