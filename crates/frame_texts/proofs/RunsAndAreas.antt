@@ -127,7 +127,7 @@ runs_of-same a b in_a in_b e = same_members a b (λ q. sym (member-runs_of a in_
 
 -- The protections of mapped pages
 
-same_prot_tells : (a b : Option Prot) → same_prot a b ≡ true → (a ≡ b) × (is_some a ≡ true)
+pub same_prot_tells : (a b : Option Prot) → same_prot a b ≡ true → (a ≡ b) × (is_some a ≡ true)
 same_prot_tells a b h = grind (arith, nat_tests)
 
 area_begins : (areas : FinMap nat_cmp Prot) (prot : Prot) (q : ℕ) → get areas q ≡ Some prot → BeginsAt (begins_area areas) (λ j. get areas j ≡ Some prot) q

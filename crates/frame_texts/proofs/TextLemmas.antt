@@ -26,11 +26,11 @@ unfolding list_below count_below
 length-list_below test zero = refl
 length-list_below test (suc bound) = grind (arith, nat_tests, length-append, one_if, length-list_below test bound)
 
-length-runs_of : (pages : FinSet nat_cmp) → length (runs_of pages) ≡ run_count pages
+pub length-runs_of : (pages : FinSet nat_cmp) → length (runs_of pages) ≡ run_count pages
 unfolding run_count
 length-runs_of pages = length-map (list_below (begins_run pages) HIGH_PAGE) (run_at pages) ∙ length-list_below (begins_run pages) HIGH_PAGE
 
-length-areas_of : (areas : FinMap nat_cmp Prot) → length (areas_of areas) ≡ area_count areas
+pub length-areas_of : (areas : FinMap nat_cmp Prot) → length (areas_of areas) ≡ area_count areas
 unfolding area_count
 length-areas_of areas = length-map (list_below (begins_area areas) HIGH_PAGE) (area_at areas) ∙ length-list_below (begins_area areas) HIGH_PAGE
 
@@ -39,18 +39,18 @@ length-flat_map_same : {A : Type 0} (text : A → List ℕ) (size : ℕ) (xs : L
 length-flat_map_same text size [] h = omega arith
 length-flat_map_same text size (x ∷ xs) h = grind (arith, nat_tests, flat_map-cons, length-append, length-flat_map_same text size xs h.1)
 
-length-runs : (runs : List PageRun) → length (flat_map run_text runs) ≡ 8 * length runs
+pub length-runs : (runs : List PageRun) → length (flat_map run_text runs) ≡ 8 * length runs
 length-runs [] = refl
 length-runs (run ∷ runs) = omega (arith, ap length (flat_map-cons run_text run runs), length-append (run_text run) (flat_map run_text runs), length-runs runs)
 
-length-areas : (areas : List Area) → length (flat_map area_text areas) ≡ 9 * length areas
+pub length-areas : (areas : List Area) → length (flat_map area_text areas) ≡ 9 * length areas
 length-areas [] = refl
 length-areas (area ∷ areas) = omega (arith, ap length (flat_map-cons area_text area areas), length-append (area_text area) (flat_map area_text areas), length-areas areas)
 
-length-runs_text : (pages : FinSet nat_cmp) → length (runs_text (runs_of pages)) ≡ runs_len pages
+pub length-runs_text : (pages : FinSet nat_cmp) → length (runs_text (runs_of pages)) ≡ runs_len pages
 length-runs_text pages = omega (arith, length-append (to_be_bytes w32 (length (runs_of pages))) (flat_map run_text (runs_of pages)), length-runs (runs_of pages), length-runs_of pages)
 
-length-areas_text : (areas : FinMap nat_cmp Prot) → length (areas_text (areas_of areas)) ≡ areas_len areas
+pub length-areas_text : (areas : FinMap nat_cmp Prot) → length (areas_text (areas_of areas)) ≡ areas_len areas
 length-areas_text areas = omega (arith, length-append (to_be_bytes w32 (length (areas_of areas))) (flat_map area_text (areas_of areas)), length-areas (areas_of areas), length-areas_of areas)
 
 length-command_text : (command : Option Command) → length (command_text command) ≡ command_len command

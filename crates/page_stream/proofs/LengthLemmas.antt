@@ -121,13 +121,13 @@ count_below-one_more p q k (suc n) is out below =
     (cases_lt k n)
 
 -- whether an area begins at a page, by what each page has
-abbrev begins_by : (ℕ → Option Prot) → ℕ → Bool
+abbrev pub begins_by : (ℕ → Option Prot) → ℕ → Bool
 begins_by prots q = is_some (prots q) && not (ltb 0 q && same_prot (prots q) (prots (q - 1)))
 
-begins_by-same : (prots others : ℕ → Option Prot) (q : ℕ) → prots q ≡ others q → prots (q - 1) ≡ others (q - 1) → begins_by prots q ≡ begins_by others q
+pub begins_by-same : (prots others : ℕ → Option Prot) (q : ℕ) → prots q ≡ others q → prots (q - 1) ≡ others (q - 1) → begins_by prots q ≡ begins_by others q
 begins_by-same prots others q here before = rw (here, before) refl
 
-nothing_begins : (prots : ℕ → Option Prot) (q : ℕ) → prots q ≡ None → begins_by prots q ≡ false
+pub nothing_begins : (prots : ℕ → Option Prot) (q : ℕ) → prots q ≡ None → begins_by prots q ≡ false
 nothing_begins prots q none = rw none refl
 
 -- a page behind the first of a run of one protection
@@ -146,7 +146,7 @@ begins_next prots others prot q here before none other = rw (here, before, none)
     differ (Some p) prot b other = grind (arith, nat_tests)
 
 -- the first area begins one more
-begins_more : (a : Area) (rest : List Area) (q : ℕ) → AreRuns (a ∷ rest) → begins_by (prot_in (a ∷ rest)) q ≡ (eqb q a.first || begins_by (prot_in rest) q)
+pub begins_more : (a : Area) (rest : List Area) (q : ℕ) → AreRuns (a ∷ rest) → begins_by (prot_in (a ∷ rest)) q ≡ (eqb q a.first || begins_by (prot_in rest) q)
 begins_more a rest q runs =
     let end = a.first + a.count in
     let some = runs.0.some in
@@ -180,7 +180,7 @@ begins_more a rest q runs =
     (cases_lt q (a.first + 1)))
     (cases_lt q a.first)
 
-no_prot : (q : ℕ) → prot_in [] q ≡ None
+pub no_prot : (q : ℕ) → prot_in [] q ≡ None
 unfolding prot_in
 no_prot q = refl
 

@@ -23,7 +23,7 @@ impl Frame {
     }
 
     /// The same without the header.
-    fn body_len(&self) -> u64
+    pub(crate) fn body_len(&self) -> u64
         requires { texts.body_len (frame_of self.now) < 2 ^ 64 }
         ensures { result ≡ texts.body_len (frame_of self.now) }
     {
@@ -51,7 +51,7 @@ fn runs_len(pages: &PageSet) -> u64
 }
 
 /// How many runs of neighbours the pages make. It goes from run to run.
-fn run_count(pages: &PageSet) -> u32
+pub(crate) fn run_count(pages: &PageSet) -> u32
     ensures { result ≡ texts.run_count pages.now }
 {
     let mut count = 0;

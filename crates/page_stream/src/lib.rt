@@ -3,18 +3,22 @@
 //! A [`Frame`] keeps its pages and lists in types that callers see as sets, maps and lists: [`mig_base::PageSet`],
 //! [`area_map::AreaMap`], [`PageBytes`], [`Pages`] and [`Waiting`].
 //!
-//! [`Frame::is_well_formed`] tells which frames may be sent, and [`Frame::text_len`] how long the text of one is.
+//! [`Frame::is_well_formed`] tells which frames may be sent, [`Frame::text_len`] how long the text of one is, and [`encode_into`]
+//! writes it: its bytes on a wire.
 //!
 //! The crate decides nothing about a migration: which node sends a frame, when, and what is made of it, is for the nodes.
 //!
 //! Contracts see a frame as the machine's (`mig_model`, `specs/Wire.antt`), by `frame_of` of `specs/Frames.antt`. The rules are
-//! `IsFrame` of `specs/Bounds.antt` there, and the length of its text that of `specs/Lengths.antt`.
+//! `IsFrame` of `specs/Bounds.antt` there, and the length of its text that of `specs/Lengths.antt`. The text is that of `frame_texts`,
+//! `specs/Texts.antt`.
 #![tactic(auto)]
 
 pub mod frame;
 pub mod lengths;
 pub mod lists;
 mod rules;
+pub mod writing;
 
 pub use crate::frame::Frame;
 pub use crate::lists::{PageBytes, Pages, Waiting};
+pub use crate::writing::{encode, encode_into};

@@ -1,0 +1,57 @@
+-- What stands of a frame's text once its parts are written.
+use Rattle.std.proofs.Common.{◌≡◌, ℕ, ◌+◌, ◌≤◌, List, [], ◌∷◌, ◌++◌, length, refl, sym, ap, ◌∙◌, arith, vec_len, vec_capacity}
+use Rattle.std.specs.Global.{Vec}
+use Rattle.std.specs.List.{flat_map}
+use Rattle.std.specs.Int.{w32, to_be_bytes}
+use Rattle.std.specs.declared.alloc.Global.{Global}
+use Rattle.std.specs.declared.boxed.Box.{Box}
+use Rattle.std.proofs.lemmas.List.{length-append}
+use Rattle.std.proofs.lemmas.List.Folds.{flat_map-map}
+use Rattle.mig_base.specs.Bytes.{boxed_bytes}
+use Rattle.mig_model.specs.Bounds.{IsFrame}
+use Rattle.mig_model.specs.Lengths.{body_len}
+use Rattle.mig_model.specs.Wire.{Frame}
+use Rattle.frame_texts.specs.Texts.{body_text, header_text, tag_code, text}
+use Rattle.frame_texts.specs.Texts.Version.{Two}
+use Rattle.frame_texts.proofs.Encodable.{encodable}
+use Rattle.frame_texts.proofs.TextLemmas.{length-text}
+use Rattle.page_stream.specs.Writing.{Puts}
+use Rattle.page_stream.proofs.Puts.{puts_then}
+
+-- The bytes of pages that stand in boxes of their own
+
+pub boxed_texts : (pages : List (Box (List ℕ) Global)) (values : List (List ℕ)) → boxed_bytes pages ≡ values → flat_map (λ bytes. bytes) values ≡ flat_map (λ (page : Box (List ℕ) Global). page.value) pages
+boxed_texts pages values is = ap (flat_map (λ (bytes : List ℕ). bytes)) (sym is) ∙ flat_map-map (λ (bytes : List ℕ). bytes) (λ (page : Box (List ℕ) Global). page.value) pages
+
+-- Three texts, one behind the other
+
+pub room_of_first : (old : Vec ℕ) (x y z : List ℕ) → vec_len old + length (x ++ y ++ z) ≤ vec_capacity old → vec_len old + length x ≤ vec_capacity old
+room_of_first old x y z room = omega (arith, length-append (x ++ y) z, length-append x y)
+
+pub room_of_second : (old now : Vec ℕ) (x y z : List ℕ) → vec_len old + length (x ++ y ++ z) ≤ vec_capacity old → Puts old now x → vec_len now + length y ≤ vec_capacity now
+room_of_second old now x y z room p = omega (arith, p.len, p.capacity, length-append (x ++ y) z, length-append x y)
+
+pub room_of_third : (old mid now : Vec ℕ) (x y z : List ℕ) → vec_len old + length (x ++ y ++ z) ≤ vec_capacity old → Puts old mid x → Puts mid now y → vec_len now + length z ≤ vec_capacity now
+room_of_third old mid now x y z room p q = omega (arith, p.len, p.capacity, q.len, q.capacity, length-append (x ++ y) z, length-append x y)
+
+-- Header and body
+
+pub length-body_text : (frame : Frame) → IsFrame frame → length (body_text frame) ≡ body_len frame
+unfolding text
+length-body_text frame is =
+    let whole = (encodable 0 frame (omega arith) is).whole in
+    let all = length-text Two 0 frame refl whole in
+    omega (arith, all, length-append (header_text Two (tag_code frame) 0 (length (body_text frame))) (body_text frame))
+
+pub encoded : (old room a b c d : Vec ℕ) (tag epoch len : ℕ) (frame : Frame) → room.items ≡ old.items → tag ≡ tag_code frame → len ≡ length (body_text frame)
+    → Puts room a (2 ∷ tag ∷ 0 ∷ 0 ∷ []) → Puts a b (to_be_bytes w32 epoch) → Puts b c (to_be_bytes w32 len) → Puts c d (body_text frame) → d.items ≡ old.items ++ text Two epoch frame
+unfolding text
+encoded old room a b c d tag epoch len frame same is_tag is_len p q r s =
+    let made : ℕ → ℕ → List ℕ = λ k n. (2 ∷ k ∷ 0 ∷ 0 ∷ to_be_bytes w32 epoch ++ to_be_bytes w32 n) ++ body_text frame in
+    let head = puts_then room b c ((2 ∷ tag ∷ 0 ∷ 0 ∷ []) ++ to_be_bytes w32 epoch) (to_be_bytes w32 len) (puts_then room a b (2 ∷ tag ∷ 0 ∷ 0 ∷ []) (to_be_bytes w32 epoch) p q) r in
+    let whole = puts_then room c d (((2 ∷ tag ∷ 0 ∷ 0 ∷ []) ++ to_be_bytes w32 epoch) ++ to_be_bytes w32 len) (body_text frame) head s in
+    whole.items ∙ ap (λ (x : List ℕ). x ++ made tag len) same ∙ ap (λ (k : ℕ). old.items ++ made k len) is_tag ∙ ap (λ (n : ℕ). old.items ++ made (tag_code frame) n) is_len
+
+-- the header leaves room for the body
+pub room_of_body : (room a b c : Vec ℕ) (head epoch len : List ℕ) (body : ℕ) → vec_len room + (12 + body) ≤ vec_capacity room → length head ≡ 4 → length epoch ≡ 4 → length len ≡ 4 → Puts room a head → Puts a b epoch → Puts b c len → vec_len c + body ≤ vec_capacity c
+room_of_body room a b c head epoch len body fits four also too p q r = omega (arith, p.len, p.capacity, q.len, q.capacity, r.len, r.capacity)

@@ -1,0 +1,10 @@
+-- Writing where there is room.
+use Rattle.std.specs.Prelude.{◌≡◌, ℕ, ◌+◌, ◌≤◌, List, ◌++◌, length}
+use Rattle.std.specs.Vec.{vec_len, vec_capacity}
+use Rattle.std.specs.Global.{Vec}
+
+-- the new vector is the old one with the bytes at its end, in the same room
+pub record Puts (old new : Vec ℕ) (bytes : List ℕ) : Type 0 where
+  pub items : new.items ≡ old.items ++ bytes
+  pub len : vec_len new ≡ vec_len old + length bytes
+  pub capacity : vec_capacity old ≤ vec_capacity new

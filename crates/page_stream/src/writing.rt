@@ -1,0 +1,243 @@
+//! Writing the texts of frames.
+
+ghost use Rattle.std.specs.Prelude.{◌≡◌, ◌+◌, ◌≤◌, ◌<◌, ◌^◌, ◌++◌, length, IfOk, OnOk, OnErr, IsOk, vec_len, vec_capacity};
+ghost use Rattle.std.specs.List.{flat_map};
+ghost use Rattle.std.specs.Int.{w32, to_be_bytes};
+ghost use Rattle.frame_texts.specs.Texts.{areas_of, areas_text, area_text, body_text, command_text, commands_text, run_text, runs_of, runs_text, state_code, tag_code, text};
+ghost use Rattle.frame_texts.specs.Texts.Version.{Two};
+ghost use Rattle.mig_base.specs.Codes.{prot_number};
+ghost use Rattle.mig_model.specs.Bounds.{IsFrame};
+ghost use Rattle.mig_model.specs.Lengths as texts;
+ghost use Rattle.page_stream.specs.Frames.{frame_of};
+ghost use Rattle.page_stream.specs.Writing.{Puts};
+
+use crate::frame::Frame;
+use crate::lengths::{HEADER_LEN, run_count};
+use crate::lists::Pages;
+use area_map::AreaMap;
+use mig_base::phase::Received;
+use mig_base::{Addr, Area, Command, HIGH_PAGE, NoMemory, PageNo, PageSet, Prot, Run};
+use std::alloc::Global;
+
+/// The version that is written.
+const VERSION: u8 = 2;
+
+/// Appends the text of a frame that is sent in an epoch, in version 2 of the texts: [`Frame::text_len`] bytes.
+///
+/// All room is made before the first byte is written, and none is asked for where the vector has it. `NoMemory` is for that room,
+/// and leaves the bytes as they were.
+pub fn encode_into(frame: &Frame, epoch: u32, into: &mut Vec<u8>) -> Result<(), NoMemory>
+    requires { IsFrame (frame_of frame.now) }
+    ensures ok { OnOk result (into.new.items ≡ into.old.items ++ text Two epoch (frame_of frame.now)) }
+    ensures err { OnErr result (into.new.items ≡ into.old.items) }
+    ensures room { vec_len into.old + texts.text_len (frame_of frame.now) ≤ vec_capacity into.old → IsOk result }
+{
+    let len = frame.body_len();
+    into.try_reserve((HEADER_LEN + len) as usize)?;
+    put(into, &[VERSION, tag(frame), 0, 0]);
+    put(into, &epoch.to_be_bytes());
+    put(into, &(len as u32).to_be_bytes());
+    put_body(into, frame);
+    Ok(())
+}
+
+/// The text of a frame, as [`encode_into`] writes it. `NoMemory` is for its room.
+pub fn encode(alloc: Global, frame: &Frame, epoch: u32) -> Result<Vec<u8>, NoMemory>
+    requires { IsFrame (frame_of frame.now) }
+    ensures { IfOk result (λ bytes. bytes.items ≡ text Two epoch (frame_of frame.now)) }
+{
+    let mut bytes = Vec::new(alloc);
+    encode_into(frame, epoch, &mut bytes)?;
+    Ok(bytes)
+}
+
+/// What tells the frames apart. Those that go back to the source have the highest bit set.
+fn tag(frame: &Frame) -> u8
+    ensures { result ≡ tag_code (frame_of frame.now) }
+{
+    match frame {
+        Frame::Advise => 0x01,
+        Frame::Page { .. } => 0x02,
+        Frame::Zero { .. } => 0x03,
+        Frame::Discard { .. } => 0x04,
+        Frame::Package { .. } => 0x05,
+        Frame::End { .. } => 0x06,
+        Frame::Resume => 0x07,
+        Frame::Run { .. } => 0x08,
+        Frame::Request { .. } => 0x81,
+        Frame::Recv { .. } => 0x82,
+        Frame::Done => 0x83,
+    }
+}
+
+/// What stands behind the header.
+fn put_body(into: &mut Vec<u8>, frame: &Frame)
+    requires room { vec_len into.old + length (body_text (frame_of frame.now)) ≤ vec_capacity into.old }
+    requires right { IsFrame (frame_of frame.now) }
+    ensures { Puts into.old into.new (body_text (frame_of frame.now)) }
+{
+    match frame {
+        Frame::Advise | Frame::Resume | Frame::Done => {}
+        Frame::Page { page, bytes } => {
+            put(into, &page.to_be_bytes());
+            put(into, bytes.as_slice());
+        }
+        Frame::Zero { page } | Frame::Request { page } => put(into, &page.to_be_bytes()),
+        Frame::Run { first, pages } => put_pages(into, *first, pages),
+        Frame::Discard { pages } => put_runs(into, pages),
+        Frame::Package {
+            areas,
+            owed,
+            commands,
+        } => put_package(into, areas, owed, commands.as_slice()),
+        Frame::End { urgent } => put(into, &urgent.to_be_bytes()),
+        Frame::Recv { state, owed } => {
+            put(into, &[state_byte(*state)]);
+            put_runs(into, owed);
+        }
+    }
+}
+
+/// The mapped pages, the owed ones, and what each processor waits for.
+fn put_package(into: &mut Vec<u8>, areas: &AreaMap, owed: &PageSet, commands: &[Option<Command>])
+    requires room { vec_len into.old + length (areas_text (areas_of areas.now) ++ runs_text (runs_of owed.now) ++ commands_text commands.now) ≤ vec_capacity into.old }
+    requires few { length commands.now < 256 }
+    ensures { Puts into.old into.new (areas_text (areas_of areas.now) ++ runs_text (runs_of owed.now) ++ commands_text commands.now) }
+{
+    put_areas(into, areas.areas());
+    put_runs(into, owed);
+    put_commands(into, commands);
+}
+
+/// The first page, a count, and the bytes of each page.
+fn put_pages(into: &mut Vec<u8>, first: PageNo, pages: &Pages)
+    requires room { vec_len into.old + length (to_be_bytes w32 first ++ to_be_bytes w32 (length pages.now) ++ flat_map (λ bytes. bytes) pages.now) ≤ vec_capacity into.old }
+    requires few { length pages.now < 2 ^ 32 }
+    ensures { Puts into.old into.new (to_be_bytes w32 first ++ to_be_bytes w32 (length pages.now) ++ flat_map (λ bytes. bytes) pages.now) }
+{
+    put(into, &first.to_be_bytes());
+    put(into, &(pages.len() as u32).to_be_bytes());
+    for page in pages.as_slice() {
+        put(into, page.as_slice());
+    }
+}
+
+/// A count, and each run of neighbours. It goes from run to run and takes no memory.
+fn put_runs(into: &mut Vec<u8>, pages: &PageSet)
+    requires { vec_len into.old + length (runs_text (runs_of pages.now)) ≤ vec_capacity into.old }
+    ensures { Puts into.old into.new (runs_text (runs_of pages.now)) }
+{
+    pages.ends_by_high_page();
+    put(into, &run_count(pages).to_be_bytes());
+    let mut first = pages.next(0, true);
+    while first < HIGH_PAGE {
+        let end = pages.next(first, false);
+        put_run(
+            into,
+            Run {
+                first,
+                count: end - first,
+            },
+        );
+        first = pages.next(end, true);
+    }
+}
+
+fn put_run(into: &mut Vec<u8>, run: Run)
+    requires { vec_len into.old + 8 ≤ vec_capacity into.old }
+    ensures { Puts into.old into.new (run_text run) }
+{
+    put(into, &run.first.to_be_bytes());
+    put(into, &run.count.to_be_bytes());
+}
+
+/// A count, and each area.
+fn put_areas(into: &mut Vec<u8>, areas: &[Area])
+    requires room { vec_len into.old + length (areas_text areas.now) ≤ vec_capacity into.old }
+    requires few { length areas.now < 2 ^ 32 }
+    ensures { Puts into.old into.new (areas_text areas.now) }
+{
+    put(into, &(areas.len() as u32).to_be_bytes());
+    for area in areas {
+        put_area(into, *area);
+    }
+}
+
+fn put_area(into: &mut Vec<u8>, area: Area)
+    requires { vec_len into.old + 9 ≤ vec_capacity into.old }
+    ensures { Puts into.old into.new (area_text area) }
+{
+    put(into, &area.first.to_be_bytes());
+    put(into, &area.count.to_be_bytes());
+    put(into, &[prot_byte(area.prot)]);
+}
+
+/// A count of one byte, and what each processor waits for.
+fn put_commands(into: &mut Vec<u8>, commands: &[Option<Command>])
+    requires room { vec_len into.old + length (commands_text commands.now) ≤ vec_capacity into.old }
+    requires few { length commands.now < 256 }
+    ensures { Puts into.old into.new (commands_text commands.now) }
+{
+    put(into, &[commands.len() as u8]);
+    for command in commands {
+        put_command(into, *command);
+    }
+}
+
+/// What a processor waits for. A map call does not wait.
+fn put_command(into: &mut Vec<u8>, command: Option<Command>)
+    requires { vec_len into.old + length (command_text command) ≤ vec_capacity into.old }
+    ensures { Puts into.old into.new (command_text command) }
+{
+    match command {
+        None => put(into, &[0]),
+        Some(Command::Load { addr, width }) => {
+            put(into, &[1]);
+            put(into, &addr.to_be_bytes());
+            put(into, &[width]);
+        }
+        Some(Command::Store { addr, width, value }) => put_store(into, addr, width, value),
+        Some(_) => {}
+    }
+}
+
+fn put_store(into: &mut Vec<u8>, addr: Addr, width: u8, value: u64)
+    requires { vec_len into.old + 18 ≤ vec_capacity into.old }
+    ensures { Puts into.old into.new (command_text (Some (Command.Store addr width value))) }
+{
+    put(into, &[2]);
+    put(into, &addr.to_be_bytes());
+    put(into, &[width]);
+    put(into, &value.to_be_bytes());
+}
+
+fn prot_byte(prot: Prot) -> u8
+    ensures { result ≡ prot_number prot }
+{
+    match prot {
+        Prot::NoAccess => 0,
+        Prot::Read => 1,
+        Prot::ReadWrite => 2,
+    }
+}
+
+fn state_byte(state: Received) -> u8
+    ensures { result ≡ state_code state }
+{
+    match state {
+        Received::NotRun => 0,
+        Received::Running => 1,
+        Received::Ended => 2,
+    }
+}
+
+/// Appends bytes where there is room.
+fn put(into: &mut Vec<u8>, bytes: &[u8])
+    requires { vec_len into.old + length bytes.now ≤ vec_capacity into.old }
+    ensures { Puts into.old into.new bytes.now }
+{
+    match into.extend_from_slice(bytes) {
+        Ok(()) => {}
+        Err(_) => unreachable!(),
+    }
+}
