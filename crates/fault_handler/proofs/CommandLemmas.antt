@@ -75,18 +75,6 @@ retry_made node new cpu command effect entries waits accepted told entered is =
     let run = retry_run node.guest.cpus cpu node.has_run accepted in
     rw (told, entered, is) (retried_by node cpu command run waits (ap (retry_refusal node.guest.cpus cpu) (sym run) ∙ accepted))
 
--- the command that a processor tries again
-pub record IsWaiting (cpus : Cpus) (cpu : ℕ) : Type 0 where
-  pub command : Command
-  pub is : IsOutstanding cpus cpu command
-
-waiting_by : (cpus : Cpus) (cpu : ℕ) (runs : Bool) (command : Option Command) → outstanding (processor_at cpus cpu) ≡ command → retry_refusal cpus cpu runs ≡ None → IsWaiting cpus cpu
-waiting_by cpus cpu runs None is accepted = absurd (grind arith)
-waiting_by cpus cpu runs (Some command) is accepted = record { command = command; is = is }
-
-pub waiting : (cpus : Cpus) (cpu : ℕ) (runs : Bool) → retry_refusal cpus cpu runs ≡ None → IsWaiting cpus cpu
-waiting cpus cpu runs accepted = waiting_by cpus cpu runs _ refl accepted
-
 retry_why : (node : Destination) (cpu : ℕ) (command : Option Command) (why : Option Refusal) → node.has_run ≡ true → outstanding (processor_at node.guest.cpus cpu) ≡ command → retry_refusal node.guest.cpus cpu true ≡ why →
     IsRefused node (Step.Retry cpu) (unwrap_or why Refusal.NoMemory)
 unfolding unless outcome

@@ -23,11 +23,8 @@ use Rattle.guest.specs.Lent.{IsLent}
 use Rattle.fault_handler.specs.Answers.{act_refusal, run_answer}
 use Rattle.fault_handler.specs.Order.{IsInOrder}
 use Rattle.fault_handler.specs.Steps.{IsMade, IsRefused, world_of}
+use Rattle.mig_model.proofs.Facts.{counted_is}
 use Rattle.fault_handler.proofs.ReadyLemmas.{ready_read, ready_zeroed, settled_now, settled_read}
-
--- a count of 64 bits
-pub counted_is : (count more : ℕ) → min (count + more) (2 ^ 64 - 1) ≡ counted count more
-counted_is count more = grind arith
 
 -- whether it runs
 pub run_told : (has_run : Bool) (node : Destination) → node.has_run ≡ has_run → run_answer node ≡ Ok tt → has_run ≡ true

@@ -25,6 +25,7 @@ use Rattle.mig_model.proofs.Facts.{lesser_left, lesser_right, low_or}
 use Rattle.mig_model.proofs.HostLemmas.{memory-none}
 use Rattle.mig_model.proofs.SourceMessages.{events_queued, noted_all}
 use Rattle.fault_handler.specs.Order.{AreInside, LiesInside}
+use Rattle.mig_model.proofs.EventLemmas.{away_not}
 
 -- Messages
 
@@ -135,9 +136,6 @@ moved_lies from to n count new_count addr target f t less fewer whole target_who
 fewer_apart : (here : Host) (from count to new_count : ℕ) → IsLaid here from count to new_count → eqb to from ≡ false → (from + lesser count new_count ≤ to) ⊎ (to + lesser count new_count ≤ from)
 fewer_apart here from count to new_count h other = grind (arith, nat_tests)
 
-away : (b w : Bool) → (not b && w) ≡ true → b ≡ false
-away b w h = grind (arith, nat_tests)
-
 shorter : (few count : ℕ) (w : Bool) → (ltb few count && w) ≡ true → few < count
 shorter few count w h = grind (arith, nat_tests)
 
@@ -158,7 +156,7 @@ remap_lies space addr old_len new_len target may_move fixed sound is =
     (all_told (not (eqb to from) && is_watched space.object to new_count) (Unmap target (target + 4096 * new_count)) (λ b. range_lies target (4096 * new_count) placed.high))
     (all_told (ltb new_count count && is_watched space.object (from + new_count) (count - new_count)) (Unmap (addr + 4096 * new_count) (addr + 4096 * count)) (λ b. tail_lies addr new_count count (shorter new_count count _ b) high)))
     (all_told (not (eqb to from) && is_watched space.object from n) (Remap addr target (4096 * n))
-    (λ b. moved_lies from to n count new_count addr target refl refl (lesser_left count new_count) (lesser_right count new_count) here.whole placed.whole high placed.high (fewer_apart space.host from count to new_count laid (away (eqb to from) _ b))))
+    (λ b. moved_lies from to n count new_count addr target refl refl (lesser_left count new_count) (lesser_right count new_count) here.whole placed.whole high placed.high (fewer_apart space.host from count to new_count laid (away_not (eqb to from) _ b))))
 
 pub called_inside : (space : Space) (command : Command) (reply : Reply) → IsSoundSpace space → reply ≡ reply_of (memory space.host) command → AllInside (call_messages space.object command reply)
 called_inside space (Mmap len prot place) (At start) sound is = all_told _ _ (λ b. range_lies start (rounded len) (mmap_inside (memory space.host) len prot place start is).high)

@@ -5,7 +5,7 @@ use Rattle.std.specs.FinMap as finmap
 use Rattle.std.specs.FinMap.{FinMap, get, contains_key, retain_keys, get-empty, get-retain_keys}
 use Rattle.std.specs.FinSet as set
 use Rattle.std.specs.FinSet.{FinSet, contains, retain, len, contains-empty, contains-retain, len-empty, empty_of_len, nat_cmp-IsAntisymmetric}
-use Rattle.std.proofs.lemmas.Bool.{false≢true, cases_Bool, cases_lt, eqb-true}
+use Rattle.std.proofs.lemmas.Bool.{and_from, and_parts, false≢true, cases_Bool, cases_lt, eqb-true, not-false, or_from}
 use Rattle.mig_base.specs.declared.TheConstants.{HIGH_PAGE}
 use Rattle.mig_base.specs.declared.Prot.{Prot}
 use Rattle.mig_base.specs.Ranges.{count_below}
@@ -16,6 +16,10 @@ use Rattle.mig_base.specs.Bits.{is_one}
 use Rattle.mig_model.specs.Destination.{for_missing}
 use Rattle.mig_model.specs.Faults.{is_torn}
 use Rattle.mig_model.specs.Ioctls.{mode_of}
+use Rattle.mig_model.proofs.FrameFaults.{and_none}
+use Rattle.uffd_ioctl.proofs.CallLemmas.{same_bool_by}
+use Rattle.mig_base.proofs.TestLemmas.{or_first, or_second}
+use Rattle.mig_model.proofs.HandlerCalls.{missing_mode}
 
 -- no page of the set passes the test
 abbrev pub has_none : FinSet nat_cmp → (ℕ → Bool) → Bool
@@ -27,16 +31,13 @@ member_passing pages test q = contains-retain pages test q (λ x e. ap test (sym
 second_false : (a b : Bool) → (a && b) ≡ false → a ≡ true → b ≡ false
 second_false a b h e = grind arith
 
-second_none : (a b : Bool) → (a ≡ true → b ≡ false) → (a && b) ≡ false
-second_none a b h = grind arith
-
 pub has_none_tells : (pages : FinSet nat_cmp) (test : ℕ → Bool) → has_none pages test ≡ true → (q : ℕ) → contains pages q ≡ true → test q ≡ false
 has_none_tells pages test none q here =
     second_false (contains pages q) (test q) (sym (member_passing pages test q) ∙ ap (λ s. contains s q) (empty_of_len (retain pages test) (eqb-true (len (retain pages test)) 0 none)) ∙ contains-empty nat_cmp q) here
 
 pub has_none_from : (pages : FinSet nat_cmp) (test : ℕ → Bool) → ((q : ℕ) → contains pages q ≡ true → test q ≡ false) → has_none pages test ≡ true
 has_none_from pages test h =
-    ap (λ s. eqb (len s) 0) (same_members (retain pages test) set.empty (λ q. member_passing pages test q ∙ second_none (contains pages q) (test q) (h q) ∙ sym (contains-empty nat_cmp q))) ∙ ap (λ n. eqb n 0) (len-empty nat_cmp)
+    ap (λ s. eqb (len s) 0) (same_members (retain pages test) set.empty (λ q. member_passing pages test q ∙ and_none (contains pages q) (test q) (h q) ∙ sym (contains-empty nat_cmp q))) ∙ ap (λ n. eqb n 0) (len-empty nat_cmp)
 
 pub has_some : (pages : FinSet nat_cmp) (test : ℕ → Bool) (q : ℕ) → contains pages q ≡ true → test q ≡ true → has_none pages test ≡ false
 has_some pages test q here passes =
@@ -116,38 +117,16 @@ all_apart one other at past high old = has_none_from one (contains other) (λ q 
 
 -- A torn Package
 
-same_truth : (a b : Bool) → (a ≡ true → b ≡ true) → (b ≡ true → a ≡ true) → a ≡ b
-same_truth true b h k = sym (h refl)
-same_truth false true h k = k refl
-same_truth false false h k = refl
-
-first_of_or : (a b : Bool) → (a || b) ≡ false → a ≡ false
-first_of_or true b h = h
-first_of_or false b h = refl
-
-second_of_or : (a b : Bool) → (a || b) ≡ false → b ≡ false
-second_of_or true b h = absurd (false≢true (sym h))
-second_of_or false b h = h
-
-both_of : (a b : Bool) → (a && b) ≡ true → (a ≡ true) × (b ≡ true)
-both_of a b h = grind arith
-
-neither : (a b : Bool) → a ≡ false → b ≡ false → (a || b) ≡ false
-neither a b h k = grind arith
-
-both_hold : (a b : Bool) → a ≡ true → b ≡ true → (a && b) ≡ true
-both_hold a b h k = grind arith
-
 -- none passes either test where none passes the one and none the other
 none_of_two : (pages : FinSet nat_cmp) (one other : ℕ → Bool) → has_none pages (λ page. one page || other page) ≡ (has_none pages one && has_none pages other)
 none_of_two pages one other =
-    same_truth _ _
+    same_bool_by _ _
     (λ none.
-    both_hold _ _ (has_none_from pages one (λ q here. first_of_or (one q) (other q) (has_none_tells pages (λ page. one page || other page) none q here)))
-    (has_none_from pages other (λ q here. second_of_or (one q) (other q) (has_none_tells pages (λ page. one page || other page) none q here))))
+    and_from _ _ (has_none_from pages one (λ q here. or_first (one q) (other q) (has_none_tells pages (λ page. one page || other page) none q here)))
+    (has_none_from pages other (λ q here. or_second (one q) (other q) (has_none_tells pages (λ page. one page || other page) none q here))))
     (λ both.
-    let parts = both_of (has_none pages one) (has_none pages other) both in
-    has_none_from pages (λ page. one page || other page) (λ q here. neither (one q) (other q) (has_none_tells pages one parts.0 q here) (has_none_tells pages other parts.1 q here)))
+    let parts = and_parts (has_none pages one) (has_none pages other) both in
+    has_none_from pages (λ page. one page || other page) (λ q here. or_from (one q) (other q) (has_none_tells pages one parts.0 q here) (has_none_tells pages other parts.1 q here)))
 
 -- the pages of a map that pass a test
 kept_by : (kept : FinMap nat_cmp (List ℕ)) (test : ℕ → Bool) (q : ℕ) → get (retain_keys kept test) q ≡ cond (test q) (get kept q) None
@@ -164,7 +143,7 @@ none_kept_tells kept test none q here =
 -- so by the set of its keys
 none_kept : (kept : FinMap nat_cmp (List ℕ)) (pages : FinSet nat_cmp) (test : ℕ → Bool) → ((q : ℕ) → contains pages q ≡ contains_key kept q) → has_none pages test ≡ eqb (finmap.len (retain_keys kept test)) 0
 none_kept kept pages test same =
-    same_truth _ _
+    same_bool_by _ _
     (λ none.
     ap (λ m. eqb (finmap.len m) 0)
     (same_pages (retain_keys kept test) finmap.empty
@@ -199,11 +178,6 @@ holds_second a b c t v h e k = grind arith
 pub holds_third : (a b c t : Bool) → ((a || b) || c) ≡ t → a ≡ false → b ≡ false → c ≡ t
 holds_third a b c t h e k = grind arith
 
--- the mode of missing faults
-pub one_mode : mode_of 1 ≡ for_missing
-unfolding is_one
-one_mode = refl
-
 -- What a Package that is not torn tells
 
 both_false : (a b : Bool) → (not a || not b) ≡ false → (a ≡ true) × (b ≡ true)
@@ -211,16 +185,12 @@ both_false true true h = (refl, refl)
 both_false true false h = absurd (false≢true (sym h))
 both_false false b h = absurd (false≢true (sym h))
 
-not_false : (b : Bool) → not b ≡ false → b ≡ true
-not_false true h = refl
-not_false false h = absurd (false≢true (sym h))
-
 -- an owed page is not kept, and is mapped
 pub owed_whole : (kept : FinMap nat_cmp (List ℕ)) (areas : FinMap nat_cmp Prot) (owed : FinSet nat_cmp) → is_torn kept areas owed ≡ false → (page : ℕ) → contains owed page ≡ true → (contains_key kept page ≡ false) × (contains_key areas page ≡ true)
 owed_whole kept areas owed whole page here =
     let none = has_none_tells owed (λ q. contains_key kept q || not (contains_key areas q)) (both_false _ _ whole).0 page here in (
-      first_of_or (contains_key kept page) (not (contains_key areas page)) none,
-      not_false (contains_key areas page) (second_of_or (contains_key kept page) (not (contains_key areas page)) none),
+      or_first (contains_key kept page) (not (contains_key areas page)) none,
+      not-false (contains_key areas page) (or_second (contains_key kept page) (not (contains_key areas page)) none),
     )
 
 -- what is not mapped is not kept

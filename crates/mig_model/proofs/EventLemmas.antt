@@ -59,7 +59,7 @@ whole_lesser a b h g = grind (arith, nat_tests)
 whole_times : (n : ℕ) → (4096 * n) % 4096 ≡ 0
 whole_times n = omega arith
 
-away_not : (b w : Bool) → (not b && w) ≡ true → b ≡ false
+pub away_not : (b w : Bool) → (not b && w) ≡ true → b ≡ false
 away_not b w h = grind (arith, nat_tests)
 
 fewer_apart : (here : Host) (from count to new_count n : ℕ) → IsLaid here from count to new_count → eqb to from ≡ false → n ≡ lesser count new_count → (from + n ≤ to) ⊎ (to + n ≤ from)

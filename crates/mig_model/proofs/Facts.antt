@@ -1,5 +1,5 @@
 -- Small facts on tests, options, numbers and lists, each in one place.
-use Rattle.std.proofs.Common.{◌≡◌, ℕ, ◌+◌, ◌*◌, ◌/◌, ◌%◌, ◌<◌, ◌≤◌, ◌||◌, Bool, true, false, cond, not, eqb, ltb, if◌then◌else◌, Option, Some, is_some, List, [], ◌∷◌, ◌++◌, length, refl, sym, ap, ◌∙◌, arith}
+use Rattle.std.proofs.Common.{◌≡◌, ℕ, ◌+◌, ◌*◌, ◌/◌, ◌%◌, ◌^◌, ◌-◌, min, ◌<◌, ◌≤◌, ◌||◌, Bool, true, false, cond, not, eqb, ltb, if◌then◌else◌, Option, Some, is_some, List, [], ◌∷◌, ◌++◌, length, refl, sym, ap, ◌∙◌, arith}
 use Rattle.std.proofs.lemmas.Bool.Decides.{nat_tests}
 use Rattle.std.proofs.lemmas.Bool.{false≢true, and_parts, eqb-true}
 use Rattle.std.specs.Prelude.{replicate}
@@ -25,7 +25,7 @@ pub use Rattle.mig_base.proofs.TestLemmas.{and_second, and_first as and_left, eq
 use Rattle.mig_model.specs.Userfault.{Noted, Object, event_queued}
 use Rattle.mig_model.specs.Space.{all_queued, modes_after}
 use Rattle.mig_model.specs.Cpus.{call_took, entries_of}
-use Rattle.mig_model.specs.Guest.{is_present}
+use Rattle.mig_model.specs.Guest.{counted, is_present}
 use Rattle.mig_model.specs.Wire.{Copy, Frame, Sent, Wire, copies_in, kept_after}
 use Rattle.mig_model.specs.Log.{no_pages, present}
 use Rattle.mig_model.specs.Owed.{owed_after, settled_by}
@@ -135,3 +135,7 @@ some_either here value o h = grind (arith, nat_tests)
 -- by the answer of a test
 pub by_test : {A : Type 0} (here : Bool) → (here ≡ true → A) → (here ≡ false → A) → A
 by_test here holds fails = grind (arith, nat_tests)
+
+-- a count of 64 bits
+pub counted_is : (count more : ℕ) → min (count + more) (2 ^ 64 - 1) ≡ counted count more
+counted_is count more = grind arith

@@ -35,7 +35,7 @@ use Rattle.mig_model.proofs.Facts.{low_or}
 pub none_empty : (set : FinSet nat_cmp) → ((q : ℕ) → contains set q ≡ false) → not (eqb (finset.len set) 0) ≡ false
 none_empty set h = ap (λ s. not (eqb (finset.len s) 0)) (same_members set finset.empty (λ q. h q ∙ sym (contains-empty nat_cmp q))) ∙ ap (λ n. not (eqb n 0)) (len-empty nat_cmp)
 
-and_none : (a b : Bool) → (a ≡ true → b ≡ false) → (a && b) ≡ false
+pub and_none : (a b : Bool) → (a ≡ true → b ≡ false) → (a && b) ≡ false
 and_none a b h = grind (arith, nat_tests)
 
 no_member : (set : FinSet nat_cmp) (test : ℕ → Bool) → ((q : ℕ) → contains set q ≡ true → test q ≡ false) → (q : ℕ) → contains (finset.retain set test) q ≡ false

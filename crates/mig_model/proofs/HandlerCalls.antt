@@ -287,7 +287,7 @@ both_modes : mode_of 3 ≡ for_both
 unfolding is_one
 both_modes = refl
 
-missing_mode : mode_of 1 ≡ for_missing
+pub missing_mode : mode_of 1 ≡ for_missing
 unfolding is_one
 missing_mode = refl
 

@@ -73,18 +73,6 @@ pub retry_made : (node new : Source) (cpu : ℕ) (command : Command) (effect : E
     IsTried node (Step.Retry cpu) effect entries new
 retry_made node new cpu command effect entries waits accepted told entered is = rw (told, entered, is) (retried_by node cpu command waits accepted)
 
--- the command that a processor tries again
-pub record IsWaiting (cpus : Cpus) (cpu : ℕ) : Type 0 where
-  pub command : Command
-  pub is : IsOutstanding cpus cpu command
-
-waiting_by : (cpus : Cpus) (cpu : ℕ) (runs : Bool) (command : Option Command) → outstanding (processor_at cpus cpu) ≡ command → retry_refusal cpus cpu runs ≡ None → IsWaiting cpus cpu
-waiting_by cpus cpu runs None is accepted = absurd (grind arith)
-waiting_by cpus cpu runs (Some command) is accepted = record { command = command; is = is }
-
-pub waiting : (cpus : Cpus) (cpu : ℕ) (runs : Bool) → retry_refusal cpus cpu runs ≡ None → IsWaiting cpus cpu
-waiting cpus cpu runs accepted = waiting_by cpus cpu runs _ refl accepted
-
 retry_why : (node : Source) (cpu : ℕ) (command : Option Command) (why : Option Refusal) → outstanding (processor_at node.guest.cpus cpu) ≡ command → retry_refusal node.guest.cpus cpu (not node.switched) ≡ why →
     IsRefused node (Step.Retry cpu) (unwrap_or why Refusal.NoMemory)
 unfolding unless outcome

@@ -15,10 +15,6 @@ use Rattle.dirty_log.specs.declared.sent.Sent.{Sent}
 use Rattle.std.specs.FinSet as finset
 use Rattle.precopy.specs.Steps.{IsMade, IsRefused}
 
--- a count of 64 bits
-pub counted_is : (count more : ℕ) → min (count + more) (2 ^ 64 - 1) ≡ counted count more
-counted_is count more = grind arith
-
 -- Start
 
 started_by : (node : Source) (epoch : ℕ) → start_answer node ≡ Ok epoch → IsMade node Step.Start (Effect.Started epoch) (Frame.Advise ∷ []) (record (source_started node) { epoch = epoch })

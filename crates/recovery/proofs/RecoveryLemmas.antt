@@ -1,4 +1,5 @@
 -- What a notice makes of a source, and when all pages of a set are present.
+use Rattle.std.proofs.lemmas.Bool.{not-false}
 use Rattle.std.proofs.lemmas.Bool.Decides.{nat_tests}
 use Rattle.std.proofs.Common.{◌≡◌, ℕ, ◌<◌, ◌≤◌, ◌&&◌, ◌||◌, Bool, eqb, ltb, not, true, false, Err, List, [], ◌∷◌, map, refl, sym, ap, ◌∙◌, arith}
 use Rattle.std.specs.Ordering.{nat_cmp}
@@ -110,12 +111,9 @@ others_send node other = sent_by (received_of node) node other
 out_by : (a b : Bool) → (a ≡ true → b ≡ true) → (a && not b) ≡ false
 out_by a b h = grind (arith, nat_tests)
 
-not_not : (b : Bool) → not b ≡ false → b ≡ true
-not_not b h = grind (arith, nat_tests)
-
 pub all_present : (space : Space) (pages : FinSet nat_cmp) → IsSoundSpace space → ((q : ℕ) → contains pages q ≡ true → is_present space q ≡ true) → eqb (finset.len (less pages (present space))) 0 ≡ true
 all_present space pages sound h =
-    not_not _ (none_empty (less pages (present space)) (λ q. member_less pages (present space) q ∙ out_by (contains pages q) (contains (present space) q) (λ is. present_below space sound q (h q is))))
+    not-false _ (none_empty (less pages (present space)) (λ q. member_less pages (present space) q ∙ out_by (contains pages q) (contains (present space) q) (λ is. present_below space sound q (h q is))))
 
 some_left : (n : ℕ) → 1 ≤ n → eqb n 0 ≡ false
 some_left n h = grind (arith, nat_tests)

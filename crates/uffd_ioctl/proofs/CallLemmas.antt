@@ -332,7 +332,7 @@ space_moved space areas pages object cpu addr old_len new_len may_move fixed tar
 
 -- Pages that are not needed
 
-same_bool_by : (a b : Bool) → (a ≡ true → b ≡ true) → (b ≡ true → a ≡ true) → a ≡ b
+pub same_bool_by : (a b : Bool) → (a ≡ true → b ≡ true) → (b ≡ true → a ≡ true) → a ≡ b
 same_bool_by true b h k = sym (h refl)
 same_bool_by false true h k = k refl
 same_bool_by false false h k = refl

@@ -6,7 +6,7 @@ use Rattle.mig_model.specs.Guest.{is_present}
 use Rattle.mig_model.specs.Owed.{home}
 use Rattle.mig_model.specs.Userfault.{changing}
 use Rattle.fault_handler.specs.contracts.destination.Destination.{the_view}
-use Rattle.fault_handler.proofs.HandlerLemmas.{counted_is}
+use Rattle.mig_model.proofs.Facts.{counted_is}
 use Rattle.fault_handler.proofs.ReadyLemmas.{pairs_now}
 use Rattle.fault_handler.proofs.InstallLemmas.{IsFirst, IsVacant, dropped_is, install_done, install_lacks, install_refused, installed_is, installed_order, pair_ends, same_pages, some_arrival, vacant}
 use Rattle.fault_handler.proofs.destination.Destination.install.Goals as goal

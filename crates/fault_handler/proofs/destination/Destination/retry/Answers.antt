@@ -1,6 +1,7 @@
 use Rattle.std.proofs.Common.{refl, ap}
 use Rattle.std.proofs.lemmas.Result.{err_from_is_err_and}
-use Rattle.fault_handler.proofs.CommandLemmas.{retry_made, retry_refused, tried_order, waiting}
+use Rattle.fault_handler.proofs.CommandLemmas.{retry_made, retry_refused, tried_order}
+use Rattle.guest.proofs.CommandLemmas.{waiting}
 use Rattle.fault_handler.proofs.destination.Destination.retry.Goals as goal
 
 pub returns-in_err-tried-clause-refused : goal.returns-in_err-tried-clause-refused

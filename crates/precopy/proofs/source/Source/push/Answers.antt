@@ -4,7 +4,7 @@ use Rattle.mig_model.specs.Source.{space_of}
 use Rattle.mig_model.proofs.SourceRounds.{present_mapped}
 use Rattle.guest.proofs.SpaceLemmas.{below_high}
 use Rattle.precopy.proofs.PushLemmas.{push_done, push_lacks, push_refused}
-use Rattle.precopy.proofs.StepLemmas.{counted_is}
+use Rattle.mig_model.proofs.Facts.{counted_is}
 use Rattle.precopy.proofs.source.Source.push.Goals as goal
 
 pub returns-in_err-ensure_owed-clause-refused : goal.returns-in_err-ensure_owed-clause-refused

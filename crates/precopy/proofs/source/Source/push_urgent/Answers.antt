@@ -1,7 +1,7 @@
 use Rattle.std.proofs.Common.{refl, sym, ◌∙◌, inl}
 use Rattle.std.proofs.lemmas.Result.{err_from_is_err_and}
 use Rattle.precopy.proofs.PushLemmas.{urgent_done, urgent_lacks, urgent_refused, used_is}
-use Rattle.precopy.proofs.StepLemmas.{counted_is}
+use Rattle.mig_model.proofs.Facts.{counted_is}
 use Rattle.precopy.proofs.source.Source.push_urgent.Goals as goal
 
 pub returns-in_err-ensure_owed-clause-refused : goal.returns-in_err-ensure_owed-clause-refused

@@ -3,7 +3,7 @@ use Rattle.std.proofs.lemmas.Result.{err_from_is_err_and}
 use Rattle.precopy.specs.Telling.{faults_told}
 use Rattle.precopy.proofs.HandlerLemmas.{faults_read, read_done, read_refused, read_stopped, some_noted}
 use Rattle.precopy.proofs.OrderLemmas.{read_order}
-use Rattle.precopy.proofs.StepLemmas.{counted_is}
+use Rattle.mig_model.proofs.Facts.{counted_is}
 use Rattle.precopy.proofs.source.Source.read.Goals as goal
 
 pub returns-in_err-ensure_running-clause-refused : goal.returns-in_err-ensure_running-clause-refused

@@ -5,7 +5,8 @@ use Rattle.dirty_log.specs.Answers.{IsRefusedFor, send_refusal}
 use Rattle.dirty_log.proofs.SendLemmas.{one_sent}
 use Rattle.precopy.proofs.OrderLemmas.{sent_order}
 use Rattle.precopy.proofs.SendLemmas.{send_stopped, sends, zero_told}
-use Rattle.precopy.proofs.StepLemmas.{counted_is, send_done, send_refused}
+use Rattle.mig_model.proofs.Facts.{counted_is}
+use Rattle.precopy.proofs.StepLemmas.{send_done, send_refused}
 use Rattle.precopy.proofs.source.Source.send_next.Goals as goal
 
 pub returns-in_err-page-clause-refused : goal.returns-in_err-page-clause-refused

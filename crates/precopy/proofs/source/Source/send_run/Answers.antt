@@ -5,7 +5,7 @@ use Rattle.mig_model.specs.Wire as wire
 use Rattle.dirty_log.specs.Answers.{IsRefusedFor, send_refusal}
 use Rattle.precopy.proofs.OrderLemmas.{sent_order}
 use Rattle.precopy.proofs.RunLemmas.{few_are, run_done, run_refused, run_some, run_stopped}
-use Rattle.precopy.proofs.StepLemmas.{counted_is}
+use Rattle.mig_model.proofs.Facts.{counted_is}
 use Rattle.precopy.proofs.source.Source.send_run.Goals as goal
 
 pub returns-in_err-first-clause-refused : goal.returns-in_err-first-clause-refused
