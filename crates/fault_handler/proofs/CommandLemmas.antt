@@ -18,12 +18,9 @@ use Rattle.guest.proofs.LentLemmas.{access_lent, call_lent}
 use Rattle.fault_handler.specs.Order.{IsInOrder}
 use Rattle.fault_handler.specs.Steps.{IsRefused, IsTried}
 use Rattle.fault_handler.proofs.ReadyLemmas.{ready_tried}
+use Rattle.guest.proofs.LentLemmas.{space_lent}
 
 -- The space after a command
-
-space_lent : (access : Bool) (space : Space) (cpu : ℕ) (command : Command) → is_access command ≡ access → IsSoundSpace space → IsLent space → IsLent (space_by access space cpu command)
-space_lent true space cpu command is sound lent = access_lent (access_of space command) space cpu command is lent
-space_lent false space cpu command is sound lent = call_lent space cpu command sound lent
 
 pub tried_order : (has_run : Bool) (guest : Guest) (space : Space) (owed : Owed) (cpu : ℕ) (command : Command) → IsSoundSpace guest.space → space ≡ (tried (is_access command) guest cpu command).space →
     IsInOrder has_run guest.space owed → IsInOrder has_run space owed
