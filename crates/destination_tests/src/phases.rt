@@ -46,10 +46,11 @@ fn an_idle_destination_takes_an_advise(rt: HostRuntime) -> Result<(), Fail> {
 }
 
 /// A destination that was advised takes copies, and a Discard behind them.
-const ADVISED: [Step; 19] = [
+const ADVISED: [Step; 20] = [
     (Take(1, Advise), TOOK),
     (Take(1, Advise), OUT_OF_PLACE),
     (Take(2, Advise), OUT_OF_PLACE),
+    (Take(2, Zero(0x10)), STALE),
     (Take(1, NONE_OWED), OUT_OF_PLACE),
     (Take(1, End(0)), OUT_OF_PLACE),
     (Take(2, Resume), OUT_OF_PLACE),

@@ -88,7 +88,7 @@ fn a_page_is_asked_for_and_comes(rt: HostRuntime) -> Result<(), Fail> {
 }
 
 /// A page moves while its copy is in flight, and is installed where it belongs then.
-const MOVED: [Step; 19] = [
+const MOVED: [Step; 20] = [
     (Take(1, Advise), TOOK),
     (Take(1, Discard(NONE)), TOOK),
     (Take(1, Package((0x10, 1), (0x10, 1), 2, None)), TOOK),
@@ -119,6 +119,10 @@ const MOVED: [Step; 19] = [
         })),
     ),
     (Home(0x10), Ok(At(Some(0x20)))),
+    (
+        Report,
+        Ok(Reports(Brief::Recv(Received::Running, (0x10, 1)))),
+    ),
     (
         Act,
         Ok(Acts(
