@@ -18,7 +18,7 @@ use Rattle.mig_model.proofs.Facts.{and_false, and_second, below_or_at, none_absu
 use Rattle.mig_model.proofs.IoctlLemmas.{same_prot-self}
 use Rattle.frame_texts.proofs.RunsAndAreas.{run_length-covers}
 
-none_listed : (test : ℕ → Bool) (bound : ℕ) → ((j : ℕ) → j < bound → test j ≡ false) → list_below test bound ≡ []
+pub none_listed : (test : ℕ → Bool) (bound : ℕ) → ((j : ℕ) → j < bound → test j ≡ false) → list_below test bound ≡ []
 unfolding list_below
 none_listed test zero h = refl
 none_listed test (suc bound) h = rw (none_listed test bound (λ j l. h j (omega arith)), h bound (omega arith)) refl

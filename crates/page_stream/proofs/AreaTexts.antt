@@ -21,14 +21,15 @@ use Rattle.mig_model.specs.Ioctls.{same_prot}
 use Rattle.mig_model.proofs.IoctlLemmas.{same_prot-self}
 use Rattle.mig_model.specs.Lengths.{area_count, begins_area}
 use Rattle.frame_texts.specs.Texts.{area_at, areas_of, list_below}
+use Rattle.frame_texts.proofs.OneArea.{none_listed}
 use Rattle.frame_texts.proofs.RunsAndAreas.{same_prot_tells}
-use Rattle.page_stream.proofs.FirstLemmas.{list_below-cons, list_below-none, list_below-same, run_length-is}
+use Rattle.page_stream.proofs.FirstLemmas.{list_below-cons, list_below-same, run_length-is}
 use Rattle.page_stream.proofs.LengthLemmas.{areas_counted, begins_by, begins_by-same, begins_more, no_prot, nothing_begins}
 
 -- Where areas begin
 
 firsts_listed : (areas : List Area) → AreRuns areas → list_below (begins_by (prot_in areas)) HIGH_PAGE ≡ map (λ (area : Area). area.first) areas
-firsts_listed [] runs = list_below-none (begins_by (prot_in [])) HIGH_PAGE (λ q l. nothing_begins (prot_in []) q (no_prot q))
+firsts_listed [] runs = none_listed (begins_by (prot_in [])) HIGH_PAGE (λ q l. nothing_begins (prot_in []) q (no_prot q))
 firsts_listed (a ∷ rest) runs =
     let some = runs.0.some in
     let bound = runs.0.bound in

@@ -8,13 +8,9 @@ use Rattle.mig_base.specs.Ranges.{count_below}
 use Rattle.mig_base.specs.Sets.{run_length}
 use Rattle.mig_base.proofs.TestLemmas.{eqb-above, eqb-self}
 use Rattle.frame_texts.specs.Texts.{list_below}
+use Rattle.frame_texts.proofs.OneArea.{none_listed}
 
 -- Numbers that pass
-
-pub list_below-none : (test : ℕ → Bool) (bound : ℕ) → ((i : ℕ) → i < bound → test i ≡ false) → list_below test bound ≡ []
-unfolding list_below
-list_below-none test zero none = refl
-list_below-none test (suc bound) none = rw (list_below-none test bound (λ i l. none i (omega arith)), none bound (omega arith)) refl
 
 pub list_below-same : (p q : ℕ → Bool) (bound : ℕ) → ((i : ℕ) → i < bound → p i ≡ q i) → list_below p bound ≡ list_below q bound
 unfolding list_below
@@ -60,8 +56,8 @@ list_below-cons p q k (suc bound) is out below =
     (λ (less : k < bound). rw (list_below-cons p q k bound is out less, is bound, eqb-above bound k less) refl)
     (λ (past : bound ≤ k).
     let at : k ≡ bound = omega arith in
-    let none : list_below p bound ≡ [] = list_below-none p bound (λ i l. is i ∙ ap (λ b. b || q i) (ne_eqb i k (λ e. omega arith)) ∙ out i (omega arith)) in
-    let others : list_below q bound ≡ [] = list_below-none q bound (λ i l. out i (omega arith)) in
+    let none : list_below p bound ≡ [] = none_listed p bound (λ i l. is i ∙ ap (λ b. b || q i) (ne_eqb i k (λ e. omega arith)) ∙ out i (omega arith)) in
+    let others : list_below q bound ≡ [] = none_listed q bound (λ i l. out i (omega arith)) in
     let here : p bound ≡ true = is bound ∙ rw (ap (eqb bound) at, eqb-self bound) refl in
     rw (none, others, here, out bound (omega arith)) (ap (λ j. j ∷ []) (sym at)))
     (cases_lt k bound)
