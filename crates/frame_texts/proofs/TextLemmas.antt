@@ -30,7 +30,7 @@ pub length-runs_of : (pages : FinSet nat_cmp) → length (runs_of pages) ≡ run
 unfolding run_count
 length-runs_of pages = length-map (list_below (begins_run pages) HIGH_PAGE) (run_at pages) ∙ length-list_below (begins_run pages) HIGH_PAGE
 
-pub length-areas_of : (areas : FinMap nat_cmp Prot) → length (areas_of areas) ≡ area_count areas
+length-areas_of : (areas : FinMap nat_cmp Prot) → length (areas_of areas) ≡ area_count areas
 unfolding area_count
 length-areas_of areas = length-map (list_below (begins_area areas) HIGH_PAGE) (area_at areas) ∙ length-list_below (begins_area areas) HIGH_PAGE
 
@@ -43,14 +43,14 @@ pub length-runs : (runs : List PageRun) → length (flat_map run_text runs) ≡ 
 length-runs [] = refl
 length-runs (run ∷ runs) = omega (arith, ap length (flat_map-cons run_text run runs), length-append (run_text run) (flat_map run_text runs), length-runs runs)
 
-pub length-areas : (areas : List Area) → length (flat_map area_text areas) ≡ 9 * length areas
+length-areas : (areas : List Area) → length (flat_map area_text areas) ≡ 9 * length areas
 length-areas [] = refl
 length-areas (area ∷ areas) = omega (arith, ap length (flat_map-cons area_text area areas), length-append (area_text area) (flat_map area_text areas), length-areas areas)
 
-pub length-runs_text : (pages : FinSet nat_cmp) → length (runs_text (runs_of pages)) ≡ runs_len pages
+length-runs_text : (pages : FinSet nat_cmp) → length (runs_text (runs_of pages)) ≡ runs_len pages
 length-runs_text pages = omega (arith, length-append (to_be_bytes w32 (length (runs_of pages))) (flat_map run_text (runs_of pages)), length-runs (runs_of pages), length-runs_of pages)
 
-pub length-areas_text : (areas : FinMap nat_cmp Prot) → length (areas_text (areas_of areas)) ≡ areas_len areas
+length-areas_text : (areas : FinMap nat_cmp Prot) → length (areas_text (areas_of areas)) ≡ areas_len areas
 length-areas_text areas = omega (arith, length-append (to_be_bytes w32 (length (areas_of areas))) (flat_map area_text (areas_of areas)), length-areas (areas_of areas), length-areas_of areas)
 
 length-command_text : (command : Option Command) → length (command_text command) ≡ command_len command

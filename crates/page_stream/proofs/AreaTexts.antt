@@ -21,8 +21,8 @@ use Rattle.mig_model.specs.Ioctls.{same_prot}
 use Rattle.mig_model.proofs.IoctlLemmas.{same_prot-self}
 use Rattle.mig_model.specs.Lengths.{area_count, begins_area}
 use Rattle.frame_texts.specs.Texts.{area_at, areas_of, list_below}
-use Rattle.frame_texts.proofs.RunsAndAreas.{same_prot_tells}
 use Rattle.frame_texts.proofs.OneArea.{none_listed}
+use Rattle.frame_texts.proofs.RunsAndAreas.{same_prot_tells}
 use Rattle.page_stream.proofs.FirstLemmas.{list_below-cons, list_below-same, run_length-is}
 use Rattle.page_stream.proofs.LengthLemmas.{areas_counted, begins_by, begins_by-same, begins_more, no_prot, nothing_begins}
 

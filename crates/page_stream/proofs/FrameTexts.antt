@@ -51,7 +51,3 @@ encoded old room a b c d tag epoch len frame same is_tag is_len p q r s =
     let head = puts_then room b c ((2 ∷ tag ∷ 0 ∷ 0 ∷ []) ++ to_be_bytes w32 epoch) (to_be_bytes w32 len) (puts_then room a b (2 ∷ tag ∷ 0 ∷ 0 ∷ []) (to_be_bytes w32 epoch) p q) r in
     let whole = puts_then room c d (((2 ∷ tag ∷ 0 ∷ 0 ∷ []) ++ to_be_bytes w32 epoch) ++ to_be_bytes w32 len) (body_text frame) head s in
     whole.items ∙ ap (λ (x : List ℕ). x ++ made tag len) same ∙ ap (λ (k : ℕ). old.items ++ made k len) is_tag ∙ ap (λ (n : ℕ). old.items ++ made (tag_code frame) n) is_len
-
--- the header leaves room for the body
-pub room_of_body : (room a b c : Vec ℕ) (head epoch len : List ℕ) (body : ℕ) → vec_len room + (12 + body) ≤ vec_capacity room → length head ≡ 4 → length epoch ≡ 4 → length len ≡ 4 → Puts room a head → Puts a b epoch → Puts b c len → vec_len c + body ≤ vec_capacity c
-room_of_body room a b c head epoch len body fits four also too p q r = omega (arith, p.len, p.capacity, q.len, q.capacity, r.len, r.capacity)
