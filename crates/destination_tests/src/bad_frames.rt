@@ -19,7 +19,7 @@ const OWES_12: Sending = Package((0x10, 4), (0x12, 1), 2, None);
 const OWES_ALL: Sending = Package((0x10, 4), (0x10, 4), 2, None);
 
 /// Each frame of an epoch before the destination's and of one behind it. What is out of place is so first, and what is bad is so last.
-const EPOCHS: [Step; 25] = [
+static EPOCHS: [Step; 25] = [
     (Take(3, Advise), TOOK),
     (Take(2, Page(0x10, 1)), STALE),
     (Take(4, Page(0x10, 1)), STALE),
@@ -54,7 +54,7 @@ fn frames_of_another_epoch(rt: HostRuntime) -> Result<(), Fail> {
 
 /// Pages 0x11 and 0x12 are kept. A Package may not owe one of them, nor one that it does not map, and has to map both. It is of as
 /// many processors as the destination.
-const TORN: [Step; 14] = [
+static TORN: [Step; 14] = [
     (Take(1, OWES_12), OUT_OF_PLACE),
     (Take(1, Advise), TOOK),
     (Take(1, Run(0x10, 3, 1)), TOOK),
@@ -81,7 +81,7 @@ const INSTALL_FIRST: Result<Answer, Refusal> = Ok(NotTaken(TakeFault::InstallFir
 const URGENT_FIRST: Result<Answer, Refusal> = Ok(NotTaken(TakeFault::UrgentFirst));
 
 /// An End while pages are owed is out of place, unless a copy waits or urgent frames are still to come.
-const ENDS: [Step; 20] = [
+static ENDS: [Step; 20] = [
     (Take(1, Advise), TOOK),
     (Take(1, Discard(NONE)), TOOK),
     (Take(1, Package((0x10, 4), (0x10, 2), 2, None)), TOOK),
@@ -110,7 +110,7 @@ fn ends_that_come_too_soon(rt: HostRuntime) -> Result<(), Fail> {
 }
 
 /// A new epoch counts its urgent frames anew. Those of the one before may still wait to be installed.
-const COUNTED_ANEW: [Step; 13] = [
+static COUNTED_ANEW: [Step; 13] = [
     (Take(1, Advise), TOOK),
     (Take(1, Discard(NONE)), TOOK),
     (Take(1, Package((0x10, 4), (0x10, 1), 2, None)), TOOK),

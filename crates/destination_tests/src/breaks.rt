@@ -18,14 +18,14 @@ use std::test::Fail;
 const HAS_NOT_RUN: Answer = Reports(Brief::Recv(Received::NotRun, NONE));
 
 /// A destination that has not run gives up what it has kept: page 0x10 is not in the way of a Package that owes it.
-const BEFORE_THE_RUN: [Step; 23] = [
+static BEFORE_THE_RUN: [Step; 23] = [
     (Report, Ok(HAS_NOT_RUN)),
     (Take(1, Advise), TOOK),
     (Take(1, Page(0x10, 1)), TOOK),
     (Pause, Ok(Done)),
     (Phase, Ok(Stands(DestPhase::Paused, false, 1))),
     (Report, Ok(HAS_NOT_RUN)),
-    (Rerequest, Ok(Sends([None, None, None]))),
+    (Rerequest, Ok(Sends((None, None, None)))),
     (Take(1, Resume), STALE),
     (Take(2, Resume), TOOK),
     (Phase, Ok(Stands(DestPhase::Advised, false, 2))),
@@ -50,7 +50,7 @@ fn a_break_before_the_run(rt: HostRuntime) -> Result<(), Fail> {
 }
 
 /// A destination that was never advised goes on as one that was.
-const NEVER_ADVISED: [Step; 5] = [
+static NEVER_ADVISED: [Step; 5] = [
     (Pause, Ok(Done)),
     (Take(0, Resume), STALE),
     (Take(1, Resume), TOOK),
@@ -63,17 +63,17 @@ fn a_break_before_the_advise(rt: HostRuntime) -> Result<(), Fail> {
     play(&rt, rt.alloc(), &NEVER_ADVISED)
 }
 
-const ASKED_FOR_12: Answer = Sends([Some(Brief::Request(0x12)), None, None]);
+const ASKED_FOR_12: Answer = Sends((Some(Brief::Request(0x12)), None, None));
 
-const ASKED_FOR_BOTH: Answer = Sends([
+const ASKED_FOR_BOTH: Answer = Sends((
     Some(Brief::Request(0x12)),
     Some(Brief::Request(0x10)),
     None,
-]);
+));
 
 /// The processors go on while the channel is broken. What they need then is asked for once it is up again, in the order in which it
 /// was needed.
-const WHILE_IT_RUNS: [Step; 34] = [
+static WHILE_IT_RUNS: [Step; 34] = [
     (Take(1, Advise), TOOK),
     (Take(1, Page(0x13, 6)), TOOK),
     (Take(1, Discard(NONE)), TOOK),
@@ -109,7 +109,7 @@ const WHILE_IT_RUNS: [Step; 34] = [
     (Take(2, Page(0x12, 7)), TOOK),
     (Install, Ok(INSTALLED_12)),
     (Retry(0), Ok(Replied(0, Reply::Value(7)))),
-    (Rerequest, Ok(Sends([None, None, None]))),
+    (Rerequest, Ok(Sends((None, None, None)))),
     (
         Report,
         Ok(Reports(Brief::Recv(Received::Running, (0x11, 1)))),
@@ -125,7 +125,7 @@ fn a_break_while_it_runs(rt: HostRuntime) -> Result<(), Fail> {
 }
 
 /// A destination that has ended stays so, and needs nothing.
-const AFTER_THE_END: [Step; 11] = [
+static AFTER_THE_END: [Step; 11] = [
     (Take(1, Advise), TOOK),
     (Take(1, Discard(NONE)), TOOK),
     (Take(1, Package((0x10, 1), (0x10, 0), 2, None)), TOOK),
@@ -133,7 +133,7 @@ const AFTER_THE_END: [Step; 11] = [
     (Pause, Ok(Done)),
     (Phase, Ok(Stands(DestPhase::Paused, true, 1))),
     (Report, Ok(Reports(Brief::Recv(Received::Ended, NONE)))),
-    (Rerequest, Ok(Sends([None, None, None]))),
+    (Rerequest, Ok(Sends((None, None, None)))),
     (Take(2, Resume), TOOK),
     (Phase, Ok(Stands(DestPhase::Ended, true, 2))),
     (Take(2, End(0)), OUT_OF_PLACE),

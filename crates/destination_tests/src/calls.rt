@@ -73,7 +73,7 @@ pub enum Answer {
     /// The frame that tells how far it has come.
     Reports(Brief),
     /// The first of the frames that ask anew.
-    Sends([Option<Brief>; 3]),
+    Sends((Option<Brief>, Option<Brief>, Option<Brief>)),
     Stands(DestPhase, bool, u32),
     /// Copies installed, copies given up and faults read; copies that wait; and pages that are owed.
     Counted([u64; 3], usize, u32),

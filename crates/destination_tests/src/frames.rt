@@ -169,11 +169,8 @@ impl Brief {
     }
 
     /// The first three of a list of frames.
-    pub fn of_first(frames: &[Frame]) -> [Option<Self>; 3] {
-        let mut found = [None; 3];
-        for (place, frame) in found.iter_mut().zip(frames) {
-            *place = Some(Brief::of(frame));
-        }
-        found
+    pub fn of_first(frames: &[Frame]) -> (Option<Self>, Option<Self>, Option<Self>) {
+        let at = |i: usize| frames.get(i).map(Brief::of);
+        (at(0), at(1), at(2))
     }
 }

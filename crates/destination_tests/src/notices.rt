@@ -56,7 +56,7 @@ fn play(
 }
 
 /// What the source does, and what a destination that has not noticed the break is answered then.
-const ROWS: [(Step, Result<Effect, Refusal>); 5] = [
+static ROWS: [(Step, Result<Effect, Refusal>); 5] = [
     (
         (Looks, Ok(Stands(SourcePhase::Idle, NONE, 0, 0))),
         Err(Refusal::Phase),
@@ -67,7 +67,7 @@ const ROWS: [(Step, Result<Effect, Refusal>); 5] = [
     (
         (
             Rebuild(Received::Ended, NONE),
-            Ok(Sends([None, None, None])),
+            Ok(Sends((None, None, None))),
         ),
         Err(Refusal::Phase),
     ),

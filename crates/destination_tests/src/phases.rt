@@ -17,7 +17,7 @@ use std::test::Fail;
 const NONE_OWED: Sending = Package((0x10, 4), (0x10, 0), 2, None);
 
 /// A destination that knows of no migration takes an Advise of any epoch, and nothing else. Nothing runs.
-const IDLE: [Step; 20] = [
+static IDLE: [Step; 20] = [
     (Phase, Ok(Stands(DestPhase::Idle, false, 0))),
     (Take(0, Page(0x10, 1)), OUT_OF_PLACE),
     (Take(0, Zero(0x10)), OUT_OF_PLACE),
@@ -46,7 +46,7 @@ fn an_idle_destination_takes_an_advise(rt: HostRuntime) -> Result<(), Fail> {
 }
 
 /// A destination that was advised takes copies, and a Discard behind them.
-const ADVISED: [Step; 20] = [
+static ADVISED: [Step; 20] = [
     (Take(1, Advise), TOOK),
     (Take(1, Advise), OUT_OF_PLACE),
     (Take(2, Advise), OUT_OF_PLACE),
@@ -75,7 +75,7 @@ fn an_advised_destination_takes_copies(rt: HostRuntime) -> Result<(), Fail> {
 }
 
 /// Behind a Discard comes a Package.
-const DISCARDING: [Step; 19] = [
+static DISCARDING: [Step; 19] = [
     (Take(1, Advise), TOOK),
     (Take(1, Discard(NONE)), TOOK),
     (Take(1, Advise), OUT_OF_PLACE),
@@ -105,7 +105,7 @@ fn a_package_comes_behind_a_discard(rt: HostRuntime) -> Result<(), Fail> {
 const DROPPED_10: Answer = Told(Effect::Dropped { origin: 0x10000 });
 
 /// A destination that runs takes copies of single pages, and an End.
-const RUNNING: [Step; 25] = [
+static RUNNING: [Step; 25] = [
     (Take(1, Advise), TOOK),
     (Take(1, Discard(NONE)), TOOK),
     (Take(1, NONE_OWED), TOOK),
@@ -139,7 +139,7 @@ fn a_destination_that_runs_takes_single_copies(rt: HostRuntime) -> Result<(), Fa
 }
 
 /// The urgent wire brings copies of single pages, and nothing else.
-const URGENT: [Step; 15] = [
+static URGENT: [Step; 15] = [
     (Take(1, Advise), TOOK),
     (Take(1, Discard(NONE)), TOOK),
     (Take(1, NONE_OWED), TOOK),
@@ -163,7 +163,7 @@ fn the_urgent_wire_brings_copies(rt: HostRuntime) -> Result<(), Fail> {
 }
 
 /// A destination that has noticed a break takes a Resume of a later epoch, and nothing else.
-const PAUSED: [Step; 21] = [
+static PAUSED: [Step; 21] = [
     (Take(1, Advise), TOOK),
     (Take(1, Discard(NONE)), TOOK),
     (Take(1, NONE_OWED), TOOK),
@@ -193,7 +193,7 @@ fn a_paused_destination_takes_a_resume(rt: HostRuntime) -> Result<(), Fail> {
 }
 
 /// A destination that has ended takes nothing.
-const ENDED: [Step; 17] = [
+static ENDED: [Step; 17] = [
     (Take(1, Advise), TOOK),
     (Take(1, Discard(NONE)), TOOK),
     (Take(1, NONE_OWED), TOOK),

@@ -40,7 +40,7 @@ use Call::{Looks, Map, Notice, Rebuild, Round, Send, Start, Store, Switch};
 pub enum Answer {
     Done,
     /// The first of the frames that it sends.
-    Sends([Option<Brief>; 3]),
+    Sends((Option<Brief>, Option<Brief>, Option<Brief>)),
     NotRebuilt(RebuildFault),
     Stands(SourcePhase, Range, u32, u32),
 }
@@ -164,12 +164,12 @@ fn play(rt: &impl Abort, alloc: Global, steps: &[Step]) -> Result<(), Fail> {
     Ok(())
 }
 
-const NO_FRAMES: Result<Answer, Refusal> = Ok(Sends([None, None, None]));
+const NO_FRAMES: Result<Answer, Refusal> = Ok(Sends((None, None, None)));
 
 const BAD_OWED: Result<Answer, Refusal> = Ok(NotRebuilt(RebuildFault::BadOwed));
 
 /// Before the switch a destination has not run, and pre-copy goes on, of which nothing was kept.
-const BEFORE_THE_SWITCH: [Step; 19] = [
+static BEFORE_THE_SWITCH: [Step; 19] = [
     (Notice, Err(Refusal::Phase)),
     (Map, Ok(Done)),
     (Store(0x10000), Ok(Done)),
@@ -198,7 +198,7 @@ fn a_break_before_the_switch(rt: HostRuntime) -> Result<(), Fail> {
 
 /// After the switch a destination that runs may need pages that the source has, and no others. One that has not run is sent a Discard
 /// of none and a Package that owes every present page.
-const AFTER_THE_SWITCH: [Step; 24] = [
+static AFTER_THE_SWITCH: [Step; 24] = [
     (Map, Ok(Done)),
     (Store(0x10000), Ok(Done)),
     (Store(0x11000), Ok(Done)),
@@ -218,11 +218,11 @@ const AFTER_THE_SWITCH: [Step; 24] = [
     (Notice, Ok(Done)),
     (
         Rebuild(Received::NotRun, NONE),
-        Ok(Sends([
+        Ok(Sends((
             Some(Brief::Discard(NONE)),
             Some(Brief::Package(3, (0x10, 2), 1)),
             None,
-        ])),
+        ))),
     ),
     (Looks, Ok(Stands(SourcePhase::Stopped, (0x10, 2), 1, 2))),
     (Notice, Ok(Done)),

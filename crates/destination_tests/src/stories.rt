@@ -27,7 +27,7 @@ const LOAD_12: Command = Command::Load {
 };
 
 /// The newest copy of a page is kept, and a discarded one is not. A page that is owed is asked for once, and comes.
-const ASKED_FOR: [Step; 43] = [
+static ASKED_FOR: [Step; 43] = [
     (Take(1, Advise), TOOK),
     (Take(1, Page(0x10, 1)), TOOK),
     (Take(1, Page(0x10, 2)), TOOK),
@@ -49,7 +49,7 @@ const ASKED_FOR: [Step; 43] = [
     (Act, Ok(Acts(REQUESTED_12, None))),
     (
         Rerequest,
-        Ok(Sends([Some(Brief::Request(0x12)), None, None])),
+        Ok(Sends((Some(Brief::Request(0x12)), None, None))),
     ),
     (Act, Err(Refusal::NothingThere)),
     (Install, Err(Refusal::NothingThere)),
@@ -62,7 +62,7 @@ const ASKED_FOR: [Step; 43] = [
     (Retry(0), Ok(Replied(0, Reply::Value(7)))),
     (Retry(1), Ok(Replied(1, Reply::Value(7)))),
     (Cpu(0), Ok(Is(CpuState::Idle))),
-    (Rerequest, Ok(Sends([None, None, None]))),
+    (Rerequest, Ok(Sends((None, None, None)))),
     (Take(1, End(0)), ALL_DONE),
     (Phase, Ok(Stands(DestPhase::Ended, true, 1))),
     (Report, Ok(Reports(Brief::Recv(Received::Ended, NONE)))),
@@ -88,7 +88,7 @@ fn a_page_is_asked_for_and_comes(rt: HostRuntime) -> Result<(), Fail> {
 }
 
 /// A page moves while its copy is in flight, and is installed where it belongs then.
-const MOVED: [Step; 20] = [
+static MOVED: [Step; 20] = [
     (Take(1, Advise), TOOK),
     (Take(1, Discard(NONE)), TOOK),
     (Take(1, Package((0x10, 1), (0x10, 1), 2, None)), TOOK),
@@ -144,7 +144,7 @@ const MOVED: [Step; 20] = [
     ),
     (Home(0x10), Ok(At(None))),
     (Retry(1), Ok(Replied(1, Reply::Value(5)))),
-    (Rerequest, Ok(Sends([None, None, None]))),
+    (Rerequest, Ok(Sends((None, None, None)))),
     (
         Load(0, 0x10000),
         Ok(Replied(0, Reply::Segv { mapped: false })),
@@ -167,7 +167,7 @@ const UNMAPPED: Effect = Effect::ReadLast {
 };
 
 /// A page is unmapped while its copy is in flight. The copy is not put over the page that is mapped there later.
-const GONE: [Step; 14] = [
+static GONE: [Step; 14] = [
     (Take(1, Advise), TOOK),
     (Take(1, Discard(NONE)), TOOK),
     (Take(1, Package((0x10, 1), (0x10, 1), 2, None)), TOOK),
@@ -190,7 +190,7 @@ fn a_page_is_unmapped_in_flight(rt: HostRuntime) -> Result<(), Fail> {
 }
 
 /// The guest gives up an owed page, which is zeros from then on. Its copy comes late, and is given up.
-const GIVEN_UP: [Step; 14] = [
+static GIVEN_UP: [Step; 14] = [
     (Take(1, Advise), TOOK),
     (Take(1, Discard(NONE)), TOOK),
     (Take(1, Package((0x10, 1), (0x10, 1), 2, None)), TOOK),
@@ -223,7 +223,7 @@ fn an_owed_page_is_given_up(rt: HostRuntime) -> Result<(), Fail> {
 }
 
 /// The pages of a run are kept, in place of older copies, and give way to newer ones.
-const KEPT_RUN: [Step; 12] = [
+static KEPT_RUN: [Step; 12] = [
     (Take(1, Advise), TOOK),
     (Take(1, Page(0x11, 9)), TOOK),
     (Take(1, Run(0x10, 4, 5)), TOOK),
@@ -244,7 +244,7 @@ fn a_run_of_pages_is_kept(rt: HostRuntime) -> Result<(), Fail> {
 }
 
 /// Copies of both wires are installed in the order in which they came.
-const BOTH_WIRES: [Step; 17] = [
+static BOTH_WIRES: [Step; 17] = [
     (Take(1, Advise), TOOK),
     (Take(1, Discard(NONE)), TOOK),
     (Take(1, Package((0x10, 3), (0x10, 3), 2, None)), TOOK),
@@ -270,7 +270,7 @@ fn copies_come_on_both_wires(rt: HostRuntime) -> Result<(), Fail> {
 }
 
 /// A processor goes on with the load for which it waited at the source.
-const HANDED_OVER: [Step; 13] = [
+static HANDED_OVER: [Step; 13] = [
     (Take(1, Advise), TOOK),
     (Take(1, Discard(NONE)), TOOK),
     (
@@ -295,7 +295,7 @@ fn a_load_is_handed_over(rt: HostRuntime) -> Result<(), Fail> {
 }
 
 /// Two faults of a page are held. The page comes before the second is resolved, and is unmapped before a third.
-const LATE: [Step; 20] = [
+static LATE: [Step; 20] = [
     (Take(1, Advise), TOOK),
     (Take(1, Discard(NONE)), TOOK),
     (Take(1, Package((0x10, 2), (0x10, 2), 2, None)), TOOK),
@@ -340,7 +340,7 @@ fn faults_are_resolved_late(rt: HostRuntime) -> Result<(), Fail> {
 }
 
 /// A page moves over another that is owed, whose copy is given up. Two events of one call are read in turn.
-const REPLACED: [Step; 17] = [
+static REPLACED: [Step; 17] = [
     (Take(1, Advise), TOOK),
     (Take(1, Discard(NONE)), TOOK),
     (Take(1, Package((0x10, 3), (0x10, 3), 2, None)), TOOK),

@@ -1,5 +1,5 @@
 -- What the machine makes of a command of the destination's guest.
-use Rattle.std.proofs.Common.{◌≡◌, ℕ, Bool, true, false, Option, Some, None, List, refl, sym, ap, ◌∙◌, inl, inr, unwrap_or, arith}
+use Rattle.std.proofs.Common.{◌≡◌, ℕ, Bool, true, Option, Some, None, List, refl, sym, ap, ◌∙◌, inl, inr, unwrap_or, arith}
 use Rattle.mig_base.specs.Commands.{is_access}
 use Rattle.mig_base.specs.declared.command.Command.{Command}
 use Rattle.mig_base.specs.declared.command.Entry.{Entry}
@@ -8,13 +8,11 @@ use Rattle.mig_base.specs.declared.refusal.Refusal.{Refusal}
 use Rattle.mig_base.specs.declared.schedule.Step.{Step}
 use Rattle.mig_model.specs.Cpus.{Cpus, entries_of, outstanding, processor_at}
 use Rattle.mig_model.specs.Destination.{Destination}
-use Rattle.mig_model.specs.Guest.{Guest, space_by, tried}
+use Rattle.mig_model.specs.Guest.{Guest, tried}
 use Rattle.mig_model.specs.Migration.{outcome, try_effect, unless}
 use Rattle.mig_model.specs.Owed.{Owed}
-use Rattle.mig_model.specs.Space.{IsSoundSpace, Space, access_of}
+use Rattle.mig_model.specs.Space.{IsSoundSpace, Space}
 use Rattle.guest.specs.Answers.{IsOutstanding, issue_refusal, retry_refusal, took_in}
-use Rattle.guest.specs.Lent.{IsLent}
-use Rattle.guest.proofs.LentLemmas.{access_lent, call_lent}
 use Rattle.fault_handler.specs.Order.{IsInOrder}
 use Rattle.fault_handler.specs.Steps.{IsRefused, IsTried}
 use Rattle.fault_handler.proofs.ReadyLemmas.{ready_tried}

@@ -12,14 +12,10 @@ use Rattle.mig_base.specs.Ranges.{count_below}
 use Rattle.mig_base.proofs.PageLemmas.{same_pages}
 use Rattle.mig_base.proofs.RangeLemmas.{count_below-few}
 use Rattle.mig_base.proofs.SetLemmas.{same_members}
-use Rattle.mig_base.specs.Bits.{is_one}
-use Rattle.mig_model.specs.Destination.{for_missing}
 use Rattle.mig_model.specs.Faults.{is_torn}
-use Rattle.mig_model.specs.Ioctls.{mode_of}
 use Rattle.mig_model.proofs.FrameFaults.{and_none}
 use Rattle.uffd_ioctl.proofs.CallLemmas.{same_bool_by}
 use Rattle.mig_base.proofs.TestLemmas.{or_first, or_second}
-use Rattle.mig_model.proofs.HandlerCalls.{missing_mode}
 
 -- no page of the set passes the test
 abbrev pub has_none : FinSet nat_cmp → (ℕ → Bool) → Bool

@@ -1,5 +1,5 @@
 -- The spaces of the tests may be lent.
-use Rattle.std.proofs.Common.{◌≡◌, ℕ, Result, Ok, Err, is_some, refl, ap}
+use Rattle.std.proofs.Common.{◌≡◌, Result, Ok, Err, is_some, refl, ap}
 use Rattle.std.specs.Result.{OnErr, OnOk}
 use Rattle.std.specs.Ordering.{nat_cmp}
 use Rattle.std.specs.FinMap.{get-empty}

@@ -1,5 +1,5 @@
 -- What a world tells of itself, and which worlds there are at first.
-use Rattle.std.specs.Prelude.{ℕ, ◌+◌, ◌-◌, ◌^◌, ◌==◌, ◌||◌, nat_lt, Bool, true, false, if◌then◌else◌, Result, Ok, Err}
+use Rattle.std.specs.Prelude.{ℕ, ◌==◌, ◌||◌, nat_lt, Bool, true, false, if◌then◌else◌, Result, Ok, Err}
 use Rattle.std.specs.FinMap.{len}
 use Rattle.mig_base.specs.declared.TheConstants.{MAX_CPUS}
 use Rattle.mig_base.specs.declared.counts.Counts.{Counts}
@@ -7,7 +7,6 @@ use Rattle.mig_base.specs.declared.cpu_state.CpuState.{CpuState}
 use Rattle.mig_base.specs.declared.phase.SourcePhase.{SourcePhase}
 use Rattle.mig_base.specs.declared.refusal.Refusal.{Refusal}
 use Rattle.mig_base.specs.declared.step.WorldPhase.{WorldPhase}
-use Rattle.mig_base.specs.Ranges.{lesser}
 use Rattle.mig_model.specs.Cpus.{processor_at}
 use Rattle.mig_model.specs.Guest.{counted}
 use Rattle.mig_model.specs.Migration.{World, first_world_with, guest_of, has_no_cpu}

@@ -2,8 +2,8 @@
 
 use crate::ranges::{apart, inside};
 use crate::same::same;
-use owed_pages::Owed;
 use mig_base::{NoMemory, PageNo, PageSet, Run};
+use owed_pages::Owed;
 use std::alloc::Global;
 use std::process::Abort;
 use std::test::Fail;

@@ -7,7 +7,7 @@ use Rattle.mig_base.specs.declared.effect.Effect.{Effect}
 use Rattle.mig_base.specs.declared.phase.SourcePhase.{SourcePhase}
 use Rattle.mig_base.specs.declared.refusal.Refusal.{Refusal}
 use Rattle.mig_base.specs.declared.schedule.Step.{Step}
-use Rattle.mig_model.specs.Cpus.{Cpus, entries_of, outstanding, processor_at}
+use Rattle.mig_model.specs.Cpus.{entries_of, outstanding, processor_at}
 use Rattle.mig_model.specs.Guest.{Guest, space_by, tried}
 use Rattle.mig_model.specs.Log.{Log}
 use Rattle.mig_model.specs.Migration.{outcome, try_effect, unless}

@@ -1,12 +1,11 @@
 -- What the machine's steps make of a source, and why they are refused.
-use Rattle.std.proofs.Common.{◌≡◌, ℕ, ◌+◌, List, [], ◌∷◌, refl, inl, inr, min, ◌-◌, ◌^◌, arith}
+use Rattle.std.proofs.Common.{◌≡◌, ℕ, List, [], ◌∷◌, refl, inl, inr, arith}
 use Rattle.std.specs.Prelude.{Ok, Err}
 use Rattle.mig_base.specs.declared.effect.Effect.{Effect}
 use Rattle.mig_base.specs.declared.refusal.Refusal.{Refusal}
 use Rattle.mig_base.specs.declared.schedule.Step.{Step}
 use Rattle.mig_model.specs.Migration.{page_effect, unless, outcome}
 use Rattle.mig_model.specs.Source.{Source, bytes_of, not_clean, page_sent, round_made, source_started}
-use Rattle.mig_model.specs.Guest.{counted}
 use Rattle.mig_model.specs.Wire.{Frame, page_frame}
 use Rattle.precopy.specs.Answers.{round_answer, send_answer, start_answer}
 use Rattle.precopy.specs.Sending.{sent_effect}

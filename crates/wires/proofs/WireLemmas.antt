@@ -1,12 +1,10 @@
 -- Frames on a wire.
-use Rattle.std.proofs.lemmas.Bool.Decides.{nat_tests}
-use Rattle.std.proofs.Common.{◌≡◌, ℕ, ◌+◌, ◌<◌, ◌^◌, true, Option, Some, None, List, [], ◌∷◌, ◌++◌, map, length, ltb, get_or, ap, sym, subst, arith, Bor}
+use Rattle.std.proofs.Common.{◌≡◌, ℕ, ◌<◌, ◌^◌, true, Option, Some, None, List, [], ◌∷◌, ◌++◌, map, length, ltb, get_or, ap, sym, subst, arith, Bor}
 use Rattle.std.proofs.lemmas.Bool.{false≢true}
 use Rattle.std.specs.Option.{IfSome}
 use Rattle.std.specs.Slice.{IsItemAt}
 use Rattle.mig_model.specs.Bounds.{IsFrame}
 use Rattle.mig_model.specs.Lengths.{text_len}
-use Rattle.mig_model.specs.Migration.{is_short}
 use Rattle.mig_model.specs.Wire as machine
 use Rattle.frame_texts.proofs.LengthBounds.{text_short}
 use Rattle.page_stream.specs.Frames.{frame_of}

@@ -1,4 +1,4 @@
-use Rattle.std.proofs.Common.{arith, refl, sym, ◌∙◌}
+use Rattle.std.proofs.Common.{arith, refl, ◌∙◌}
 use Rattle.recovery.proofs.RecoveryLemmas.{noticed, refused}
 use Rattle.recovery.proofs.source.notice_source.Goals as goal
 
