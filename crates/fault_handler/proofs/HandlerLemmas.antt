@@ -22,7 +22,7 @@ use Rattle.guest.specs.Answers.{guest_with}
 use Rattle.guest.specs.Lent.{IsLent}
 use Rattle.fault_handler.specs.Answers.{act_refusal, run_answer}
 use Rattle.fault_handler.specs.Order.{IsInOrder}
-use Rattle.fault_handler.specs.Steps.{IsMade, IsRefused, world_of}
+use Rattle.fault_handler.specs.Steps.{IsMade, IsRefused, IsRefusedAs, world_of}
 use Rattle.mig_model.proofs.Facts.{counted_is}
 use Rattle.fault_handler.proofs.ReadyLemmas.{ready_read, ready_zeroed, settled_now, settled_read}
 
@@ -99,13 +99,16 @@ act_done node new effect frames fault rest act accepted held same told sent is =
 act_none : (refusal : Refusal) → None ≡ Some refusal → ⊥
 act_none refusal h = cc
 
-pub act_refused : (node : Destination) (refusal : Refusal) → act_refusal node ≡ Some refusal → IsRefused node Step.DestAct refusal
+pub act_refused_as : (node : Destination) (refusal : Refusal) → act_refusal node ≡ Some refusal → IsRefusedAs node Step.DestAct refusal
 unfolding unless outcome
-act_refused node refusal is = inl (by node.held refl is)
+act_refused_as node refusal is = by node.held refl is
   where
     by : (held : List Fault) → node.held ≡ held → act_refusal (record node { held = held }) ≡ Some refusal → outcome (world_of node) Step.DestAct ≡ Err refusal
     by [] held is = grind arith
     by (fault ∷ rest) held is = grind arith
+
+pub act_refused : (node : Destination) (refusal : Refusal) → act_refusal node ≡ Some refusal → IsRefused node Step.DestAct refusal
+act_refused node refusal is = inl (act_refused_as node refusal is)
 
 -- the fault that is resolved
 pub record IsHeld (node : Destination) : Type 0 where
@@ -122,13 +125,16 @@ some_held node accepted = by node.held refl accepted
     by [] is h = absurd (grind arith)
     by (fault ∷ rest) is h = record { fault = fault; rest = rest; is = is; run = grind arith; quiet = grind arith }
 
-pub act_lacks : (node : Destination) → act_refusal node ≡ None → IsRefused node Step.DestAct Refusal.NoMemory
+pub act_allowed : (node : Destination) → act_refusal node ≡ None → IsOk (outcome (world_of node) Step.DestAct)
 unfolding unless outcome
-act_lacks node accepted = inr (refl, by node.held refl accepted)
+act_allowed node accepted = by node.held refl accepted
   where
     by : (held : List Fault) → node.held ≡ held → act_refusal (record node { held = held }) ≡ None → IsOk (outcome (world_of node) Step.DestAct)
     by [] is h = absurd (grind arith)
     by (fault ∷ rest) is h = grind arith
+
+pub act_lacks : (node : Destination) → act_refusal node ≡ None → IsRefused node Step.DestAct Refusal.NoMemory
+act_lacks node accepted = inr (refl, act_allowed node accepted)
 
 -- what is known of a page that becomes zeros
 pub record IsMissing (space : Space) (owed : Owed) (page : ℕ) : Type 0 where

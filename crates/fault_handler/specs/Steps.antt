@@ -1,5 +1,5 @@
 -- What a call of a destination answers: what the machine's step of its name does in a world that has this destination.
-use Rattle.std.specs.Prelude.{◌≡◌, ◌⊎◌, Bool, true, false, List, ◌++◌, Ok, Err, IsOk}
+use Rattle.std.specs.Prelude.{◌≡◌, ◌⊎◌, Bool, true, false, List, ◌++◌, Result, Ok, Err, IsOk}
 use Rattle.mig_base.specs.declared.command.Entry.{Entry}
 use Rattle.mig_base.specs.declared.effect.Effect.{Effect}
 use Rattle.mig_base.specs.declared.refusal.Refusal.{Refusal}
@@ -43,3 +43,8 @@ IsRefusedAs old step refusal = outcome (world_of old) step ≡ Err refusal
 -- it was refused: for the machine's reason, or for want of memory where the machine makes the step
 abbrev pub IsRefused : Destination → Step → Refusal → Type 0
 IsRefused old step refusal = IsRefusedAs old step refusal ⊎ ((refusal ≡ Refusal.NoMemory) × IsOk (outcome (world_of old) step))
+
+-- whether a step would be made, want of memory aside
+abbrev pub IsChecked : Destination → Step → Result (Unit {0}) Refusal → Type 0
+IsChecked old step (Ok done) = IsOk (outcome (world_of old) step)
+IsChecked old step (Err refusal) = IsRefusedAs old step refusal

@@ -39,6 +39,11 @@ unfolding unless outcome
 push_checked node ticket (Ok done) is = grind arith
 push_checked node ticket (Err refusal) is = grind arith
 
+pub urgent_checked : (node : Source) (ticket : Ticket) (result : Result (Unit {0}) Refusal) → result ≡ push_answer node ticket → IsChecked node (Step.PushUrgent ticket) result
+unfolding unless outcome
+urgent_checked node ticket (Ok done) is = grind arith
+urgent_checked node ticket (Err refusal) is = grind arith
+
 pub end_checked : (node : Source) (result : Result (Unit {0}) Refusal) → result ≡ end_answer node → IsChecked node Step.End result
 unfolding unless outcome
 end_checked node (Ok done) is = grind arith

@@ -121,6 +121,27 @@ impl Source {
         &self.remaining
     }
 
+    /// How many rounds of pre-copy were made, counted on from the number that the source was made with.
+    pub fn rounds(&self) -> u32
+        ensures { result ≡ self.now.rounds }
+    {
+        self.rounds
+    }
+
+    /// How many pages were sent, on either wire. The count stops at its greatest value.
+    pub fn pages_sent(&self) -> u64
+        ensures { result ≡ self.now.pages_sent }
+    {
+        self.pages_sent
+    }
+
+    /// How many messages of page faults were read. The count stops at its greatest value.
+    pub fn faults(&self) -> u64
+        ensures { result ≡ self.now.faults }
+    {
+        self.faults
+    }
+
     /// The address space of its guest.
     pub fn space(&self) -> &Space
         ensures { result.now ≡ self.now.guest.space }

@@ -13,7 +13,7 @@ ghost use Rattle.page_stream.specs.Frames.{frame_of};
 ghost use Rattle.fault_handler.specs.Acts.{act_is};
 ghost use Rattle.fault_handler.specs.Answers.{act_refusal, run_answer};
 ghost use Rattle.fault_handler.specs.Order.{LiesInside};
-ghost use Rattle.fault_handler.specs.Steps.{IsMade, IsRefused};
+ghost use Rattle.fault_handler.specs.Steps.{IsChecked, IsMade, IsRefused};
 
 use super::Destination;
 use crate::act::Act;
@@ -83,6 +83,16 @@ impl Destination {
         self.held.pop_front();
         self.cpus.wake_span(addr, PAGE_SIZE);
         Ok((act.told(addr), None))
+    }
+
+    /// Whether a fault can be resolved, want of memory aside: how [`Destination::act`] is refused otherwise.
+    pub fn check_act(&self) -> Result<(), Refusal>
+        ensures { IsChecked self.now Step.DestAct result }
+    {
+        match self.next_act() {
+            Ok(_) => Ok(()),
+            Err(refusal) => Err(refusal),
+        }
     }
 
     /// What is to be made of the first fault that is held, and the address of its page.

@@ -46,9 +46,11 @@ impl Source {
         self.ensure_settled()
     }
 
-    /// Whether the page of a ticket can be sent, want of memory aside: how [`Source::push`] is refused otherwise.
+    /// Whether the page of a ticket can be sent, on either wire, want of memory aside: how [`Source::push`] is refused otherwise, and
+    /// [`Source::push_urgent`] but for its count.
     pub fn check_push(&self, ticket: Ticket) -> Result<(), Refusal>
-        ensures { IsChecked self.now (Step.Push ticket) result }
+        ensures push { IsChecked self.now (Step.Push ticket) result }
+        ensures urgent { IsChecked self.now (Step.PushUrgent ticket) result }
     {
         self.ensure_owed(ticket)
     }

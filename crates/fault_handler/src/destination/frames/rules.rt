@@ -11,8 +11,8 @@ use mig_base::phase::DestPhase;
 use page_stream::Frame;
 
 impl Destination {
-    /// Why it does not take a frame, if it does not.
-    pub(super) fn take_fault(&self, epoch: u32, frame: &Frame) -> Option<TakeFault>
+    /// Why [`Destination::take`] would not take a frame of the forward wire, if it would not, want of memory aside.
+    pub fn take_fault(&self, epoch: u32, frame: &Frame) -> Option<TakeFault>
         ensures { result ≡ machine.take_fault self.now epoch (frame_of frame.now) }
     {
         match self.frame_fault(epoch, frame) {
