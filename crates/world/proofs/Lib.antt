@@ -1,0 +1,10 @@
+pub mod BreakLemmas
+pub mod CommandLemmas
+pub mod DeliveryLemmas
+pub mod FlightLemmas
+pub mod HeadlineLemmas
+pub mod RunLemmas
+pub mod SendingLemmas
+pub mod StepLemmas
+pub mod UrgentLemmas
+pub mod NewLemmas
