@@ -42,13 +42,6 @@ impl Requests {
         self.pages.as_slice()
     }
 
-    /// Whether a page was asked for.
-    pub fn contains(&self, origin: PageNo) -> bool
-        ensures { result ≡ is_requested self.now origin }
-    {
-        self.pages.contains(&origin)
-    }
-
     /// A page is asked for, and comes last unless it was asked for before; whether it is new. Out of memory changes nothing, and is for a
     /// new page alone.
     pub fn add(&mut self, origin: PageNo) -> Result<bool, NoMemory>
