@@ -7,8 +7,9 @@ ghost use Rattle.mig_base.specs.Pages.{moved_range};
 ghost use Rattle.mig_base.specs.Sets.{moved_set};
 ghost use Rattle.mig_base.specs.declared.TheConstants.{HIGH_PAGE};
 ghost use Rattle.area_map.specs.Ranges.{HasOneProt};
-ghost use Rattle.uffd_ioctl.specs.Remaps.{IsRemap, HasProt};
+ghost use Rattle.uffd_ioctl.specs.Remaps.{IsRemap, HasProt, room_first, room_count};
 
+use crate::arguments::PageRange;
 use area_map::AreaMap;
 use mig_base::{HIGH_PAGE, NoMemory, PageNo, Prot};
 use page_table::PageTable;
@@ -20,6 +21,28 @@ pub(crate) struct Remap {
     pub(crate) count: u32,
     pub(crate) to: PageNo,
     pub(crate) new_count: u32,
+}
+
+impl Remap {
+    /// Where the range needs room that it may not have: all of a target elsewhere, and else the pages by which it grows.
+    pub(crate) fn room(self) -> PageRange
+        requires { IsRemap self }
+        ensures first { result.first ≡ room_first self }
+        ensures count { result.count ≡ room_count self }
+        ensures inside { result.first + result.count ≤ HIGH_PAGE }
+    {
+        if self.to != self.from {
+            return PageRange {
+                first: self.to,
+                count: self.new_count,
+            };
+        }
+        let kept = self.count.min(self.new_count);
+        PageRange {
+            first: self.to + kept,
+            count: self.new_count - kept,
+        }
+    }
 }
 
 /// Makes the change of the areas and pages of a host. `NoMemory` leaves both as they were.
