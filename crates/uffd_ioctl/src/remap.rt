@@ -130,13 +130,14 @@ fn relocate(
     ensures protected { OnOk result (pages.new.protected ≡ moved_set pages.old.protected range.from range.count range.to range.new_count false) }
     ensures err { OnErr result ((areas.new ≡ areas.old) × (pages.new ≡ pages.old)) }
 {
-    let mut moved = areas.copy()?;
-    moved.unmap(range.from, range.count)?;
-    moved.map(range.to, range.new_count, prot)?;
+    let roomy = areas.with_room()?;
     let kept = range.count.min(range.new_count);
-    pages.move_range(range.from, range.to, kept)?;
+    let Ok(()) = pages.move_range(range.from, range.to, kept) else {
+        *areas = roomy.into_areas();
+        return Err(NoMemory);
+    };
     pages.drop_range(range.from + kept, range.count - kept);
     pages.drop_range(range.to + kept, range.new_count - kept);
-    *areas = moved;
+    *areas = roomy.relocated(range.from, range.count, range.to, range.new_count, prot);
     Ok(())
 }
