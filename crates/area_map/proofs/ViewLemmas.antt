@@ -55,3 +55,14 @@ none_past (a ∷ rest) q runs past = let bound = runs.0.bound in prot_in-rest_ab
 -- no page at or past the end is mapped
 pub get-past : (inside : List Area) (value : FinMap nat_cmp Prot) (q : ℕ) → AreRuns inside → pages_in inside ≡ value → HIGH_PAGE ≤ q → get value q ≡ None
 get-past inside value q runs view past = sym (prot_at_answer inside inside value q refl view) ∙ none_past inside q runs past
+
+-- the areas once a range is taken out, and another has a protection
+pub relocated_answer : (inside first new : List Area) (value : FinMap nat_cmp Prot) (from count to new_count : ℕ) (prot : Prot) → pages_in inside ≡ value
+    → ((page : ℕ) → prot_in first page ≡ cond (in_range from count page) None (prot_in inside page)) → ((page : ℕ) → prot_in new page ≡ cond (in_range to new_count page) (Some prot) (prot_in first page))
+    → pages_in new ≡ set_range (remove_range value from count) to new_count prot
+relocated_answer inside first new value from count to new_count prot view one two =
+    same_pages (pages_in new) (set_range (remove_range value from count) to new_count prot) (λ q.
+    get-pages_in new q
+    ∙ two q
+    ∙ ap (λ o. cond (in_range to new_count q) (Some prot) o) (one q ∙ ap (λ o. cond (in_range from count q) None o) (prot_at_answer inside inside value q refl view) ∙ sym (get-remove_range value from count q))
+    ∙ sym (get-set_range (remove_range value from count) to new_count prot q))

@@ -1,6 +1,8 @@
 -- Lists of areas, and the pages that they map.
 use Rattle.std.specs.Prelude.{◌≡◌, ◌≢◌, ℕ, ◌+◌, ◌<◌, ◌≤◌, if◌then◌else◌, Option, Some, None, List, [], ◌∷◌}
 use Rattle.std.specs.List.{All, sum_by}
+use Rattle.std.specs.Vec.{vec_len, vec_capacity}
+use Rattle.std.specs.Global.{Vec}
 use Rattle.std.specs.Ordering.{nat_cmp}
 use Rattle.std.specs.FinMap.{FinMap, empty}
 use Rattle.mig_base.specs.declared.TheConstants.{HIGH_PAGE}
@@ -55,3 +57,8 @@ EndsBefore page area = area.first + area.count < page
 
 abbrev pub EndsFrom : ℕ → Area → Type 0
 EndsFrom page area = page ≤ area.first + area.count
+
+-- and there is room for six areas more: two changes add no more
+pub record AreRoomy (areas : Vec Area) (mapped : ℕ) : Type 0 where
+  pub counted : AreCounted areas.items mapped
+  pub room : vec_len areas + 6 ≤ vec_capacity areas

@@ -1,6 +1,6 @@
 //! Changes of the areas around a range, in place.
 
-ghost use Rattle.std.specs.Prelude.{◌≡◌, ◌+◌, ◌<◌, ◌≤◌, ◌++◌, length, take, drop, OnOk, OnErr, IsTrue, ◌↔◌, Some};
+ghost use Rattle.std.specs.Prelude.{◌≡◌, ◌+◌, ◌<◌, ◌≤◌, ◌++◌, length, take, drop, OnOk, OnErr, IsOk, IsTrue, ◌↔◌, Some};
 ghost use Rattle.std.specs.Option.{option_to_list};
 ghost use Rattle.std.specs.Vec.{vec_len, vec_capacity};
 ghost use Rattle.area_map.specs.Areas.{AreRuns, AreCounted, page_sum};
@@ -180,6 +180,9 @@ pub(crate) fn apply(areas: &mut Vec<Area>, edit: Edit) -> Result<(), AllocError>
     requires { IsInside areas.old.items edit }
     ensures ok { OnOk result (areas.new.items ≡ edited areas.old.items edit) }
     ensures err { OnErr result (areas.new.items ≡ areas.old.items) }
+    ensures succeeds { vec_len areas.old + 3 ≤ vec_capacity areas.old → IsOk result }
+    ensures added { vec_len areas.new ≤ vec_len areas.old + 3 }
+    ensures capacity { vec_capacity areas.old ≤ vec_capacity areas.new }
 {
     let added = number_of(edit.left) + number_of(edit.middle) + number_of(edit.right);
     areas.try_reserve(added.saturating_sub(edit.high - edit.low))?;

@@ -2,6 +2,7 @@
 //!
 //! [`AreaMap`] owns a finite map from pages to protections, kept as its maximal runs of one protection in order of their pages.
 //! A page is looked up by a binary search, how many are mapped is kept, and a change edits the runs around its range in place.
+//! [`RoomyAreas`] are those of a map with room for a move, which then takes no memory.
 //!
 //! It knows of no page's bytes, of no rule of mmap(2) and of no limit but the end of the address space: which range is
 //! mapped, and whether it may be, is for its callers to decide.
@@ -11,6 +12,7 @@ mod count;
 mod edit;
 mod gap;
 mod moves;
+mod room;
 mod search;
 mod within;
 
@@ -26,6 +28,7 @@ use crate::count::mapped_between;
 use crate::edit::{apply, mapped_after, plan};
 use crate::gap::free_page;
 use crate::moves::map_moved;
+pub use crate::room::RoomyAreas;
 use crate::search::{one_prot_of, prot_of};
 use mig_base::{Addr, Area, HIGH_PAGE, LOW, NoMemory, PAGE_SIZE, PageNo, Prot};
 use std::alloc::Global;

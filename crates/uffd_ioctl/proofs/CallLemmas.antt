@@ -1,11 +1,10 @@
 -- What the map calls make of a space.
-use Rattle.std.proofs.Common.{◌≡◌, ℕ, ◌+◌, ◌-◌, ◌*◌, ◌/◌, ◌%◌, ◌^◌, ◌<◌, ◌≤◌, ◌&&◌, ◌||◌, Bool, true, false, cond, not, eqb, ltb, leb, Option, None, List, [], ◌∷◌, ◌++◌, length, nat_lt, ◌==◌, refl, sym, ap, ◌∙◌, subst, ◌⊎◌, ⊎_elim, arith, min}
+use Rattle.std.proofs.Common.{◌≡◌, ℕ, ◌+◌, ◌-◌, ◌*◌, ◌/◌, ◌%◌, ◌^◌, ◌<◌, ◌≤◌, ◌&&◌, Bool, true, false, cond, not, eqb, leb, Option, None, List, length, refl, sym, ap, ◌∙◌, subst, ◌⊎◌, ⊎_elim, arith, min}
 use Rattle.std.specs.Ordering.{nat_cmp}
 use Rattle.std.specs.FinMap.{FinMap, get}
 use Rattle.std.specs.FinSet.{FinSet, contains}
 use Rattle.std.proofs.lemmas.Bool.Decides.{nat_tests}
 use Rattle.std.proofs.lemmas.Bool.{false≢true, eqb-true, false_from_ne_true}
-use Rattle.std.proofs.lemmas.List.{length-append}
 use Rattle.mig_base.specs.declared.TheConstants.{HIGH, HIGH_PAGE}
 use Rattle.mig_base.specs.declared.Prot.{Prot}
 use Rattle.mig_base.specs.declared.command.Errno.TheVariants.{Enomem, Einval}
@@ -15,26 +14,22 @@ use Rattle.mig_base.specs.declared.command.Command.TheVariants.{Mmap, Munmap, Mr
 use Rattle.mig_base.specs.declared.command.Reply.{Reply}
 use Rattle.mig_base.specs.declared.command.Reply.TheVariants.{Done, At, Refused}
 use Rattle.mig_base.specs.declared.message.Message.{Message}
-use Rattle.mig_base.specs.declared.message.Message.TheVariants as message
 use Rattle.mig_base.specs.declared.message.Message.TheVariants.{Unmap, Remove}
 use Rattle.mig_base.specs.Ranges.{in_range, lesser, none_below, pages_of, rounded}
 use Rattle.mig_base.specs.Pages.{set_range, remove_range, moved_range}
-use Rattle.mig_base.specs.Sets.{without, pages_where, moved_set}
+use Rattle.mig_base.specs.Sets.{without, moved_set}
 use Rattle.mig_base.specs.Flat.{is_page_start, is_all_mapped, mmap_reply, mremap_reply, dontneed_reply, reply_of}
 use Rattle.mig_base.proofs.RangeLemmas.{none_below_tells, none_below-from}
-use Rattle.mig_base.proofs.SetLemmas.{same_members, member_without, member_below}
+use Rattle.mig_base.proofs.SetLemmas.{same_members, member_without}
 use Rattle.mig_base.proofs.ReplyLemmas.{mmap_inside, mremap_told}
 use Rattle.mig_model.specs.Host.{Host, memory, host_changed, host_dropped, IsSound}
 use Rattle.mig_base.specs.Commands.{is_access}
 use Rattle.mig_base.proofs.TestLemmas.{at_or_below, positive, none_is_some}
-use Rattle.mig_model.specs.Userfault.{Object, Mode, mode_at, is_registered, unregistered, registered_where, moved_modes, event_queued, is_watched}
+use Rattle.mig_model.specs.Userfault.{Object, mode_at, is_registered, unregistered, moved_modes, is_watched}
 use Rattle.mig_model.specs.Space.{Space, IsSoundSpace, told, remap_messages, call_messages, modes_after, protected_after, all_queued, called, queued_by}
 use Rattle.mig_model.proofs.CommandLemmas.{remapped_place}
-use Rattle.mig_model.proofs.Registering.{pages_again}
 use Rattle.mig_model.proofs.SpaceLemmas.{IsSoundSpace-called}
 use Rattle.page_table.specs.Views.{Pages}
-use Rattle.uffd_ioctl.specs.declared.remap.Remap.{Remap}
-use Rattle.uffd_ioctl.specs.Remaps.{IsRemap, replaced_message, cut_message, moved_message}
 use Rattle.uffd_ioctl.specs.Spaces.{space_of}
 use Rattle.uffd_ioctl.proofs.AnswerLemmas.{munmap_done}
 use Rattle.uffd_ioctl.proofs.ChangeLemmas.{dropped_below}
@@ -45,176 +40,6 @@ PageMap X = FinMap nat_cmp X
 
 abbrev Set : Type 0
 Set = FinSet nat_cmp
-
--- Modes
-
--- a range is registered of which no page was
-put_missing : (here asked other_asked x y : Bool) → cond (here && not ((not asked || (x && not here)) && (not other_asked || (y && not here)))) asked (x && not here) ≡ cond here asked x
-put_missing here asked other_asked x y = grind (arith, nat_tests)
-
-put_protect : (here asked other_asked x y : Bool) → cond (here && not ((not other_asked || (y && not here)) && (not asked || (x && not here)))) asked (x && not here) ≡ cond here asked x
-put_protect here asked other_asked x y = grind (arith, nat_tests)
-
-member_missing : (own other : Set) (first count : ℕ) (asked other_asked : Bool) (q : ℕ) →
-    contains (pages_where (λ page. cond (in_range first count page && not ((not asked || contains (without own first count) page) && (not other_asked || contains (without other first count) page))) asked (contains (without own first count) page))) q
-    ≡ (ltb q HIGH_PAGE && cond (in_range first count q) asked (contains own q))
-member_missing own other first count asked other_asked q =
-    let here = in_range first count q in
-    member_below (λ page. cond (in_range first count page && not ((not asked || contains (without own first count) page) && (not other_asked || contains (without other first count) page))) asked (contains (without own first count) page)) HIGH_PAGE q
-    ∙ ap (λ b. ltb q HIGH_PAGE && b)
-    (ap (λ x. cond (here && not ((not asked || x) && (not other_asked || contains (without other first count) q))) asked x) (member_without own first count q)
-    ∙ ap (λ y. cond (here && not ((not asked || (contains own q && not here)) && (not other_asked || y))) asked (contains own q && not here)) (member_without other first count q)
-    ∙ put_missing here asked other_asked (contains own q) (contains other q))
-
-member_protect : (own other : Set) (first count : ℕ) (asked other_asked : Bool) (q : ℕ) →
-    contains (pages_where (λ page. cond (in_range first count page && not ((not other_asked || contains (without other first count) page) && (not asked || contains (without own first count) page))) asked (contains (without own first count) page))) q
-    ≡ (ltb q HIGH_PAGE && cond (in_range first count q) asked (contains own q))
-member_protect own other first count asked other_asked q =
-    let here = in_range first count q in
-    member_below (λ page. cond (in_range first count page && not ((not other_asked || contains (without other first count) page) && (not asked || contains (without own first count) page))) asked (contains (without own first count) page)) HIGH_PAGE q
-    ∙ ap (λ b. ltb q HIGH_PAGE && b)
-    (ap (λ x. cond (here && not ((not other_asked || contains (without other first count) q) && (not asked || x))) asked x) (member_without own first count q)
-    ∙ ap (λ y. cond (here && not ((not other_asked || y) && (not asked || (contains own q && not here)))) asked (contains own q && not here)) (member_without other first count q)
-    ∙ put_protect here asked other_asked (contains own q) (contains other q))
-
-abbrev moved_test : Set → ℕ → ℕ → ℕ → ℕ → Bool → ℕ → Bool
-moved_test set from count to new_count growth = λ page. cond (in_range to new_count page) (cond (ltb (page - to) count) (contains set (from + (page - to))) growth) (not (in_range from count page) && contains set page)
-
--- the range stays where it is
-stays_at : (from count new_count kept q : ℕ) (along old growth : Bool) → kept ≡ min count new_count → (from ≤ q → along ≡ old) → cond (in_range (from + kept) (new_count - kept) q) growth (old && not (in_range (from + kept) (count - kept) q)) ≡ cond (in_range from new_count q) (cond (ltb (q - from) count) along growth) (not (in_range from count q) && old)
-stays_at from count new_count kept q along old growth least same = grind (arith, nat_tests, same)
-
-same_page : (set : Set) (from q : ℕ) → from ≤ q → contains set (from + (q - from)) ≡ contains set q
-same_page set from q h = let e : from + (q - from) ≡ q = omega arith in ap (contains set) e
-
-stayed : (set : Set) (from count new_count kept : ℕ) (growth : Bool) (q : ℕ) → kept ≡ min count new_count → (ltb q HIGH_PAGE && cond (in_range (from + kept) (new_count - kept) q) growth (contains (without set (from + kept) (count - kept)) q)) ≡ contains (moved_set set from count from new_count growth) q
-stayed set from count new_count kept growth q least =
-    ap (λ b. ltb q HIGH_PAGE && cond (in_range (from + kept) (new_count - kept) q) growth b) (member_without set (from + kept) (count - kept) q)
-    ∙ ap (λ b. ltb q HIGH_PAGE && b) (stays_at from count new_count kept q (contains set (from + (q - from))) (contains set q) growth least (same_page set from q))
-    ∙ sym (member_below (moved_test set from count from new_count growth) HIGH_PAGE q)
-
--- it goes elsewhere
-goes_to : (from count to new_count kept q : ℕ) (along old growth : Bool) → kept ≡ min count new_count → ((from + count ≤ to) ⊎ (to + new_count ≤ from))
-    → cond (in_range (to + kept) (new_count - kept) q) growth (cond (in_range to kept q) (cond (ltb (q - to) kept) along false) (not (in_range from kept q) && old) && not (in_range (from + kept) (count - kept) q))
-    ≡ cond (in_range to new_count q) (cond (ltb (q - to) count) along growth) (not (in_range from count q) && old)
-goes_to from count to new_count kept q along old growth least apart = grind (arith, nat_tests)
-
-low_twice : (low here growth b out : Bool) → (low && cond here growth ((low && b) && out)) ≡ (low && cond here growth (b && out))
-low_twice true here growth b out = refl
-low_twice false here growth b out = refl
-
-gone : (set : Set) (from count to new_count kept : ℕ) (growth : Bool) (q : ℕ) → kept ≡ min count new_count → ((from + count ≤ to) ⊎ (to + new_count ≤ from)) → (ltb q HIGH_PAGE && cond (in_range (to + kept) (new_count - kept) q) growth (contains (without (moved_set set from kept to kept false) (from + kept) (count - kept)) q)) ≡ contains (moved_set set from count to new_count growth) q
-gone set from count to new_count kept growth q least apart =
-    let low = ltb q HIGH_PAGE in
-    let grown = in_range (to + kept) (new_count - kept) q in
-    let out = not (in_range (from + kept) (count - kept) q) in
-    ap (λ b. low && cond grown growth b) (member_without (moved_set set from kept to kept false) (from + kept) (count - kept) q ∙ ap (λ b. b && out) (member_below (moved_test set from kept to kept false) HIGH_PAGE q))
-    ∙ low_twice low grown growth (moved_test set from kept to kept false q) out
-    ∙ ap (λ b. low && b) (goes_to from count to new_count kept q (contains set (from + (q - to))) (contains set q) growth least apart)
-    ∙ sym (member_below (moved_test set from count to new_count growth) HIGH_PAGE q)
-
-both_sets : (object : Object) (a b c d : Set) → a ≡ c → b ≡ d → record object { missing = a; protect = b } ≡ record object { missing = c; protect = d }
-both_sets object a b c d h k = ap (λ s. record object { missing = s; protect = b }) h ∙ ap (λ s. record object { missing = c; protect = s }) k
-
--- the object once the modes of a range are moved, its old ends are forgotten, and the pages by which it grows are registered
-abbrev in_steps : Object → ℕ → ℕ → ℕ → ℕ → ℕ → Mode → Object
-in_steps object from count to new_count kept mode = registered_where (unregistered (unregistered object (from + kept) (count - kept)) (to + kept) (new_count - kept)) (in_range (to + kept) (new_count - kept)) mode
-
-steps_stay : (object : Object) (from count new_count kept : ℕ) (mode : Mode) → kept ≡ min count new_count → in_steps object from count from new_count kept mode ≡ moved_modes object from count from new_count mode
-steps_stay object from count new_count kept mode least =
-    let missing = without object.missing (from + kept) (count - kept) in
-    let protect = without object.protect (from + kept) (count - kept) in
-    both_sets object _ _ _ _
-    (same_members _ _ (λ q. member_missing missing protect (from + kept) (new_count - kept) mode.missing mode.protect q ∙ stayed object.missing from count new_count kept mode.missing q least))
-    (same_members _ _ (λ q. member_protect protect missing (from + kept) (new_count - kept) mode.protect mode.missing q ∙ stayed object.protect from count new_count kept mode.protect q least))
-
-abbrev no_mode : Mode
-no_mode = record { missing = false; protect = false }
-
-steps_go : (object : Object) (from count to new_count kept : ℕ) (mode : Mode) → kept ≡ min count new_count → ((from + count ≤ to) ⊎ (to + new_count ≤ from)) → in_steps (moved_modes object from kept to kept no_mode) from count to new_count kept mode ≡ moved_modes object from count to new_count mode
-steps_go object from count to new_count kept mode least apart =
-    let missing = without (moved_set object.missing from kept to kept false) (from + kept) (count - kept) in
-    let protect = without (moved_set object.protect from kept to kept false) (from + kept) (count - kept) in
-    both_sets object _ _ _ _
-    (same_members _ _ (λ q. member_missing missing protect (to + kept) (new_count - kept) mode.missing mode.protect q ∙ gone object.missing from count to new_count kept mode.missing q least apart))
-    (same_members _ _ (λ q. member_protect protect missing (to + kept) (new_count - kept) mode.protect mode.missing q ∙ gone object.protect from count to new_count kept mode.protect q least apart))
-
--- the steps, one by one
-steps : (first second third new : Object) (from count to new_count kept : ℕ) (mode : Mode) → second ≡ unregistered first (from + kept) (count - kept) → third ≡ unregistered second (to + kept) (new_count - kept) → new ≡ registered_where third (in_range (to + kept) (new_count - kept)) mode → new ≡ in_steps first from count to new_count kept mode
-steps first second third new from count to new_count kept mode two three is =
-    is ∙ ap (λ o. registered_where o (in_range (to + kept) (new_count - kept)) mode) (three ∙ ap (λ o. unregistered o (to + kept) (new_count - kept)) two)
-
-pub modes_stay : (object first second third new : Object) (range : Remap) (kept : ℕ) (mode last : Mode) → range.from ≡ range.to → kept ≡ min range.count range.new_count → mode ≡ last → first ≡ object
-    → second ≡ unregistered first (range.from + kept) (range.count - kept) → third ≡ unregistered second (range.to + kept) (range.new_count - kept) → new ≡ registered_where third (in_range (range.to + kept) (range.new_count - kept)) mode
-    → new ≡ moved_modes object range.from range.count range.to range.new_count last
-modes_stay object first second third new range kept mode last place least mode_is one two three is =
-    steps first second third new range.from range.count range.to range.new_count kept mode two three is
-    ∙ ap (λ o. in_steps o range.from range.count range.to range.new_count kept mode) one
-    ∙ ap (λ to. in_steps object range.from range.count to range.new_count kept mode) (sym place)
-    ∙ steps_stay object range.from range.count range.new_count kept mode least
-    ∙ ap (λ to. moved_modes object range.from range.count to range.new_count mode) place
-    ∙ ap (moved_modes object range.from range.count range.to range.new_count) mode_is
-
-must_lie_apart : (range : Remap) → IsRemap range → (range.from ≡ range.to → ⊥) → (range.from + range.count ≤ range.to) ⊎ (range.to + range.new_count ≤ range.from)
-must_lie_apart range well other =
-    ⊎_elim
-    (λ (same : range.to ≡ range.from). absurd (other (sym same)))
-    (λ (apart : (range.from + range.count ≤ range.to) ⊎ (range.to + range.new_count ≤ range.from)). apart)
-    well.place
-
-pub modes_go : (object first second third new : Object) (range : Remap) (kept : ℕ) (mode last : Mode) → IsRemap range → (range.from ≡ range.to → ⊥) → kept ≡ min range.count range.new_count → mode ≡ last → first ≡ moved_modes object range.from kept range.to kept no_mode
-    → second ≡ unregistered first (range.from + kept) (range.count - kept) → third ≡ unregistered second (range.to + kept) (range.new_count - kept) → new ≡ registered_where third (in_range (range.to + kept) (range.new_count - kept)) mode
-    → new ≡ moved_modes object range.from range.count range.to range.new_count last
-modes_go object first second third new range kept mode last well other least mode_is one two three is =
-    steps first second third new range.from range.count range.to range.new_count kept mode two three is
-    ∙ ap (λ o. in_steps o range.from range.count range.to range.new_count kept mode) one
-    ∙ steps_go object range.from range.count range.to range.new_count kept mode least (must_lie_apart range well other)
-    ∙ ap (moved_modes object range.from range.count range.to range.new_count) mode_is
-
--- Messages
-
-queued_more : (object : Object) (one two : List Message) (cpu : ℕ) → all_queued (all_queued object one cpu) two cpu ≡ all_queued object (one ++ two) cpu
-queued_more object [] two cpu = refl
-queued_more object (message ∷ one) two cpu = queued_more (event_queued object message cpu) one two cpu
-
--- the modes once a range is moved
-abbrev pub modes_of : Object → Remap → Object
-modes_of object range = moved_modes object range.from range.count range.to range.new_count (mode_at object (range.from + (range.count - 1)))
-
-abbrev pub three_messages : Object → Remap → List Message
-three_messages object range = replaced_message object range ++ cut_message object range ++ moved_message object range
-
-abbrev messages_at : Object → ℕ → ℕ → ℕ → ℕ → ℕ → ℕ → List Message
-messages_at object addr count target new_count from to =
-    told (not (to == from) && is_watched object to new_count) (Unmap target (target + 4096 * new_count))
-    ++ told (nat_lt new_count count && is_watched object (from + new_count) (count - new_count)) (Unmap (addr + 4096 * new_count) (addr + 4096 * count))
-    ++ told (not (to == from) && is_watched object from (lesser count new_count)) (message.Remap addr target (4096 * lesser count new_count))
-
-pub messages_are : (object : Object) (range : Remap) → three_messages object range ≡ remap_messages object (4096 * range.from) range.count (4096 * range.to) range.new_count
-messages_are object range =
-    sym (ap (λ from. messages_at object (4096 * range.from) range.count (4096 * range.to) range.new_count from (4096 * range.to / 4096)) (pages_again range.from)
-    ∙ ap (λ to. messages_at object (4096 * range.from) range.count (4096 * range.to) range.new_count range.from to) (pages_again range.to))
-
-pub remap_queued : (object copied modes first second third : Object) (range : Remap) (cpu : ℕ) → copied ≡ object → modes ≡ modes_of copied range → first ≡ all_queued modes (replaced_message object range) cpu → second ≡ all_queued first (cut_message object range) cpu → third ≡ all_queued second (moved_message object range) cpu
-    → third ≡ all_queued (modes_of object range) (remap_messages object (4096 * range.from) range.count (4096 * range.to) range.new_count) cpu
-remap_queued object copied modes first second third range cpu same is one two three =
-    let replaced = replaced_message object range in
-    let cut = cut_message object range in
-    let moved = moved_message object range in
-    three
-    ∙ ap (λ o. all_queued o moved cpu) (two ∙ ap (λ o. all_queued o cut cpu) (one ∙ ap (λ o. all_queued o replaced cpu) (is ∙ ap (λ o. modes_of o range) same)) ∙ queued_more (modes_of object range) replaced cut cpu)
-    ∙ queued_more (modes_of object range) (replaced ++ cut) moved cpu
-    ∙ ap (λ m. all_queued (modes_of object range) m cpu) (messages_are object range)
-
-pub remap_counted : (object : Object) (range : Remap) (replaced cut moved : ℕ) → replaced ≡ length (replaced_message object range) → cut ≡ length (cut_message object range) → moved ≡ length (moved_message object range)
-    → replaced + cut + moved ≡ length (remap_messages object (4096 * range.from) range.count (4096 * range.to) range.new_count)
-remap_counted object range replaced cut moved one two three =
-    ap (λ n. n + cut + moved) one
-    ∙ ap (λ n. length (replaced_message object range) + n + moved) two
-    ∙ ap (λ n. length (replaced_message object range) + length (cut_message object range) + n) three
-    ∙ ap (λ n. n + length (moved_message object range)) (sym (length-append (replaced_message object range) (cut_message object range)))
-    ∙ sym (length-append (replaced_message object range ++ cut_message object range) (moved_message object range))
-    ∙ ap length (messages_are object range)
 
 -- Spaces
 

@@ -7,17 +7,15 @@ use Rattle.std.proofs.lemmas.Bool.{not-false}
 use Rattle.mig_base.specs.declared.TheConstants.{HIGH_PAGE}
 use Rattle.mig_base.specs.declared.message.Message.{Message}
 use Rattle.mig_base.specs.Ranges.{in_range, lesser}
-use Rattle.mig_base.specs.Sets.{without, moved_set}
+use Rattle.mig_base.specs.Sets.{moved_set}
 use Rattle.mig_base.proofs.RangeLemmas.{none_below_tells, none_below-from}
-use Rattle.mig_base.proofs.SetLemmas.{same_members, member_without}
 use Rattle.mig_base.proofs.TestLemmas.{or_first, or_second}
-use Rattle.mig_model.specs.Userfault.{Object, mode_at, is_registered, is_watched, unregistered, moved_modes}
+use Rattle.mig_model.specs.Userfault.{Object, mode_at, is_registered, is_watched, moved_modes}
 use Rattle.mig_model.specs.Space.{told, remap_messages}
 use Rattle.userfault.proofs.ModeLemmas.{is_pages_where}
 use Rattle.uffd_ioctl.specs.declared.remap.Remap.{Remap}
-use Rattle.uffd_ioctl.specs.Remaps.{IsRemap, replaced_message, cut_message, moved_message}
-use Rattle.uffd_ioctl.proofs.CallLemmas.{messages_are}
-use Rattle.uffd_ioctl.proofs.RegisterLemmas.{AreLow}
+use Rattle.uffd_ioctl.specs.Remaps.{IsRemap, AreLow, replaced_message, cut_message, moved_message}
+use Rattle.uffd_ioctl.proofs.MoveLemmas.{messages_are}
 
 abbrev Set : Type 0
 Set = FinSet nat_cmp
@@ -29,24 +27,6 @@ unwatched_at object first count page none here =
     let high : page < first + count = grind (arith, nat_tests) in
     let same : first + (page - first) ≡ page = omega arith in
     sym (ap (is_registered object) same) ∙ none_below_tells (λ i. is_registered object (first + i)) count (page - first) (not-false _ none) (omega arith)
-
--- taken out where nothing is in
-out_of : (here has : Bool) → (here ≡ true → has ≡ false) → has ≡ (has && not here)
-out_of true true h = h refl
-out_of true false h = refl
-out_of false true h = refl
-out_of false false h = refl
-
-without_none : (set : Set) (first count : ℕ) → ((page : ℕ) → in_range first count page ≡ true → contains set page ≡ false) → set ≡ without set first count
-without_none set first count none =
-    same_members set (without set first count) (λ q. out_of (in_range first count q) (contains set q) (none q) ∙ sym (member_without set first count q))
-
--- a range that is not watched is no longer mapped
-pub unmap_unwatched : (object : Object) (first count : ℕ) → is_watched object first count ≡ false → object ≡ unregistered object first count
-unmap_unwatched object first count none =
-    let missing = without_none object.missing first count (λ q here. or_first _ _ (unwatched_at object first count q none here)) in
-    let protect = without_none object.protect first count (λ q here. or_second _ _ (unwatched_at object first count q none here)) in
-    λ i. record object { missing = missing i; protect = protect i }
 
 -- a part of a range
 pub unwatched_part : (object : Object) (first count start size : ℕ) → first ≤ start → start + size ≤ first + count → is_watched object first count ≡ false → is_watched object start size ≡ false

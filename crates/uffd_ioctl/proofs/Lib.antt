@@ -5,6 +5,7 @@ pub mod ChangeLemmas
 pub mod RemapLemmas
 pub mod AccessLemmas
 pub mod CallLemmas
+pub mod MoveLemmas
 mod EventLemmas
 pub mod InstallLemmas
 pub mod RegisterLemmas

@@ -25,6 +25,7 @@ use Rattle.mig_model.specs.Userfault.{Object, Mode, fresh_object, enabled_with, 
 use Rattle.mig_model.specs.Space.{Space, IsSoundSpace}
 use Rattle.mig_model.specs.Ioctls.{event_features, mode_of, left_by, is_mapped_in, registered_in, unregistered_in, protected_in}
 use Rattle.mig_model.proofs.Registering.{past_none}
+use Rattle.uffd_ioctl.specs.Remaps.{AreLow}
 use Rattle.uffd_ioctl.specs.Spaces.{space_of, assembled_object}
 use Rattle.uffd_ioctl.proofs.CallLemmas.{protected_below}
 
@@ -75,10 +76,6 @@ is_there now old page q held answer value is same told v at =
     ap (contains_key old) at ∙ ap (λ m. contains_key m page) (sym same) ∙ sym (ap is_some is) ∙ copied_some held ∙ sym told ∙ v
 
 -- Registered pages
-
--- a page that is registered lies below the end of the address space
-abbrev pub AreLow : Object → Type 0
-AreLow object = (page : ℕ) → HIGH_PAGE ≤ page → is_registered object page ≡ false
 
 not_past : (q bound : ℕ) (b : Bool) → bound ≤ q → (ltb q bound && b) ≡ false
 not_past q bound b h = grind (arith, nat_tests)

@@ -2,4 +2,3 @@ pub mod MapCalls
 pub mod Remaps
 pub mod Puts
 pub mod Spaces
-pub mod Changes

@@ -1,5 +1,5 @@
 -- A range that mremap may put at its new place.
-use Rattle.std.specs.Prelude.{◌≡◌, ℕ, ◌+◌, ◌-◌, ◌*◌, ◌≤◌, ◌<◌, ◌⊎◌, ◌==◌, ◌&&◌, not, nat_lt, List}
+use Rattle.std.specs.Prelude.{◌≡◌, ℕ, ◌+◌, ◌-◌, ◌*◌, ◌≤◌, ◌<◌, ◌⊎◌, ◌==◌, ◌&&◌, not, nat_lt, false, if◌then◌else◌, List, ◌++◌}
 use Rattle.std.specs.Ordering.{nat_cmp}
 use Rattle.std.specs.FinMap.{FinMap, get}
 use Rattle.mig_base.specs.declared.TheConstants.{PAGE_SIZE, HIGH_PAGE}
@@ -8,7 +8,7 @@ use Rattle.mig_base.specs.declared.message.Message.TheVariants as message
 use Rattle.mig_base.specs.declared.message.Message.TheVariants.{Unmap}
 use Rattle.mig_base.specs.declared.message.Message.{Message}
 use Rattle.mig_base.specs.Ranges.{lesser}
-use Rattle.mig_model.specs.Userfault.{Object, is_watched}
+use Rattle.mig_model.specs.Userfault.{Object, mode_at, is_registered, is_watched, moved_modes}
 use Rattle.mig_model.specs.Space.{told}
 use Rattle.area_map.specs.Ranges.{HasOneProt}
 use Rattle.uffd_ioctl.specs.declared.remap.Remap.{Remap}
@@ -38,3 +38,21 @@ abbrev pub moved_message : Object → Remap → List Message
 moved_message object range =
     told (not (range.to == range.from) && is_watched object range.from (lesser range.count range.new_count))
     (message.Remap (PAGE_SIZE * range.from) (PAGE_SIZE * range.to) (PAGE_SIZE * lesser range.count range.new_count))
+
+abbrev pub three_messages : Object → Remap → List Message
+three_messages object range = replaced_message object range ++ cut_message object range ++ moved_message object range
+
+-- the object once the modes of the range went along, where the pages by which it grows have that of its last page
+abbrev pub modes_of : Object → Remap → Object
+modes_of object range = moved_modes object range.from range.count range.to range.new_count (mode_at object (range.from + (range.count - 1)))
+
+-- no page at or past the end of the address space is registered
+abbrev pub AreLow : Object → Type 0
+AreLow object = (page : ℕ) → HIGH_PAGE ≤ page → is_registered object page ≡ false
+
+-- the pages that need room in the object: the whole of a target elsewhere, and in place those by which the range grows
+abbrev pub room_first : Remap → ℕ
+room_first range = if range.to == range.from then range.to + lesser range.count range.new_count else range.to
+
+abbrev pub room_count : Remap → ℕ
+room_count range = if range.to == range.from then range.new_count - lesser range.count range.new_count else range.new_count

@@ -1,17 +1,23 @@
 //! What the map calls make of the userfault object: the messages that they queue, and the modes that go with the pages.
 //!
-//! Where no page of a call's ranges is registered the object stays as it is, and nothing is copied.
+//! Where no page of a call's ranges is registered the object stays as it is. What may want for memory comes first, and is taken back
+//! where the rest of a call wants for memory. Only the modes of pages that a range is put over are copied, to be given back then.
 
-ghost use Rattle.std.specs.Prelude.{◌≡◌, ℕ, ◌+◌, ◌-◌, ◌*◌, ◌<◌, ◌≤◌, false, IfOk, OnOk, OnErr, length};
+ghost use Rattle.std.specs.Prelude.{◌≡◌, ℕ, ◌+◌, ◌-◌, ◌*◌, ◌<◌, ◌≤◌, false, None, IfOk, OnOk, OnErr, length, take};
+ghost use Rattle.std.specs.FinMap as map;
+ghost use Rattle.std.specs.FinSet as set;
+ghost use Rattle.mig_base.specs.Pages.{moved_range};
+ghost use Rattle.mig_base.specs.Sets.{moved_set};
 ghost use Rattle.mig_base.specs.declared.TheConstants.{HIGH_PAGE};
-ghost use Rattle.mig_model.specs.Userfault.{mode_at, is_registered, is_watched, unregistered, moved_modes};
+ghost use Rattle.mig_model.specs.Userfault.{Object, changing};
 ghost use Rattle.mig_model.specs.Space.{told, remap_messages, all_queued};
-ghost use Rattle.uffd_ioctl.specs.Changes.{object_after};
-ghost use Rattle.uffd_ioctl.specs.Remaps.{IsRemap, replaced_message, cut_message, moved_message};
+ghost use Rattle.userfault.specs.Modes.{opened, IsOpen};
+ghost use Rattle.uffd_ioctl.specs.Remaps.{IsRemap, HasProt, AreLow, room_first, room_count, modes_of, replaced_message, cut_message, moved_message, three_messages};
 
-use crate::change::Change;
-use crate::remap::Remap;
-use mig_base::{Message, NoMemory, PAGE_SIZE, PageNo, page_address};
+use crate::remap::{Remap, apply};
+use area_map::AreaMap;
+use mig_base::{Message, NoMemory, PAGE_SIZE, page_address};
+use page_table::PageTable;
 use userfault::Userfault;
 
 /// Queues a message, if it is due, and answers how many were queued. `NoMemory` changes nothing.
@@ -32,113 +38,130 @@ pub(crate) fn tell(
     Ok(1)
 }
 
-/// The pages of a range are no longer mapped, or were replaced: none of them is registered, and the message is queued if one was.
-pub(crate) fn unmapped(
-    object: &Userfault,
-    first: PageNo,
-    count: u32,
+/// Queues a message, if it is due, behind others of its call, and answers how many there are with it. `NoMemory` takes those others
+/// back.
+fn tell_more(
+    object: &mut Userfault,
+    queued: u8,
+    is_due: bool,
     message: Message,
     cpu: u8,
-) -> Result<Change, NoMemory>
-    requires { first + count ≤ HIGH_PAGE }
-    ensures object { IfOk result (λ change. object_after change object.now ≡ all_queued (unregistered object.now first count) (told (is_watched object.now first count) message) cpu) }
-    ensures count { IfOk result (λ change. change.queued ≡ length (told (is_watched object.now first count) message)) }
+) -> Result<u8, NoMemory>
+    requires few { queued ≤ 2 }
+    requires queued { queued ≤ changing object.old }
+    ensures object { OnOk result (object.new ≡ all_queued object.old (told is_due message) cpu) }
+    ensures count { IfOk result (λ count. count ≡ queued + length (told is_due message)) }
+    ensures err { OnErr result (object.new ≡ record object.old { events = take (changing object.old - queued) object.old.events }) }
 {
-    if !object.is_any_registered(first, count) {
-        return Ok(Change::none());
-    }
-    let mut after = object.copy()?;
-    after.forget_range(first, count);
-    let queued = tell(&mut after, true, message, cpu)?;
-    Ok(Change::new(after, queued))
+    let Ok(more) = tell(object, is_due, message, cpu) else {
+        object.take_back_events(queued);
+        return Err(NoMemory);
+    };
+    Ok(queued + more)
 }
 
-/// A range goes elsewhere, or becomes longer or shorter.
-pub(crate) fn remapped(object: &Userfault, range: Remap, cpu: u8) -> Result<Change, NoMemory>
+/// Makes mremap's change of the areas and pages, and of the object where it watches one of them; answers how many messages were queued.
+/// `NoMemory` changes nothing.
+pub(crate) fn remapped(
+    areas: &mut AreaMap,
+    pages: &mut PageTable,
+    object: &mut Userfault,
+    range: Remap,
+    cpu: u8,
+) -> Result<u8, NoMemory>
     requires range { IsRemap range }
-    requires low { (page : ℕ) → HIGH_PAGE ≤ page → is_registered object.now page ≡ false }
-    ensures object { IfOk result (λ change. object_after change object.now ≡ all_queued (moved_modes object.now range.from range.count range.to range.new_count (mode_at object.now (range.from + (range.count - 1)))) (remap_messages object.now (4096 * range.from) range.count (4096 * range.to) range.new_count) cpu) }
-    ensures count { IfOk result (λ change. change.queued ≡ length (remap_messages object.now (4096 * range.from) range.count (4096 * range.to) range.new_count)) }
+    requires prot { HasProt areas.old range.from range.count }
+    requires protected { (page : ℕ) → HIGH_PAGE ≤ page → set.contains pages.old.protected page ≡ false }
+    requires low { AreLow object.old }
+    ensures areas { OnOk result (areas.new ≡ moved_range areas.old range.from range.count range.to range.new_count (map.get areas.old range.from)) }
+    ensures pages { OnOk result (pages.new.bytes ≡ moved_range pages.old.bytes range.from range.count range.to range.new_count None) }
+    ensures protected { OnOk result (pages.new.protected ≡ moved_set pages.old.protected range.from range.count range.to range.new_count false) }
+    ensures object { OnOk result (object.new ≡ all_queued (modes_of object.old range) (remap_messages object.old (4096 * range.from) range.count (4096 * range.to) range.new_count) cpu) }
+    ensures count { IfOk result (λ count. count ≡ length (remap_messages object.old (4096 * range.from) range.count (4096 * range.to) range.new_count)) }
+    ensures err { OnErr result ((areas.new ≡ areas.old) × (pages.new ≡ pages.old) × (object.new ≡ object.old)) }
 {
     let is_watched = object.is_any_registered(range.from, range.count);
     if !is_watched && !object.is_any_registered(range.to, range.new_count) {
-        return Ok(Change::none());
+        apply(areas, pages, range)?;
+        return Ok(0);
     }
-    let mut after = object.copy()?;
-    move_modes(&mut after, range)?;
-    let replaced = tell_replaced(&mut after, object, range, cpu)?;
-    let cut = tell_cut(&mut after, object, range, cpu)?;
-    let moved = tell_moved(&mut after, object, range, cpu)?;
-    Ok(Change::new(after, replaced + cut + moved))
+    let queued = tell_remap(object, range, cpu)?;
+    let room = range.room();
+    let Ok(replaced) = object.open_range(room.first, room.count) else {
+        object.take_back_events(queued);
+        return Err(NoMemory);
+    };
+    let Ok(()) = apply(areas, pages, range) else {
+        object.close_range(room.first, room.count, &replaced);
+        object.take_back_events(queued);
+        return Err(NoMemory);
+    };
+    move_modes(object, range);
+    Ok(queued)
 }
 
-/// The modes of the pages go along, and the pages by which a range grows have that of its last page.
-fn move_modes(object: &mut Userfault, range: Remap) -> Result<(), NoMemory>
-    requires { IsRemap range }
-    ensures { OnOk result (object.new ≡ moved_modes object.old range.from range.count range.to range.new_count (mode_at object.old (range.from + (range.count - 1)))) }
+/// The modes of the pages go along, to where the room for them is open, and the pages by which a range grows have that of its last page.
+fn move_modes(object: &mut Userfault, range: Remap)
+    requires range { IsRemap range }
+    requires open { IsOpen object.old (room_first range) (room_count range) }
+    ensures { (before : Object) → AreLow before → object.old ≡ opened before (room_first range) (room_count range) → object.new ≡ modes_of before range }
 {
     let last = object.mode_at(range.from + (range.count - 1));
     let kept = range.count.min(range.new_count);
     if range.from != range.to {
-        object.move_range(range.from, range.to, kept)?;
+        object.move_to_open(range.from, range.to, kept);
     }
     object.forget_range(range.from + kept, range.count - kept);
-    object.forget_range(range.to + kept, range.new_count - kept);
-    object.register(range.to + kept, range.new_count - kept, last)
+    object.limit_range(range.to + kept, range.new_count - kept, last);
 }
 
-/// UNMAP of what the range is put over, where `object` is as it was before the call.
-fn tell_replaced(
-    after: &mut Userfault,
-    object: &Userfault,
-    range: Remap,
-    cpu: u8,
-) -> Result<u8, NoMemory>
+/// Queues the messages of a remap, and answers how many. `NoMemory` changes nothing.
+fn tell_remap(object: &mut Userfault, range: Remap, cpu: u8) -> Result<u8, NoMemory>
     requires { IsRemap range }
-    ensures object { OnOk result (after.new ≡ all_queued after.old (replaced_message object.now range) cpu) }
-    ensures count { IfOk result (λ count. count ≡ length (replaced_message object.now range)) }
+    ensures object { OnOk result (object.new ≡ all_queued object.old (three_messages object.old range) cpu) }
+    ensures count { IfOk result (λ count. count ≡ length (three_messages object.old range)) }
+    ensures err { OnErr result (object.new ≡ object.old) }
+{
+    let (is_replaced, replaced) = told_replaced(object, range);
+    let (is_cut, cut) = told_cut(object, range);
+    let (is_moved, moved) = told_moved(object, range);
+    let queued = tell(object, is_replaced, replaced, cpu)?;
+    let queued = tell_more(object, queued, is_cut, cut, cpu)?;
+    tell_more(object, queued, is_moved, moved, cpu)
+}
+
+/// UNMAP of what the range is put over, and whether it is due.
+fn told_replaced(object: &Userfault, range: Remap) -> (bool, Message)
+    requires { IsRemap range }
+    ensures { told result.0 result.1 ≡ replaced_message object.now range }
 {
     let is_due = range.to != range.from && object.is_any_registered(range.to, range.new_count);
     let message = Message::Unmap {
         start: page_address(range.to),
         end: page_address(range.to + range.new_count),
     };
-    tell(after, is_due, message, cpu)
+    (is_due, message)
 }
 
-/// UNMAP of the end that is cut off.
-fn tell_cut(
-    after: &mut Userfault,
-    object: &Userfault,
-    range: Remap,
-    cpu: u8,
-) -> Result<u8, NoMemory>
+/// UNMAP of the end that is cut off, and whether it is due.
+fn told_cut(object: &Userfault, range: Remap) -> (bool, Message)
     requires { IsRemap range }
-    ensures object { OnOk result (after.new ≡ all_queued after.old (cut_message object.now range) cpu) }
-    ensures count { IfOk result (λ count. count ≡ length (cut_message object.now range)) }
+    ensures { told result.0 result.1 ≡ cut_message object.now range }
 {
-    if range.new_count >= range.count {
-        return Ok(0);
-    }
     let first = range.from + range.new_count;
-    let is_due = object.is_any_registered(first, range.count - range.new_count);
+    let is_due = range.new_count < range.count
+        && object.is_any_registered(first, range.count - range.new_count);
     let message = Message::Unmap {
         start: page_address(first),
         end: page_address(range.from + range.count),
     };
-    tell(after, is_due, message, cpu)
+    (is_due, message)
 }
 
-/// REMAP of the pages that go elsewhere.
-fn tell_moved(
-    after: &mut Userfault,
-    object: &Userfault,
-    range: Remap,
-    cpu: u8,
-) -> Result<u8, NoMemory>
+/// REMAP of the pages that go elsewhere, and whether it is due.
+fn told_moved(object: &Userfault, range: Remap) -> (bool, Message)
     requires { IsRemap range }
-    ensures object { OnOk result (after.new ≡ all_queued after.old (moved_message object.now range) cpu) }
-    ensures count { IfOk result (λ count. count ≡ length (moved_message object.now range)) }
+    ensures { told result.0 result.1 ≡ moved_message object.now range }
 {
     let kept = range.count.min(range.new_count);
     let is_due = range.to != range.from && object.is_any_registered(range.from, kept);
@@ -147,5 +170,5 @@ fn tell_moved(
         to: page_address(range.to),
         len: u64::from(kept) * PAGE_SIZE,
     };
-    tell(after, is_due, message, cpu)
+    (is_due, message)
 }

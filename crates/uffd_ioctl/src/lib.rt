@@ -9,14 +9,13 @@
 //! caller carries out. It knows of no other host.
 //!
 //! The modules follow: `access` (the form of a load or store), `map_calls` (what map calls answer), `remap` (ranges that change
-//! their place), `change` and `events` (what map calls make of the object), `arguments` (ranges and flags of the object's calls),
+//! their place), `events` (what map calls make of the object), `arguments` (ranges and flags of the object's calls),
 //! `register`, `install` and `protect` (what these calls do over a range), `fault` (how they answer), and `space` (the type that
 //! callers see, with its calls in three families).
 #![tactic(auto)]
 
 mod access;
 mod arguments;
-mod change;
 mod events;
 mod fault;
 mod install;

@@ -7,8 +7,9 @@ ghost use Rattle.mig_base.specs.Pages.{moved_range};
 ghost use Rattle.mig_base.specs.Sets.{moved_set};
 ghost use Rattle.mig_base.specs.declared.TheConstants.{HIGH_PAGE};
 ghost use Rattle.area_map.specs.Ranges.{HasOneProt};
-ghost use Rattle.uffd_ioctl.specs.Remaps.{IsRemap, HasProt};
+ghost use Rattle.uffd_ioctl.specs.Remaps.{IsRemap, HasProt, room_first, room_count};
 
+use crate::arguments::PageRange;
 use area_map::AreaMap;
 use mig_base::{HIGH_PAGE, NoMemory, PageNo, Prot};
 use page_table::PageTable;
@@ -20,6 +21,28 @@ pub(crate) struct Remap {
     pub(crate) count: u32,
     pub(crate) to: PageNo,
     pub(crate) new_count: u32,
+}
+
+impl Remap {
+    /// Where the range needs room that it may not have: all of a target elsewhere, and else the pages by which it grows.
+    pub(crate) fn room(self) -> PageRange
+        requires { IsRemap self }
+        ensures first { result.first ≡ room_first self }
+        ensures count { result.count ≡ room_count self }
+        ensures inside { result.first + result.count ≤ HIGH_PAGE }
+    {
+        if self.to != self.from {
+            return PageRange {
+                first: self.to,
+                count: self.new_count,
+            };
+        }
+        let kept = self.count.min(self.new_count);
+        PageRange {
+            first: self.to + kept,
+            count: self.new_count - kept,
+        }
+    }
 }
 
 /// Makes the change of the areas and pages of a host. `NoMemory` leaves both as they were.
@@ -107,13 +130,14 @@ fn relocate(
     ensures protected { OnOk result (pages.new.protected ≡ moved_set pages.old.protected range.from range.count range.to range.new_count false) }
     ensures err { OnErr result ((areas.new ≡ areas.old) × (pages.new ≡ pages.old)) }
 {
-    let mut moved = areas.copy()?;
-    moved.unmap(range.from, range.count)?;
-    moved.map(range.to, range.new_count, prot)?;
+    let roomy = areas.with_room()?;
     let kept = range.count.min(range.new_count);
-    pages.move_range(range.from, range.to, kept)?;
+    let Ok(()) = pages.move_range(range.from, range.to, kept) else {
+        *areas = roomy.into_areas();
+        return Err(NoMemory);
+    };
     pages.drop_range(range.from + kept, range.count - kept);
     pages.drop_range(range.to + kept, range.new_count - kept);
-    *areas = moved;
+    *areas = roomy.relocated(range.from, range.count, range.to, range.new_count, prot);
     Ok(())
 }

@@ -2,3 +2,4 @@ pub mod QueueLemmas
 pub mod ModeLemmas
 mod RunLemmas
 pub mod EveryLemmas
+pub mod OpenLemmas

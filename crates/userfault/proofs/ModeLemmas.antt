@@ -6,8 +6,8 @@ use Rattle.std.proofs.lemmas.Bool.Decides.{nat_tests}
 use Rattle.std.proofs.lemmas.Bool.{false≢true, or_from}
 use Rattle.mig_base.specs.declared.TheConstants.{HIGH_PAGE}
 use Rattle.mig_base.specs.Ranges.{in_range, none_below}
-use Rattle.mig_base.specs.Sets.{pages_where, moved_set}
-use Rattle.mig_base.proofs.SetLemmas.{same_members, member_below}
+use Rattle.mig_base.specs.Sets.{pages_where, moved_set, without}
+use Rattle.mig_base.proofs.SetLemmas.{same_members, member_below, member_without}
 use Rattle.mig_base.proofs.RangeLemmas.{none_below-from, none_below-not}
 use Rattle.mig_model.specs.Userfault.{Mode, Object, registered_where}
 use Rattle.userfault.specs.Modes.{registered_set, has_asked}
@@ -88,33 +88,66 @@ is_registered_where object missing protect first count mode h k =
     ap (λ s. record object { missing = s; protect = protect }) h
     ∙ ap (λ s. record object { missing = registered_set object.missing object.protect first count mode.missing mode.protect; protect = s }) (k ∙ swapped)
 
--- A range moved run by run
+-- A range moved into one of which all pages are in
 
--- the pages once the first `done` pages of the range are moved, where a test tells the pages before
+-- the pages once those are taken out of the target that the first `done` pages of the range have not
 abbrev pub moved_so_far : (ℕ → Bool) → ℕ → ℕ → ℕ → ℕ → ℕ → Bool
-moved_so_far test from to count done q = cond (in_range to count q) (ltb (q - to) done && test (from + (q - to))) (not (in_range from count q) && test q)
+moved_so_far test from to count done q = cond (in_range to count q) (not (ltb (q - to) done) || test (from + (q - to))) (test q)
 
-pub moved_none : (test : ℕ → Bool) (from to count q : ℕ) → ((test q && not (in_range to count q)) && not (in_range from count q)) ≡ moved_so_far test from to count (from - from) q
-moved_none test from to count q = grind (arith, nat_tests)
+all_in : (here full test : Bool) → (here ≡ true → test ≡ true) → full ≡ true → test ≡ cond here full test
+all_in true full test is e = is refl ∙ sym e
+all_in false full test is e = refl
 
-moved_step : (from to count at start stop q : ℕ) (here there : Bool) → from ≤ at → at ≤ start → start ≤ stop → stop ≤ from + count → (at ≤ from + (q - to) → from + (q - to) < start → here ≡ false) → (start ≤ from + (q - to) → from + (q - to) < stop → here ≡ true) → (in_range (to + (start - from)) (stop - start) q || cond (in_range to count q) (ltb (q - to) (at - from) && here) there) ≡ cond (in_range to count q) (ltb (q - to) (stop - from) && here) there
+none_done : (from n : ℕ) (b : Bool) → (not (ltb n (from - from)) || b) ≡ true
+none_done from n b = grind (arith, nat_tests)
+
+pub moved_none : (test : ℕ → Bool) (from to count q : ℕ) → (in_range to count q ≡ true → test q ≡ true) → test q ≡ moved_so_far test from to count (from - from) q
+moved_none test from to count q full = all_in (in_range to count q) (not (ltb (q - to) (from - from)) || test (from + (q - to))) (test q) full (none_done from (q - to) (test (from + (q - to))))
+
+-- the range itself is as it was
+pub source_stays : (test : ℕ → Bool) (from to count done q : ℕ) → ((from + count ≤ to) ⊎ (to + count ≤ from)) → from ≤ q → q < from + count → moved_so_far test from to count done q ≡ test q
+source_stays test from to count done q apart low high =
+    let out : in_range to count q ≡ false = grind (arith, nat_tests) in
+    ap (λ b. cond b (not (ltb (q - to) done) || test (from + (q - to))) (test q)) out
+
+moved_step : (from to count at start stop q : ℕ) (here there : Bool) → from ≤ at → at ≤ start → start ≤ stop → stop ≤ from + count → (at ≤ from + (q - to) → from + (q - to) < start → here ≡ true) → (start ≤ from + (q - to) → from + (q - to) < stop → here ≡ false)
+    → (cond (in_range to count q) (not (ltb (q - to) (at - from)) || here) there && not (in_range (to + (start - from)) (stop - start) q)) ≡ cond (in_range to count q) (not (ltb (q - to) (stop - from)) || here) there
 moved_step from to count at start stop q here there a b c d between inside = grind (arith, nat_tests)
 
-pub moved_more : (test : ℕ → Bool) (from to count at start stop q : ℕ) → from ≤ at → at ≤ start → start ≤ stop → stop ≤ from + count → ((p : ℕ) → at ≤ p → p < start → test p ≡ false) → ((p : ℕ) → start ≤ p → p < stop → test p ≡ true) → (in_range (to + (start - from)) (stop - start) q || moved_so_far test from to count (at - from) q) ≡ moved_so_far test from to count (stop - from) q
+pub moved_more : (test : ℕ → Bool) (from to count at start stop q : ℕ) → from ≤ at → at ≤ start → start ≤ stop → stop ≤ from + count → ((p : ℕ) → at ≤ p → p < start → test p ≡ true) → ((p : ℕ) → start ≤ p → p < stop → test p ≡ false)
+    → (moved_so_far test from to count (at - from) q && not (in_range (to + (start - from)) (stop - start) q)) ≡ moved_so_far test from to count (stop - from) q
 moved_more test from to count at start stop q a b c d between inside =
-    moved_step from to count at start stop q (test (from + (q - to))) (not (in_range from count q) && test q) a b c d (between (from + (q - to))) (inside (from + (q - to)))
+    moved_step from to count at start stop q (test (from + (q - to))) (test q) a b c d (between (from + (q - to))) (inside (from + (q - to)))
 
-moved_end : (from to count at q : ℕ) (here there : Bool) → at ≡ from + count → cond (in_range to count q) (ltb (q - to) (at - from) && here) there ≡ cond (in_range to count q) (cond (ltb (q - to) count) here false) there
-moved_end from to count at q here there e = grind (arith, nat_tests)
+moved_end : (from to count at q : ℕ) (here there : Bool) → at ≡ from + count → ((from + count ≤ to) ⊎ (to + count ≤ from)) → (cond (in_range to count q) (not (ltb (q - to) (at - from)) || here) there && not (in_range from count q)) ≡ cond (in_range to count q) (cond (ltb (q - to) count) here false) (not (in_range from count q) && there)
+moved_end from to count at q here there e apart = grind (arith, nat_tests)
 
 not_moved : (from to count q : ℕ) (here there : Bool) → to + count ≤ HIGH_PAGE → HIGH_PAGE ≤ q → there ≡ false → cond (in_range to count q) here (not (in_range from count q) && there) ≡ false
 not_moved from to count q here there inside past none = grind (arith, nat_tests)
 
-pub is_moved_set : (old set : FinSet nat_cmp) (from to count at : ℕ) → to + count ≤ HIGH_PAGE → at ≡ from + count → ((q : ℕ) → HIGH_PAGE ≤ q → contains old q ≡ false) → ((q : ℕ) → contains set q ≡ moved_so_far (contains old) from to count (at - from) q) → set ≡ moved_set old from count to count false
-is_moved_set old set from to count at inside e law h =
+pub is_moved_set : (old last set : FinSet nat_cmp) (from to count at : ℕ) → to + count ≤ HIGH_PAGE → at ≡ from + count → ((from + count ≤ to) ⊎ (to + count ≤ from)) → ((q : ℕ) → HIGH_PAGE ≤ q → contains old q ≡ false) → ((q : ℕ) → contains last q ≡ moved_so_far (contains old) from to count (at - from) q) → set ≡ without last from count → set ≡ moved_set old from count to count false
+is_moved_set old last set from to count at inside e apart law h is =
     is_pages_where set (λ q. cond (in_range to count q) (cond (ltb (q - to) count) (contains old (from + (q - to))) false) (not (in_range from count q) && contains old q))
-    (λ q. h q ∙ moved_end from to count at q (contains old (from + (q - to))) (not (in_range from count q) && contains old q) e)
+    (λ q.
+    ap (λ s. contains s q) is
+    ∙ member_without last from count q
+    ∙ ap (λ b. b && not (in_range from count q)) (h q)
+    ∙ moved_end from to count at q (contains old (from + (q - to))) (contains old q) e apart)
     (λ q past. not_moved from to count q (cond (ltb (q - to) count) (contains old (from + (q - to))) false) (contains old q) inside past (law q past))
+
+-- The part of a set that lies in a range, run by run
+
+pub part_none : (first q : ℕ) (has : Bool) → false ≡ (in_range first (first - first) q && has)
+part_none first q has = grind (arith, nat_tests)
+
+pub part_more : (first at start stop q : ℕ) (has : Bool) → first ≤ at → at ≤ start → start ≤ stop → (at ≤ q → q < start → has ≡ false) → (start ≤ q → q < stop → has ≡ true) → (in_range start (stop - start) q || (in_range first (at - first) q && has)) ≡ (in_range first (stop - first) q && has)
+part_more first at start stop q has a b c between inside = grind (arith, nat_tests)
+
+pub part_same : (first at start stop q : ℕ) (has : Bool) → first ≤ at → at ≤ start → stop ≤ start → start ≤ stop → (at ≤ q → q < start → has ≡ false) → (in_range first (at - first) q && has) ≡ (in_range first (stop - first) q && has)
+part_same first at start stop q has a b c d between = grind (arith, nat_tests)
+
+pub part_all : (first count at q : ℕ) (has : Bool) → at ≤ first + count → first + count ≤ at → (in_range first (at - first) q && has) ≡ (in_range first count q && has)
+part_all first count at q has a b = grind (arith, nat_tests)
 
 -- A search for a registered page
 

@@ -1,13 +1,14 @@
 -- The modes of pages, as the crate's code has them.
-use Rattle.std.specs.Prelude.{ℕ, ◌&&◌, ◌||◌, Bool, not, if◌then◌else◌}
+use Rattle.std.specs.Prelude.{◌≡◌, ℕ, ◌&&◌, ◌||◌, Bool, true, false, not, if◌then◌else◌}
 use Rattle.std.specs.Ordering.{nat_cmp}
 use Rattle.std.specs.FinSet.{FinSet, contains}
 use Rattle.mig_base.specs.Ranges.{in_range}
-use Rattle.mig_base.specs.Sets.{pages_where}
+use Rattle.mig_base.specs.Sets.{pages_where, without, with_range}
 use Rattle.mig_model.specs.Userfault as machine
 use Rattle.mig_model.specs.Userfault.{Object, is_registered}
 use Rattle.mig_base.specs.Tests.{same_bool}
 use Rattle.userfault.specs.declared.modes.Mode.{Mode}
+use Rattle.userfault.specs.declared.object.moves.RangeModes.{RangeModes}
 
 -- the machine's word for a mode
 abbrev pub mode_of : Mode → machine.Mode
@@ -26,3 +27,28 @@ has_asked own other asked other_asked page = (not asked || contains own page) &&
 abbrev pub registered_set : FinSet nat_cmp → FinSet nat_cmp → ℕ → ℕ → Bool → Bool → FinSet nat_cmp
 registered_set own other first count asked other_asked =
     pages_where (λ page. if in_range first count page && not (has_asked own other asked other_asked page) then asked else contains own page)
+
+abbrev pub no_mode : machine.Mode
+no_mode = record { missing = false; protect = false }
+
+-- the object once a range is opened for the modes of other pages: all its pages are registered in both modes
+abbrev pub opened : Object → ℕ → ℕ → Object
+opened object first count = record object { missing = with_range object.missing first count; protect = with_range object.protect first count }
+
+-- a range is open
+pub record IsOpen (object : Object) (first count : ℕ) : Type 0 where
+  pub missing : (page : ℕ) → in_range first count page ≡ true → contains object.missing page ≡ true
+  pub protect : (page : ℕ) → in_range first count page ≡ true → contains object.protect page ≡ true
+
+-- the pages of a range in each mode
+pub record AreModesOf (modes : RangeModes) (object : Object) (first count : ℕ) : Type 0 where
+  pub missing : (page : ℕ) → contains modes.missing page ≡ (in_range first count page && contains object.missing page)
+  pub protect : (page : ℕ) → contains modes.protect page ≡ (in_range first count page && contains object.protect page)
+
+-- the object once the pages of a range are in no mode but these
+abbrev pub limited : Object → ℕ → ℕ → machine.Mode → Object
+limited object first count mode =
+    record object {
+      missing = if mode.missing then object.missing else without object.missing first count;
+      protect = if mode.protect then object.protect else without object.protect first count;
+    }

@@ -1,6 +1,6 @@
 //! The modes of pages, and sets of pages once a range was registered or moved.
 
-ghost use Rattle.std.specs.Prelude.{◌≡◌, ℕ, ◌+◌, ◌<◌, ◌≤◌, ◌⊎◌, ◌&&◌, ◌||◌, not, false, IfOk};
+ghost use Rattle.std.specs.Prelude.{◌≡◌, ℕ, ◌+◌, ◌<◌, ◌≤◌, ◌⊎◌, ◌&&◌, ◌||◌, not, true, false, IfOk};
 ghost use Rattle.std.specs.FinSet.{contains};
 ghost use Rattle.mig_base.specs.Ranges.{in_range};
 ghost use Rattle.mig_base.specs.Sets.{moved_set};
@@ -9,6 +9,7 @@ ghost use Rattle.mig_base.specs.Tests.{same_bool, is_every};
 ghost use Rattle.userfault.specs.Modes.{registered_set};
 
 use mig_base::{NoMemory, PageNo, PageSet};
+use std::alloc::Global;
 
 /// The mode in which a page is registered. With both false it is not registered.
 #[derive(Clone, Copy, Debug, PartialEq, Eq)]
@@ -55,23 +56,40 @@ pub fn remove_unless_in(set: &mut PageSet, other: &PageSet, first: PageNo, count
     }
 }
 
-/// The set once a range of pages has gone to another that it does not meet. `NoMemory` is for the room of the new set.
-pub fn moved(set: &PageSet, from: PageNo, to: PageNo, count: u32) -> Result<PageSet, NoMemory>
+/// Moves the pages of a range to one that it does not meet, all of which are in. It takes no memory.
+pub fn move_into(set: &mut PageSet, from: PageNo, to: PageNo, count: u32)
     requires inside { (from + count ≤ HIGH_PAGE) × (to + count ≤ HIGH_PAGE) }
     requires apart { (from + count ≤ to) ⊎ (to + count ≤ from) }
-    ensures { IfOk result (λ moved. moved ≡ moved_set set.now from count to count false) }
+    requires full { (q : ℕ) → in_range to count q ≡ true → contains set.old q ≡ true }
+    ensures { set.new ≡ moved_set set.old from count to count false }
 {
-    let mut moved = set.copy()?;
-    moved.remove_range(to, count);
-    moved.remove_range(from, count);
+    set.ends_by_high_page();
     let end = from + count;
     let mut at = from;
     while at < end {
-        let (start, stop) = run_of(set, at, end, true);
-        moved.insert_range(to + (start - from), stop - start)?;
+        let (start, stop) = run_of(set, at, end, false);
+        set.remove_range(to + (start - from), stop - start);
         at = stop;
     }
-    Ok(moved)
+    set.remove_range(from, count);
+}
+
+/// Those pages of a range that are in a set.
+pub fn part_of(alloc: Global, set: &PageSet, first: PageNo, count: u32) -> Result<PageSet, NoMemory>
+    requires { first + count ≤ HIGH_PAGE }
+    ensures { IfOk result (λ part. (q : ℕ) → contains part q ≡ (in_range first count q && contains set.now q)) }
+{
+    let mut part = PageSet::new(alloc);
+    let end = first + count;
+    let mut at = first;
+    while at < end {
+        let (start, stop) = run_of(set, at, end, true);
+        if start < stop {
+            part.insert_range(start, stop - start)?;
+        }
+        at = stop;
+    }
+    Ok(part)
 }
 
 /// The first run from `from` on, before `end`, of pages that the set has, or with `want` false has not: where it starts and

@@ -1,6 +1,6 @@
 //! The type that callers see: one userfault object.
 
-ghost use Rattle.std.specs.Prelude.{◌≡◌, ℕ, ◌+◌, ◌≤◌, ◌⊎◌, false, if◌then◌else◌, Some, None, [], OnOk, OnErr, IfOk};
+ghost use Rattle.std.specs.Prelude.{◌≡◌, ℕ, ◌+◌, ◌-◌, ◌≤◌, if◌then◌else◌, Some, None, [], take, OnOk, OnErr, IfOk};
 ghost use Rattle.std.specs.Option.{option_map};
 ghost use Rattle.mig_base.specs.Ranges.{in_range};
 ghost use Rattle.mig_base.specs.declared.TheConstants.{HIGH_PAGE};
@@ -9,9 +9,10 @@ ghost use Rattle.mig_base.specs.Tests.{is_every};
 ghost use Rattle.userfault.specs.Modes.{mode_of, has_mode_of};
 ghost use Rattle.mig_model.specs.Userfault.{is_watched};
 
+pub mod moves;
 mod runs;
 
-use crate::modes::{Mode, has_all, is_one_run, moved, registered};
+use crate::modes::{Mode, has_all, is_one_run, registered};
 use crate::noted::{Noted, copy_queue, waits};
 use mig_base::flags::{THREAD_ID_BIT, has_bit};
 use mig_base::{Addr, Message, NoMemory, PageNo, PageSet};
@@ -207,6 +208,15 @@ impl Userfault {
         Ok(())
     }
 
+    /// Gives up the last `count` events, as if they had not been queued.
+    pub fn take_back_events(&mut self, count: u8)
+        requires { count ≤ machine.changing self.old }
+        ensures { self.new ≡ record self.old { events = take (machine.changing self.old - count) self.old.events } }
+    {
+        let kept = self.events.len() - usize::from(count);
+        self.events.truncate(kept);
+    }
+
     /// The message that is read next, if there is one. It stays unread.
     pub fn next_message(&self) -> Option<Message>
         ensures { result ≡ option_map (λ noted. noted.message) (machine.next_message self.now) }
@@ -242,21 +252,6 @@ impl Userfault {
         ensures { result ≡ machine.changing self.now }
     {
         self.events.len()
-    }
-
-    /// Moves the modes of the `count` pages from `from` on to those from `to` on, in place of theirs. The pages from `from` on
-    /// are not registered afterwards. `NoMemory` changes nothing.
-    pub fn move_range(&mut self, from: PageNo, to: PageNo, count: u32) -> Result<(), NoMemory>
-        requires inside { (from + count ≤ HIGH_PAGE) × (to + count ≤ HIGH_PAGE) }
-        requires apart { (from + count ≤ to) ⊎ (to + count ≤ from) }
-        ensures ok { OnOk result (self.new ≡ machine.moved_modes self.old from count to count (record { missing = false; protect = false })) }
-        ensures err { OnErr result (self.new ≡ self.old) }
-    {
-        let missing = moved(&self.missing, from, to, count)?;
-        let protect = moved(&self.protect, from, to, count)?;
-        self.missing = missing;
-        self.protect = protect;
-        Ok(())
     }
 
     /// An equal object, of memory of its own.

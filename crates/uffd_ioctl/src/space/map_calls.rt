@@ -7,9 +7,9 @@ ghost use Rattle.mig_base.specs.Commands.{is_access};
 ghost use Rattle.mig_model.specs.Space as machine;
 
 use super::Space;
-use crate::events::{remapped, tell, unmapped};
+use crate::events::{remapped, tell};
 use crate::map_calls::{dontneed_reply, is_invalid, mmap_place, mremap_place, page_count};
-use crate::remap::{Remap, apply};
+use crate::remap::Remap;
 use mig_base::{
     Addr, Command, Errno, HIGH, HIGH_PAGE, Message, NoMemory, PAGE_SIZE, PageNo, Place, Prot,
     Reply, page_address,
@@ -61,10 +61,14 @@ impl Space {
                 let count = page_count(len) as u32;
                 let end = page_address(first + count);
                 let message = Message::Unmap { start, end };
-                let change = unmapped(&self.object, first, count, message, cpu)?;
-                self.areas.map(first, count, prot)?;
+                let is_due = self.object.is_any_registered(first, count);
+                let queued = tell(&mut self.object, is_due, message, cpu)?;
+                let Ok(()) = self.areas.map(first, count, prot) else {
+                    self.object.take_back_events(queued);
+                    return Err(NoMemory);
+                };
                 self.pages.drop_range(first, count);
-                let queued = change.make(&mut self.object);
+                self.object.forget_range(first, count);
                 Ok((Reply::At(start), queued))
             }
         }
@@ -88,10 +92,14 @@ impl Space {
         let count = count as u32;
         let end = page_address(first + count);
         let message = Message::Unmap { start: addr, end };
-        let change = unmapped(&self.object, first, count, message, cpu)?;
-        self.areas.unmap(first, count)?;
+        let is_due = self.object.is_any_registered(first, count);
+        let queued = tell(&mut self.object, is_due, message, cpu)?;
+        let Ok(()) = self.areas.unmap(first, count) else {
+            self.object.take_back_events(queued);
+            return Err(NoMemory);
+        };
         self.pages.drop_range(first, count);
-        let queued = change.make(&mut self.object);
+        self.object.forget_range(first, count);
         Ok((Reply::Done, queued))
     }
 
@@ -118,9 +126,13 @@ impl Space {
                     to: (target / PAGE_SIZE) as PageNo,
                     new_count: page_count(new_len) as u32,
                 };
-                let change = remapped(&self.object, range, cpu)?;
-                apply(&mut self.areas, &mut self.pages, range)?;
-                let queued = change.make(&mut self.object);
+                let queued = remapped(
+                    &mut self.areas,
+                    &mut self.pages,
+                    &mut self.object,
+                    range,
+                    cpu,
+                )?;
                 Ok((Reply::At(target), queued))
             }
         }
