@@ -1,0 +1,5 @@
+pub mod Lines
+pub mod Orders
+pub mod Parsing
+pub mod Spelling
+pub mod Words
