@@ -138,6 +138,10 @@ command_arrow (DontNeed addr len) ts rest h = rw h refl
 abbrev entry : ℕ → Command → Reply → Entry
 entry k c r = record { cpu = k; command = c; reply = r }
 
+entry_shape : (cpu k : ℕ) (ts : List Token) (parts : Parts) (r : Reply) → cpu ≡ k → ts ≡ parts.0 ++ Key key.Gives ∷ parts.1 → parts.1 ≡ reply_form r
+    → Number cpu ∷ ts ≡ Number k ∷ (parts.0 ++ Key key.Gives ∷ reply_form r)
+entry_shape cpu k ts parts r same split reply = cc
+
 entry_found : (ts : List Token) (e : Entry) → entry_from ts ≡ Some e → EntryForm e ts
 unfolding entry_from
 entry_found (Number cpu ∷ ts) e h =
@@ -149,7 +153,7 @@ entry_found (Number cpu ∷ ts) e h =
     subst (λ (x : Entry). EntryForm x (Number cpu ∷ ts)) {x = entry k.0 c.0 r.0} (some_is (entry k.0 c.0 r.0) e r.2) (
       omega (arith, is.0, is.1),
       parts.0.0,
-      ap (λ (n : ℕ). Number n ∷ ts) is.1 ∙ ap (λ (xs : List Token). Number k.0 ∷ xs) (arrow_found ts parts.0 parts.1) ∙ ap (λ (xs : List Token). Number k.0 ∷ (parts.0.0 ++ Key key.Gives ∷ xs)) (reply_found parts.0.1 r.0 r.1),
+      entry_shape cpu k.0 ts parts.0 r.0 is.1 (arrow_found ts parts.0 parts.1) (reply_found parts.0.1 r.0 r.1),
       command_found parts.0.0 c.0 c.1,
     )
 entry_found _ e h = absurd cc

@@ -1,13 +1,11 @@
 -- What is read of a script line has its form, and what has a form is read: each line by one way.
 use Rattle.std.proofs.Common.{◌≡◌, ℕ, ◌-◌, ◌*◌, ◌/◌, ◌%◌, ◌^◌, ◌<◌, ◌≤◌, ◌&&◌, not, Bool, true, false, cond, ltb, eqb, List, [], ◌∷◌, Option, Some, None, refl, sym, ap, subst, ◌∙◌, arith, inl, inr}
-use Rattle.std.proofs.lemmas.Bool.{lt-ltb, eq-eqb, eqb-true}
+use Rattle.std.proofs.lemmas.Bool.{lt-ltb, eq-eqb}
 use Rattle.std.proofs.lemmas.Bool.Decides.{nat_tests}
-use borrow.Author.Tests.{ltb-true}
 use Rattle.std.specs.Prelude.{IfSome, IfNone}
 use Rattle.mig_base.specs.declared.TheConstants.{PAGE_SIZE, HIGH, HIGH_PAGE, MAX_RUN}
 use Rattle.mig_base.specs.declared.schedule.Step.{Step}
 use Rattle.mig_base.specs.declared.schedule.Step.TheVariants as step
-use Rattle.mig_base.specs.declared.schedule.Side.{Side}
 use Rattle.mig_base.specs.declared.schedule.Side.TheVariants as side
 use Rattle.grammar.specs.declared.keyword.Keyword.{Keyword}
 use Rattle.grammar.specs.declared.keyword.Keyword.TheVariants as key
@@ -16,7 +14,7 @@ use Rattle.grammar.specs.declared.token.Token.TheVariants.{Key, Number}
 use Rattle.grammar.specs.declared.order.Order.{Order}
 use Rattle.grammar.specs.declared.order.Order.TheVariants.{Make, Push, Progress}
 use Rattle.grammar.specs.Words.{AreTokens}
-use Rattle.grammar.specs.Spelling.{BytesForm, MovesForm, side_key, push_key, epoch_form, FitsEpoch, StepForm, OrderForm, SpellsOrder}
+use Rattle.grammar.specs.Spelling.{BytesForm, MovesForm, push_key, epoch_form, FitsEpoch, StepForm, OrderForm, SpellsOrder}
 use Rattle.grammar.specs.Parsing.{◌>>=◌, below, small, page_from, epoch_from, bytes_from, count_from, issue_from, retry_from, run_from, notice_from, push_from, word_from, alone_from, order_with, order_from, command_from}
 use Rattle.grammar.proofs.Tokens.{one_list}
 use Rattle.grammar.proofs.Commands.{bind_some, just, some_is, none_some, chosen, below_is, below_again, small_is, small_again, command_found, command_again}
@@ -113,10 +111,12 @@ push_found urgent (Number addr ∷ epoch) o e =
     let at = bind_some (epoch_from epoch) (λ at. Some (Push urgent p.0 at)) o p.2 in
     let page = page_is addr p.0 p.1 in
     let written = epoch_found epoch at.0 at.1 in
-    subst (λ (x : Order). OrderForm x (Key (push_key urgent) ∷ Number addr ∷ epoch)) (some_is (Push urgent p.0 at.0) o at.2)
-    (page.0, written.0,
+    subst (λ (x : Order). OrderForm x (Key (push_key urgent) ∷ Number addr ∷ epoch)) (some_is (Push urgent p.0 at.0) o at.2) (
+      page.0,
+      written.0,
       ap (λ (n : ℕ). Key (push_key urgent) ∷ Number n ∷ epoch) page.1
-      ∙ ap (λ (xs : List Token). Key (push_key urgent) ∷ Number (PAGE_SIZE * p.0) ∷ xs) written.1)
+          ∙ ap (λ (xs : List Token). Key (push_key urgent) ∷ Number (PAGE_SIZE * p.0) ∷ xs) written.1,
+    )
 push_found urgent _ o e = absurd cc
 
 moves_found : (word : Keyword) (make : ℕ → Step) (ts : List Token) (o : Order) → ((n : ℕ) (all : List Token) → MovesForm word n all → OrderForm (Make (make n)) all)

@@ -1,5 +1,5 @@
 -- The steps that orders make.
-use Rattle.std.specs.Prelude.{ℕ, Bool, true, false, Option, Some, None}
+use Rattle.std.specs.Prelude.{ℕ, true, false, Option, Some, None}
 use Rattle.mig_base.specs.declared.schedule.Step.{Step}
 use Rattle.mig_base.specs.declared.schedule.Step.TheVariants as step
 use Rattle.mig_base.specs.declared.schedule.Ticket.{Ticket}
