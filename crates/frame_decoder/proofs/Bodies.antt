@@ -2,7 +2,7 @@
 use Rattle.std.proofs.Common.{◌≡◌, ℕ, ◌^◌, ◌<◌, ◌≤◌, Bool, true, false, ◌&&◌, ◌==◌, ltb, leb, List, [], ◌∷◌, ◌++◌, length, Ok, refl, sym, ap, subst, ◌∙◌, append_assoc, arith}
 use Rattle.std.specs.Int.{w32, to_be_bytes}
 use Rattle.std.specs.List.{flat_map}
-use Rattle.std.proofs.lemmas.Bool.{eqb-true, ltb-true, lt-ltb, leb-true, le-leb}
+use Rattle.std.proofs.lemmas.Bool.{and_from, eqb-true, ltb-true, lt-ltb, leb-true, le-leb}
 use Rattle.std.specs.Ordering.{nat_cmp}
 use Rattle.std.specs.FinMap.{FinMap}
 use Rattle.std.specs.FinSet.{FinSet}
@@ -21,7 +21,7 @@ use Rattle.frame_decoder.specs.declared.version.Version.TheVariants as versions
 use Rattle.frame_decoder.specs.Reading.{checked, page_at, is_page, content_at, contents_at, is_run, is_page_run, page_frame_at, discard_at, package_at, run_frame_at, recv_at, payload_at, body_at}
 use Rattle.frame_decoder.specs.Versions.{version_of, max_pages, has_runs, AreFewIn, tag_of, IsFrameIn}
 use Rattle.frame_decoder.proofs.FieldLemmas.{IsBytes, AllFrom, bind_ok, checked_ok, ok_is, Takes, IsReader, content_text, one_takes, one_again, two_takes, two_again, three_takes, three_again, reads_32, reads_content, counted_takes, counted_again}
-use Rattle.frame_decoder.proofs.SetReading.{and_both, AreFew, RunFits, run_is, run_passes, reads_pages, reads_few_pages}
+use Rattle.frame_decoder.proofs.SetReading.{AreFew, RunFits, run_is, run_passes, reads_pages, reads_few_pages}
 use Rattle.frame_decoder.proofs.MapReading.{IsMapped, reads_areas}
 use Rattle.frame_decoder.proofs.CommandReading.{reads_commands, reads_state}
 
@@ -39,7 +39,7 @@ page_again : (page : ℕ) (rest : List ℕ) → IsPage page → page_at (to_be_b
 unfolding page_at
 page_again page rest h =
     let below = h.1 in
-    one_again reads_32 (λ n rest. checked (is_page n) (n, rest)) page rest (omega (arith, below)) ∙ rw (and_both (leb LOW_PAGE page) (ltb page HIGH_PAGE) (le-leb LOW_PAGE page h.0) (lt-ltb page HIGH_PAGE below)) refl
+    one_again reads_32 (λ n rest. checked (is_page n) (n, rest)) page rest (omega (arith, below)) ∙ rw (and_from (leb LOW_PAGE page) (ltb page HIGH_PAGE) (le-leb LOW_PAGE page h.0) (lt-ltb page HIGH_PAGE below)) refl
 
 reads_page : IsReader page_at (to_be_bytes w32) IsPage
 reads_page = record { takes = page_takes; again = page_again }
@@ -106,7 +106,7 @@ page_run_is version first count h =
 page_run_passes : (version : Version) (first count : ℕ) → PageRunFits version first count → is_page_run version first count ≡ true
 unfolding pages_from
 page_run_passes version first count h =
-    and_both (has_runs version && leb count MAX_RUN) (is_run LOW_PAGE first count) (and_both (has_runs version) (leb count MAX_RUN) h.has (le-leb count MAX_RUN h.few)) (run_passes LOW_PAGE (pages_from first count) h.run)
+    and_from (has_runs version && leb count MAX_RUN) (is_run LOW_PAGE first count) (and_from (has_runs version) (leb count MAX_RUN) h.has (le-leb count MAX_RUN h.few)) (run_passes LOW_PAGE (pages_from first count) h.run)
 
 -- A frame
 

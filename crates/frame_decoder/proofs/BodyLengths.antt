@@ -1,6 +1,6 @@
 -- Each body has a length that its header may say.
 use Rattle.std.proofs.Common.{◌≡◌, ℕ, ◌+◌, ◌-◌, ◌*◌, ◌%◌, ◌≤◌, true, ◌&&◌, eqb, leb, Option, Some, None, List, [], ◌∷◌, length, refl, ap, ◌∙◌, arith}
-use Rattle.std.proofs.lemmas.Bool.{eq-eqb, le-leb}
+use Rattle.std.proofs.lemmas.Bool.{and_from, eq-eqb, le-leb}
 use Rattle.std.proofs.lemmas.List.{length-append}
 use Rattle.mig_base.specs.declared.TheConstants.{PAGE_SIZE, LOW_PAGE, HIGH_PAGE, MAX_CPUS, MAX_RUN}
 use Rattle.mig_base.specs.declared.command.Command.{Command}
@@ -16,7 +16,7 @@ use Rattle.frame_texts.proofs.OneText.{text-is}
 use Rattle.frame_texts.proofs.TextLemmas.{length-text}
 use Rattle.frame_decoder.specs.declared.version.Version.{Version}
 use Rattle.frame_decoder.specs.Versions.{max_pages, allows, tag_of, IsFrameIn}
-use Rattle.frame_decoder.proofs.SetReading.{and_both, pages_below}
+use Rattle.frame_decoder.proofs.SetReading.{pages_below}
 
 length-body : (version : Version) (frame : Frame) → IsFrameIn version frame → length (body_text frame) ≡ body_len frame
 length-body version frame h =
@@ -31,10 +31,10 @@ commands_some (Some (Store addr width value) ∷ commands) h = omega (arith, com
 commands_some (Some command ∷ commands) h = absurd h.0
 
 between : (low len high : ℕ) → low ≤ len → len ≤ high → (leb low len && leb len high) ≡ true
-between low len high p q = and_both (leb low len) (leb len high) (le-leb low len p) (le-leb len high q)
+between low len high p q = and_from (leb low len) (leb len high) (le-leb low len p) (le-leb len high q)
 
 stepped : (low len high step left : ℕ) → low ≤ len → len ≤ high → len % step ≡ left → (leb low len && leb len high && eqb (len % step) left) ≡ true
-stepped low len high step left p q r = and_both (leb low len && leb len high) (eqb (len % step) left) (between low len high p q) (eq-eqb (len % step) left r)
+stepped low len high step left p q r = and_from (leb low len && leb len high) (eqb (len % step) left) (between low len high p q) (eq-eqb (len % step) left r)
 
 allowed : (version : Version) (frame : Frame) → IsFrameIn version frame → allows version (tag_of frame) (body_len frame) ≡ true
 allowed version Frame.Advise h = refl

@@ -1,6 +1,6 @@
 -- Reading what each processor waits for.
 use Rattle.std.proofs.Common.{◌≡◌, ℕ, zero, suc, ◌%◌, ◌^◌, ◌<◌, true, ◌&&◌, ◌==◌, ltb, leb, List, [], ◌∷◌, ◌++◌, length, Option, Some, None, Result, Ok, refl, ap, subst, ◌∙◌, arith}
-use Rattle.std.proofs.lemmas.Bool.{ltb-true, lt-ltb, leb-true, le-leb}
+use Rattle.std.proofs.lemmas.Bool.{and_from, ltb-true, lt-ltb, leb-true, le-leb}
 use Rattle.std.proofs.lemmas.Bool.Decides.{nat_tests}
 use Rattle.mig_base.specs.declared.TheConstants.{MAX_CPUS}
 use Rattle.mig_base.specs.declared.command.Command.{Command}
@@ -15,7 +15,6 @@ use Rattle.page_stream.specs.Rules.{IsRight}
 use Rattle.frame_decoder.specs.declared.fault.StreamFault.{StreamFault}
 use Rattle.frame_decoder.specs.Reading.{checked, byte_at, many_at, load_at, store_at, command_at, commands_at, is_cpu_count, state_at}
 use Rattle.frame_decoder.proofs.FieldLemmas.{IsBytes, IsBytes-rest, AllFrom, bind_split, bind_then, checked_ok, ok_is, Takes, IsReader, two_takes, two_again, three_takes, three_again, reads_64, reads_byte, counted_takes, counted_again}
-use Rattle.frame_decoder.proofs.SetReading.{and_both}
 
 -- One command
 
@@ -105,7 +104,7 @@ commands_again commands rest h =
     let few = h.1.1 in
     bind_then (byte_at (commands_text commands ++ rest)) (λ n. many_at command_at n.0 n.1) (λ commands. checked (is_cpu_count (length commands.0)) commands) (commands, rest)
     (counted_again reads_byte reads_command stays tt commands rest (omega (arith, few)) (all_right commands h.0))
-    ∙ rw (and_both (ltb 0 (length commands)) (leb (length commands) MAX_CPUS) (lt-ltb 0 (length commands) h.1.0) (le-leb (length commands) MAX_CPUS few)) refl
+    ∙ rw (and_from (ltb 0 (length commands)) (leb (length commands) MAX_CPUS) (lt-ltb 0 (length commands) h.1.0) (le-leb (length commands) MAX_CPUS few)) refl
 
 pub reads_commands : IsReader commands_at commands_text AreWaiting
 reads_commands = record { takes = commands_takes; again = commands_again }

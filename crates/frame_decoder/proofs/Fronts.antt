@@ -3,6 +3,7 @@ use Rattle.std.proofs.Common.{◌≡◌, ℕ, suc, ◌+◌, ◌-◌, ◌*◌, �
 use Rattle.std.specs.Int.{w32, to_be_bytes, from_be_bytes}
 use Rattle.std.proofs.lemmas.Bool.{eqb-true, ltb-true, ltb-false, le-ltb, leb-true}
 use Rattle.std.proofs.lemmas.List.{length-append, length-take, length-drop, drop-drop, take-append-drop, take_at}
+use Rattle.std.proofs.lemmas.Option.{same_Some}
 use Rattle.std.proofs.lemmas.Nat.{from_be_bytes-to_be_bytes_4}
 use Rattle.mig_base.specs.declared.TheConstants.{PAGE_SIZE, LOW_PAGE, HIGH_PAGE, MAX_PAGES, MAX_CPUS, MAX_RUN}
 use Rattle.mig_base.proofs.TestLemmas.{and_first, and_second}
@@ -30,14 +31,11 @@ chosen : {A : Type 0} (b : Bool) (x y z : A) → cond b x y ≡ z → ((b ≡ tr
 chosen true x y z e = inl (refl, e)
 chosen false x y z e = inr (refl, e)
 
-some_is : {A : Type 0} (x y : A) → Some x ≡ Some y → x ≡ y
-some_is x y e = cc
-
 tag_found : (code : ℕ) (ts : List Tag) (t : Tag) → tag_among code ts ≡ Some t → code ≡ code_of t
 tag_found code [] t e = absurd cc
 tag_found code (u ∷ ts) t e =
     elim (chosen (code == code_of u) (Some u) (tag_among code ts) (Some t) e) [
-      | inl h ↦ eqb-true code (code_of u) h.0 ∙ ap code_of (some_is u t h.1)
+      | inl h ↦ eqb-true code (code_of u) h.0 ∙ ap code_of (same_Some u t h.1)
       | inr h ↦ tag_found code ts t h.1
     ]
 
@@ -80,15 +78,15 @@ pub record VersionIs (fixed : Option Version) (code : ℕ) (v : Version) : Type 
 version_found : (fixed : Option Version) (code : ℕ) (v : Version) → version_from fixed code ≡ Some v → VersionIs fixed code v
 version_found None code v e =
     elim (chosen (code == 1) (Some versions.One) (cond (code == 2) (Some versions.Two) None) (Some v) e) [
-      | inl h ↦ record { code_is = eqb-true code 1 h.0 ∙ ap (λ (v : Version). version_code (version_of v)) (some_is versions.One v h.1); may = tt }
+      | inl h ↦ record { code_is = eqb-true code 1 h.0 ∙ ap (λ (v : Version). version_code (version_of v)) (same_Some versions.One v h.1); may = tt }
       | inr h ↦ elim (chosen (code == 2) (Some versions.Two) None (Some v) h.1) [
-        | inl k ↦ record { code_is = eqb-true code 2 k.0 ∙ ap (λ (v : Version). version_code (version_of v)) (some_is versions.Two v k.1); may = tt }
+        | inl k ↦ record { code_is = eqb-true code 2 k.0 ∙ ap (λ (v : Version). version_code (version_of v)) (same_Some versions.Two v k.1); may = tt }
         | inr k ↦ absurd (let no = k.1 in cc)
       ]
     ]
 version_found (Some w) code v e =
     elim (chosen (code == version_code (version_of w)) (Some w) None (Some v) e) [
-      | inl h ↦ record { code_is = eqb-true code (version_code (version_of w)) h.0 ∙ ap (λ (v : Version). version_code (version_of v)) (some_is w v h.1); may = some_is w v h.1 }
+      | inl h ↦ record { code_is = eqb-true code (version_code (version_of w)) h.0 ∙ ap (λ (v : Version). version_code (version_of v)) (same_Some w v h.1); may = same_Some w v h.1 }
       | inr h ↦ absurd (let no = h.1 in cc)
     ]
 

@@ -4,7 +4,7 @@ use Rattle.std.specs.Int.{w32}
 use Rattle.std.specs.Ordering.{nat_cmp}
 use Rattle.std.specs.FinMap as finmap
 use Rattle.std.specs.FinMap.{FinMap, contains_key}
-use Rattle.std.proofs.lemmas.Bool.{false≢true, eqb-true, eq-eqb, leb-true, le-leb}
+use Rattle.std.proofs.lemmas.Bool.{and_from, false≢true, eqb-true, eq-eqb, leb-true, le-leb}
 use Rattle.area_map.specs.Areas.{pages_in}
 use Rattle.area_map.proofs.ViewLemmas.{get-pages_in}
 use Rattle.mig_base.specs.declared.Area.{Area}
@@ -25,7 +25,7 @@ use Rattle.frame_decoder.specs.declared.version.Version.{Version}
 use Rattle.frame_decoder.specs.Reading.{◌>>=◌, checked, number_at, many_from, prot_at, is_run, goes_on_with, area_at, area_next, map_from, areas_at}
 use Rattle.frame_decoder.specs.Versions.{max_pages}
 use Rattle.frame_decoder.proofs.FieldLemmas.{IsBytes, IsBytes-rest, bind_split, bind_then, checked_ok, ok_is, Takes, IsReader, three_takes, three_again, reads_32, counted_takes, counted_again}
-use Rattle.frame_decoder.proofs.SetReading.{and_both, run_is, run_passes}
+use Rattle.frame_decoder.proofs.SetReading.{run_is, run_passes}
 use Rattle.frame_decoder.proofs.AreaOrder.{AreaFits, AreasFit, areas_runs, areas_inside, map_back, map_fits}
 
 -- A protection
@@ -79,7 +79,7 @@ area_is state area h =
 area_passes : (state : ℕ × Option Prot) (area : Area) → AreaFits state area → goes_on_with state.0 state.1 area ≡ true
 unfolding run_of
 area_passes state area h =
-    and_both (is_run state.0 area.first area.count) (not (eqb area.first state.0 && same_prot state.1 (Some area.prot))) (run_passes state.0 (run_of area) (record { from = h.from; some = h.some; inside = h.inside }))
+    and_from (is_run state.0 area.first area.count) (not (eqb area.first state.0 && same_prot state.1 (Some area.prot))) (run_passes state.0 (run_of area) (record { from = h.from; some = h.some; inside = h.inside }))
     (not_both_from (eqb area.first state.0) (same_prot state.1 (Some area.prot)) (λ e same. h.differ (eqb-true area.first state.0 e) (same_prot_tells state.1 (Some area.prot) same).0))
 
 abbrev area_step : ℕ × Option Prot → ℕ → ℕ → Prot → List ℕ → Result (Area × List ℕ) StreamFault

@@ -4,7 +4,7 @@ use Rattle.std.specs.Int.{w32}
 use Rattle.std.specs.Ordering.{nat_cmp}
 use Rattle.std.specs.FinSet.{FinSet, contains, len}
 use Rattle.std.proofs.Math.Bool.{or-true}
-use Rattle.std.proofs.lemmas.Bool.{false_from_ne_true, ltb-true, leb-true, le-leb, lt-ltb}
+use Rattle.std.proofs.lemmas.Bool.{and_from, false_from_ne_true, ltb-true, leb-true, le-leb, lt-ltb}
 use Rattle.mig_base.specs.declared.Run.{Run as PageRun}
 use Rattle.mig_base.specs.declared.TheConstants.{LOW_PAGE, HIGH_PAGE}
 use Rattle.mig_base.specs.PageSets.{in_runs, AreRunsFrom}
@@ -25,9 +25,6 @@ use Rattle.frame_decoder.specs.Reading.{checked, number_at, many_from, is_run, r
 use Rattle.frame_decoder.specs.Versions.{max_pages}
 use Rattle.frame_decoder.proofs.FieldLemmas.{IsBytes, AllFrom, bind_split, bind_then, checked_ok, ok_is, Takes, IsReader, one_takes, one_again, two_takes, two_again, reads_32, counted_takes, counted_again}
 
-pub and_both : (a b : Bool) → a ≡ true → b ≡ true → (a && b) ≡ true
-and_both a b p q = rw (p, q) refl
-
 -- One run
 
 pub record RunFits (low : ℕ) (run : PageRun) : Type 0 where
@@ -46,7 +43,7 @@ run_is low run h =
 
 pub run_passes : (low : ℕ) (run : PageRun) → RunFits low run → is_run low run.first run.count ≡ true
 run_passes low run h =
-    and_both (leb low run.first && ltb 0 run.count) (leb (run.first + run.count) HIGH_PAGE) (and_both (leb low run.first) (ltb 0 run.count) (le-leb low run.first h.from) (lt-ltb 0 run.count h.some)) (le-leb (run.first + run.count) HIGH_PAGE h.inside)
+    and_from (leb low run.first && ltb 0 run.count) (leb (run.first + run.count) HIGH_PAGE) (and_from (leb low run.first) (ltb 0 run.count) (le-leb low run.first h.from) (lt-ltb 0 run.count h.some)) (le-leb (run.first + run.count) HIGH_PAGE h.inside)
 
 abbrev run_step : ℕ → ℕ → ℕ → List ℕ → Result (PageRun × List ℕ) StreamFault
 run_step low first count rest = checked (is_run low first count) (record { first = first; count = count }, rest)
