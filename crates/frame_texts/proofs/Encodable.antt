@@ -11,7 +11,7 @@ use Rattle.mig_model.specs.Bounds.{IsFrame, AreRightAccesses, ArePageBytes}
 use Rattle.mig_model.specs.Wire.{Frame}
 use Rattle.mig_model.proofs.Facts.{and_left}
 
-fits_value : (width value : ℕ) → is_width width ≡ true → value < 256 ^ width → value < 2 ^ 64
+pub fits_value : (width value : ℕ) → is_width width ≡ true → value < 256 ^ width → value < 2 ^ 64
 fits_value width value h l = grind (arith, nat_tests)
 
 fits_commands : (commands : List (Option Command)) → AreRightAccesses commands → AllByRecursion FitsCommand commands

@@ -37,14 +37,14 @@ count_below-apart p (suc n) h =
 
 -- Sets and mapped pages
 
-run_count-len : (set : FinSet nat_cmp) → AreBelow set → run_count set ≤ finset.len set
+pub run_count-len : (set : FinSet nat_cmp) → AreBelow set → run_count set ≤ finset.len set
 unfolding run_count
 run_count-len set below =
     let all = len-below set HIGH_PAGE (λ q high. false_from_ne_true (contains set q) (λ there. let low = below q there in omega (arith, low, high))) in
     let fewer : count_below (begins_run set) HIGH_PAGE ≤ count_below (contains set) HIGH_PAGE = count_below-few (begins_run set) (contains set) HIGH_PAGE (λ i. and_left (contains set i) _) in
     omega (arith, fewer, all)
 
-area_count-len : (areas : FinMap nat_cmp Prot) → AreMappedBelow areas → area_count areas ≤ finmap.len areas
+pub area_count-len : (areas : FinMap nat_cmp Prot) → AreMappedBelow areas → area_count areas ≤ finmap.len areas
 unfolding area_count
 area_count-len areas below =
     let pages : ℕ → Bool = λ q. contains_key areas q in
@@ -74,7 +74,7 @@ run_count-half set low =
 command_len-bound : (command : Option Command) → command_len command ≤ 18
 command_len-bound command = grind (arith, nat_tests)
 
-commands_len-bound : (commands : List (Option Command)) → commands_len commands ≤ 18 * length commands
+pub commands_len-bound : (commands : List (Option Command)) → commands_len commands ≤ 18 * length commands
 commands_len-bound [] = omega arith
 commands_len-bound (command ∷ commands) = let first = command_len-bound command in let rest = commands_len-bound commands in omega (arith, first, rest)
 

@@ -1,0 +1,143 @@
+//! Frames, prefixes, changes and cuts.
+
+use crate::reading::{fed, look, play, text_again};
+use crate::vectors::{BOTH, PAGE, RUN};
+use frame_decoder::Decoder;
+use mig_base::{NoMemory, PAGE_BYTES};
+use std::alloc::Global;
+use std::process::Abort;
+use std::test::Fail;
+
+/// Feeds a text byte by byte: nothing is answered before the last, and the bytes that are missing are those of the header, then of
+/// the frame.
+fn by_bytes(rt: &impl Abort, alloc: Global, bytes: &[u8]) -> Result<(), Fail> {
+    let mut decoder = Decoder::new(alloc);
+    let mut left = bytes;
+    while let [byte, after @ ..] = left {
+        let missing = decoder.missing();
+        assert!(rt; missing != 0 && missing <= left.len() || left.len() < 12);
+        let rest = play(rt, alloc, &mut decoder, &[*byte], bytes)?;
+        assert_eq!(rt; rest.is_empty(), after.is_empty());
+        left = after;
+    }
+    assert_eq!(rt; decoder.missing(), 12);
+    Ok(())
+}
+
+/// Feeds a text whole, with one byte too few, and byte by byte.
+fn one_text(rt: &impl Abort, alloc: Global, bytes: &[u8]) -> Result<(), Fail> {
+    let mut decoder = Decoder::new(alloc);
+    let rest = play(rt, alloc, &mut decoder, bytes, bytes)?;
+    assert!(rt; rest.is_empty());
+    if let [front @ .., last] = bytes {
+        let none = play(rt, alloc, &mut decoder, front, bytes)?;
+        assert_eq!(rt; none.len(), bytes.len());
+        assert_eq!(rt; decoder.missing(), 1);
+        let rest = play(rt, alloc, &mut decoder, &[*last], bytes)?;
+        assert!(rt; rest.is_empty());
+    }
+    by_bytes(rt, alloc, bytes)
+}
+
+#[test]
+fn texts_are_read(rt: HostRuntime) -> Result<(), Fail> {
+    for vector in &BOTH {
+        for version in [1, 2] {
+            let bytes = text_again(rt.alloc(), version, *vector, 0, 0)?;
+            one_text(&rt, rt.alloc(), &bytes)?;
+        }
+    }
+    Ok(())
+}
+
+#[test]
+fn pages_are_read(rt: HostRuntime) -> Result<(), Fail> {
+    for version in [1, 2] {
+        let bytes = text_again(rt.alloc(), version, PAGE, PAGE_BYTES, 0)?;
+        one_text(&rt, rt.alloc(), &bytes)?;
+    }
+    let bytes = text_again(rt.alloc(), 2, RUN, PAGE_BYTES, PAGE_BYTES)?;
+    one_text(&rt, rt.alloc(), &bytes)
+}
+
+/// Feeds the bytes with one of them changed: what is answered is written as the bytes that it took up.
+fn changes(rt: &impl Abort, alloc: Global, vector: &[u8], at: usize) -> Result<(), Fail> {
+    let mut bytes = text_again(alloc, 2, vector, 0, 0)?;
+    let mut decoder = Decoder::new(alloc);
+    for value in 0..=255 {
+        if let Some(byte) = bytes.get_mut(at) {
+            *byte = value;
+        }
+        play(rt, alloc, &mut decoder, &bytes, &bytes)?;
+        decoder.reset();
+    }
+    Ok(())
+}
+
+#[test]
+fn changed_texts_are_read_as_they_are_written(rt: HostRuntime) -> Result<(), Fail> {
+    for vector in &BOTH {
+        for at in 0..56 {
+            if at <= vector.len() {
+                changes(&rt, rt.alloc(), *vector, at)?;
+            }
+        }
+    }
+    Ok(())
+}
+
+/// Feeds a stream in two pieces.
+fn one_cut(
+    rt: &impl Abort,
+    alloc: Global,
+    stream: &[u8],
+    at: usize,
+    left: usize,
+) -> Result<(), Fail> {
+    if let (Some(front), Some(back)) = (stream.get(..at), stream.get(at..)) {
+        let mut decoder = Decoder::new(alloc);
+        let rest = play(rt, alloc, &mut decoder, front, stream)?;
+        let rest = play(rt, alloc, &mut decoder, back, rest)?;
+        assert_eq!(rt; rest.len(), left);
+    }
+    Ok(())
+}
+
+/// All texts one after the other, and the first bytes of one more.
+fn joined(alloc: Global) -> Result<Vec<u8>, NoMemory> {
+    let mut stream = Vec::new(alloc);
+    for vector in &BOTH {
+        let bytes = text_again(alloc, 2, *vector, 0, 0)?;
+        stream.extend_from_slice(&bytes)?;
+    }
+    stream.extend_from_slice(b"\x02\x03\x00\x00\x00")?;
+    Ok(stream)
+}
+
+#[test]
+fn cuts_agree(rt: HostRuntime) -> Result<(), Fail> {
+    let stream = match joined(rt.alloc()) {
+        Ok(stream) => stream,
+        Err(_) => joined(rt.alloc())?,
+    };
+    for at in 0..400 {
+        one_cut(&rt, rt.alloc(), &stream, at, 5)?;
+    }
+    Ok(())
+}
+
+/// Frames of one piece are answered together.
+#[test]
+fn frames_of_one_piece(rt: HostRuntime) -> Result<(), Fail> {
+    let stream = match joined(rt.alloc()) {
+        Ok(stream) => stream,
+        Err(_) => joined(rt.alloc())?,
+    };
+    let mut decoder = Decoder::new(rt.alloc());
+    let frames = fed(&mut decoder, &stream)?;
+    assert_eq!(&rt; frames.len(), BOTH.len());
+    let rest = look(&rt, rt.alloc(), &frames, &stream)?;
+    assert_eq!(&rt; rest.len(), 5);
+    assert_eq!(&rt; decoder.missing(), 7);
+    Ok(())
+}

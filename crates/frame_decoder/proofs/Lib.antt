@@ -1,0 +1,14 @@
+pub mod FieldLemmas
+pub mod Loop
+pub mod SetReading
+pub mod AreaOrder
+pub mod MapReading
+pub mod CommandReading
+pub mod Bodies
+pub mod BodyLengths
+pub mod Fronts
+pub mod Whole
+pub mod Feeds
+pub mod Cuts
+pub mod Unique
+pub mod Filling

@@ -1,0 +1,7 @@
+use Rattle.std.proofs.Common.{◌-◌}
+use Rattle.frame_decoder.specs.Reading.{many_at, command_at}
+use Rattle.frame_decoder.proofs.Loop.{Reads}
+use Rattle.frame_decoder.proofs.commands.read_count_commands.Given as goal
+
+abbrev pub invariant-loop : goal.invariant-loop
+invariant-loop l = Reads (λ (_ : Unit {0}). command_at) (λ state _. state) l.items.items tt (l.count - l.counter) l.rest (many_at command_at l.count l.bytes)

@@ -1,0 +1,65 @@
+-- What a decoder does with a piece, and with pieces one after the other.
+use Rattle.std.specs.Prelude.{◌≡◌, ℕ, ◌⊎◌, List, [], ◌∷◌, ◌++◌, Option, Some, None, Result, Ok, Err}
+use Rattle.std.specs.Global.{Vec}
+use Rattle.mig_model.specs.Wire.{Sent}
+use Rattle.page_stream.specs.declared.frame.Frame.{Frame}
+use Rattle.frame_decoder.specs.declared.fault.StreamFault.{StreamFault}
+use Rattle.frame_decoder.specs.declared.fault.StreamFault.TheVariants as faults
+use Rattle.frame_decoder.specs.Streams.{sents, Held, Splits}
+
+-- nothing has been read
+abbrev pub fresh : Held
+fresh = record { bytes = []; fault = None; version = None }
+
+abbrev pub Answer : Type 0
+Answer = Result (List Sent) StreamFault
+
+abbrev pub answer_of : Result (Vec (ℕ × Frame)) StreamFault → Answer
+answer_of (Ok frames) = Ok (sents frames.items)
+answer_of (Err fault) = Err fault
+
+-- One piece
+
+-- frames, or where there are none the fault
+abbrev pub answered : List Sent → Option StreamFault → Answer → Type 0
+answered frames fault (Ok others) = (others ≡ frames) × (frames ≡ [] → fault ≡ None)
+answered frames fault (Err other) = (frames ≡ []) × (fault ≡ Some other)
+
+-- a fault is answered: the one that is held, or one that stands before any frame is whole
+abbrev pub FedFault : Held → List ℕ → StreamFault → Held → Type 0
+FedFault old piece fault new = ((old.fault ≡ Some fault) × (new ≡ old))
+    ⊎ ((old.fault ≡ None) × (new.fault ≡ Some fault) × Splits old.version (old.bytes ++ piece) [] new.bytes new.fault new.version)
+
+-- what becomes of a decoder, by its answer
+abbrev pub Fed : Held → List ℕ → Answer → Held → Type 0
+Fed old piece (Ok frames) new = (old.fault ≡ None) × Splits old.version (old.bytes ++ piece) frames new.bytes new.fault new.version × (frames ≡ [] → new.fault ≡ None)
+Fed old piece (Err faults.NoMemory) new = (old.fault ≡ None) × (new ≡ old)
+Fed old piece (Err faults.BadTag) new = FedFault old piece faults.BadTag new
+Fed old piece (Err faults.BadLength) new = FedFault old piece faults.BadLength new
+Fed old piece (Err faults.BadField) new = FedFault old piece faults.BadField new
+
+-- Pieces one after the other
+
+pub record Feed : Type 0 where
+  pub piece : List ℕ
+  pub answer : Answer
+
+-- the pieces, fed in turn, were answered so
+abbrev pub IsRun : Held → List Feed → Held → Type 0
+IsRun old [] new = new ≡ old
+IsRun old (feed ∷ feeds) new = (middle : Held) × Fed old feed.piece feed.answer middle × IsRun middle feeds new
+
+-- the bytes of a piece that were taken, and the frames that it was answered with
+abbrev pub taken_of : Feed → List ℕ
+taken_of feed = elim feed.answer [ Ok frames ↦ feed.piece | Err faults.NoMemory ↦ [] | Err other ↦ feed.piece ]
+
+abbrev pub frames_of : Feed → List Sent
+frames_of feed = elim feed.answer [ Ok frames ↦ frames | Err other ↦ [] ]
+
+abbrev pub joined : List Feed → List ℕ
+joined [] = []
+joined (feed ∷ feeds) = taken_of feed ++ joined feeds
+
+abbrev pub all_frames : List Feed → List Sent
+all_frames [] = []
+all_frames (feed ∷ feeds) = frames_of feed ++ all_frames feeds

@@ -1,0 +1,6 @@
+pub mod Versions
+pub mod Headers
+pub mod Streams
+pub mod Feeding
+pub mod Reading
+pub mod Taking

@@ -1,0 +1,117 @@
+-- Streams: frames one after the other, and then less than a frame, or what is not one.
+use Rattle.std.specs.Prelude.{◌≡◌, ℕ, ◌+◌, ◌-◌, ◌^◌, ◌<◌, ◌≤◌, ◌⊎◌, List, [], ◌∷◌, ◌++◌, length, map, take, drop, Option, Some, None, Ok, Err, nat_lt, if◌then◌else◌}
+use Rattle.std.specs.List.{flat_map, AllByRecursion}
+use Rattle.mig_model.specs.Lengths.{header_len}
+use Rattle.mig_model.specs.Wire.{Frame as MachineFrame, Sent}
+use Rattle.frame_texts.specs.Texts.{text, body_text}
+use Rattle.page_stream.specs.declared.frame.Frame.{Frame}
+use Rattle.page_stream.specs.Frames.{frame_of}
+use Rattle.frame_decoder.specs.declared.fault.StreamFault.{StreamFault}
+use Rattle.frame_decoder.specs.declared.fault.StreamFault.TheVariants as faults
+use Rattle.frame_decoder.specs.declared.version.Version.{Version}
+use Rattle.frame_decoder.specs.Headers.{Header, header_at}
+use Rattle.frame_decoder.specs.Versions.{version_of, tag_of, IsFrameIn}
+
+-- Frames with their epochs
+
+abbrev pub sent_of : ℕ × Frame → Sent
+sent_of numbered = record { epoch = numbered.0; frame = frame_of numbered.1 }
+
+abbrev pub sents : List (ℕ × Frame) → List Sent
+sents frames = map sent_of frames
+
+-- a frame that a stream of the version may have, in an epoch of 32 bits
+pub record IsSent (version : Version) (sent : Sent) : Type 0 where
+  pub epoch : sent.epoch < 2 ^ 32
+  pub frame : IsFrameIn version sent.frame
+
+abbrev pub texts : Version → List Sent → List ℕ
+texts version frames = flat_map (λ sent. text (version_of version) sent.epoch sent.frame) frames
+
+-- The version that is fixed
+
+-- a frame of this version may come
+abbrev pub May : (fixed : Option Version) → Version → Type 0
+May None version = Unit {0}
+May (Some fixed) version = fixed ≡ version
+
+-- the first frame fixes the version
+abbrev pub Fixes : (old : Option Version) → Version → List Sent → (new : Option Version) → Type 0
+Fixes old version [] new = new ≡ old
+Fixes old version (sent ∷ frames) new = May old version × (new ≡ Some version)
+
+-- the bytes are the texts of the frames, all of one version
+pub record Spells (old : Option Version) (bytes : List ℕ) (frames : List Sent) (new : Option Version) : Type 0 where
+  pub version : Version
+  pub whole : bytes ≡ texts version frames
+  pub each : AllByRecursion (IsSent version) frames
+  pub fixes : Fixes old version frames new
+
+-- Less than a frame, without a fault so far
+
+pub record PartOfHeader (bytes : List ℕ) : Type 0 where
+  pub short : length bytes < header_len
+
+pub record PartOfBody (fixed : Option Version) (bytes : List ℕ) : Type 0 where
+  pub header : Header
+  pub long : header_len ≤ length bytes
+  pub reads : header_at fixed bytes ≡ Ok header
+  pub short : length bytes < header_len + header.len
+
+abbrev pub IsPart : (fixed : Option Version) → List ℕ → Type 0
+IsPart fixed bytes = PartOfHeader bytes ⊎ PartOfBody fixed bytes
+
+-- The first breach where a frame begins: of the header as soon as its bytes are there, of the body once it is whole
+
+pub record HeaderBreach (fixed : Option Version) (bytes : List ℕ) (fault : StreamFault) : Type 0 where
+  pub long : header_len ≤ length bytes
+  pub reads : header_at fixed bytes ≡ Err fault
+
+-- no frame has this body
+pub record BodyBreach (fixed : Option Version) (bytes : List ℕ) (fault : StreamFault) : Type 0 where
+  pub header : Header
+  pub long : header_len ≤ length bytes
+  pub reads : header_at fixed bytes ≡ Ok header
+  pub whole : header_len + header.len ≤ length bytes
+  pub none : (frame : MachineFrame) → IsFrameIn header.version frame → tag_of frame ≡ header.tag → body_text frame ≡ take header.len (drop header_len bytes) → ⊥
+  pub is : fault ≡ faults.BadField
+
+abbrev pub Breach : (fixed : Option Version) → List ℕ → StreamFault → Type 0
+Breach fixed bytes fault = HeaderBreach fixed bytes fault ⊎ BodyBreach fixed bytes fault
+
+-- What a decoder holds
+
+-- the bytes of a frame that is not whole, or a fault, and the version that the first frame fixed
+pub record Held : Type 0 where
+  pub bytes : List ℕ
+  pub fault : Option StreamFault
+  pub version : Option Version
+
+-- a fault of the stream, and not of memory
+abbrev pub IsFault : Option StreamFault → Type 0
+IsFault None = Unit {0}
+IsFault (Some faults.NoMemory) = ⊥
+IsFault (Some faults.BadTag) = Unit {0}
+IsFault (Some faults.BadLength) = Unit {0}
+IsFault (Some faults.BadField) = Unit {0}
+
+-- what is held where the frames end: the unread bytes, or nothing and the fault that stands there
+abbrev pub Ends : (fixed : Option Version) → (unread held : List ℕ) → Option StreamFault → Type 0
+Ends fixed unread held None = IsPart fixed unread × (held ≡ unread)
+Ends fixed unread held (Some fault) = Breach fixed unread fault × (held ≡ [])
+
+-- the stream is these frames, and then less than a frame or a breach
+pub record Splits (old : Option Version) (stream : List ℕ) (frames : List Sent) (held : List ℕ) (fault : Option StreamFault) (new : Option Version) : Type 0 where
+  pub read : List ℕ
+  pub unread : List ℕ
+  pub whole : stream ≡ read ++ unread
+  pub spells : Spells old read frames new
+  pub ends : Ends new unread held fault
+
+-- how many bytes are missing of a header, then of its frame
+unfoldable pub lacks : (fixed : Option Version) → List ℕ → ℕ
+lacks fixed bytes =
+    if nat_lt (length bytes) header_len then header_len - length bytes else elim (header_at fixed bytes) [ Ok header ↦ header_len + header.len - length bytes | Err fault ↦ 0 ]
+
+abbrev pub missing : Held → ℕ
+missing held = elim held.fault [ None ↦ lacks held.version held.bytes | Some fault ↦ 0 ]

@@ -1,0 +1,34 @@
+-- What the decoder's own functions find at the front of some bytes.
+use Rattle.std.specs.Prelude.{◌≡◌, ℕ, ◌≤◌, List, ◌++◌, length, take, drop, Option, Some, None}
+use Rattle.mig_model.specs.Wire.{Frame, Sent}
+use Rattle.frame_texts.specs.Texts.{text}
+use Rattle.frame_decoder.specs.declared.fault.StreamFault.{StreamFault}
+use Rattle.frame_decoder.specs.declared.version.Version.{Version}
+use Rattle.frame_decoder.specs.Reading.{Front}
+use Rattle.frame_decoder.specs.Streams.{May, IsSent, IsPart, Breach, Spells}
+use Rattle.frame_decoder.specs.Versions.{version_of}
+
+-- a frame at the front
+pub record FrontIs (fixed : Option Version) (bytes : List ℕ) (version : Version) (epoch : ℕ) (frame : Frame) (len : ℕ) : Type 0 where
+  pub whole : bytes ≡ text (version_of version) epoch frame ++ drop len bytes
+  pub may : May fixed version
+  pub fits : IsSent version (record { epoch = epoch; frame = frame })
+  pub inside : len ≤ length bytes
+  pub some : 12 ≤ len
+
+-- what stands at the front
+abbrev pub Stands : (fixed : Option Version) → List ℕ → Front → Type 0
+Stands fixed bytes Front.Part = IsPart fixed bytes
+Stands fixed bytes (Front.Whole version epoch frame len) = FrontIs fixed bytes version epoch frame len
+Stands fixed bytes (Front.Fault fault) = Breach fixed bytes fault
+
+-- less than a frame, or a breach
+abbrev pub StopsAt : (fixed : Option Version) → List ℕ → Option StreamFault → Type 0
+StopsAt fixed unread None = IsPart fixed unread
+StopsAt fixed unread (Some fault) = Breach fixed unread fault
+
+-- these frames take the first bytes, and behind them stands less than a frame or a breach
+pub record IsTaken (fixed : Option Version) (bytes : List ℕ) (frames : List Sent) (read : ℕ) (fault : Option StreamFault) (new : Option Version) : Type 0 where
+  pub inside : read ≤ length bytes
+  pub spells : Spells fixed (take read bytes) frames new
+  pub stops : StopsAt new (drop read bytes) fault

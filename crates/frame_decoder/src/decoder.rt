@@ -1,0 +1,210 @@
+//! Frames out of the pieces of a stream.
+
+ghost use Rattle.std.specs.Prelude.{◌≡◌, ◌+◌, ◌*◌, ◌<◌, ◌++◌, ◌≤◌, [], length, drop, IfOk, OnOk, OnErr};
+ghost use Rattle.mig_base.specs.declared.TheConstants.{MAX_CPUS, MAX_PAGES};
+ghost use Rattle.frame_decoder.specs.Streams.{Splits, IsPart, IsFault, lacks, missing, sents};
+ghost use Rattle.frame_decoder.specs.Feeding.{Fed, answer_of, answered, fresh};
+
+use crate::fault::StreamFault;
+use crate::stream::{Taken, lacking, take_frames};
+use crate::version::Version;
+use mig_base::NoMemory;
+use page_stream::Frame;
+use std::alloc::Global;
+use std::marker::Model;
+
+/// Reads a piece in its place, where nothing is held, and holds what is left of it.
+fn read_in_place(
+    alloc: Global,
+    fixed: Option<Version>,
+    held: &mut Vec<u8>,
+    piece: &[u8],
+) -> Result<Taken, NoMemory>
+    requires { held.old.items ≡ [] }
+    ensures ok { IfOk result (λ taken. Splits fixed piece.now (sents taken.frames.items) held.new.items taken.fault taken.version) }
+    ensures err { OnErr result (held.new.items ≡ held.old.items) }
+{
+    let taken = take_frames(alloc, fixed, piece)?;
+    if taken.fault.is_some() {
+        return Ok(taken);
+    }
+    let (_, rest) = piece.split_at(taken.read);
+    held.extend_from_slice(rest)?;
+    Ok(taken)
+}
+
+/// Reads what is held and a piece behind it, and holds what is left.
+fn read_joined(
+    alloc: Global,
+    fixed: Option<Version>,
+    held: &mut Vec<u8>,
+    piece: &[u8],
+) -> Result<Taken, NoMemory>
+    ensures ok { IfOk result (λ taken. Splits fixed (held.old.items ++ piece.now) (sents taken.frames.items) held.new.items taken.fault taken.version) }
+    ensures err { OnErr result (held.new.items ≡ held.old.items) }
+{
+    let len = held.len();
+    held.extend_from_slice(piece)?;
+    let Ok(taken) = take_frames(alloc, fixed, held) else {
+        held.truncate(len);
+        return Err(NoMemory);
+    };
+    if taken.fault.is_some() {
+        held.clear();
+        return Ok(taken);
+    }
+    drop_front(held, taken.read);
+    Ok(taken)
+}
+
+/// Takes the first bytes away.
+fn drop_front(held: &mut Vec<u8>, count: usize)
+    requires { count ≤ length held.old.items }
+    ensures { held.new.items ≡ drop count held.old.items }
+{
+    let left = held.len() - count;
+    held.copy_within(count.., 0);
+    held.truncate(left);
+}
+
+/// Reads what is held and a piece, and holds what is left.
+fn read_piece(
+    alloc: Global,
+    fixed: Option<Version>,
+    held: &mut Vec<u8>,
+    piece: &[u8],
+) -> Result<Taken, NoMemory>
+    ensures ok { IfOk result (λ taken. Splits fixed (held.old.items ++ piece.now) (sents taken.frames.items) held.new.items taken.fault taken.version) }
+    ensures part { IfOk result (λ taken. IsPart taken.version held.new.items) }
+    ensures real { IfOk result (λ taken. IsFault taken.fault) }
+    ensures err { OnErr result (held.new.items ≡ held.old.items) }
+{
+    if held.is_empty() {
+        return read_in_place(alloc, fixed, held, piece);
+    }
+    read_joined(alloc, fixed, held, piece)
+}
+
+/// Holds a piece that completes neither the header nor the frame.
+fn wait_for_more(fixed: Option<Version>, held: &mut Vec<u8>, piece: &[u8]) -> Result<(), NoMemory>
+    requires part { IsPart fixed held.old.items }
+    requires less { length piece.now < lacks fixed held.old.items }
+    ensures ok { OnOk result (held.new.items ≡ held.old.items ++ piece.now) }
+    ensures part { IsPart fixed held.new.items }
+    ensures err { OnErr result (held.new.items ≡ held.old.items) }
+{
+    held.extend_from_slice(piece)?;
+    Ok(())
+}
+
+/// Reads frames out of the pieces of a stream, all of the version that the first of them has.
+///
+/// It holds less than one frame. Where it holds nothing, a piece is read in its place: the bytes of its whole frames are not copied but
+/// into the frames.
+#[derive(Drop)]
+pub struct Decoder {
+    alloc: Global,
+    held: Vec<u8>,
+    fault: Option<StreamFault>,
+    version: Option<Version>,
+}
+
+impl Model for Decoder {
+    ghost use Rattle.frame_decoder.specs.Streams.{Held, IsPart, IsFault};
+
+    ghost Value = { Held };
+
+    ghost view = { λ d. record { bytes = d.held.items; fault = d.fault; version = d.version } };
+
+    ghost invariant = { λ d. IsPart d.version d.held.items × IsFault d.fault };
+}
+
+impl Decoder {
+    /// Nothing has been read. It takes no memory.
+    pub fn new(alloc: Global) -> Self
+        ensures { result ≡ fresh }
+    {
+        Decoder {
+            alloc,
+            held: Vec::new(alloc),
+            fault: None,
+            version: None,
+        }
+    }
+
+    /// Takes the next piece, which may be empty, and answers the frames that are whole now, each with its epoch.
+    ///
+    /// A fault is answered at once where the piece completes no frame before it; else by the next call, and by every later one until
+    /// [`reset`](Decoder::reset). `NoMemory` takes nothing of the piece, which may be fed again.
+    pub fn feed(&mut self, piece: &[u8]) -> Result<Vec<(u32, Frame)>, StreamFault>
+        ensures fed { Fed self.old piece.now (answer_of result) self.new }
+        ensures bounded { length self.new.bytes < 12 + (9 + 17 * MAX_PAGES + 18 * MAX_CPUS) }
+    {
+        match self.fault {
+            Some(fault) => return Err(fault),
+            None => {}
+        }
+        if piece.len() < lacking(self.version, &self.held) {
+            return match wait_for_more(self.version, &mut self.held, piece) {
+                Ok(()) => Ok(Vec::new(self.alloc)),
+                Err(_) => Err(StreamFault::NoMemory),
+            };
+        }
+        let Ok(taken) = read_piece(self.alloc, self.version, &mut self.held, piece) else {
+            return Err(StreamFault::NoMemory);
+        };
+        let Taken {
+            frames,
+            fault,
+            version,
+            ..
+        } = taken;
+        self.fault = fault;
+        self.version = version;
+        answer(frames, fault)
+    }
+
+    /// How many bytes are missing of a header, and once that is there of its frame; 0 after a fault. It takes no memory.
+    pub fn missing(&self) -> usize
+        ensures { result ≡ missing self.now }
+    {
+        match self.fault {
+            None => lacking(self.version, &self.held),
+            Some(_) => 0,
+        }
+    }
+
+    /// Forgets all bytes, the fault and the version. It takes no memory.
+    pub fn reset(&mut self)
+        ensures { self.new ≡ fresh }
+    {
+        self.held = Vec::new(self.alloc);
+        self.fault = None;
+        self.version = None;
+    }
+
+    /// A decoder that answers as this one from here on, with memory of its own. `NoMemory` comes only where that was refused.
+    pub fn copy(&self) -> Result<Self, NoMemory>
+        ensures { IfOk result (λ decoder. decoder ≡ self.now) }
+    {
+        Ok(Decoder {
+            alloc: self.alloc,
+            held: Vec::from_slice(self.alloc, &self.held)?,
+            fault: self.fault,
+            version: self.version,
+        })
+    }
+}
+
+/// The frames, or where there are none the fault.
+fn answer(
+    frames: Vec<(u32, Frame)>,
+    fault: Option<StreamFault>,
+) -> Result<Vec<(u32, Frame)>, StreamFault>
+    ensures { answered (sents frames.items) fault (answer_of result) }
+{
+    match fault {
+        Some(fault) if frames.is_empty() => Err(fault),
+        _ => Ok(frames),
+    }
+}

@@ -1,0 +1,44 @@
+//! What holds of every stream. Each law is a function with an empty body, whose contract is the law.
+
+ghost use Rattle.std.specs.Prelude.{◌≡◌, ℕ, List, Option, None};
+ghost use Rattle.mig_model.specs.Bounds.{IsFrame};
+ghost use Rattle.mig_model.specs.Wire.{Frame, Sent};
+ghost use Rattle.frame_texts.specs.Texts as texts;
+ghost use Rattle.frame_decoder.specs.declared.fault.StreamFault.{StreamFault};
+ghost use Rattle.frame_decoder.specs.declared.version.Version.{Version};
+ghost use Rattle.frame_decoder.specs.declared.version.Version.TheVariants.{One, Two};
+ghost use Rattle.frame_decoder.specs.Versions.{IsFrameIn};
+ghost use Rattle.frame_decoder.specs.Streams.{IsSent, Held, Splits};
+ghost use Rattle.frame_decoder.specs.Feeding.{fresh, Feed, IsRun, joined, all_frames};
+
+/// A stream has one reading: its frames, what is held of its rest, the fault, and the version that is fixed then.
+pub fn one_reading()
+    ensures frames { (fixed : Option Version) (stream : List ℕ) (xs ys : List Sent) (r q : List ℕ) (a b : Option StreamFault) (m n : Option Version) → Splits fixed stream xs r a m → Splits fixed stream ys q b n → xs ≡ ys }
+    ensures held { (fixed : Option Version) (stream : List ℕ) (xs ys : List Sent) (r q : List ℕ) (a b : Option StreamFault) (m n : Option Version) → Splits fixed stream xs r a m → Splits fixed stream ys q b n → r ≡ q }
+    ensures fault { (fixed : Option Version) (stream : List ℕ) (xs ys : List Sent) (r q : List ℕ) (a b : Option StreamFault) (m n : Option Version) → Splits fixed stream xs r a m → Splits fixed stream ys q b n → a ≡ b }
+    ensures version { (fixed : Option Version) (stream : List ℕ) (xs ys : List Sent) (r q : List ℕ) (a b : Option StreamFault) (m n : Option Version) → Splits fixed stream xs r a m → Splits fixed stream ys q b n → m ≡ n }
+{}
+
+/// However a stream is cut into pieces, what is answered are the frames at its front, all of the version that the first of them has,
+/// and what is held is less than a frame, or the fault that stands first. Pieces that were refused for memory are left out.
+pub fn any_cut()
+    ensures { (feeds : List Feed) (new : Held) → IsRun fresh feeds new → Splits None (joined feeds) (all_frames feeds) new.bytes new.fault new.version }
+{}
+
+/// Two cuttings of one stream answer the same frames, and leave the same behind.
+pub fn cuts_agree()
+    ensures frames { (feeds others : List Feed) (new last : Held) → IsRun fresh feeds new → IsRun fresh others last → joined feeds ≡ joined others → all_frames feeds ≡ all_frames others }
+    ensures held { (feeds others : List Feed) (new last : Held) → IsRun fresh feeds new → IsRun fresh others last → joined feeds ≡ joined others → new ≡ last }
+{}
+
+/// Each frame that a stream may have, of either version, may be written: `page_stream` writes it in version 2, and it can be read back.
+pub fn read_frames_are_written_again()
+    ensures right { (version : Version) (sent : Sent) → IsSent version sent → IsFrame sent.frame }
+    ensures encodable { (version : Version) (sent : Sent) → IsSent version sent → texts.IsEncodable texts.Version.Two sent.epoch sent.frame }
+    ensures two { (frame : Frame) → IsFrame frame → IsFrameIn Two frame }
+{}
+
+/// A frame of version 1 is one of version 2.
+pub fn older_frames_stand()
+    ensures { (frame : Frame) → IsFrameIn One frame → IsFrameIn Two frame }
+{}

@@ -1,0 +1,138 @@
+//! Frames one after the other.
+
+ghost use Rattle.std.specs.Prelude.{◌≡◌, IfOk};
+ghost use Rattle.frame_decoder.specs.Reading.{next_of, next_at};
+ghost use Rattle.frame_decoder.specs.Streams.{lacks, sents};
+ghost use Rattle.frame_decoder.specs.Taking.{Stands, IsTaken};
+
+use crate::body::read_body;
+use crate::fault::StreamFault;
+use crate::header::{HEADER_LEN, read_header};
+use crate::version::Version;
+use mig_base::NoMemory;
+use page_stream::Frame;
+use std::alloc::Global;
+
+/// What stands at the front of some bytes.
+#[derive(Drop)]
+pub(crate) enum Next {
+    /// Less than a frame, and no fault so far.
+    Part,
+    /// A frame, and how many bytes it takes.
+    Whole {
+        version: Version,
+        epoch: u32,
+        frame: Frame,
+        len: usize,
+    },
+    /// No frame.
+    Fault(StreamFault),
+}
+
+#[tactic(auto, unfolding(crate::specs::Reading::next_at))]
+fn next_frame(alloc: Global, fixed: Option<Version>, bytes: &[u8]) -> Result<Next, NoMemory>
+    ensures { IfOk result (λ next. next_of next ≡ next_at fixed bytes.now) }
+{
+    if bytes.len() < HEADER_LEN {
+        return Ok(Next::Part);
+    }
+    let header = match read_header(fixed, bytes) {
+        Ok(header) => header,
+        Err(fault) => return Ok(Next::Fault(fault)),
+    };
+    let len = header.len as usize;
+    let (_, rest) = bytes.split_at(HEADER_LEN);
+    if rest.len() < len {
+        return Ok(Next::Part);
+    }
+    let (body, _) = rest.split_at(len);
+    match read_body(alloc, header.version, header.tag, body) {
+        Ok(frame) => Ok(Next::Whole {
+            version: header.version,
+            epoch: header.epoch,
+            frame,
+            len: HEADER_LEN + len,
+        }),
+        Err(StreamFault::NoMemory) => Err(NoMemory),
+        Err(_) => Ok(Next::Fault(StreamFault::BadField)),
+    }
+}
+
+/// What stands at the front, in the fixed version where one is fixed.
+fn front(alloc: Global, fixed: Option<Version>, bytes: &[u8]) -> Result<Next, NoMemory>
+    ensures { IfOk result (λ next. Stands fixed bytes.now (next_of next)) }
+{
+    next_frame(alloc, fixed, bytes)
+}
+
+/// How many bytes are missing of a header, then of its frame. It takes no memory.
+#[tactic(auto, unfolding(crate::specs::Streams::lacks))]
+pub(crate) fn lacking(fixed: Option<Version>, bytes: &[u8]) -> usize
+    ensures { result ≡ lacks fixed bytes.now }
+{
+    if bytes.len() < HEADER_LEN {
+        return HEADER_LEN - bytes.len();
+    }
+    match read_header(fixed, bytes) {
+        Ok(header) => (HEADER_LEN + header.len as usize).saturating_sub(bytes.len()),
+        Err(_) => 0,
+    }
+}
+
+/// The frames at the front of a stream.
+#[derive(Drop)]
+pub(crate) struct Taken {
+    pub frames: Vec<(u32, Frame)>,
+    /// How many bytes they take.
+    pub read: usize,
+    /// The fault that stands behind them, if there is one.
+    pub fault: Option<StreamFault>,
+    /// The version that is fixed then.
+    pub version: Option<Version>,
+}
+
+/// Reads frames up to a fault or a rest that is less than a frame.
+pub(crate) fn take_frames(
+    alloc: Global,
+    fixed: Option<Version>,
+    bytes: &[u8],
+) -> Result<Taken, NoMemory>
+    ensures { IfOk result (λ taken. IsTaken fixed bytes.now (sents taken.frames.items) taken.read taken.fault taken.version) }
+{
+    let mut frames = Vec::new(alloc);
+    let mut rest = bytes;
+    let mut version = fixed;
+    'frames: loop {
+        match front(alloc, version, rest)? {
+            Next::Whole {
+                version: found,
+                epoch,
+                frame,
+                len,
+            } => {
+                frames.push((epoch, frame))?;
+                let (_, after) = rest.split_at(len);
+                rest = after;
+                version = Some(found);
+            }
+            Next::Part => {
+                let read = bytes.len() - rest.len();
+                return Ok(Taken {
+                    frames,
+                    read,
+                    fault: None,
+                    version,
+                });
+            }
+            Next::Fault(fault) => {
+                let read = bytes.len() - rest.len();
+                return Ok(Taken {
+                    frames,
+                    read,
+                    fault: Some(fault),
+                    version,
+                });
+            }
+        }
+    }
+}
