@@ -1,0 +1,156 @@
+//! Steps of a world, and looks at it, as a table writes them.
+
+use mig_base::schedule::{Side, Step, Ticket};
+use mig_base::{Addr, Command, PAGE_SIZE, PageNo, Place, Prot};
+
+/// A step with its arguments, the processor first, or a look at a world.
+#[derive(Clone, Copy)]
+pub enum Call {
+    /// Address and width.
+    Load(u8, Addr, u8),
+    /// Address, width and value.
+    Store(u8, Addr, u8, u64),
+    /// As many bytes at the least place that is free, to be read and written.
+    Map(u8, u64),
+    /// Length, protection and place.
+    Mmap(u8, u64, Prot, Place),
+    Munmap(u8, Addr, u64),
+    DontNeed(u8, Addr, u64),
+    /// Address, old size and new size of a range that stays where it is.
+    Resize(u8, Addr, u64, u64),
+    /// So of one that may move.
+    Grow(u8, Addr, u64, u64),
+    /// So of one that moves to the last address.
+    Move(u8, Addr, u64, u64, Addr),
+    Retry(u8),
+    Start,
+    Round,
+    Send,
+    SendRun(u8),
+    SourceRead,
+    SourceAct,
+    Switch,
+    /// As many bytes as complete the first frame.
+    Deliver,
+    /// At most so many bytes.
+    DeliverPart(u64),
+    Back,
+    BackPart(u64),
+    DestRead,
+    DestAct,
+    Install,
+    /// The page at an address, for the present epoch.
+    Push(Addr),
+    /// The epoch of the ticket, and the address.
+    PushFor(u32, Addr),
+    PushUrgent(Addr),
+    PushUrgentFor(u32, Addr),
+    DeliverUrgent,
+    UrgentPart(u64),
+    Serve,
+    End,
+    Break,
+    Notice(Side),
+    Resume,
+    /// The phase and the counts.
+    Progress,
+    /// The phase of the source and the epoch.
+    Source,
+    /// The pages that are still to be pushed.
+    Remaining,
+    /// What a processor does.
+    Cpu(u8),
+    /// The transcript.
+    Transcript,
+}
+
+use Call::{
+    Back, BackPart, Break, Deliver, DeliverPart, DeliverUrgent, DestAct, DestRead, DontNeed, End,
+    Grow, Install, Load, Map, Mmap, Move, Munmap, Notice, Push, PushFor, PushUrgent, PushUrgentFor,
+    Resize, Resume, Retry, Round, Send, SendRun, Serve, SourceAct, SourceRead, Start, Store,
+    Switch, UrgentPart,
+};
+
+fn mremap(addr: Addr, old_len: u64, new_len: u64, may_move: bool, fixed: Option<Addr>) -> Command {
+    Command::Mremap {
+        addr,
+        old_len,
+        new_len,
+        may_move,
+        fixed,
+    }
+}
+
+fn mmap(addr_len: u64, prot: Prot, place: Place) -> Command {
+    Command::Mmap {
+        addr_len,
+        prot,
+        place,
+    }
+}
+
+/// The command of a processor.
+fn command_of(call: Call) -> Option<(u8, Command)> {
+    match call {
+        Load(cpu, addr, width) => Some((cpu, Command::Load { addr, width })),
+        Store(cpu, addr, width, value) => Some((cpu, Command::Store { addr, width, value })),
+        Map(cpu, len) => Some((cpu, mmap(len, Prot::ReadWrite, Place::Anywhere))),
+        Mmap(cpu, len, prot, place) => Some((cpu, mmap(len, prot, place))),
+        Munmap(cpu, addr, len) => Some((cpu, Command::Munmap { addr, len })),
+        DontNeed(cpu, addr, len) => Some((cpu, Command::DontNeed { addr, len })),
+        Resize(cpu, addr, old, new) => Some((cpu, mremap(addr, old, new, false, None))),
+        Grow(cpu, addr, old, new) => Some((cpu, mremap(addr, old, new, true, None))),
+        Move(cpu, addr, old, new, to) => Some((cpu, mremap(addr, old, new, true, Some(to)))),
+        _ => None,
+    }
+}
+
+fn ticket(epoch: u32, addr: Addr) -> Ticket {
+    Ticket {
+        epoch,
+        page: (addr / PAGE_SIZE) as PageNo,
+    }
+}
+
+/// The step of a call at an epoch. None for a look.
+pub fn step_of(call: Call, epoch: u32) -> Option<Step> {
+    if let Some((cpu, command)) = command_of(call) {
+        return Some(Step::Issue { cpu, command });
+    }
+    match call {
+        Retry(cpu) => Some(Step::Retry { cpu }),
+        Start => Some(Step::Start),
+        Round => Some(Step::Round),
+        Send => Some(Step::Send),
+        SendRun(count) => Some(Step::SendRun { count }),
+        SourceRead => Some(Step::SourceRead),
+        SourceAct => Some(Step::SourceAct),
+        Switch => Some(Step::Switch),
+        Push(addr) => Some(Step::Push(ticket(epoch, addr))),
+        PushFor(epoch, addr) => Some(Step::Push(ticket(epoch, addr))),
+        PushUrgent(addr) => Some(Step::PushUrgent(ticket(epoch, addr))),
+        PushUrgentFor(epoch, addr) => Some(Step::PushUrgent(ticket(epoch, addr))),
+        Serve => Some(Step::Serve),
+        End => Some(Step::End),
+        _ => step_of_link(call),
+    }
+}
+
+/// The step of a call of the link or of the destination.
+fn step_of_link(call: Call) -> Option<Step> {
+    match call {
+        Deliver => Some(Step::Deliver { n: u64::MAX }),
+        DeliverPart(n) => Some(Step::Deliver { n }),
+        Back => Some(Step::DeliverBack { n: u64::MAX }),
+        BackPart(n) => Some(Step::DeliverBack { n }),
+        DeliverUrgent => Some(Step::DeliverUrgent { n: u64::MAX }),
+        UrgentPart(n) => Some(Step::DeliverUrgent { n }),
+        DestRead => Some(Step::DestRead),
+        DestAct => Some(Step::DestAct),
+        Install => Some(Step::Install),
+        Break => Some(Step::Break),
+        Notice(side) => Some(Step::Notice(side)),
+        Resume => Some(Step::Resume),
+        _ => None,
+    }
+}

@@ -1,0 +1,29 @@
+//! Tests of the world of a whole migration, from its start to its completion.
+//!
+//! A test is a table of steps with the answers that are wanted, worked out by hand. One loop plays a table; where a step is refused it
+//! looks that the world is as before, and where memory was refused it makes the step again. So a test passes whichever allocation is
+//! refused.
+#![tactic(auto)]
+
+#[cfg(test)]
+mod answers;
+#[cfg(test)]
+mod breaks;
+#[cfg(test)]
+mod calls;
+#[cfg(test)]
+mod commands;
+#[cfg(test)]
+mod counts;
+#[cfg(test)]
+mod openings;
+#[cfg(test)]
+mod play;
+#[cfg(test)]
+mod postcopy;
+#[cfg(test)]
+mod rounds;
+#[cfg(test)]
+mod runs;
+#[cfg(test)]
+mod same;

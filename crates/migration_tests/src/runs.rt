@@ -1,0 +1,228 @@
+//! Pages that are sent in runs, and steps that are made in one call.
+
+use crate::answers::Answer;
+use crate::answers::Answer::{
+    Asleep, Broken, Moved, ReadMissing, ReadProtected, Refused, Replied, RoundMade, SentPage,
+    SentRun, SentZero, Stands, Started, Switched, TookAdvise, TookDiscard, TookPackage, TookPage,
+    TookRecv, TookRun, TookZero, Unprotected, Zeroed,
+};
+use crate::calls::Call::{
+    Back, Break, Deliver, DeliverPart, Load, Map, Mmap, Progress, Retry, Round, Send, SendRun,
+    SourceAct, SourceRead, Start, Store, Switch,
+};
+use crate::calls::step_of;
+use crate::openings::RESUMED;
+use crate::play::{Row, new_world, play};
+use crate::same::same;
+use mig_base::Reply::{At, BadAccess, Done, Value};
+use mig_base::phase::Received;
+use mig_base::refusal::Refusal;
+use mig_base::schedule::Step;
+use mig_base::{Command, Entry, Place, Prot, WorldPhase};
+use std::alloc::Global;
+use std::process::Abort;
+use world::World;
+
+/// A run ends where a page is not to be sent. A count of 0 is one of 1, and 255 is 64. A Run of one page has 4116 bytes and one of two
+/// has 8212; the last one has not arrived whole as the channel breaks.
+static IN_RUNS: [Row; 18] = [
+    (Map(0, 20480), Replied(0, At(0x10000))),
+    (Store(0, 0x10000, 8, 1), Replied(0, Done)),
+    (Store(0, 0x11000, 8, 2), Replied(0, Done)),
+    (Store(0, 0x13000, 8, 4), Replied(0, Done)),
+    (Store(0, 0x14000, 8, 5), Replied(0, Done)),
+    (Start, Started(1)),
+    (Round, RoundMade(1, 4)),
+    (SendRun(0), SentRun(0x10000, 1)),
+    (SendRun(255), SentRun(0x11000, 1)),
+    (SendRun(64), SentRun(0x13000, 2)),
+    (SendRun(1), Refused(Refusal::NothingThere)),
+    (Deliver, TookAdvise),
+    (DeliverPart(4115), Moved(4115)),
+    (DeliverPart(1), TookRun(0x10000, 1)),
+    (DeliverPart(10_000), TookRun(0x11000, 1)),
+    (DeliverPart(8211), Moved(8211)),
+    (Break, Broken),
+    (Progress, Stands(WorldPhase::Precopy, [1, 4, 0, 0, 0, 0])),
+];
+
+/// All is sent anew, then a page that was stored to and one that was made zeros.
+static SENT_ANEW: [Row; 27] = [
+    (Back, TookRecv(Received::NotRun, 0)),
+    (Round, RoundMade(2, 4)),
+    (SendRun(64), SentRun(0x10000, 2)),
+    (SendRun(2), SentRun(0x13000, 2)),
+    (Deliver, TookRun(0x10000, 2)),
+    (Store(1, 0x11000, 8, 6), Asleep(1)),
+    (SourceRead, ReadProtected(0x11000)),
+    (SourceAct, Unprotected(0x11000)),
+    (Retry(1), Replied(1, Done)),
+    (Load(0, 0x12000, 8), Asleep(0)),
+    (SourceRead, ReadMissing(0x12000)),
+    (SourceAct, Zeroed(0x12000)),
+    (Retry(0), Replied(0, Value(0))),
+    (Round, RoundMade(3, 2)),
+    (Send, SentPage(0x11000)),
+    (Send, SentZero(0x12000)),
+    (Switch, Switched(0, 0)),
+    (Deliver, TookRun(0x13000, 2)),
+    (Deliver, TookPage(0x11000)),
+    (Deliver, TookZero(0x12000)),
+    (Deliver, TookDiscard(0)),
+    (Deliver, TookPackage(0)),
+    (Load(0, 0x10000, 8), Replied(0, Value(1))),
+    (Load(0, 0x11000, 8), Replied(0, Value(6))),
+    (Load(0, 0x12000, 8), Replied(0, Value(0))),
+    (Load(0, 0x14000, 8), Replied(0, Value(5))),
+    (Progress, Stands(WorldPhase::Postcopy, [3, 10, 0, 0, 0, 2])),
+];
+
+/// A page for each of `count` stores, from 0x10000 on.
+fn store_to(rt: &impl Abort, world: &mut World, count: u64) {
+    for i in 0..count {
+        let row = (Store(0, 0x10000 + 4096 * i, 1, 1), Replied(0, Done));
+        play(rt, world, "stores", [row].as_slice());
+    }
+}
+
+/// 66 pages are sent in a run of 64 and one of 2.
+static MAPPED: [Row; 1] = [(Map(0, 270_336), Replied(0, At(0x10000)))];
+
+static LONGEST: [Row; 9] = [
+    (Start, Started(1)),
+    (Round, RoundMade(1, 66)),
+    (SendRun(255), SentRun(0x10000, 64)),
+    (SendRun(255), SentRun(0x50000, 2)),
+    (Deliver, TookAdvise),
+    (DeliverPart(262_163), Moved(262_163)),
+    (DeliverPart(1), TookRun(0x10000, 64)),
+    (Deliver, TookRun(0x50000, 2)),
+    (Progress, Stands(WorldPhase::Precopy, [1, 66, 0, 0, 0, 0])),
+];
+
+fn play_runs(rt: &impl Abort, world: &mut World) {
+    play(rt, world, "in runs", &IN_RUNS);
+    play(rt, world, "resumed", &RESUMED);
+    play(rt, world, "sent anew", &SENT_ANEW);
+}
+
+fn play_longest(rt: &impl Abort, world: &mut World) {
+    play(rt, world, "mapped", &MAPPED);
+    store_to(rt, world, 66);
+    play(rt, world, "longest", &LONGEST);
+}
+
+#[test]
+fn pages_in_runs(rt: HostRuntime) {
+    match new_world(rt.alloc(), 2, (0, 0)) {
+        Ok(mut world) => play_runs(&rt, &mut world),
+        Err(_) => assert!(rt; false),
+    }
+    match new_world(rt.alloc(), 2, (0, 0)) {
+        Ok(mut world) => play_longest(&rt, &mut world),
+        Err(_) => assert!(rt; false),
+    }
+}
+
+const MAP: Command = Command::Mmap {
+    addr_len: 4096,
+    prot: Prot::ReadWrite,
+    place: Place::Anywhere,
+};
+
+const STORE: Command = Command::Store {
+    addr: 0x10000,
+    width: 1,
+    value: 7,
+};
+
+const MISPLACED: Command = Command::Store {
+    addr: 0x10001,
+    width: 2,
+    value: 7,
+};
+
+const LOAD: Command = Command::Load {
+    addr: 0x10000,
+    width: 8,
+};
+
+/// A refused step is passed by.
+static IN_ONE_CALL: [Row; 9] = [
+    (Map(1, 4096), Replied(1, At(0x10000))),
+    (Store(0, 0x10000, 1, 7), Replied(0, Done)),
+    (Load(2, 0x10000, 8), Refused(Refusal::NoCpu)),
+    (Store(1, 0x10001, 2, 7), Replied(1, BadAccess)),
+    (Start, Started(1)),
+    (Round, RoundMade(1, 1)),
+    (Start, Refused(Refusal::Phase)),
+    (Load(1, 0x10000, 8), Replied(1, Value(7))),
+    (Switch, Switched(0, 1)),
+];
+
+static ENTRIES: [Entry; 4] = [
+    Entry {
+        cpu: 1,
+        command: MAP,
+        reply: At(0x10000),
+    },
+    Entry {
+        cpu: 0,
+        command: STORE,
+        reply: Done,
+    },
+    Entry {
+        cpu: 1,
+        command: MISPLACED,
+        reply: BadAccess,
+    },
+    Entry {
+        cpu: 1,
+        command: LOAD,
+        reply: Value(7),
+    },
+];
+
+/// The steps of a table that has no look.
+fn steps_of(rows: &[Row; 9]) -> [Step; 9] {
+    let mut steps = [Step::End; 9];
+    for (place, row) in steps.iter_mut().zip(rows) {
+        if let Some(step) = step_of(row.0, 0) {
+            *place = step;
+        }
+    }
+    steps
+}
+
+/// Makes all steps in one call. Whether memory was there for each; if so all is as wanted.
+fn run_all(rt: &impl Abort, alloc: Global, world: &mut World) -> bool {
+    let steps = steps_of(&IN_ONE_CALL);
+    let Ok(outcomes) = world.run(alloc, steps.as_slice()) else {
+        assert_eq!(rt; world.phase(), WorldPhase::Idle);
+        return false;
+    };
+    if outcomes.contains(&Err(Refusal::NoMemory)) {
+        return false;
+    }
+    assert_eq!(rt; outcomes.len(), 9);
+    for (i, (outcome, row)) in outcomes.iter().zip(&IN_ONE_CALL).enumerate() {
+        same(rt, &Answer::of(*outcome), &row.1, "in one call", i);
+    }
+    assert!(rt; world.transcript() == ENTRIES.as_slice());
+    true
+}
+
+fn is_run(rt: &impl Abort, alloc: Global) -> bool {
+    match new_world(alloc, 2, (0, 0)) {
+        Ok(mut world) => run_all(rt, alloc, &mut world),
+        Err(_) => false,
+    }
+}
+
+/// One call for all steps, which goes on after a refusal. Where memory was refused a second world is run.
+#[test]
+fn steps_in_one_call(rt: HostRuntime) {
+    if !is_run(&rt, rt.alloc()) {
+        assert!(rt; is_run(&rt, rt.alloc()));
+    }
+}
