@@ -132,8 +132,7 @@ fn faults_stand_where_they_are(rt: HostRuntime) -> Result<(), Fail> {
 /// A run whose count is more than its bytes.
 #[test]
 fn a_run_is_as_long_as_it_says(rt: HostRuntime) -> Result<(), Fail> {
-    let front =
-        b"\x08\x00\x00\x00\x00\x00\x01\x00\x00\x10\x08\x00\x00\x00\x10\x00\x00\x00\x02";
+    let front = b"\x08\x00\x00\x00\x00\x00\x01\x00\x00\x10\x08\x00\x00\x00\x10\x00\x00\x00\x02";
     let bytes = text_again(rt.alloc(), 2, front, PAGE_BYTES, 0)?;
     one_fault(&rt, rt.alloc(), &bytes, FIELD)
 }

@@ -1,15 +1,14 @@
 //! Lines of scripts.
 
+use Command::{DontNeed, Load, Mmap, Mremap, Munmap, Store};
+use Order::{Make, Progress, Push};
+use Step::{Deliver, DeliverBack, DeliverUrgent, Issue, Notice, Retry, SendRun};
 use grammar::parse::parse;
 use grammar::{Language, Line, Order, Token};
 use mig_base::schedule::{Side, Step, Ticket};
 use mig_base::{Command, Place, Prot};
 use std::process::Abort;
 use std::test::Fail;
-
-use Command::{DontNeed, Load, Mmap, Mremap, Munmap, Store};
-use Order::{Make, Progress, Push};
-use Step::{Deliver, DeliverBack, DeliverUrgent, Issue, Notice, Retry, SendRun};
 
 /// Reads the line of a script, and looks at what it says.
 fn look(rt: &impl Abort, tokens: &mut Vec<Token>, text: &[u8], wanted: Option<Line>, i: usize) {

@@ -19,18 +19,21 @@ use Rattle.fault_handler.specs.Steps as to
 use Rattle.precopy.specs.Steps as from
 use Rattle.world.specs.Deliveries.{AreFrames}
 use Rattle.world.specs.Worlds.{IsWorld}
-use Rattle.world.proofs.StepLemmas.{IsOfDestination, IsOfSource, destination_made, sending-append, source_made, source_urgent}
+use Rattle.mig_model.proofs.WireLemmas.{sending-behind}
+use Rattle.world.proofs.StepLemmas.{IsOfDestination, IsOfSource, destination_made, source_made, source_urgent}
 
 -- the same processors after one step more
 next_reached : (old : World) (step : Step) (reached : IsReached old) → (again : IsReached (next old step)) × (again.cpus ≡ reached.cpus)
-next_reached old step reached =
-    (record {
-      cpus = reached.cpus;
-      epoch = reached.epoch;
-      rounds = reached.rounds;
-      steps = reached.steps ++ step ∷ [];
-      is = ap (λ w. next w step) reached.is ∙ sym (after_steps-append (first_world_with reached.cpus reached.epoch reached.rounds) reached.steps (step ∷ []));
-    }, refl)
+next_reached old step reached = (
+  record {
+    cpus = reached.cpus;
+    epoch = reached.epoch;
+    rounds = reached.rounds;
+    steps = reached.steps ++ step ∷ [];
+    is = ap (λ w. next w step) reached.is ∙ sym (after_steps-append (first_world_with reached.cpus reached.epoch reached.rounds) reached.steps (step ∷ []));
+  },
+  refl,
+)
 
 as_before : (old : World) (step : Step) (reached : IsReached old) → length (next old step).source.guest.cpus ≡ length old.source.guest.cpus
 as_before old step reached =
@@ -59,11 +62,11 @@ behind (sent ∷ front) rest are = behind front rest are.2
 each : (epoch : ℕ) (frames : List Frame) → flight.AreFrames (sending [] epoch frames) → AreFrames frames
 each epoch [] are = tt
 each epoch (frame ∷ frames) are =
-    let split = subst flight.AreFrames (sending-append (record { epoch = epoch; frame = frame } ∷ []) epoch frames) are in
+    let split = subst flight.AreFrames (sending-behind (record { epoch = epoch; frame = frame } ∷ []) epoch frames) are in
     (split.1, each epoch frames split.2)
 
 pub all_good : (wire : List Sent) (epoch : ℕ) (frames : List Frame) → flight.AreFrames (sending wire epoch frames) → AreFrames frames
-all_good wire epoch frames are = each epoch frames (behind wire (sending [] epoch frames) (subst flight.AreFrames (sending-append wire epoch frames) are))
+all_good wire epoch frames are = each epoch frames (behind wire (sending [] epoch frames) (subst flight.AreFrames (sending-behind wire epoch frames) are))
 
 pub source_good : (world : World) (step : Step) (effect : Effect) (frames : List Frame) (new : Source) → IsWorld world → IsOfSource world step → from.IsMade world.source step effect frames new → AreFrames frames
 source_good world step effect frames new is of made =

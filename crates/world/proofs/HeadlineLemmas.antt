@@ -28,8 +28,8 @@ moved world reached done =
     record {
       alone = is_alone world kept done;
       stays = λ (steps : List Step).
-      let still = complete-after_steps world steps kept urgent done in
-      (still, is_alone (after_steps world steps) (kept-after_steps world steps kept urgent) still);
+          let still = complete-after_steps world steps kept urgent done in
+          (still, is_alone (after_steps world steps) (kept-after_steps world steps kept urgent) still);
     }
 
 settles : (world : World) → IsReached world → SettlesRight world

@@ -11,6 +11,7 @@ use Rattle.mig_model.specs.Migration.{Answer, World, answer, made, next, next_by
 use Rattle.mig_model.specs.Runs.{Happens, Outcome, may_lack, needs_memory}
 use Rattle.mig_model.specs.Source.{Source}
 use Rattle.mig_model.specs.Wire.{Frame, Sent, Wire, sending, wire_if, wire_with}
+use Rattle.mig_model.proofs.WireLemmas.{sending-behind}
 use Rattle.fault_handler.specs.Steps as to
 use Rattle.precopy.specs.Steps as from
 
@@ -37,13 +38,6 @@ pub happens_lacking : (world : World) (step : Step) → IsOk (outcome world step
 happens_lacking world step ok needs = inr (refl, lacks_by step (outcome world step) ok needs, refl)
 
 -- Frames behind others
-
-pub sending-append : (wire : List Sent) (epoch : ℕ) (frames : List Frame) → sending wire epoch frames ≡ wire ++ sending [] epoch frames
-sending-append wire epoch [] = sym (append-nil wire)
-sending-append wire epoch (frame ∷ frames) =
-    sending-append (wire ++ record { epoch = epoch; frame = frame } ∷ []) epoch frames
-    ∙ append_assoc wire (record { epoch = epoch; frame = frame } ∷ []) (sending [] epoch frames)
-    ∙ ap (λ rest. wire ++ rest) (sym (sending-append (record { epoch = epoch; frame = frame } ∷ []) epoch frames))
 
 sending-both : (wire : List Sent) (epoch : ℕ) (frames more : List Frame) → sending (sending wire epoch frames) epoch more ≡ sending wire epoch (frames ++ more)
 sending-both wire epoch [] more = refl
@@ -81,7 +75,7 @@ source_made world step effect frames new wire is made_ sent =
     (is ∙ ap (from.in_world world) made_
     ∙ (λ i. made effect (record world {
       source = new;
-      forward = record world.forward { frames = sym (sending-append world.forward.frames new.epoch frames) i };
+      forward = record world.forward { frames = sym (sending-behind world.forward.frames new.epoch frames) i };
       urgent = record world.urgent { frames = append-nil world.urgent.frames i };
       transcript = append-nil world.transcript i;
     }))
@@ -139,7 +133,7 @@ destination_refused world step refusal is needs refused =
     refused
 
 sent_if : (up : Bool) (wire : Wire) (epoch : ℕ) (frames : List Frame) → to.sent_behind up wire (wire_if true (record { frames = []; held = 0 }) epoch frames) ≡ wire_if up wire epoch frames
-sent_if true wire epoch frames = λ i. record wire { frames = sym (sending-append wire.frames epoch frames) i }
+sent_if true wire epoch frames = λ i. record wire { frames = sym (sending-behind wire.frames epoch frames) i }
 sent_if false wire epoch frames = refl
 
 pub destination_made : (world : World) (step : Step) (effect : Effect) (frames : List Frame) (new : Destination) (wire : Wire) → IsOfDestination world step → to.IsMade world.destination step effect frames new → wire ≡ wire_if world.up world.back new.epoch frames →

@@ -82,11 +82,7 @@ pub(crate) fn receive_urgent(
 }
 
 /// The source takes a frame that came back: the frames that it sends then. Want of memory changes nothing.
-pub(crate) fn hear(
-    alloc: Global,
-    source: &mut Source,
-    sent: &Sent,
-) -> Result<Vec<Frame>, NoMemory>
+pub(crate) fn hear(alloc: Global, source: &mut Source, sent: &Sent) -> Result<Vec<Frame>, NoMemory>
     requires right { back_fault source.old sent.now.epoch (frame_of sent.now.frame) ≡ None }
     requires recv { (state : Received) (owed : FinSet nat_cmp) → frame_of sent.now.frame ≡ machine.Frame.Recv state owed → rebuild_fault source.old state owed ≡ None }
     ensures took { OnOk result (source.new ≡ from.source_took source.old (frame_of sent.now.frame)) }
@@ -198,9 +194,7 @@ fn refusal_of(fault: TakeFault) -> Refusal
         TakeFault::InstallFirst => Refusal::InstallFirst,
         TakeFault::UrgentFirst => Refusal::UrgentFirst,
         // The others are of no frame in a world.
-        TakeFault::NoMemory
-        | TakeFault::OutOfPlace
-        | TakeFault::StaleEpoch
-        | TakeFault::BadFrame => Refusal::NoMemory,
+        TakeFault::NoMemory | TakeFault::OutOfPlace | TakeFault::StaleEpoch | TakeFault::BadFrame =>
+            Refusal::NoMemory,
     }
 }
