@@ -1,0 +1,255 @@
+-- Deliveries: what is refused, what moves bytes alone, and what a node takes.
+use Rattle.std.proofs.Common.{◌≡◌, ℕ, Bool, true, false, not, ◌&&◌, Option, Some, None, Ok, Err, Result, List, [], ◌∷◌, length, if◌then◌else◌, refl, sym, ap, ◌∙◌, subst, inl, inr, ⊎_elim, arith}
+use Rattle.std.proofs.lemmas.Bool.{false≢true}
+use Rattle.std.proofs.lemmas.Bool.Decides.{nat_tests}
+use Rattle.std.specs.Ordering.{nat_cmp}
+use Rattle.std.specs.FinSet.{FinSet}
+use Rattle.mig_base.specs.Tests.{first_holding, is_empty}
+use Rattle.mig_base.specs.declared.effect.Effect.{Effect}
+use Rattle.mig_base.specs.declared.fault.TakeFault.{TakeFault}
+use Rattle.mig_base.specs.declared.phase.Received.{Received}
+use Rattle.mig_base.specs.declared.refusal.Refusal.{Refusal}
+use Rattle.mig_base.specs.declared.schedule.Step.{Step}
+use Rattle.mig_model.specs.Destination.{Destination, destination_answers, destination_took, urgent_took}
+use Rattle.mig_model.specs.Faults.{back_fault, frame_fault, rebuild_fault, take_fault, urgent_fault, wait_fault}
+use Rattle.mig_model.specs.Migration.{Answer, World, after_deliver, after_deliver_back, after_deliver_urgent, after_move, after_move_back, after_move_urgent, answer, deliver_back_first, deliver_first, deliver_urgent_first, frame_effect, is_early, is_end, is_short, made, outcome, outcome_by, unless}
+use Rattle.mig_model.specs.Runs.{Happens, may_lack}
+use Rattle.mig_model.specs.Source.{Source, source_answers, source_took}
+use Rattle.mig_model.specs.Wire.{Frame, Sent, Wire, wire_behind, wire_if, wire_with}
+use Rattle.mig_model.specs.Wire.Frame.{Recv}
+use Rattle.mig_model.proofs.EveryStep.{kept-reached, urgent-reached}
+use Rattle.mig_model.proofs.FrameFaults.{no_back_fault, no_frame_fault, no_rebuild_fault, no_urgent_fault, present_below}
+use Rattle.mig_model.proofs.FramesTaken.{back_epoch, is_taken, is_taken_back}
+use Rattle.mig_model.proofs.UrgentKept.{is_taken_urgent}
+use Rattle.mig_model.proofs.WaitingAccesses.{as_many}
+use Rattle.mig_model.specs.Promises.{IsReached}
+use Rattle.mig_model.specs.Source.{space_of}
+use Rattle.frame_texts.specs.Flight as flight
+use Rattle.world.specs.Answers.{moving_answer}
+use Rattle.world.specs.Deliveries.{AreFrames, IsHandedBack, IsReceived, refusal_by}
+use Rattle.world.specs.Worlds.{IsWorld}
+use Rattle.world.proofs.FlightLemmas.{all_good, good, world_happens}
+use Rattle.world.proofs.StepLemmas.{happens_lacking, happens_made, happens_refused}
+
+-- The first frame of a wire
+
+pub no_first : (frames : List Sent) (sent : Sent) (rest : List Sent) → is_empty frames ≡ true → frames ≡ sent ∷ rest → ⊥
+no_first frames sent rest none first = false≢true (sym (ap is_empty first) ∙ none)
+
+pub none_there : (frames : List Sent) → is_empty frames ≡ true → frames ≡ []
+none_there [] h = refl
+none_there (sent ∷ rest) h = absurd (false≢true h)
+
+pub not_empty : (frames : List Sent) → is_empty frames ≡ false → frames ≡ [] → ⊥
+not_empty frames h none = false≢true (sym h ∙ ap is_empty none)
+
+pub record HasFirst (frames : List Sent) : Type 0 where
+  pub sent : Sent
+  pub rest : List Sent
+  pub is : frames ≡ sent ∷ rest
+
+pub first_there : (frames : List Sent) → is_empty frames ≡ false → HasFirst frames
+first_there [] h = absurd (false≢true (sym h))
+first_there (sent ∷ rest) h = record { sent = sent; rest = rest; is = refl }
+
+-- Deliver
+
+pub moving_up : (world : World) → moving_answer world ≡ Ok tt → world.up ≡ true
+moving_up world h = grind (arith, nat_tests)
+
+pub deliver_stopped : (world : World) (n : ℕ) (refusal : Refusal) → moving_answer world ≡ Err refusal → outcome world (Step.Deliver n) ≡ Err refusal
+unfolding unless outcome
+deliver_stopped world n refusal h = grind (arith, nat_tests)
+
+deliver_moving : (world : World) (n : ℕ) → moving_answer world ≡ Ok tt → answer world (Step.Deliver n) ≡ deliver_first world n world.forward.frames
+unfolding unless
+deliver_moving world n h = grind (arith, nat_tests)
+
+pub deliver_nothing : (world : World) (n : ℕ) → moving_answer world ≡ Ok tt → is_empty world.forward.frames ≡ true → outcome world (Step.Deliver n) ≡ Err Refusal.NothingThere
+unfolding outcome
+deliver_nothing world n h none = ap outcome_by (deliver_moving world n h ∙ ap (deliver_first world n) (none_there world.forward.frames none))
+
+deliver_short : (world : World) (n : ℕ) (sent : Sent) (rest : List Sent) → is_short world.forward sent.frame n ≡ true → deliver_first world n (sent ∷ rest) ≡ made (Effect.Moved n) (after_move world n)
+deliver_short world n sent rest short = rw short refl
+
+pub deliver_moved : (world : World) (n : ℕ) (sent : Sent) (rest : List Sent) → moving_answer world ≡ Ok tt → world.forward.frames ≡ sent ∷ rest → is_short world.forward sent.frame n ≡ true → Happens world (Step.Deliver n) (Ok (Effect.Moved n)) (after_move world n)
+deliver_moved world n sent rest h first short = happens_made world (after_move world n) (Step.Deliver n) (Effect.Moved n) (deliver_moving world n h ∙ ap (deliver_first world n) first ∙ deliver_short world n sent rest short)
+
+-- what a frame that is complete answers
+abbrev complete_answer : World → Sent → List Sent → Answer
+complete_answer world sent rest =
+    unless ((is_end sent.frame && not (is_empty world.destination.arrivals), Refusal.InstallFirst) ∷ (is_early world.destination sent.frame, Refusal.UrgentFirst) ∷ [])
+    (made (frame_effect sent.frame) (after_deliver world sent rest))
+
+deliver_full : (world : World) (n : ℕ) (sent : Sent) (rest : List Sent) → is_short world.forward sent.frame n ≡ false → deliver_first world n (sent ∷ rest) ≡ complete_answer world sent rest
+deliver_full world n sent rest full = rw full refl
+
+pub deliver_complete : (world : World) (n : ℕ) (sent : Sent) (rest : List Sent) → moving_answer world ≡ Ok tt → world.forward.frames ≡ sent ∷ rest → is_short world.forward sent.frame n ≡ false → answer world (Step.Deliver n) ≡ complete_answer world sent rest
+deliver_complete world n sent rest h first full = deliver_moving world n h ∙ ap (deliver_first world n) first ∙ deliver_full world n sent rest full
+
+takes_it : (world : World) (sent : Sent) (rest : List Sent) → take_fault world.destination sent.epoch sent.frame ≡ None → complete_answer world sent rest ≡ made (frame_effect sent.frame) (after_deliver world sent rest)
+unfolding unless
+takes_it world sent rest fits = grind (arith, nat_tests)
+
+pub deliver_takes : (world : World) (n : ℕ) (sent : Sent) (rest : List Sent) → moving_answer world ≡ Ok tt → world.forward.frames ≡ sent ∷ rest → is_short world.forward sent.frame n ≡ false → take_fault world.destination sent.epoch sent.frame ≡ None →
+    answer world (Step.Deliver n) ≡ made (frame_effect sent.frame) (after_deliver world sent rest)
+deliver_takes world n sent rest h first full fits = deliver_complete world n sent rest h first full ∙ takes_it world sent rest fits
+
+-- what is sent for a frame that is taken may be sent
+pub answers_good : (world : World) (n : ℕ) (sent : Sent) (rest : List Sent) → IsWorld world → moving_answer world ≡ Ok tt → world.forward.frames ≡ sent ∷ rest → is_short world.forward sent.frame n ≡ false → take_fault world.destination sent.epoch sent.frame ≡ None →
+    AreFrames (destination_answers world.destination sent.frame)
+answers_good world n sent rest is h first full fits =
+    all_good world.back.frames (destination_took world.destination sent.epoch sent.frame).epoch (destination_answers world.destination sent.frame)
+    (subst (λ up. flight.AreFrames (wire_if up world.back (destination_took world.destination sent.epoch sent.frame).epoch (destination_answers world.destination sent.frame)).frames) (moving_up world h)
+    (good _ (world_happens world _ (Step.Deliver n) (Ok (frame_effect sent.frame)) is (happens_made world _ (Step.Deliver n) (frame_effect sent.frame) (deliver_takes world n sent rest h first full fits)))).back)
+
+left_is : (left : Wire) → left.held ≡ 0 → left ≡ wire_behind left.frames
+left_is left held = λ i. record left { held = held i }
+
+pub deliver_took : (world : World) (n : ℕ) (sent : Sent) (left back : Wire) (effect : Effect) (node : Destination) → moving_answer world ≡ Ok tt → world.forward.frames ≡ sent ∷ left.frames → left.held ≡ 0 → is_short world.forward sent.frame n ≡ false →
+    IsReceived world.destination sent effect node → back ≡ wire_with world.back node.epoch (destination_answers world.destination sent.frame) → Happens world (Step.Deliver n) (Ok effect) (record world { destination = node; forward = left; back = back })
+deliver_took world n sent left back effect node h first held full received answered =
+    happens_made world (record world { destination = node; forward = left; back = back }) (Step.Deliver n) effect
+    (deliver_takes world n sent left.frames h first full received.fits
+    ∙ (λ i. made (sym received.effect i) (record world {
+      destination = sym received.node i;
+      forward = sym (left_is left held) i;
+      back = wire_if (moving_up world h i) world.back (sym received.node i).epoch (destination_answers world.destination sent.frame);
+    }))
+    ∙ (λ i. made effect (record world { destination = node; forward = left; back = sym answered i })))
+
+-- A frame that is handed back
+
+wait_refused : (world : World) (sent : Sent) (rest : List Sent) (fault : TakeFault) → frame_fault world.destination sent.epoch sent.frame ≡ None → take_fault world.destination sent.epoch sent.frame ≡ Some fault → complete_answer world sent rest ≡ Err (refusal_by fault)
+unfolding unless
+wait_refused world sent rest fault right waits = grind (arith, nat_tests)
+
+lacks_at_all : (world : World) (n : ℕ) (sent : Sent) (rest : List Sent) → may_lack (Step.Deliver n) (outcome_by (complete_answer world sent rest)) ≡ true
+unfolding unless
+lacks_at_all world n sent rest = grind (arith, nat_tests)
+
+deliver_lacking : (world : World) (n : ℕ) (sent : Sent) (rest : List Sent) → moving_answer world ≡ Ok tt → world.forward.frames ≡ sent ∷ rest → is_short world.forward sent.frame n ≡ false → Happens world (Step.Deliver n) (Err Refusal.NoMemory) world
+unfolding outcome
+deliver_lacking world n sent rest h first full =
+    inr (refl, ap (λ a. may_lack (Step.Deliver n) (outcome_by a)) (deliver_complete world n sent rest h first full) ∙ lacks_at_all world n sent rest, refl)
+
+deliver_waits : (world : World) (n : ℕ) (sent : Sent) (rest : List Sent) (fault : TakeFault) → moving_answer world ≡ Ok tt → world.forward.frames ≡ sent ∷ rest → is_short world.forward sent.frame n ≡ false → frame_fault world.destination sent.epoch sent.frame ≡ None →
+    take_fault world.destination sent.epoch sent.frame ≡ Some fault → outcome world (Step.Deliver n) ≡ Err (refusal_by fault)
+unfolding outcome
+deliver_waits world n sent rest fault h first full right waits = ap outcome_by (deliver_complete world n sent rest h first full ∙ wait_refused world sent rest fault right waits)
+
+pub deliver_handed_back : (world : World) (n : ℕ) (sent : Sent) (rest : List Sent) (refusal : Refusal) → moving_answer world ≡ Ok tt → world.forward.frames ≡ sent ∷ rest → is_short world.forward sent.frame n ≡ false → frame_fault world.destination sent.epoch sent.frame ≡ None →
+    IsHandedBack world.destination sent refusal → Happens world (Step.Deliver n) (Err refusal) world
+deliver_handed_back world n sent rest refusal h first full right back =
+    ⊎_elim
+    (λ (short : refusal ≡ Refusal.NoMemory). subst (λ r. Happens world (Step.Deliver n) (Err r) world) (sym short) (deliver_lacking world n sent rest h first full))
+    (λ (waits : (fault : TakeFault) × (take_fault world.destination sent.epoch sent.frame ≡ Some fault) × (refusal ≡ refusal_by fault)).
+    subst (λ r. Happens world (Step.Deliver n) (Err r) world) (sym waits.2) (happens_refused world (Step.Deliver n) (refusal_by waits.0) (deliver_waits world n sent rest waits.0 h first full right waits.1)))
+    back
+
+-- no frame is refused but for having to wait
+pub forward_right : (world : World) (sent : Sent) (rest : List Sent) → IsReached world → moving_answer world ≡ Ok tt → world.forward.frames ≡ sent ∷ rest → frame_fault world.destination sent.epoch sent.frame ≡ None
+forward_right world sent rest reached h first = no_frame_fault world.destination sent (is_taken world sent rest (kept-reached world reached) (urgent-reached world reached) (as_many world reached) (moving_up world h) first)
+
+-- DeliverBack
+
+pub back_stopped : (world : World) (n : ℕ) (refusal : Refusal) → moving_answer world ≡ Err refusal → outcome world (Step.DeliverBack n) ≡ Err refusal
+unfolding unless outcome
+back_stopped world n refusal h = grind (arith, nat_tests)
+
+back_moving : (world : World) (n : ℕ) → moving_answer world ≡ Ok tt → answer world (Step.DeliverBack n) ≡ deliver_back_first world n world.back.frames
+unfolding unless
+back_moving world n h = grind (arith, nat_tests)
+
+pub back_nothing : (world : World) (n : ℕ) → moving_answer world ≡ Ok tt → is_empty world.back.frames ≡ true → outcome world (Step.DeliverBack n) ≡ Err Refusal.NothingThere
+unfolding outcome
+back_nothing world n h none = ap outcome_by (back_moving world n h ∙ ap (deliver_back_first world n) (none_there world.back.frames none))
+
+back_short : (world : World) (n : ℕ) (sent : Sent) (rest : List Sent) → is_short world.back sent.frame n ≡ true → deliver_back_first world n (sent ∷ rest) ≡ made (Effect.Moved n) (after_move_back world n)
+back_short world n sent rest short = rw short refl
+
+pub back_moved : (world : World) (n : ℕ) (sent : Sent) (rest : List Sent) → moving_answer world ≡ Ok tt → world.back.frames ≡ sent ∷ rest → is_short world.back sent.frame n ≡ true → Happens world (Step.DeliverBack n) (Ok (Effect.Moved n)) (after_move_back world n)
+back_moved world n sent rest h first short = happens_made world (after_move_back world n) (Step.DeliverBack n) (Effect.Moved n) (back_moving world n h ∙ ap (deliver_back_first world n) first ∙ back_short world n sent rest short)
+
+back_full : (world : World) (n : ℕ) (sent : Sent) (rest : List Sent) → is_short world.back sent.frame n ≡ false → deliver_back_first world n (sent ∷ rest) ≡ made (frame_effect sent.frame) (after_deliver_back world sent rest)
+back_full world n sent rest full = rw full refl
+
+pub back_takes : (world : World) (n : ℕ) (sent : Sent) (rest : List Sent) → moving_answer world ≡ Ok tt → world.back.frames ≡ sent ∷ rest → is_short world.back sent.frame n ≡ false →
+    answer world (Step.DeliverBack n) ≡ made (frame_effect sent.frame) (after_deliver_back world sent rest)
+back_takes world n sent rest h first full = back_moving world n h ∙ ap (deliver_back_first world n) first ∙ back_full world n sent rest full
+
+pub back_good : (world : World) (n : ℕ) (sent : Sent) (rest : List Sent) → IsWorld world → moving_answer world ≡ Ok tt → world.back.frames ≡ sent ∷ rest → is_short world.back sent.frame n ≡ false → AreFrames (source_answers world.source sent.frame)
+back_good world n sent rest is h first full =
+    all_good world.forward.frames (source_took world.source sent.frame).epoch (source_answers world.source sent.frame)
+    (good _ (world_happens world _ (Step.DeliverBack n) (Ok (frame_effect sent.frame)) is (happens_made world _ (Step.DeliverBack n) (frame_effect sent.frame) (back_takes world n sent rest h first full)))).forward
+
+pub back_took : (world : World) (n : ℕ) (sent : Sent) (left forward : Wire) (node : Source) → moving_answer world ≡ Ok tt → world.back.frames ≡ sent ∷ left.frames → left.held ≡ 0 → is_short world.back sent.frame n ≡ false →
+    node ≡ source_took world.source sent.frame → forward ≡ wire_with world.forward node.epoch (source_answers world.source sent.frame) → Happens world (Step.DeliverBack n) (Ok (frame_effect sent.frame)) (record world { source = node; back = left; forward = forward })
+back_took world n sent left forward node h first held full took answered =
+    happens_made world (record world { source = node; back = left; forward = forward }) (Step.DeliverBack n) (frame_effect sent.frame)
+    (back_takes world n sent left.frames h first full
+    ∙ (λ i. made (frame_effect sent.frame) (record world {
+      source = sym took i;
+      back = sym (left_is left held) i;
+      forward = wire_with world.forward (sym took i).epoch (source_answers world.source sent.frame);
+    }))
+    ∙ (λ i. made (frame_effect sent.frame) (record world { source = node; back = left; forward = sym answered i })))
+
+pub back_lacking : (world : World) (n : ℕ) (sent : Sent) (rest : List Sent) → moving_answer world ≡ Ok tt → world.back.frames ≡ sent ∷ rest → is_short world.back sent.frame n ≡ false → Happens world (Step.DeliverBack n) (Err Refusal.NoMemory) world
+unfolding outcome
+back_lacking world n sent rest h first full = inr (refl, ap (λ a. may_lack (Step.DeliverBack n) (outcome_by a)) (back_takes world n sent rest h first full), refl)
+
+pub back_right : (world : World) (sent : Sent) (rest : List Sent) → IsReached world → moving_answer world ≡ Ok tt → world.back.frames ≡ sent ∷ rest → back_fault world.source sent.epoch sent.frame ≡ None
+back_right world sent rest reached h first =
+    no_back_fault world.source sent (is_taken_back world sent rest (kept-reached world reached) (moving_up world h) first) (back_epoch world sent rest (kept-reached world reached) first)
+
+pub recv_right : (world : World) (epoch : ℕ) (state : Received) (owed : FinSet nat_cmp) (rest : List Sent) → IsReached world → moving_answer world ≡ Ok tt → world.back.frames ≡ record { epoch = epoch; frame = Recv state owed } ∷ rest → rebuild_fault world.source state owed ≡ None
+recv_right world epoch state owed rest reached h first =
+    no_rebuild_fault world.source state owed (present_below (space_of world.source) (kept-reached world reached).spaces.source_space) (is_taken_back world _ rest (kept-reached world reached) (moving_up world h) first)
+
+-- DeliverUrgent
+
+pub urgent_outside : (world : World) (n : ℕ) → world.destination.has_run ≡ false → outcome world (Step.DeliverUrgent n) ≡ Err Refusal.Phase
+unfolding unless outcome
+urgent_outside world n h = grind (arith, nat_tests)
+
+pub urgent_down : (world : World) (n : ℕ) → world.destination.has_run ≡ true → world.up ≡ false → outcome world (Step.DeliverUrgent n) ≡ Err Refusal.Broken
+unfolding unless outcome
+urgent_down world n h down = grind (arith, nat_tests)
+
+urgent_moving : (world : World) (n : ℕ) → world.destination.has_run ≡ true → world.up ≡ true → answer world (Step.DeliverUrgent n) ≡ deliver_urgent_first world n world.urgent.frames
+unfolding unless
+urgent_moving world n ran up = grind (arith, nat_tests)
+
+pub urgent_nothing : (world : World) (n : ℕ) → world.destination.has_run ≡ true → world.up ≡ true → is_empty world.urgent.frames ≡ true → outcome world (Step.DeliverUrgent n) ≡ Err Refusal.NothingThere
+unfolding outcome
+urgent_nothing world n ran up none = ap outcome_by (urgent_moving world n ran up ∙ ap (deliver_urgent_first world n) (none_there world.urgent.frames none))
+
+urgent_short : (world : World) (n : ℕ) (sent : Sent) (rest : List Sent) → is_short world.urgent sent.frame n ≡ true → deliver_urgent_first world n (sent ∷ rest) ≡ made (Effect.Moved n) (after_move_urgent world n)
+urgent_short world n sent rest short = rw short refl
+
+pub urgent_moved : (world : World) (n : ℕ) (sent : Sent) (rest : List Sent) → world.destination.has_run ≡ true → world.up ≡ true → world.urgent.frames ≡ sent ∷ rest → is_short world.urgent sent.frame n ≡ true →
+    Happens world (Step.DeliverUrgent n) (Ok (Effect.Moved n)) (after_move_urgent world n)
+urgent_moved world n sent rest ran up first short =
+    happens_made world (after_move_urgent world n) (Step.DeliverUrgent n) (Effect.Moved n) (urgent_moving world n ran up ∙ ap (deliver_urgent_first world n) first ∙ urgent_short world n sent rest short)
+
+urgent_full : (world : World) (n : ℕ) (sent : Sent) (rest : List Sent) → is_short world.urgent sent.frame n ≡ false → deliver_urgent_first world n (sent ∷ rest) ≡ made (frame_effect sent.frame) (after_deliver_urgent world sent rest)
+urgent_full world n sent rest full = rw full refl
+
+urgent_takes : (world : World) (n : ℕ) (sent : Sent) (rest : List Sent) → world.destination.has_run ≡ true → world.up ≡ true → world.urgent.frames ≡ sent ∷ rest → is_short world.urgent sent.frame n ≡ false →
+    answer world (Step.DeliverUrgent n) ≡ made (frame_effect sent.frame) (after_deliver_urgent world sent rest)
+urgent_takes world n sent rest ran up first full = urgent_moving world n ran up ∙ ap (deliver_urgent_first world n) first ∙ urgent_full world n sent rest full
+
+pub urgent_did : (world : World) (n : ℕ) (sent : Sent) (left : Wire) (node : Destination) → world.destination.has_run ≡ true → world.up ≡ true → world.urgent.frames ≡ sent ∷ left.frames → left.held ≡ 0 → is_short world.urgent sent.frame n ≡ false →
+    node ≡ urgent_took world.destination sent.frame → Happens world (Step.DeliverUrgent n) (Ok (frame_effect sent.frame)) (record world { destination = node; urgent = left })
+urgent_did world n sent left node ran up first held full took =
+    happens_made world (record world { destination = node; urgent = left }) (Step.DeliverUrgent n) (frame_effect sent.frame)
+    (urgent_takes world n sent left.frames ran up first full ∙ (λ i. made (frame_effect sent.frame) (record world { destination = sym took i; urgent = sym (left_is left held) i })))
+
+pub urgent_lacking : (world : World) (n : ℕ) (sent : Sent) (rest : List Sent) → world.destination.has_run ≡ true → world.up ≡ true → world.urgent.frames ≡ sent ∷ rest → is_short world.urgent sent.frame n ≡ false →
+    Happens world (Step.DeliverUrgent n) (Err Refusal.NoMemory) world
+unfolding outcome
+urgent_lacking world n sent rest ran up first full = inr (refl, ap (λ a. may_lack (Step.DeliverUrgent n) (outcome_by a)) (urgent_takes world n sent rest ran up first full), refl)
+
+pub urgent_right : (world : World) (sent : Sent) (rest : List Sent) → IsReached world → world.destination.has_run ≡ true → world.up ≡ true → world.urgent.frames ≡ sent ∷ rest → urgent_fault world.destination sent.epoch sent.frame ≡ None
+urgent_right world sent rest reached ran up first = no_urgent_fault world.destination sent (is_taken_urgent world sent rest (kept-reached world reached) (urgent-reached world reached) ran up first)

@@ -1,0 +1,62 @@
+-- What is promised of every world, law by law.
+use Rattle.std.proofs.Common.{◌≡◌, ◌∙◌, List}
+use Rattle.mig_base.specs.declared.schedule.Step.{Step}
+use Rattle.mig_model.specs.Migration.{World, after_steps}
+use Rattle.mig_model.specs.Promises.{IsComplete, IsReached}
+use Rattle.mig_model.proofs.DestinationAct.{install_put_next}
+use Rattle.mig_model.proofs.EveryStep.{complete-after_steps, kept-after_steps, kept-reached, urgent-reached}
+use Rattle.mig_model.proofs.PromiseLemmas.{are_paired, are_under_way, is_alone, is_precopying, is_receiving, is_switching}
+use Rattle.mig_model.proofs.SettledPromises.{settled_call, settled_dropped, settled_else, settled_install}
+use Rattle.mig_model.proofs.StepPromises.{destination_zeroed, source_zeroed}
+use Rattle.mig_model.proofs.ViewPromises.{phase_complete}
+use Rattle.mig_model.proofs.WaitingAccesses.{are_accesses}
+use Rattle.world.specs.Headline.{Headline, InstallsNothingOver, IsMoved, SettlesRight}
+use Rattle.world.specs.Worlds.{IsWorld}
+
+installs : (world : World) → IsReached world → InstallsNothingOver world
+installs world reached =
+    record {
+      copy = λ addr source h. install_put_next world addr source (kept-reached world reached) h;
+      source_zero = λ addr h. source_zeroed world addr h;
+      destination_zero = λ addr h. destination_zeroed world addr h;
+    }
+
+moved : (world : World) → IsReached world → IsComplete world → IsMoved world
+moved world reached done =
+    let kept = kept-reached world reached in
+    let urgent = urgent-reached world reached in
+    record {
+      alone = is_alone world kept done;
+      stays = λ (steps : List Step).
+      let still = complete-after_steps world steps kept urgent done in
+      (still, is_alone (after_steps world steps) (kept-after_steps world steps kept urgent) still);
+    }
+
+settles : (world : World) → IsReached world → SettlesRight world
+settles world reached =
+    record {
+      call = λ cpu command page ran is ok. settled_call world cpu command (kept-reached world reached) ran is page ok;
+      install = λ addr source page h. settled_install world addr source h page;
+      dropped = λ source page h. settled_dropped world source h page;
+      others = λ step page ran leaves. settled_else world step (kept-reached world reached) (are_accesses world reached) ran leaves page;
+    }
+
+pub headline_reached : (world : World) → IsReached world → Headline world
+headline_reached world reached =
+    let kept = kept-reached world reached in
+    record {
+      reached = reached;
+      flat = kept.memory.flat;
+      installs = installs world reached;
+      complete = λ h. moved world reached ((phase_complete world).0 h);
+      current = kept.memory.holds;
+      settles = settles world reached;
+      under_way = λ ran. are_under_way world kept (urgent-reached world reached) ran;
+      packaged = λ up stopped ran. is_switching world kept up stopped ran;
+      received = λ up paused runs. is_receiving world kept up paused runs;
+      clean = λ up precopy. is_precopying world kept up precopy;
+      pairs = are_paired world kept;
+    }
+
+pub headline_of : (world : World) → IsWorld world → Headline world
+headline_of world is = headline_reached world is.reached

@@ -1,0 +1,32 @@
+-- What a destination makes of a frame that it is handed in a world.
+use Rattle.std.specs.Prelude.{◌≡◌, ◌⊎◌, None, Some, List, [], ◌∷◌}
+use Rattle.mig_base.specs.declared.effect.Effect.{Effect}
+use Rattle.mig_base.specs.declared.fault.TakeFault.{TakeFault}
+use Rattle.mig_base.specs.declared.refusal.Refusal.{Refusal}
+use Rattle.mig_model.specs.Bounds.{IsFrame}
+use Rattle.mig_model.specs.Destination.{Destination, destination_took}
+use Rattle.mig_model.specs.Faults.{take_fault}
+use Rattle.mig_model.specs.Migration.{frame_effect}
+use Rattle.mig_model.specs.Wire.{Frame, Sent}
+
+-- each of them may be sent
+abbrev pub AreFrames : List Frame → Type 0
+AreFrames [] = Unit {0}
+AreFrames (frame ∷ frames) = IsFrame frame × AreFrames frames
+
+-- how a delivery is refused for a fault. But for those that have it wait, no frame in a world has one
+abbrev pub refusal_by : TakeFault → Refusal
+refusal_by TakeFault.InstallFirst = Refusal.InstallFirst
+refusal_by TakeFault.UrgentFirst = Refusal.UrgentFirst
+refusal_by fault = Refusal.NoMemory
+
+-- the destination has taken it
+pub record IsReceived (old : Destination) (sent : Sent) (effect : Effect) (new : Destination) : Type 0 where
+  pub fits : take_fault old sent.epoch sent.frame ≡ None
+  pub effect : effect ≡ frame_effect sent.frame
+  pub node : new ≡ destination_took old sent.epoch sent.frame
+
+-- it was handed back, for want of memory, or since it has to wait
+abbrev pub IsHandedBack : Destination → Sent → Refusal → Type 0
+IsHandedBack old sent refusal =
+    (refusal ≡ Refusal.NoMemory) ⊎ ((fault : TakeFault) × (take_fault old sent.epoch sent.frame ≡ Some fault) × (refusal ≡ refusal_by fault))

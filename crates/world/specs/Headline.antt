@@ -1,0 +1,65 @@
+-- What is promised of every world, whatever list of steps has led to it: by processors, handlers, pushers and deliveries, lost channels and
+-- resumptions. The transcript is the run of one flat memory on the same commands, in the order in which they took effect; no page is
+-- installed over one that is present; and when the migration is complete, the destination alone holds that flat memory, and no page is owed.
+use Rattle.std.specs.Prelude.{◌≡◌, ℕ, ◌/◌, ◌==◌, true, false, if◌then◌else◌, None, Ok, IsOk, is_some, List}
+use Rattle.mig_base.specs.Commands.{is_access}
+use Rattle.mig_base.specs.Flat.{IsFlatRun, memory_of, reply_of}
+use Rattle.mig_base.specs.declared.TheConstants.{PAGE_SIZE}
+use Rattle.mig_base.specs.declared.command.Command.{Command}
+use Rattle.mig_base.specs.declared.effect.Effect.{Effect}
+use Rattle.mig_base.specs.declared.phase.Received.{Received}
+use Rattle.mig_base.specs.declared.schedule.Step.{Step}
+use Rattle.mig_base.specs.declared.step.WorldPhase.{WorldPhase}
+use Rattle.mig_model.specs.Destination.{is_running, settled}
+use Rattle.mig_model.specs.Host.{memory}
+use Rattle.mig_model.specs.Invariant.{IsPrecopying, IsReceiving, IsSwitching, current_host}
+use Rattle.mig_model.specs.Migration.{World, after_steps, next, outcome}
+use Rattle.mig_model.specs.Promises.{AreUnderWay, ArePaired, IsAlone, IsComplete, IsPut, IsReached, IsZeroed, leaves_settled, owed_changed}
+use Rattle.mig_model.specs.Source.{is_precopy, is_source_paused, is_stopped, space_of}
+use Rattle.mig_model.specs.Views.{phase_of}
+
+-- the next step installs nothing over a page that is present, neither a copy, which is that of the page from which it was owed, nor a page of
+-- zeros
+pub record InstallsNothingOver (world : World) : Type 0 where
+  pub copy : (addr source : ℕ) → outcome world Step.Install ≡ Ok (Effect.Installed addr source) → IsPut world (next world Step.Install) (addr / PAGE_SIZE) (source / PAGE_SIZE)
+  pub source_zero : (addr : ℕ) → outcome world Step.SourceAct ≡ Ok (Effect.Zeroed addr) → IsZeroed (space_of world.source) (space_of (next world Step.SourceAct).source) (addr / PAGE_SIZE)
+  pub destination_zero : (addr : ℕ) → outcome world Step.DestAct ≡ Ok (Effect.Zeroed addr) → IsZeroed world.destination.guest.space (next world Step.DestAct).destination.guest.space (addr / PAGE_SIZE)
+
+-- the destination alone holds the flat memory, and no page is owed, now and after any steps
+pub record IsMoved (world : World) : Type 0 where
+  pub alone : IsAlone world
+  pub stays : (steps : List Step) → IsComplete (after_steps world steps) × IsAlone (after_steps world steps)
+
+-- where the destination has run, the next step changes which page of the source is owed where, once the unread events are applied, only as
+-- it changes the pages: a map call by what it does to its range, an install by its own pair, and no other step at all
+pub record SettlesRight (world : World) : Type 0 where
+  pub call : (cpu : ℕ) (command : Command) (page : ℕ) → world.destination.has_run ≡ true → is_access command ≡ false → IsOk (outcome world (Step.Issue cpu command)) →
+      settled (next world (Step.Issue cpu command)).destination page ≡ owed_changed (settled world.destination) command (reply_of (memory world.destination.guest.space.host) command) page
+  pub install : (addr source page : ℕ) → outcome world Step.Install ≡ Ok (Effect.Installed addr source) →
+      settled (next world Step.Install).destination page ≡ (if page == addr / PAGE_SIZE then None else settled world.destination page)
+  pub dropped : (source page : ℕ) → outcome world Step.Install ≡ Ok (Effect.Dropped source) → settled (next world Step.Install).destination page ≡ settled world.destination page
+  pub others : (step : Step) (page : ℕ) → world.destination.has_run ≡ true → leaves_settled step ≡ true → settled (next world step).destination page ≡ settled world.destination page
+
+pub record Headline (world : World) : Type 0 where
+  -- some list of steps leads to it from a first world, so every law of such worlds speaks of it
+  pub reached : IsReached world
+  -- the three sentences
+  pub flat : IsFlatRun world.transcript
+  pub installs : InstallsNothingOver world
+  pub complete : phase_of world ≡ WorldPhase.Complete → IsMoved world
+  -- what the guest sees is the last memory of the transcript
+  pub current : memory (current_host world) ≡ memory_of world.transcript
+  -- what is owed follows the pages
+  pub settles : SettlesRight world
+  -- from the run on, each owed page is still to be pushed, in flight or arrived, with the source's bytes
+  pub under_way : world.destination.has_run ≡ true → AreUnderWay world
+  -- between Switch and the run, what will be kept is what the source has and does not owe
+  pub packaged : world.up ≡ true → is_stopped world.source.phase ≡ true → world.destination.has_run ≡ false →
+      IsSwitching world.source world.destination.kept world.forward.frames world.urgent.frames
+  -- after a resumption, the list of the destination has each page that it still needs, and the source has all of them
+  pub received : world.up ≡ true → is_source_paused world.source.phase ≡ true → is_running world.destination.phase ≡ true →
+      IsReceiving world.source world.destination Received.Running world.back.frames
+  -- during pre-copy, the newest copy of a clean page is the source's page
+  pub clean : world.up ≡ true → is_precopy world.source.phase ≡ true → IsPrecopying world.source world.destination.kept world.forward.frames
+  -- owed pages are paired one to one with pages that the source has
+  pub pairs : ArePaired world

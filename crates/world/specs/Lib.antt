@@ -1,0 +1,5 @@
+pub mod Answers
+pub mod Codes
+pub mod Deliveries
+pub mod Headline
+pub mod Worlds

@@ -1,0 +1,205 @@
+//! What is told of a frame that a node takes, what it answers, and frames that are put on a wire.
+
+ghost use Rattle.std.specs.Prelude.{◌≡◌, ◌≤◌, ◌<◌, ◌+◌, ◌++◌, None, length, map, option_to_list, IfOk, IfErr, OnOk, OnErr};
+ghost use Rattle.std.specs.FinSet.{FinSet};
+ghost use Rattle.std.specs.Ordering.{nat_cmp};
+ghost use Rattle.mig_base.specs.declared.phase.Received.{Received};
+ghost use Rattle.mig_model.specs.Bounds.{IsFrame};
+ghost use Rattle.mig_model.specs.Destination as to;
+ghost use Rattle.mig_model.specs.Faults.{back_fault, frame_fault, rebuild_fault, take_fault, urgent_fault};
+ghost use Rattle.mig_model.specs.Migration.{frame_effect};
+ghost use Rattle.mig_model.specs.Source as from;
+ghost use Rattle.mig_model.specs.Wire as machine;
+ghost use Rattle.fault_handler.specs.Taking.{answered_at_once};
+ghost use Rattle.page_stream.specs.Frames.{frame_of};
+ghost use Rattle.recovery.specs.Breaks.{frames_of};
+ghost use Rattle.wires.specs.Lanes.{sent_of};
+ghost use Rattle.world.specs.Deliveries.{AreFrames, IsHandedBack, IsReceived, refusal_by};
+
+use fault_handler::Destination;
+use mig_base::effect::Effect;
+use mig_base::fault::TakeFault;
+use mig_base::phase::Received;
+use mig_base::refusal::Refusal;
+use mig_base::{NoMemory, page_address};
+use page_stream::Frame;
+use precopy::Source;
+use recovery::{rebuild, report_received, rerequest};
+use std::alloc::Global;
+use wires::{Sent, Wire};
+
+/// The destination takes a frame, and answers it on the wire back. A frame that it does not take now is handed back, and nothing is changed.
+pub(crate) fn receive(
+    alloc: Global,
+    destination: &mut Destination,
+    back: &mut Wire,
+    sent: Sent,
+) -> Result<Effect, (Refusal, Sent)>
+    requires frame { IsFrame (frame_of sent.frame) }
+    requires right { frame_fault destination.old sent.epoch (frame_of sent.frame) ≡ None }
+    requires answers { take_fault destination.old sent.epoch (frame_of sent.frame) ≡ None → AreFrames (to.destination_answers destination.old (frame_of sent.frame)) }
+    ensures received { IfOk result (λ effect. IsReceived destination.old (sent_of sent) effect destination.new) }
+    ensures answered { OnOk result (back.new.wire ≡ machine.wire_with back.old.wire destination.new.epoch (to.destination_answers destination.old (frame_of sent.frame))) }
+    ensures refused { IfErr result (λ refused. (refused.1 ≡ sent) × IsHandedBack destination.old (sent_of sent) refused.0) }
+    ensures err { OnErr result ((destination.new ≡ destination.old) × (back.new.wire ≡ back.old.wire)) }
+{
+    let effect = told(&sent.frame);
+    let Ok(answers) = answers_to(alloc, destination, &sent.frame) else {
+        return Err((Refusal::NoMemory, sent));
+    };
+    let Ok(()) = back.reserve(answers.len() + 1) else {
+        return Err((Refusal::NoMemory, sent));
+    };
+    let epoch = sent.epoch;
+    match destination.take(epoch, sent.frame) {
+        Ok(answer) => {
+            push_all(back, destination.epoch(), answers);
+            push_one(back, destination.epoch(), answer);
+            Ok(effect)
+        }
+        Err((fault, frame)) => Err((refusal_of(fault), Sent { epoch, frame })),
+    }
+}
+
+/// The destination takes a frame of the urgent wire. Where there is no memory for it, it is handed back, and nothing is changed.
+pub(crate) fn receive_urgent(
+    destination: &mut Destination,
+    sent: Sent,
+) -> Result<Effect, (NoMemory, Sent)>
+    requires frame { IsFrame (frame_of sent.frame) }
+    requires right { urgent_fault destination.old sent.epoch (frame_of sent.frame) ≡ None }
+    ensures effect { IfOk result (λ effect. effect ≡ frame_effect (frame_of sent.frame)) }
+    ensures took { OnOk result (destination.new ≡ to.urgent_took destination.old (frame_of sent.frame)) }
+    ensures refused { IfErr result (λ refused. refused.1 ≡ sent) }
+    ensures err { OnErr result (destination.new ≡ destination.old) }
+{
+    let effect = told(&sent.frame);
+    let epoch = sent.epoch;
+    match destination.take_urgent(epoch, sent.frame) {
+        Ok(()) => Ok(effect),
+        Err((_, frame)) => Err((NoMemory, Sent { epoch, frame })),
+    }
+}
+
+/// The source takes a frame that came back: the frames that it sends then. Want of memory changes nothing.
+pub(crate) fn hear(
+    alloc: Global,
+    source: &mut Source,
+    sent: &Sent,
+) -> Result<Vec<Frame>, NoMemory>
+    requires right { back_fault source.old sent.now.epoch (frame_of sent.now.frame) ≡ None }
+    requires recv { (state : Received) (owed : FinSet nat_cmp) → frame_of sent.now.frame ≡ machine.Frame.Recv state owed → rebuild_fault source.old state owed ≡ None }
+    ensures took { OnOk result (source.new ≡ from.source_took source.old (frame_of sent.now.frame)) }
+    ensures frames { IfOk result (λ frames. frames_of frames.items ≡ from.source_answers source.old (frame_of sent.now.frame)) }
+    ensures err { OnErr result (source.new ≡ source.old) }
+{
+    let Ok(()) = source.back(sent.epoch, &sent.frame) else {
+        return Err(NoMemory);
+    };
+    match &sent.frame {
+        Frame::Recv { state, owed } => match rebuild(alloc, source, *state, owed) {
+            Ok(frames) => Ok(frames),
+            Err(_) => Err(NoMemory),
+        },
+        _ => Ok(Vec::new(alloc)),
+    }
+}
+
+/// What the destination answers a frame, apart from what it answers as it takes it: to a Resume, how far it has come and its requests once
+/// more.
+fn answers_to(
+    alloc: Global,
+    destination: &Destination,
+    frame: &Frame,
+) -> Result<Vec<Frame>, NoMemory>
+    ensures { IfOk result (λ answers. frames_of answers.items ++ answered_at_once destination.now (frame_of frame.now) ≡ to.destination_answers destination.now (frame_of frame.now)) }
+{
+    match frame {
+        Frame::Resume => report(alloc, destination),
+        _ => Ok(Vec::new(alloc)),
+    }
+}
+
+/// How far the destination has come, and behind it, where it runs, its requests once more.
+fn report(alloc: Global, destination: &Destination) -> Result<Vec<Frame>, NoMemory>
+    ensures { IfOk result (λ answers. frames_of answers.items ≡ to.destination_answers destination.now machine.Frame.Resume) }
+{
+    let received = report_received(alloc, destination)?;
+    let mut requests = match destination.received() {
+        Received::Running => rerequest(alloc, destination)?,
+        Received::NotRun | Received::Ended => Vec::new(alloc),
+    };
+    requests.insert(0, received)?;
+    Ok(requests)
+}
+
+/// Puts frames on a wire that has room for them, in their order.
+pub(crate) fn push_all(wire: &mut Wire, epoch: u32, mut frames: Vec<Frame>)
+    requires good { AreFrames (frames_of frames.items) }
+    requires room { length frames.items ≤ wire.old.room }
+    ensures wire { wire.new.wire ≡ machine.wire_with wire.old.wire epoch (frames_of frames.items) }
+    ensures room { wire.new.room + length frames.items ≡ wire.old.room }
+{
+    frames.reverse();
+    while let Some(frame) = frames.pop() {
+        wire.push(epoch, frame);
+    }
+}
+
+/// Puts a frame on a wire that has room for it, if there is one.
+pub(crate) fn push_one(wire: &mut Wire, epoch: u32, frame: Option<Frame>)
+    requires good { AreFrames (map frame_of (option_to_list frame)) }
+    requires room { 0 < wire.old.room }
+    ensures { wire.new.wire ≡ machine.wire_with wire.old.wire epoch (map frame_of (option_to_list frame)) }
+{
+    if let Some(frame) = frame {
+        wire.push(epoch, frame);
+    }
+}
+
+/// What is told of a frame that a node takes.
+pub(crate) fn told(frame: &Frame) -> Effect
+    requires { IsFrame (frame_of frame.now) }
+    ensures { result ≡ frame_effect (frame_of frame.now) }
+{
+    match frame {
+        Frame::Advise => Effect::TookAdvise,
+        Frame::Page { page, .. } => Effect::TookPage {
+            addr: page_address(*page),
+        },
+        Frame::Zero { page } => Effect::TookZero {
+            addr: page_address(*page),
+        },
+        Frame::Run { first, pages } => Effect::TookRun {
+            addr: page_address(*first),
+            pages: pages.len() as u32,
+        },
+        Frame::Discard { pages } => Effect::TookDiscard { pages: pages.len() },
+        Frame::Package { owed, .. } => Effect::TookPackage { owed: owed.len() },
+        Frame::End { .. } => Effect::TookEnd,
+        Frame::Resume => Effect::TookResume,
+        Frame::Request { page } => Effect::TookRequest {
+            addr: page_address(*page),
+        },
+        Frame::Recv { state, owed } => Effect::TookRecv {
+            state: *state,
+            pages: owed.len(),
+        },
+        Frame::Done => Effect::TookDone,
+    }
+}
+
+/// How a delivery is refused whose frame the destination does not take now.
+fn refusal_of(fault: TakeFault) -> Refusal
+    ensures { result ≡ refusal_by fault }
+{
+    match fault {
+        TakeFault::InstallFirst => Refusal::InstallFirst,
+        TakeFault::UrgentFirst => Refusal::UrgentFirst,
+        // The others are of no frame in a world.
+        TakeFault::NoMemory
+        | TakeFault::OutOfPlace
+        | TakeFault::StaleEpoch
+        | TakeFault::BadFrame => Refusal::NoMemory,
+    }
+}

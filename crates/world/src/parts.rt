@@ -1,0 +1,87 @@
+//! The parts of a world, and the step that they make.
+
+ghost use Rattle.std.specs.Prelude.{◌≡◌};
+ghost use Rattle.mig_model.specs.Migration.{guest_of, runs};
+ghost use Rattle.mig_model.specs.Runs.{Happens};
+ghost use Rattle.world.specs.Worlds.{IsWorld, world_of};
+
+mod breaks;
+mod commands;
+mod deliveries;
+mod handlers;
+mod pushes;
+mod rounds;
+
+use fault_handler::Destination;
+use mig_base::Entry;
+use mig_base::effect::Effect;
+use mig_base::refusal::Refusal;
+use mig_base::schedule::Step;
+use precopy::Source;
+use std::alloc::Global;
+use vcpu::Cpus;
+use wires::Wire;
+
+/// The parts of a world. Their invariant is the world's: each step asks for it, and keeps it by being the machine's.
+#[derive(Drop)]
+pub(crate) struct Parts {
+    pub(crate) alloc: Global,
+    pub(crate) source: Source,
+    pub(crate) destination: Destination,
+    pub(crate) forward: Wire,
+    pub(crate) back: Wire,
+    pub(crate) urgent: Wire,
+    pub(crate) up: bool,
+    pub(crate) transcript: Vec<Entry>,
+}
+
+impl Parts {
+    /// Makes one step. A refusal changes nothing.
+    pub(crate) fn step(&mut self, step: Step) -> Result<Effect, Refusal>
+        requires { IsWorld (world_of self.old) }
+        ensures { Happens (world_of self.old) step result (world_of self.new) }
+    {
+        match step {
+            Step::Issue { cpu, command } => self.issue(cpu, command),
+            Step::Retry { cpu } => self.retry(cpu),
+            Step::Start => self.start(),
+            Step::Round => self.round(),
+            Step::Send => self.send(),
+            Step::SendRun { count } => self.send_run(count),
+            Step::SourceRead => self.source_read(),
+            Step::SourceAct => self.source_act(),
+            Step::Switch => self.switch(),
+            Step::Deliver { n } => self.deliver(n),
+            Step::DeliverBack { n } => self.deliver_back(n),
+            Step::DestRead => self.destination_read(),
+            Step::DestAct => self.destination_act(),
+            Step::Install => self.install(),
+            Step::Push(ticket) => self.push(ticket),
+            Step::PushUrgent(ticket) => self.push_urgent(ticket),
+            Step::DeliverUrgent { n } => self.deliver_urgent(n),
+            Step::Serve => self.serve(),
+            Step::End => self.end(),
+            Step::Break => self.break_link(),
+            Step::Notice(side) => self.notice(side),
+            Step::Resume => self.resume(),
+        }
+    }
+
+    /// The processors of the guest, where it runs.
+    pub(crate) fn cpus(&self) -> &Cpus
+        ensures { result.now ≡ (guest_of (world_of self.now)).cpus }
+    {
+        if self.destination.has_run() {
+            self.destination.cpus()
+        } else {
+            self.source.cpus()
+        }
+    }
+
+    /// Whether a node runs the processors.
+    fn runs(&self) -> bool
+        ensures { result ≡ runs (world_of self.now) }
+    {
+        !self.source.has_switched() || self.destination.has_run()
+    }
+}

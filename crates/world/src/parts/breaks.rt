@@ -1,0 +1,96 @@
+//! Broken channels, and their resumption.
+
+ghost use Rattle.std.specs.Prelude.{◌≡◌, ◌||◌, not};
+ghost use Rattle.mig_base.specs.declared.schedule.Step.{Step};
+ghost use Rattle.mig_model.specs.Migration.{has_started, is_paused_at};
+ghost use Rattle.mig_model.specs.Runs.{Happens};
+ghost use Rattle.mig_model.specs.Source.{is_released};
+ghost use Rattle.world.specs.Worlds.{IsWorld, world_of};
+
+use super::Parts;
+use mig_base::effect::Effect;
+use mig_base::phase::{DestPhase, SourcePhase};
+use mig_base::refusal::Refusal;
+use mig_base::schedule::Side;
+use page_stream::Frame;
+use recovery::{notice_dest, notice_source};
+
+impl Parts {
+    /// The channel breaks: all that is in flight is lost. It takes no memory.
+    pub(super) fn break_link(&mut self) -> Result<Effect, Refusal>
+        requires { IsWorld (world_of self.old) }
+        ensures { Happens (world_of self.old) Step.Break result (world_of self.new) }
+    {
+        if !self.is_under_way() {
+            return Err(Refusal::Phase);
+        }
+        if !self.up {
+            return Err(Refusal::Broken);
+        }
+        self.forward.clear();
+        self.back.clear();
+        self.urgent.clear();
+        self.up = false;
+        Ok(Effect::Broken)
+    }
+
+    /// A side notices that the channel is broken. It takes no memory.
+    pub(super) fn notice(&mut self, side: Side) -> Result<Effect, Refusal>
+        requires { IsWorld (world_of self.old) }
+        ensures { Happens (world_of self.old) (Step.Notice side) result (world_of self.new) }
+    {
+        if !self.is_under_way() || self.is_paused(side) {
+            return Err(Refusal::Phase);
+        }
+        if self.up {
+            return Err(Refusal::NotBroken);
+        }
+        match side {
+            Side::Source => notice_source(&mut self.source),
+            Side::Destination => notice_dest(&self.source, &mut self.destination),
+        }
+    }
+
+    /// Both sides go on over a new channel, in the next epoch, and the destination is told.
+    pub(super) fn resume(&mut self) -> Result<Effect, Refusal>
+        requires { IsWorld (world_of self.old) }
+        ensures { Happens (world_of self.old) Step.Resume result (world_of self.new) }
+    {
+        if !self.is_paused(Side::Source) || !self.is_paused(Side::Destination) {
+            return Err(Refusal::Phase);
+        }
+        if self.up {
+            return Err(Refusal::NotBroken);
+        }
+        let Some(epoch) = self.source.epoch().checked_add(1) else {
+            return Err(Refusal::CountUsed);
+        };
+        let Ok(()) = self.forward.reserve(1) else {
+            return Err(Refusal::NoMemory);
+        };
+        self.source.set_epoch(epoch);
+        self.forward.push(epoch, Frame::Resume);
+        self.up = true;
+        Ok(Effect::Resumed { epoch })
+    }
+
+    /// Whether a migration has begun, and is not complete.
+    fn is_under_way(&self) -> bool
+        ensures { not result ≡ (not (has_started (world_of self.now)) || is_released self.now.source.phase) }
+    {
+        !matches!(
+            self.source.phase(),
+            SourcePhase::Idle | SourcePhase::Released
+        )
+    }
+
+    /// Whether a side has noticed that the channel is broken.
+    fn is_paused(&self, side: Side) -> bool
+        ensures { result ≡ is_paused_at (world_of self.now) side }
+    {
+        match side {
+            Side::Source => self.source.phase() == SourcePhase::Paused,
+            Side::Destination => self.destination.phase() == DestPhase::Paused,
+        }
+    }
+}

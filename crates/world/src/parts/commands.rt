@@ -1,0 +1,85 @@
+//! Commands of the guest's processors, where the guest runs.
+
+ghost use Rattle.std.specs.Prelude.{◌≡◌, ◌++◌, option_to_list};
+ghost use Rattle.std.specs.Vec.{vec_capacity};
+ghost use Rattle.std.specs.Prelude.{◌<◌, length};
+ghost use Rattle.mig_base.specs.declared.command.Command.{Command};
+ghost use Rattle.mig_base.specs.declared.schedule.Step.{Step};
+ghost use Rattle.mig_model.specs.Runs.{Happens};
+ghost use Rattle.world.specs.Answers.{IsAnswered};
+ghost use Rattle.world.specs.Worlds.{IsWorld, world_of};
+
+use super::Parts;
+use mig_base::effect::Effect;
+use mig_base::refusal::Refusal;
+use mig_base::{Command, Entry};
+
+impl Parts {
+    /// A processor begins a command. What takes effect is entered in the transcript.
+    pub(super) fn issue(&mut self, cpu: u8, command: Command) -> Result<Effect, Refusal>
+        requires { IsWorld (world_of self.old) }
+        ensures { Happens (world_of self.old) (Step.Issue cpu command) result (world_of self.new) }
+    {
+        self.check_issue(cpu)?;
+        let Ok(()) = self.transcript.try_reserve(1) else {
+            return Err(Refusal::NoMemory);
+        };
+        let tried = if self.destination.has_run() {
+            self.destination.issue(cpu, command)?
+        } else {
+            self.source.issue(cpu, command)?
+        };
+        enter(&mut self.transcript, tried.entry);
+        Ok(tried.effect)
+    }
+
+    /// A processor that was woken tries its load or store again.
+    pub(super) fn retry(&mut self, cpu: u8) -> Result<Effect, Refusal>
+        requires { IsWorld (world_of self.old) }
+        ensures { Happens (world_of self.old) (Step.Retry cpu) result (world_of self.new) }
+    {
+        self.check_retry(cpu)?;
+        let Ok(()) = self.transcript.try_reserve(1) else {
+            return Err(Refusal::NoMemory);
+        };
+        let again = if self.destination.has_run() {
+            self.destination.retry(cpu)?
+        } else {
+            self.source.retry(cpu)?
+        };
+        enter(&mut self.transcript, again.entry);
+        Ok(again.effect)
+    }
+
+    /// Whether a processor can begin a command, want of memory aside.
+    fn check_issue(&self, cpu: u8) -> Result<(), Refusal>
+        ensures { (command : Command) → IsAnswered (world_of self.now) (Step.Issue cpu command) result }
+    {
+        self.cpus().ensure_idle(cpu)?;
+        if !self.runs() {
+            return Err(Refusal::Phase);
+        }
+        Ok(())
+    }
+
+    /// Whether a processor can try its load or store again, want of memory aside.
+    fn check_retry(&self, cpu: u8) -> Result<(), Refusal>
+        ensures { IsAnswered (world_of self.now) (Step.Retry cpu) result }
+    {
+        let _command = self.cpus().woken(cpu)?;
+        if !self.runs() {
+            return Err(Refusal::Phase);
+        }
+        Ok(())
+    }
+}
+
+/// Enters what took effect in a transcript that has room.
+fn enter(transcript: &mut Vec<Entry>, entry: Option<Entry>)
+    requires { length transcript.old.items < vec_capacity transcript.old }
+    ensures { transcript.new.items ≡ transcript.old.items ++ option_to_list entry }
+{
+    if let Some(entry) = entry {
+        transcript.push_reserved(entry);
+    }
+}

@@ -1,0 +1,117 @@
+//! Deliveries: bytes reach a node, which takes the frame that they complete, and answers.
+
+ghost use Rattle.std.specs.Prelude.{◌≡◌, ◌∷◌, List, false};
+ghost use Rattle.mig_base.specs.declared.schedule.Step.{Step};
+ghost use Rattle.mig_model.specs.Migration.{is_short};
+ghost use Rattle.mig_model.specs.Runs.{Happens};
+ghost use Rattle.mig_model.specs.Wire as machine;
+ghost use Rattle.world.specs.Answers.{moving_answer};
+ghost use Rattle.world.specs.Deliveries.{IsFull};
+ghost use Rattle.world.specs.Worlds.{IsWorld, world_of};
+
+use super::Parts;
+use crate::frames::{hear, push_all, receive, receive_urgent, told};
+use mig_base::NoMemory;
+use mig_base::effect::Effect;
+use mig_base::phase::SourcePhase;
+use mig_base::refusal::Refusal;
+
+impl Parts {
+    /// Bytes of the wire to the destination arrive, which takes the frame that they complete.
+    pub(super) fn deliver(&mut self, n: u64) -> Result<Effect, Refusal>
+        requires { IsWorld (world_of self.old) }
+        ensures { Happens (world_of self.old) (Step.Deliver n) result (world_of self.new) }
+    {
+        self.ensure_moving()?;
+        if self.forward.is_empty() {
+            return Err(Refusal::NothingThere);
+        }
+        if self.forward.advance(n) {
+            return Ok(Effect::Moved { bytes: n });
+        }
+        let Some((sent, held)) = self.forward.take() else {
+            unreachable!();
+        };
+        match receive(self.alloc, &mut self.destination, &mut self.back, sent) {
+            Ok(effect) => Ok(effect),
+            Err((refusal, sent)) => {
+                // It stays the first, with as many of its bytes arrived as before.
+                self.forward.put_back(sent, held);
+                Err(refusal)
+            }
+        }
+    }
+
+    /// Bytes of the wire back arrive at the source, which takes the frame that they complete.
+    pub(super) fn deliver_back(&mut self, n: u64) -> Result<Effect, Refusal>
+        requires { IsWorld (world_of self.old) }
+        ensures { Happens (world_of self.old) (Step.DeliverBack n) result (world_of self.new) }
+    {
+        self.ensure_moving()?;
+        if self.back.is_empty() {
+            return Err(Refusal::NothingThere);
+        }
+        if self.back.advance(n) {
+            return Ok(Effect::Moved { bytes: n });
+        }
+        // A source that owes everything anew sends two frames, a Discard and a Package.
+        let Ok(()) = self.forward.reserve(2) else {
+            return Err(Refusal::NoMemory);
+        };
+        let Some((sent, held)) = self.back.take() else {
+            unreachable!();
+        };
+        match hear(self.alloc, &mut self.source, &sent) {
+            Ok(frames) => {
+                push_all(&mut self.forward, self.source.epoch(), frames);
+                Ok(told(&sent.frame))
+            }
+            Err(NoMemory) => {
+                self.back.put_back(sent, held);
+                Err(Refusal::NoMemory)
+            }
+        }
+    }
+
+    /// Bytes of the urgent wire arrive at the destination, which takes the frame that they complete.
+    pub(super) fn deliver_urgent(&mut self, n: u64) -> Result<Effect, Refusal>
+        requires { IsWorld (world_of self.old) }
+        ensures { Happens (world_of self.old) (Step.DeliverUrgent n) result (world_of self.new) }
+    {
+        if !self.destination.has_run() {
+            return Err(Refusal::Phase);
+        }
+        if !self.up {
+            return Err(Refusal::Broken);
+        }
+        if self.urgent.is_empty() {
+            return Err(Refusal::NothingThere);
+        }
+        if self.urgent.advance(n) {
+            return Ok(Effect::Moved { bytes: n });
+        }
+        let Some((sent, held)) = self.urgent.take() else {
+            unreachable!();
+        };
+        match receive_urgent(&mut self.destination, sent) {
+            Ok(effect) => Ok(effect),
+            Err((NoMemory, sent)) => {
+                self.urgent.put_back(sent, held);
+                Err(Refusal::NoMemory)
+            }
+        }
+    }
+
+    /// Whether a migration has begun, and then whether the link is up.
+    fn ensure_moving(&self) -> Result<(), Refusal>
+        ensures { result ≡ moving_answer (world_of self.now) }
+    {
+        if self.source.phase() == SourcePhase::Idle {
+            return Err(Refusal::Phase);
+        }
+        if !self.up {
+            return Err(Refusal::Broken);
+        }
+        Ok(())
+    }
+}

@@ -1,0 +1,63 @@
+//! The fault handlers of both nodes, and the installing of copies.
+
+ghost use Rattle.mig_base.specs.declared.schedule.Step.{Step};
+ghost use Rattle.mig_model.specs.Runs.{Happens};
+ghost use Rattle.world.specs.Worlds.{IsWorld, world_of};
+
+use super::Parts;
+use mig_base::effect::Effect;
+use mig_base::refusal::Refusal;
+
+impl Parts {
+    /// The handler of the source reads the next message.
+    pub(super) fn source_read(&mut self) -> Result<Effect, Refusal>
+        requires { IsWorld (world_of self.old) }
+        ensures { Happens (world_of self.old) Step.SourceRead result (world_of self.new) }
+    {
+        self.source.read()
+    }
+
+    /// The handler of the source resolves the first fault that it holds.
+    pub(super) fn source_act(&mut self) -> Result<Effect, Refusal>
+        requires { IsWorld (world_of self.old) }
+        ensures { Happens (world_of self.old) Step.SourceAct result (world_of self.new) }
+    {
+        self.source.act()
+    }
+
+    /// The handler of the destination reads the next message.
+    pub(super) fn destination_read(&mut self) -> Result<Effect, Refusal>
+        requires { IsWorld (world_of self.old) }
+        ensures { Happens (world_of self.old) Step.DestRead result (world_of self.new) }
+    {
+        self.destination.read()
+    }
+
+    /// The handler of the destination resolves the first fault that it holds. A request that it sends is lost while the link is down; the
+    /// destination remembers it, and asks again after a Resume.
+    pub(super) fn destination_act(&mut self) -> Result<Effect, Refusal>
+        requires { IsWorld (world_of self.old) }
+        ensures { Happens (world_of self.old) Step.DestAct result (world_of self.new) }
+    {
+        self.destination.check_act()?;
+        let Ok(()) = self.back.reserve(1) else {
+            return Err(Refusal::NoMemory);
+        };
+        let (effect, request) = self.destination.act()?;
+        let Some(request) = request else {
+            return Ok(effect);
+        };
+        if self.up {
+            self.back.push(self.destination.epoch(), request);
+        }
+        Ok(effect)
+    }
+
+    /// The first copy that has arrived is installed, or given up.
+    pub(super) fn install(&mut self) -> Result<Effect, Refusal>
+        requires { IsWorld (world_of self.old) }
+        ensures { Happens (world_of self.old) Step.Install result (world_of self.new) }
+    {
+        self.destination.install()
+    }
+}

@@ -1,0 +1,79 @@
+//! Post-copy at the source: what is owed is sent, in the background or because it was asked for.
+
+ghost use Rattle.std.specs.Prelude.{◌≡◌};
+ghost use Rattle.mig_base.specs.declared.schedule.Step.{Step};
+ghost use Rattle.mig_model.specs.Runs.{Happens};
+ghost use Rattle.world.specs.Answers.{stopped_answer};
+ghost use Rattle.world.specs.Worlds.{IsWorld, world_of};
+
+use super::Parts;
+use mig_base::effect::Effect;
+use mig_base::phase::SourcePhase;
+use mig_base::refusal::Refusal;
+use mig_base::schedule::Ticket;
+
+impl Parts {
+    /// The source sends an owed page.
+    pub(super) fn push(&mut self, ticket: Ticket) -> Result<Effect, Refusal>
+        requires { IsWorld (world_of self.old) }
+        ensures { Happens (world_of self.old) (Step.Push ticket) result (world_of self.new) }
+    {
+        self.unless_down(self.source.check_push(ticket))?;
+        let Ok(()) = self.forward.reserve(1) else {
+            return Err(Refusal::NoMemory);
+        };
+        let (effect, frame) = self.source.push(ticket)?;
+        self.forward.push(self.source.epoch(), frame);
+        Ok(effect)
+    }
+
+    /// The source sends an owed page on the urgent wire.
+    pub(super) fn push_urgent(&mut self, ticket: Ticket) -> Result<Effect, Refusal>
+        requires { IsWorld (world_of self.old) }
+        ensures { Happens (world_of self.old) (Step.PushUrgent ticket) result (world_of self.new) }
+    {
+        self.unless_down(self.source.check_push(ticket))?;
+        let Ok(()) = self.urgent.reserve(1) else {
+            return Err(Refusal::NoMemory);
+        };
+        let (effect, frame) = self.source.push_urgent(ticket)?;
+        self.urgent.push(self.source.epoch(), frame);
+        Ok(effect)
+    }
+
+    /// The source takes the first request of the destination. It takes no memory.
+    pub(super) fn serve(&mut self) -> Result<Effect, Refusal>
+        requires { IsWorld (world_of self.old) }
+        ensures { Happens (world_of self.old) Step.Serve result (world_of self.new) }
+    {
+        self.ensure_stopped_up()?;
+        self.source.serve()
+    }
+
+    /// The source tells the destination that nothing more is sent.
+    pub(super) fn end(&mut self) -> Result<Effect, Refusal>
+        requires { IsWorld (world_of self.old) }
+        ensures { Happens (world_of self.old) Step.End result (world_of self.new) }
+    {
+        self.unless_down(self.source.check_end())?;
+        let Ok(()) = self.forward.reserve(1) else {
+            return Err(Refusal::NoMemory);
+        };
+        let (effect, frame) = self.source.end()?;
+        self.forward.push(self.source.epoch(), frame);
+        Ok(effect)
+    }
+
+    /// Whether the source has stopped and is not paused, and then whether the link is up.
+    fn ensure_stopped_up(&self) -> Result<(), Refusal>
+        ensures { result ≡ stopped_answer (world_of self.now) }
+    {
+        if self.source.phase() != SourcePhase::Stopped {
+            return Err(Refusal::Phase);
+        }
+        if !self.up {
+            return Err(Refusal::Broken);
+        }
+        Ok(())
+    }
+}

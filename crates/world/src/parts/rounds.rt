@@ -1,0 +1,91 @@
+//! Pre-copy and the switch: steps of the source that send, and put what is sent on the wire to the destination.
+
+ghost use Rattle.mig_base.specs.declared.schedule.Step.{Step};
+ghost use Rattle.mig_model.specs.Runs.{Happens};
+ghost use Rattle.std.specs.Prelude.{◌≡◌};
+ghost use Rattle.world.specs.Answers.{unless_down};
+ghost use Rattle.world.specs.Worlds.{IsWorld, world_of};
+
+use super::Parts;
+use mig_base::effect::Effect;
+use mig_base::refusal::Refusal;
+
+impl Parts {
+    /// A migration begins, and the destination is told.
+    pub(super) fn start(&mut self) -> Result<Effect, Refusal>
+        requires { IsWorld (world_of self.old) }
+        ensures { Happens (world_of self.old) Step.Start result (world_of self.new) }
+    {
+        self.source.check_start()?;
+        let Ok(()) = self.forward.reserve(1) else {
+            return Err(Refusal::NoMemory);
+        };
+        let (effect, frame) = self.source.start()?;
+        self.forward.push(self.source.epoch(), frame);
+        Ok(effect)
+    }
+
+    /// A round of pre-copy begins.
+    pub(super) fn round(&mut self) -> Result<Effect, Refusal>
+        requires { IsWorld (world_of self.old) }
+        ensures { Happens (world_of self.old) Step.Round result (world_of self.new) }
+    {
+        self.source.round()
+    }
+
+    /// The source sends the next page of its round.
+    pub(super) fn send(&mut self) -> Result<Effect, Refusal>
+        requires { IsWorld (world_of self.old) }
+        ensures { Happens (world_of self.old) Step.Send result (world_of self.new) }
+    {
+        self.unless_down(self.source.check_send())?;
+        let Ok(()) = self.forward.reserve(1) else {
+            return Err(Refusal::NoMemory);
+        };
+        let (effect, frame) = self.source.send_next()?;
+        self.forward.push(self.source.epoch(), frame);
+        Ok(effect)
+    }
+
+    /// The source sends the next pages of its round, at most `count`, in one frame.
+    pub(super) fn send_run(&mut self, count: u8) -> Result<Effect, Refusal>
+        requires { IsWorld (world_of self.old) }
+        ensures { Happens (world_of self.old) (Step.SendRun count) result (world_of self.new) }
+    {
+        self.unless_down(self.source.check_run(count))?;
+        let Ok(()) = self.forward.reserve(1) else {
+            return Err(Refusal::NoMemory);
+        };
+        let (effect, frame) = self.source.send_run(count)?;
+        self.forward.push(self.source.epoch(), frame);
+        Ok(effect)
+    }
+
+    /// The source stops its processors, and hands them over.
+    pub(super) fn switch(&mut self) -> Result<Effect, Refusal>
+        requires { IsWorld (world_of self.old) }
+        ensures { Happens (world_of self.old) Step.Switch result (world_of self.new) }
+    {
+        self.unless_down(self.source.check_switch())?;
+        let Ok(()) = self.forward.reserve(2) else {
+            return Err(Refusal::NoMemory);
+        };
+        let (effect, discard, package) = self.source.switch()?;
+        let epoch = self.source.epoch();
+        self.forward.push(epoch, discard);
+        self.forward.push(epoch, package);
+        Ok(effect)
+    }
+
+    /// How a step that sends is refused, by how its source would refuse it: a wrong phase comes before a broken link, and all else
+    /// behind it.
+    pub(super) fn unless_down(&self, checked: Result<(), Refusal>) -> Result<(), Refusal>
+        ensures { result ≡ unless_down self.now.up checked }
+    {
+        match checked {
+            Err(Refusal::Phase) => Err(Refusal::Phase),
+            _ if !self.up => Err(Refusal::Broken),
+            _ => checked,
+        }
+    }
+}

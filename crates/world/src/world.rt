@@ -1,0 +1,141 @@
+//! The type that callers see.
+
+ghost use Rattle.std.specs.Prelude.{◌≡◌, ◌↔◌, ◌==◌, ◌||◌, nat_lt, true, Ok, Err, ◌⊎◌, IfOk, IfErr, OnErr};
+ghost use Rattle.mig_base.specs.Flat.{IsFlatRun};
+ghost use Rattle.mig_model.specs.Runs.{Happens, IsRun};
+ghost use Rattle.mig_model.specs.Views.{new_world_with};
+ghost use Rattle.world.specs.Answers.{new_refusal};
+ghost use Rattle.world.specs.Headline.{Headline};
+
+mod views;
+
+use crate::parts::Parts;
+use fault_handler::Destination;
+use mig_base::effect::Effect;
+use mig_base::refusal::Refusal;
+use mig_base::schedule::Step;
+use mig_base::{Entry, NoMemory};
+use precopy::Source;
+use std::alloc::Global;
+use std::marker::Model;
+use vcpu::NewFault;
+use wires::Wire;
+
+/// The world of a migration: a guest of 1 to 16 processors, a source and a destination, the wire between them, the wire back, the urgent wire
+/// for pages that were asked for, and the transcript.
+///
+/// After every list of steps the transcript is the run of one flat memory on the same commands, in the order in which they took effect; no
+/// page is installed over one that is present; and once the migration is complete the destination alone holds that flat memory, and no
+/// page is owed.
+#[derive(Drop)]
+pub struct World {
+    parts: Parts,
+}
+
+impl Model for World {
+    ghost use Rattle.mig_model.specs.Migration.{World as Machine};
+    ghost use Rattle.world.specs.Codes.{coded_world};
+    ghost use Rattle.world.specs.Worlds.{IsWorld, world_of};
+
+    ghost Value = { Machine };
+
+    ghost coded = { coded_world };
+
+    ghost view = { λ w. world_of w.parts };
+
+    ghost invariant = { λ w. IsWorld (world_of w.parts) };
+}
+
+impl World {
+    /// A world in which nothing has happened, of `cpus` idle processors. `NoCpu` unless there are 1 to 16.
+    pub fn new(alloc: Global, cpus: u8) -> Result<World, Refusal>
+        ensures ok { IfOk result (λ world. new_world_with cpus 0 0 ≡ Ok world) }
+        ensures refused { IfErr result (λ refusal. (refusal ≡ Refusal.NoMemory) ⊎ (new_world_with cpus 0 0 ≡ Err refusal)) }
+        ensures headline { IfOk result Headline }
+    {
+        World::with_counts(alloc, cpus, 0, 0)
+    }
+
+    /// The same, where the epoch and the number of rounds stand at these counts.
+    pub fn with_counts(alloc: Global, cpus: u8, epoch: u32, rounds: u32) -> Result<World, Refusal>
+        ensures ok { IfOk result (λ world. new_world_with cpus epoch rounds ≡ Ok world) }
+        ensures refused { IfErr result (λ refusal. (refusal ≡ Refusal.NoMemory) ⊎ (new_world_with cpus epoch rounds ≡ Err refusal)) }
+        ensures headline { IfOk result Headline }
+    {
+        let source = match Source::new(alloc, cpus, epoch, rounds) {
+            Ok(source) => source,
+            Err(fault) => return Err(refusal_of(fault)),
+        };
+        let destination = match Destination::new(alloc, cpus) {
+            Ok(destination) => destination,
+            Err(fault) => return Err(refusal_of(fault)),
+        };
+        Ok(World {
+            parts: Parts {
+                alloc,
+                source,
+                destination,
+                forward: Wire::new(alloc),
+                back: Wire::new(alloc),
+                urgent: Wire::new(alloc),
+                up: true,
+                transcript: Vec::new(alloc),
+            },
+        })
+    }
+
+    /// Makes one step, and answers its effect. A step that is refused changes nothing; where several refusals apply the first is
+    /// answered, in the order of [`Refusal`]. `NoMemory` comes after all others, but that a Deliver may answer it where its frame would have to
+    /// wait; Break, Notice and Serve never do. The same step may be made again.
+    pub fn step(&mut self, step: Step) -> Result<Effect, Refusal>
+        ensures happens { Happens self.old step result self.new }
+        ensures headline { Headline self.new }
+    {
+        self.parts.step(step)
+    }
+
+    /// Makes steps in turn, and answers the outcome of each. It goes on after a step that is refused. Where it answers `NoMemory` itself,
+    /// no step was made.
+    pub fn run(
+        &mut self,
+        alloc: Global,
+        steps: &[Step],
+    ) -> Result<Vec<Result<Effect, Refusal>>, NoMemory>
+        ensures run { IfOk result (λ outcomes. IsRun self.old steps.now outcomes.items self.new) }
+        ensures headline { Headline self.new }
+        ensures err { OnErr result (self.new ≡ self.old) }
+    {
+        self.headline();
+        let mut outcomes = Vec::with_capacity(alloc, steps.len())?;
+        for step in steps {
+            let outcome = self.step(*step);
+            outcomes.push_reserved(outcome);
+        }
+        Ok(outcomes)
+    }
+
+    /// What is promised of every world, as a call that does nothing.
+    pub fn headline(&self)
+        ensures { Headline self.now }
+    {
+        let _ = &self.parts;
+    }
+
+    /// The commands that took effect, in that order, with their replies.
+    pub fn transcript(&self) -> &[Entry]
+        ensures entries { result.now ≡ self.now.transcript }
+        ensures flat { IsFlatRun result.now }
+    {
+        &self.parts.transcript
+    }
+}
+
+/// How a world is refused that cannot be made.
+fn refusal_of(fault: NewFault) -> Refusal
+    ensures { result ≡ new_refusal fault }
+{
+    match fault {
+        NewFault::NoCpu => Refusal::NoCpu,
+        NewFault::NoMemory => Refusal::NoMemory,
+    }
+}

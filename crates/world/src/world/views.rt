@@ -1,0 +1,84 @@
+//! What a world tells of itself.
+
+ghost use Rattle.std.specs.Prelude.{◌≡◌};
+ghost use Rattle.mig_base.specs.declared.step.WorldPhase.{WorldPhase};
+ghost use Rattle.mig_model.specs.Views as views;
+ghost use Rattle.world.specs.Headline.{IsMoved};
+
+use super::World;
+use mig_base::counts::Counts;
+use mig_base::cpu_state::CpuState;
+use mig_base::phase::SourcePhase;
+use mig_base::refusal::Refusal;
+use mig_base::{PageSet, WorldPhase};
+
+impl World {
+    /// How far the migration has come, whether its channel is broken or not.
+    pub fn phase(&self) -> WorldPhase
+        ensures phase { result ≡ views.phase_of self.now }
+        ensures complete { result ≡ WorldPhase.Complete → IsMoved self.now }
+    {
+        match self.parts.source.phase() {
+            SourcePhase::Released => WorldPhase::Complete,
+            _ if self.parts.destination.has_run() => WorldPhase::Postcopy,
+            _ if self.parts.source.has_switched() => WorldPhase::Switching,
+            SourcePhase::Idle => WorldPhase::Idle,
+            _ => WorldPhase::Precopy,
+        }
+    }
+
+    /// How many pages are owed: once the destination has run, those that it still needs; before, those that the last Package owed, and
+    /// none before the switch.
+    pub fn owed_left(&self) -> u32
+        ensures { result ≡ views.owed_left self.now }
+    {
+        if self.parts.destination.has_run() {
+            self.parts.destination.owed().len()
+        } else {
+            self.parts.source.packaged()
+        }
+    }
+
+    /// The rounds made, the pages sent, the copies installed and given up, and the messages of page faults read, at both nodes.
+    pub fn counts(&self) -> Counts
+        ensures { result ≡ views.counts_of self.now }
+    {
+        let source = &self.parts.source;
+        let destination = &self.parts.destination;
+        Counts {
+            rounds: source.rounds(),
+            sent: source.pages_sent(),
+            installed: destination.installed(),
+            dropped: destination.dropped(),
+            faults: source.faults().saturating_add(destination.faults()),
+        }
+    }
+
+    /// The epoch of the source: a push belongs to the one in which it is made.
+    pub fn epoch(&self) -> u32
+        ensures { result ≡ self.now.source.epoch }
+    {
+        self.parts.source.epoch()
+    }
+
+    /// The owed pages that were not sent yet in this epoch.
+    pub fn remaining(&self) -> &PageSet
+        ensures { result.now ≡ self.now.source.remaining }
+    {
+        self.parts.source.remaining()
+    }
+
+    /// How far the source is.
+    pub fn source_phase(&self) -> SourcePhase
+        ensures { result ≡ self.now.source.phase }
+    {
+        self.parts.source.phase()
+    }
+
+    /// What a processor does, where the guest runs; while it runs nowhere, as at the switch. `NoCpu` where there is no such processor.
+    pub fn cpu_state(&self, cpu: u8) -> Result<CpuState, Refusal>
+        ensures { result ≡ views.cpu_state self.now cpu }
+    {
+        self.parts.cpus().state(cpu)
+    }
+}
