@@ -1,0 +1,10 @@
+pub mod Bytes
+pub mod Commands
+pub mod Cuts
+pub mod Entries
+pub mod Keywords
+pub mod Meaning
+pub mod Numbers
+pub mod Orders
+pub mod Spaces
+pub mod Tokens

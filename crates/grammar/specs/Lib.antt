@@ -1,0 +1,6 @@
+pub mod Lines
+pub mod Orders
+pub mod Parsing
+pub mod Printed
+pub mod Spelling
+pub mod Words

@@ -1,0 +1,22 @@
+-- The steps that orders make.
+use Rattle.std.specs.Prelude.{ℕ, true, false, Option, Some, None}
+use Rattle.mig_base.specs.declared.schedule.Step.{Step}
+use Rattle.mig_base.specs.declared.schedule.Step.TheVariants as step
+use Rattle.mig_base.specs.declared.schedule.Ticket.{Ticket}
+use Rattle.grammar.specs.declared.order.Order.{Order}
+use Rattle.grammar.specs.declared.order.Order.TheVariants.{Make, Push, Progress}
+
+-- the epoch that is written, or else the present one
+abbrev pub epoch_or : Option ℕ → ℕ → ℕ
+epoch_or (Some epoch) present = epoch
+epoch_or None present = present
+
+abbrev pub ticket : ℕ → ℕ → Ticket
+ticket epoch page = record { epoch = epoch; page = page }
+
+-- the step that an order makes in a world with this epoch
+abbrev pub step_of : Order → ℕ → Option Step
+step_of (Make made) present = Some made
+step_of (Push false page epoch) present = Some (step.Push (ticket (epoch_or epoch present) page))
+step_of (Push true page epoch) present = Some (step.PushUrgent (ticket (epoch_or epoch present) page))
+step_of Progress present = None

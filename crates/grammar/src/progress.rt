@@ -1,0 +1,117 @@
+//! How far a migration has come, as it is told.
+
+ghost use Rattle.std.specs.Prelude.{◌≡◌, ◌++◌, OnOk, OnErr, Some, string_bytes};
+ghost use Rattle.grammar.specs.Printed.{phase_text, sent_text, handled_text, progress_text, progress_line};
+
+use mig_base::{NoMemory, WorldPhase};
+use std::fmt;
+
+/// The room that is made for a line, in bytes: more than any has.
+const LINE: usize = 192;
+
+/// How far a migration has come.
+#[derive(Clone, Copy, Debug, PartialEq, Eq)]
+pub struct Progress {
+    pub phase: WorldPhase,
+    /// Rounds of pre-copy made.
+    pub rounds: u32,
+    /// Pages that the source has sent.
+    pub sent: u64,
+    /// Pages that the destination is still owed.
+    pub left: u32,
+    /// Copies that the destination has installed.
+    pub installed: u64,
+    /// Copies that it has given up.
+    pub dropped: u64,
+    /// Page faults that the handler of either node has read.
+    pub faults: u64,
+}
+
+/// The name of a phase.
+#[derive(Clone, Copy)]
+struct PhaseText(WorldPhase);
+
+impl fmt::Display for PhaseText {
+    ghost output = { λ x. Some (phase_text x.0) };
+
+    fn fmt<W: fmt::Write>(&self, f: &mut fmt::Formatter<W>) -> fmt::Result {
+        match self.0 {
+            WorldPhase::Idle => write!(f, "idle"),
+            WorldPhase::Precopy => write!(f, "precopy"),
+            WorldPhase::Switching => write!(f, "switching"),
+            WorldPhase::Postcopy => write!(f, "postcopy"),
+            WorldPhase::Complete => write!(f, "complete"),
+        }
+    }
+}
+
+/// What the source has done, and what is left.
+#[derive(Clone, Copy)]
+struct SentText {
+    rounds: u32,
+    sent: u64,
+    left: u32,
+}
+
+impl fmt::Display for SentText {
+    ghost output = { λ x. Some (sent_text x.rounds x.sent x.left) };
+
+    #[tactic(auto, unfolding(crate::specs::Printed::sent_text))]
+    fn fmt<W: fmt::Write>(&self, f: &mut fmt::Formatter<W>) -> fmt::Result {
+        let rounds = self.rounds;
+        let sent = self.sent;
+        let left = self.left;
+        write!(f, "rounds {rounds} sent {sent} left {left}")
+    }
+}
+
+/// What has become of copies and of faults.
+#[derive(Clone, Copy)]
+struct HandledText {
+    installed: u64,
+    dropped: u64,
+    faults: u64,
+}
+
+impl fmt::Display for HandledText {
+    ghost output = { λ x. Some (handled_text x.installed x.dropped x.faults) };
+
+    #[tactic(auto, unfolding(crate::specs::Printed::handled_text))]
+    fn fmt<W: fmt::Write>(&self, f: &mut fmt::Formatter<W>) -> fmt::Result {
+        let installed = self.installed;
+        let dropped = self.dropped;
+        let faults = self.faults;
+        write!(f, "installed {installed} dropped {dropped} faults {faults}")
+    }
+}
+
+impl fmt::Display for Progress {
+    ghost output = { λ x. Some (progress_text x) };
+
+    fn fmt<W: fmt::Write>(&self, f: &mut fmt::Formatter<W>) -> fmt::Result {
+        let phase = PhaseText(self.phase);
+        let sent = SentText {
+            rounds: self.rounds,
+            sent: self.sent,
+            left: self.left,
+        };
+        let handled = HandledText {
+            installed: self.installed,
+            dropped: self.dropped,
+            faults: self.faults,
+        };
+        write!(f, "progress phase {phase} {sent} {handled}")
+    }
+}
+
+/// Prints the line of a report, with its line feed, behind a text. Out of memory leaves the text as it was.
+#[tactic(auto, unfolding(crate::specs::Printed::progress_line))]
+pub fn print_progress(text: &mut String, progress: Progress) -> Result<(), NoMemory>
+    ensures ok { OnOk result (string_bytes text.new ≡ string_bytes text.old ++ progress_line progress) }
+    ensures err { OnErr result (string_bytes text.new ≡ string_bytes text.old) }
+{
+    let mut line = String::with_capacity(*text.allocator(), LINE)?;
+    write!(line, "{progress}\n")?;
+    text.push_str(&line)?;
+    Ok(())
+}

@@ -1,0 +1,107 @@
+//! The words of a line, and what each stands for.
+
+ghost use Rattle.std.specs.Prelude.{◌≡◌, ◌≢◌, ◌+◌, ◌<◌, ◌≤◌, ◌^◌, ◌++◌, ℕ, List, [], ◌∷◌, Some, length, slice_get, IsTrue, ◌↔◌, IfOk, IfSome, IfNone};
+ghost use Rattle.std.specs.Bool.{OnTrue, OnFalse};
+ghost use Rattle.std.specs.Option.{SomeIff};
+ghost use Rattle.std.specs.Str.Parse.{AllDigits, digits_value};
+ghost use Rattle.grammar.specs.declared.token.Token.{Token as TokenOf};
+ghost use Rattle.grammar.specs.Words.{words_of, HasNone, IsNumber, IsToken, AreTokens, FirstWord};
+
+use crate::keyword::Keyword;
+use memchr::memchr;
+use mig_base::NoMemory;
+
+/// What a word of a line stands for.
+#[derive(Clone, Copy, Debug, PartialEq, Eq)]
+pub enum Token {
+    Key(Keyword),
+    Number(u64),
+}
+
+/// The number that digits in a radix write, if it is below 2^64.
+fn digits(text: &[u8], radix: u32) -> Option<u64>
+    requires low { 2 ≤ radix }
+    requires high { radix ≤ 36 }
+    ensures { SomeIff result (AllDigits radix text.now × (digits_value radix text.now < 2 ^ 64)) (digits_value radix text.now) }
+{
+    let mut value: u64 = 0;
+    for byte in text {
+        let digit = char::from(*byte).to_digit(radix)?;
+        value = value
+            .checked_mul(u64::from(radix))?
+            .checked_add(u64::from(digit))?;
+    }
+    Some(value)
+}
+
+/// The number that a word spells.
+fn number(word: &[u8]) -> Option<u64>
+    ensures found { IfSome result (λ n. IsNumber word.now n) }
+    ensures none { IfNone result ((n : ℕ) → IsNumber word.now n → ⊥) }
+{
+    let (text, radix, most) = match word {
+        [b'0', b'x', text @ ..] => (text, 16, 16),
+        _ => (word, 10, 20),
+    };
+    if text.is_empty() || text.len() > most {
+        return None;
+    }
+    digits(text, radix)
+}
+
+fn token_of(word: &[u8]) -> Option<Token>
+    ensures found { IfSome result (λ token. IsToken token word.now) }
+    ensures none { IfNone result ((token : TokenOf) → IsToken token word.now → ⊥) }
+{
+    match number(word) {
+        Some(value) => Some(Token::Number(value)),
+        None => Some(Token::Key(Keyword::from_text(word)?)),
+    }
+}
+
+/// The text from its first byte on that is no space.
+fn skip_spaces(text: &[u8]) -> &[u8]
+    ensures words { words_of result.now ≡ words_of text.now }
+    ensures front { slice_get result.now 0 ≢ Some 32 }
+    ensures shorter { length result.now ≤ length text.now }
+{
+    let mut rest = text;
+    while let [b' ', behind @ ..] = rest {
+        rest = behind;
+    }
+    rest
+}
+
+/// The first word of a text, and what comes after it.
+pub fn next_word(text: &[u8]) -> Option<(&[u8], &[u8])>
+    ensures found { IfSome result (λ parts. FirstWord text.now parts.0.now parts.1.now) }
+    ensures none { IfNone result (words_of text.now ≡ []) }
+{
+    let rest = skip_spaces(text);
+    if rest.is_empty() {
+        return None;
+    }
+    match memchr(b' ', rest) {
+        Some(end) => Some(rest.split_at(end)),
+        None => Some((rest, &[])),
+    }
+}
+
+/// Puts what the words of a text stand for in the place of these tokens. False if a word stands for none.
+pub fn read_tokens(tokens: &mut Vec<Token>, text: &[u8]) -> Result<bool, NoMemory>
+    ensures found { IfOk result (λ found. OnTrue found (AreTokens tokens.new.items (words_of text.now))) }
+    ensures none { IfOk result (λ found. OnFalse found ((tokens : List TokenOf) → AreTokens tokens (words_of text.now) → ⊥)) }
+{
+    tokens.clear();
+    let mut rest = text;
+    while let Some((word, behind)) = next_word(rest) {
+        let Some(token) = token_of(word) else {
+            return Ok(false);
+        };
+        let Ok(()) = tokens.push(token) else {
+            return Err(NoMemory);
+        };
+        rest = behind;
+    }
+    Ok(true)
+}
