@@ -75,16 +75,35 @@ def moves(count, pages=64):
         yield f"cpu 0 mremap {old:#x} {pages * PAGE} {pages * PAGE} maymove fixed {new:#x}"
 
 
-def stop_and_copy(pages):
-    """A whole migration of that many present pages."""
+def stored(pages):
     yield f"cpu 0 mmap {pages * PAGE} rw"
     for page in range(pages):
         yield f"cpu 0 store {LOW + page * PAGE:#x} 8 {page + 1}"
-    yield from ("start", "switch")
-    yield from ("deliver" for _ in range(pages + 3))
+
+
+def loaded(pages):
     yield from ("end", "deliver", "back")
     for page in range(pages):
         yield f"cpu 0 load {LOW + page * PAGE:#x} 8"
+
+
+def precopy(pages):
+    """A migration of that many present pages, all of them sent before the switch."""
+    yield from stored(pages)
+    yield from ("start", "round")
+    yield from ("send" for _ in range(pages))
+    yield "switch"
+    yield from ("deliver" for _ in range(pages + 3))
+    yield from loaded(pages)
+
+
+def postcopy(pages):
+    """A migration of that many present pages, all of them pushed behind the switch."""
+    yield from stored(pages)
+    yield from ("start", "switch", "deliver", "deliver", "deliver")
+    for page in range(pages):
+        yield from (f"push {LOW + page * PAGE:#x}", "deliver", "install")
+    yield from loaded(pages)
 
 
 CASES = {
@@ -96,10 +115,14 @@ CASES = {
     "many-areas-100k": lambda: over_many_areas(100_000, 8192),
     "map-unmap-8192": lambda: mapped_and_unmapped(8192),
     "moves-10k": lambda: moves(10_000),
-    "stop-and-copy-16": lambda: stop_and_copy(16),
-    "stop-and-copy-256": lambda: stop_and_copy(256),
-    "stop-and-copy-4096": lambda: stop_and_copy(4096),
-    "stop-and-copy-16384": lambda: stop_and_copy(16_384),
+    "precopy-16": lambda: precopy(16),
+    "postcopy-16": lambda: postcopy(16),
+    "precopy-256": lambda: precopy(256),
+    "postcopy-256": lambda: postcopy(256),
+    "precopy-4096": lambda: precopy(4096),
+    "postcopy-4096": lambda: postcopy(4096),
+    "precopy-16384": lambda: precopy(16_384),
+    "postcopy-16384": lambda: postcopy(16_384),
 }
 
 

@@ -1,9 +1,9 @@
 -- Where the lines of a script end.
 use Rattle.std.proofs.Common.{◌≡◌, ℕ, List, [], ◌∷◌, ◌++◌, sym, ap, subst, ◌∙◌, append_assoc, inl}
-use Rattle.script.specs.declared.line.Language.{Language}
-use Rattle.script.specs.declared.line.Line.{Line}
-use Rattle.script.specs.declared.line.Line.TheVariants.{Skipped, Make, Enter}
-use Rattle.script.specs.Lines.{EndedLine, Reads}
+use Rattle.grammar.specs.declared.line.Language.{Language}
+use Rattle.grammar.specs.declared.line.Line.{Line}
+use Rattle.grammar.specs.declared.line.Line.TheVariants.{Skipped, Do, Enter}
+use Rattle.grammar.specs.Lines.{EndedLine, Reads}
 use Rattle.engine.specs.Engine.{Work, Running, Keeping, language_of, Does, Works, ReadsEnded}
 
 ended_more : (l : Language) (bytes : List ℕ) (line : Line) (mid more : List ℕ) → EndedLine l bytes line mid → EndedLine l (bytes ++ more) line (mid ++ more)
@@ -39,9 +39,9 @@ works_then a (x ∷ xs) b t ys c u p q =
 -- a line leaves the language as it is
 does_keep : (a : Work) (x : Line) (b : Work) (t : List ℕ) → Does a x b t → language_of b ≡ language_of a
 does_keep a Skipped b t d = ap language_of d.0
-does_keep (Running mode state) (Make step) b t d = ap language_of d.1
+does_keep (Running mode state) (Do order) b t d = ap language_of d.1
 does_keep (Running mode state) (Enter entry) b t d = absurd d
-does_keep (Keeping entries) (Make step) b t d = absurd d
+does_keep (Keeping entries) (Do order) b t d = absurd d
 does_keep (Keeping entries) (Enter entry) b t d = ap language_of d.0
 
 pub works_keep : (a : Work) (xs : List Line) (b : Work) (t : List ℕ) → Works a xs b t → language_of b ≡ language_of a

@@ -3,13 +3,13 @@ use Rattle.std.proofs.Common.{◌≡◌, ℕ, ◌+◌, ◌<◌, ◌≤◌, List,
 use Rattle.std.specs.Prelude.{Result, Ok, Err, OnOk, OnErr, IfErr}
 use Rattle.std.specs.Io.KnownBytes.{Appends}
 use Rattle.std.proofs.KnownBytes.{Appends-nil}
-use Rattle.script.specs.declared.line.Line.{Line}
+use Rattle.grammar.specs.declared.line.Line.{Line}
 use Rattle.engine.specs.declared.fault.RunFault.{RunFault}
 use Rattle.engine.specs.declared.fault.RunFault.TheVariants as faults
-use Rattle.script.specs.Spelling.{Spells}
-use Rattle.script.specs.Lines.{HasNoFeed, LastLine, BeginsWrong}
+use Rattle.grammar.specs.Spelling.{Spells}
+use Rattle.grammar.specs.Lines.{HasNoFeed, LastLine, BeginsWrong}
 use Rattle.engine.specs.Engine.{Gathered, Place, Work, language_of, Works, Made, MakeFault, Advances, Fed, Faults, FedUntil, Front, Passes, Halts, Closes, CloseFault}
-use Rattle.script.proofs.Cuts.{feed_inside}
+use Rattle.grammar.proofs.Cuts.{feed_inside}
 use Rattle.engine.proofs.Runs.{fed_then, until_then, until_more, fed_held, one_work}
 
 -- ---- the lines of a piece

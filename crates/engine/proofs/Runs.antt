@@ -1,28 +1,29 @@
 -- How a run goes on: line by line.
 use Rattle.std.proofs.Common.{◌≡◌, ℕ, ◌+◌, ◌<◌, ◌≤◌, List, [], ◌∷◌, ◌++◌, length, refl, sym, ap, subst, ◌∙◌, append_assoc, append-nil, arith, inl, inr, length-append}
 use Rattle.std.specs.Str.Lines.{strip_carriage_return}
-use Rattle.script.specs.declared.line.Language.{Language}
-use Rattle.mig_base.specs.declared.step.Step.{Step}
-use Rattle.script.specs.declared.line.Line.{Line}
-use Rattle.script.specs.declared.line.Line.TheVariants.{Make}
+use Rattle.grammar.specs.declared.line.Language.{Language}
+use Rattle.grammar.specs.declared.order.Order.{Order}
+use Rattle.grammar.specs.declared.line.Line.{Line}
+use Rattle.grammar.specs.declared.line.Line.TheVariants.{Do}
 use Rattle.engine.specs.declared.line_runner.Mode.{Mode}
+use Rattle.engine.specs.Script.{Obeys}
 use Rattle.engine.specs.WorldState.{WorldState}
 use Rattle.engine.specs.declared.fault.RunFault.{RunFault}
 use Rattle.engine.specs.declared.fault.RunFault.TheVariants as faults
-use Rattle.script.specs.Spelling.{Spells}
-use Rattle.script.specs.Lines.{HasNoFeed, BeginsWrong}
-use Rattle.engine.specs.Engine.{Gathered, Place, Work, Running, language_of, Makes, Takes, Does, Works, ReadsEnded, Made, MakeFault, Advances, Fed, FaultAt, FaultWithin, Faults, FedUntil}
-use Rattle.script.proofs.Cuts.{no_feed-append, feed_inside, one_cut, feed_behind}
+use Rattle.grammar.specs.Spelling.{Spells}
+use Rattle.grammar.specs.Lines.{HasNoFeed, BeginsWrong}
+use Rattle.engine.specs.Engine.{Gathered, Place, Work, Running, language_of, Takes, Does, Works, ReadsEnded, Made, MakeFault, Advances, Fed, FaultAt, FaultWithin, Faults, FedUntil}
+use Rattle.grammar.proofs.Cuts.{no_feed-append, feed_inside, one_cut, feed_behind}
 use Rattle.engine.proofs.Lines.{reads_more, reads_then, works_then, works_keep}
 
 -- ---- one line
 
--- a step that was made on the world, and what is printed of it gathered
-pub made_step : (old : Gathered) (mode : Mode) (state new : WorldState) (step : Step) (text output : List ℕ) → old.work ≡ Running mode state → Makes mode state step new text → output ≡ old.output ++ text
-    → Takes old (Make step) (record { work = Running mode new; output = output })
-made_step old mode state new step text output is makes gathers = record {
+-- an order that was carried out on the world, and what is printed of it gathered
+pub obeyed : (old : Gathered) (mode : Mode) (state new : WorldState) (order : Order) (text output : List ℕ) → old.work ≡ Running mode state → Obeys mode state order new text → output ≡ old.output ++ text
+    → Takes old (Do order) (record { work = Running mode new; output = output })
+obeyed old mode state new order text output is obeys gathers = record {
   out = text;
-  does = subst (λ (w : Work). Does w (Make step) (Running mode new) text) (sym is) (new, refl, makes);
+  does = subst (λ (w : Work). Does w (Do order) (Running mode new) text) (sym is) (new, refl, obeys);
   gathers = gathers;
 }
 

@@ -1,22 +1,24 @@
 -- What is printed as a transcript is the transcript.
-use Rattle.std.proofs.Common.{◌≡◌, ℕ, zero, suc, ◌+◌, ◌<◌, ◌≤◌, add-one, length-append, List, [], ◌∷◌, ◌++◌, length, take, drop, get_or, arith, refl, sym, ap, subst, ◌∙◌, append_assoc, append-nil, inl, inr}
+use Rattle.std.proofs.Common.{◌≡◌, ℕ, zero, suc, ◌+◌, ◌<◌, ◌≤◌, add-one, length-append, Option, Some, None, List, [], ◌∷◌, ◌++◌, length, take, drop, get_or, arith, refl, sym, ap, subst, ◌∙◌, append_assoc, append-nil, inl, inr}
 use Rattle.mig_base.specs.declared.command.Entry.{Entry}
-use Rattle.mig_base.specs.declared.step.Step.{Step}
-use Rattle.mig_base.specs.declared.step.Step.TheVariants as step
+use Rattle.mig_base.specs.declared.schedule.Side.{Side}
+use Rattle.mig_base.specs.declared.schedule.Step.{Step}
 use Rattle.mig_base.specs.Flat.{IsFlatRun}
-use Rattle.mig_model.specs.Frame.{Sent}
-use Rattle.mig_model.specs.World.{World, refusal_of, accepted, delivered, delivered_back, next, Happens}
-use Rattle.mig_model.specs.Kept.{IsKept}
-use Rattle.mig_model.proofs.WorldLemmas.{IsKept-first}
-use Rattle.mig_model.proofs.Every.{by_refusal, IsKept-next}
+use Rattle.mig_model.specs.Migration.{World, next}
+use Rattle.mig_model.specs.Promises.{IsReached}
+use Rattle.mig_model.specs.Runs.{Happens}
+use Rattle.mig_model.proofs.ReachedLemmas.{reached-next}
+use Rattle.mig_model.proofs.StepCases.{MakesWorld, made-next}
+use Rattle.world.proofs.HeadlineLemmas.{headline_reached}
 use Rattle.report.specs.Texts.{entry_line}
-use Rattle.script.specs.declared.line.Line.{Line}
-use Rattle.script.specs.declared.line.Line.TheVariants.{Skipped, Make, Enter}
+use Rattle.grammar.specs.declared.line.Line.{Line}
+use Rattle.grammar.specs.declared.line.Line.TheVariants.{Skipped, Do, Enter}
+use Rattle.grammar.specs.Orders.{step_of}
+use Rattle.grammar.specs.Printed.{Outcome}
 use Rattle.engine.specs.declared.line_runner.Mode.{Mode}
 use Rattle.engine.specs.declared.line_runner.Mode.TheVariants.{Transcript}
-use Rattle.engine.specs.Script.{entry_lines, gained, Runs}
-use Rattle.script.specs.Printed.{Outcome}
-use Rattle.engine.specs.WorldState.{WorldState, Answered, first_state}
+use Rattle.engine.specs.Script.{entry_lines, gained, MakesAny, Runs}
+use Rattle.engine.specs.WorldState.{WorldState, Answered, Promised, epoch_in, first_state}
 
 -- ---- a step makes the transcript longer, or leaves it
 
@@ -26,38 +28,51 @@ Grows old new = (more : List Entry) × (new.transcript ≡ old.transcript ++ mor
 stays : (world : World) → Grows world world
 stays world = ([], sym (append-nil world.transcript))
 
-delivered_grows : (world : World) (sents : List Sent) → Grows world (delivered world sents)
-delivered_grows world [] = stays world
-delivered_grows world (sent ∷ sents) = ([], sym (append-nil world.transcript))
+same_entries : (world new : World) → new.transcript ≡ world.transcript → Grows world new
+same_entries world new same = ([], same ∙ sym (append-nil world.transcript))
 
-delivered_back_grows : (world : World) (sents : List Sent) → Grows world (delivered_back world sents)
-delivered_back_grows world [] = stays world
-delivered_back_grows world (sent ∷ sents) = ([], sym (append-nil world.transcript))
+made_grows : (world : World) (step : Step) → MakesWorld (λ (new : World). Grows world new) world step
+made_grows world (Step.Issue cpu command) = λ there idle runs. (_, refl)
+made_grows world (Step.Retry cpu) = λ command is woken runs. (_, refl)
+made_grows world Step.Start = λ idle used. same_entries world _ refl
+made_grows world Step.Round = λ precopy quiet. same_entries world _ refl
+made_grows world Step.Send = λ page is precopy up quiet. same_entries world _ refl
+made_grows world (Step.SendRun count) = λ first number is size precopy up quiet. same_entries world _ refl
+made_grows world Step.SourceRead = λ noted is started runs. same_entries world _ refl
+made_grows world Step.SourceAct = λ fault rest is started runs quiet. same_entries world _ refl
+made_grows world Step.Switch = λ precopy up quiet. same_entries world _ refl
+made_grows world (Step.Deliver n) = (λ sent rest is short. same_entries world _ refl, λ sent rest is full started up late urgent. same_entries world _ refl)
+made_grows world (Step.DeliverBack n) = (λ sent rest is short. same_entries world _ refl, λ sent rest is full started up. same_entries world _ refl)
+made_grows world Step.DestRead = λ noted is ran. same_entries world _ refl
+made_grows world Step.DestAct = λ fault rest is ran quiet. same_entries world _ refl
+made_grows world Step.Install = λ copy rest is ran quiet. same_entries world _ refl
+made_grows world (Step.Push ticket) = λ stopped up own present remains. same_entries world _ refl
+made_grows world (Step.PushUrgent ticket) = λ stopped up own present remains. same_entries world _ refl
+made_grows world (Step.DeliverUrgent n) = (λ sent rest is short. same_entries world _ refl, λ sent rest is full ran up. same_entries world _ refl)
+made_grows world Step.Serve = λ page pages is stopped up. same_entries world _ refl
+made_grows world Step.End = λ stopped own up none. same_entries world _ refl
+made_grows world Step.Break = λ started kept up. same_entries world _ refl
+made_grows world (Step.Notice Side.Source) = λ started kept down. same_entries world _ refl
+made_grows world (Step.Notice Side.Destination) = λ started kept down. same_entries world _ refl
+made_grows world Step.Resume = λ source destination down used. same_entries world _ refl
 
-accepted_grows : (world : World) (s : Step) → Grows world (accepted world s)
-accepted_grows world (step.Issue cpu command) = (_, refl)
-accepted_grows world step.Start = ([], sym (append-nil world.transcript))
-accepted_grows world step.Switch = ([], sym (append-nil world.transcript))
-accepted_grows world step.Deliver = delivered_grows world world.forward
-accepted_grows world step.DeliverBack = delivered_back_grows world world.back
-accepted_grows world step.End = ([], sym (append-nil world.transcript))
+next_grows : (world : World) (step : Step) → Grows world (next world step)
+next_grows world step = made-next (λ (new : World). Grows world new) world step (stays world) (made_grows world step)
 
-next_grows : (world : World) (s : Step) → Grows world (next world s)
-unfolding next
-next_grows world s = by_refusal (λ (new : World). Grows world new) (refusal_of world s) world (accepted world s) (stays world) (λ _. accepted_grows world s)
-
-is_next : (old : WorldState) (s : Step) (outcome : Outcome) (new : WorldState) → Answered old s outcome new → new ≡ next old s
-is_next old s outcome new answered = elim answered.1 [
+is_next : (old : WorldState) (step : Step) (outcome : Outcome) (new : WorldState) → Answered old step outcome new → new ≡ next old step
+is_next old step outcome new answered = elim answered.1 [
   | inl h ↦ h.1
   | inr h ↦ absurd (answered.0 h.0)
 ]
 
-pub answer_grows : (old : WorldState) (s : Step) (outcome : Outcome) (new : WorldState) → Answered old s outcome new → Grows old new
-answer_grows old s outcome new answered = subst (λ (w : World). Grows old w) (sym (is_next old s outcome new answered)) (next_grows old s)
+-- the same of what an order makes
+any_grows : (mode : Mode) (old : WorldState) (made : Option Step) (new : WorldState) (out : List ℕ) → MakesAny mode old made new out → Grows old new
+any_grows mode old None new out p = same_entries old new (ap (λ (w : WorldState). w.transcript) p.0)
+any_grows mode old (Some step) new out p = subst (λ (w : World). Grows old w) (sym (is_next old step p.0 new p.1)) (next_grows old step)
 
-happens_grows : (old : WorldState) (s : Step) (outcome : Outcome) (new : WorldState) → Happens old s outcome new → Grows old new
-happens_grows old s outcome new happens = elim happens [
-  | inl h ↦ subst (λ (w : World). Grows old w) (sym h.1) (next_grows old s)
+happens_grows : (old : WorldState) (step : Step) (outcome : Outcome) (new : WorldState) → Happens old step outcome new → Grows old new
+happens_grows old step outcome new happens = elim happens [
+  | inl h ↦ subst (λ (w : World). Grows old w) (sym h.1) (next_grows old step)
   | inr h ↦ subst (λ (w : World). Grows old w) (sym h.2) (stays old)
 ]
 
@@ -98,29 +113,44 @@ gained_lines old new grows =
     let more : gained old new ≡ grows.0 = ap (λ (es : List Entry). drop (length old.transcript) es) grows.1 ∙ drop_front old.transcript grows.0 in
     ap entry_lines grows.1 ∙ entry_lines-append old.transcript grows.0 ∙ ap (λ (es : List Entry). entry_lines old.transcript ++ entry_lines es) (sym more)
 
+-- what an order prints is the lines of the entries gained
+any_printed : (old : WorldState) (made : Option Step) (new : WorldState) (out : List ℕ) → MakesAny Transcript old made new out → entry_lines new.transcript ≡ entry_lines old.transcript ++ out
+any_printed old None new out p = ap (λ (w : WorldState). entry_lines w.transcript) p.0 ∙ sym (append-nil (entry_lines old.transcript)) ∙ ap (λ (t : List ℕ). entry_lines old.transcript ++ t) (sym p.1)
+any_printed old (Some step) new out p = gained_lines old new (any_grows Transcript old (Some step) new out p) ∙ ap (λ (t : List ℕ). entry_lines old.transcript ++ t) (sym p.2)
+
 printed_lines : (old : WorldState) (lines : List Line) (new : WorldState) (text : List ℕ) → Runs Transcript old lines new text → entry_lines new.transcript ≡ entry_lines old.transcript ++ text
 printed_lines old [] new text p =
     ap (λ (w : WorldState). entry_lines w.transcript) p.0 ∙ sym (append-nil (entry_lines old.transcript)) ∙ ap (λ (t : List ℕ). entry_lines old.transcript ++ t) (sym p.1)
 printed_lines old (Skipped ∷ lines) new text p = printed_lines old lines new text p
-printed_lines old (Make s ∷ lines) new text p =
+printed_lines old (Do order ∷ lines) new text p =
     let before = entry_lines old.transcript in
-    printed_lines p.1 lines new p.2 p.5
-    ∙ ap (λ (t : List ℕ). t ++ p.2) (gained_lines old p.1 (answer_grows old s p.0 p.1 p.3))
-    ∙ append_assoc before (entry_lines (gained old p.1)) p.2
+    printed_lines p.0 lines new p.2 p.5
+    ∙ ap (λ (t : List ℕ). t ++ p.2) (any_printed old (step_of order (epoch_in old)) p.0 p.1 p.3)
+    ∙ append_assoc before p.1 p.2
     ∙ ap (λ (t : List ℕ). before ++ t) (sym p.4)
 printed_lines old (Enter entry ∷ lines) new text p = absurd p
 
 pub printed_transcript : (cpus : ℕ) (lines : List Line) (end : WorldState) (text : List ℕ) → Runs Transcript (first_state cpus) lines end text → text ≡ entry_lines end.transcript
 printed_transcript cpus lines end text p = sym (printed_lines (first_state cpus) lines end text p)
 
--- ---- and it is a flat run
+-- ---- and the last state is one that a list of steps leads to
 
-run_keeps : (mode : Mode) (old : WorldState) (lines : List Line) (new : WorldState) (text : List ℕ) → IsKept old → Runs mode old lines new text → IsKept new
-run_keeps mode old [] new text kept p = subst IsKept (sym p.0) kept
-run_keeps mode old (Skipped ∷ lines) new text kept p = run_keeps mode old lines new text kept p
-run_keeps mode old (Make s ∷ lines) new text kept p =
-    run_keeps mode p.1 lines new p.2 (subst IsKept (sym (is_next old s p.0 p.1 p.3)) (IsKept-next old s kept)) p.5
-run_keeps mode old (Enter entry ∷ lines) new text kept p = absurd p
+any_reached : (mode : Mode) (old : WorldState) (made : Option Step) (new : WorldState) (out : List ℕ) → IsReached old → MakesAny mode old made new out → IsReached new
+any_reached mode old None new out reached p = subst IsReached (sym p.0) reached
+any_reached mode old (Some step) new out reached p = subst IsReached (sym (is_next old step p.0 new p.1)) (reached-next old step reached)
+
+run_reached : (mode : Mode) (old : WorldState) (lines : List Line) (new : WorldState) (text : List ℕ) → IsReached old → Runs mode old lines new text → IsReached new
+run_reached mode old [] new text reached p = subst IsReached (sym p.0) reached
+run_reached mode old (Skipped ∷ lines) new text reached p = run_reached mode old lines new text reached p
+run_reached mode old (Do order ∷ lines) new text reached p =
+    run_reached mode p.0 lines new p.2 (any_reached mode old (step_of order (epoch_in old)) p.0 p.1 reached p.3) p.5
+run_reached mode old (Enter entry ∷ lines) new text reached p = absurd p
+
+first_reached : (cpus : ℕ) → IsReached (first_state cpus)
+first_reached cpus = record { cpus = cpus; epoch = 0; rounds = 0; steps = []; is = refl }
+
+pub run_promised : (mode : Mode) (cpus : ℕ) (lines : List Line) (end : WorldState) (text : List ℕ) → Runs mode (first_state cpus) lines end text → Promised end
+run_promised mode cpus lines end text p = headline_reached end (run_reached mode (first_state cpus) lines end text (first_reached cpus) p)
 
 pub flat_transcript : (cpus : ℕ) (lines : List Line) (end : WorldState) (text : List ℕ) → Runs Transcript (first_state cpus) lines end text → IsFlatRun end.transcript
-flat_transcript cpus lines end text p = (run_keeps Transcript (first_state cpus) lines end text (IsKept-first cpus 0 0) p).flat
+flat_transcript cpus lines end text p = (run_promised Transcript cpus lines end text p).flat

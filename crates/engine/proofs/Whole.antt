@@ -5,8 +5,8 @@ use Rattle.std.specs.Io.KnownBytes.{Appends, Keeps, Consumes, IsAtEnd}
 use Rattle.std.proofs.KnownBytes.{Appends-nil, Appends-trans, Consumes-nil, Consumes-trans, Consumes-kept}
 use Rattle.engine.specs.declared.fault.RunFault.{RunFault}
 use Rattle.engine.specs.declared.fault.RunFault.TheVariants as faults
-use Rattle.script.specs.declared.line.Language.{Language}
-use Rattle.script.specs.Lines.{HasNoFeed, Reads, BeginsWrong}
+use Rattle.grammar.specs.declared.line.Language.{Language}
+use Rattle.grammar.specs.Lines.{HasNoFeed, Reads, BeginsWrong}
 use Rattle.engine.specs.Script.{StopsWithin, StopsBy}
 use Rattle.engine.specs.Engine.{Place, Work, language_of, start_of, Works, Outputs, Advances, FaultWithin, Passes, Halts, Closes, CloseFault, ReadsAll}
 use Rattle.engine.proofs.Lines.{reads_more, reads_is, reads_last, works_then, works_keep}

@@ -7,19 +7,19 @@ use Rattle.mig_base.specs.declared.command.Reply.{Reply}
 use Rattle.mig_base.specs.Flat.{IsFlatRun}
 use Rattle.report.specs.Texts.{reply_text}
 use Rattle.report.specs.Checks.{FirstWrong}
-use Rattle.script.specs.declared.line.Language.TheVariants as language
-use Rattle.script.specs.declared.line.Line.{Line}
-use Rattle.script.specs.declared.line.Line.TheVariants.{Skipped, Make, Enter}
+use Rattle.grammar.specs.declared.line.Language.TheVariants as language
+use Rattle.grammar.specs.declared.line.Line.{Line}
+use Rattle.grammar.specs.declared.line.Line.TheVariants.{Skipped, Do, Enter}
 use Rattle.engine.specs.declared.fault.RunFault.{RunFault}
 use Rattle.engine.specs.declared.fault.RunFault.TheVariants as faults
-use Rattle.script.specs.Lines.{Reads}
+use Rattle.grammar.specs.Lines.{Reads}
 use Rattle.engine.specs.Script.{StopsBy}
 
 -- the entries of lines
 abbrev pub entries_of : List Line → List Entry
 entries_of [] = []
 entries_of (Skipped ∷ lines) = entries_of lines
-entries_of (Make step ∷ lines) = entries_of lines
+entries_of (Do order ∷ lines) = entries_of lines
 entries_of (Enter entry ∷ lines) = entry ∷ entries_of lines
 
 -- the input is a transcript of these entries

@@ -3,29 +3,27 @@ use Rattle.std.specs.Prelude.{◌≡◌, ℕ, ◌+◌, ◌<◌, ◌⊎◌, Bool,
 use Rattle.std.proofs.Common.{inl, inr}
 use Rattle.std.specs.Coded.{Coded, code_by, coded×, coded⊎, coded_ℕ, coded_bool, coded_list}
 use Rattle.std.specs.Io.KnownBytes.{Appends}
-use Rattle.mig_base.specs.declared.step.Step.{Step}
 use Rattle.mig_base.specs.declared.command.Entry.{Entry}
 use Rattle.mig_base.specs.contracts.command.Entry as entry
-use Rattle.script.specs.declared.line.Language.{Language}
-use Rattle.script.specs.declared.line.Language.TheVariants as language
-use Rattle.script.specs.declared.line.Line.{Line}
-use Rattle.script.specs.declared.line.Line.TheVariants.{Skipped, Make, Enter}
+use Rattle.grammar.specs.declared.line.Language.{Language}
+use Rattle.grammar.specs.declared.line.Language.TheVariants as language
+use Rattle.grammar.specs.declared.line.Line.{Line}
+use Rattle.grammar.specs.declared.line.Line.TheVariants.{Skipped, Do, Enter}
 use Rattle.engine.specs.declared.line_runner.Mode.{Mode}
 use Rattle.engine.specs.declared.line_runner.Mode.TheVariants.{Lines, Transcript}
 use Rattle.engine.specs.declared.line_runner.Job.{Job}
 use Rattle.engine.specs.declared.line_runner.Job.TheVariants.{Run, Keep}
 use Rattle.engine.specs.declared.fault.RunFault.{RunFault}
 use Rattle.engine.specs.declared.fault.RunFault.TheVariants as faults
-use Rattle.script.specs.Spelling.{Spells}
-use Rattle.script.specs.Lines.{EndedLine, Reads, BeginsWrong}
-use Rattle.engine.specs.Script.{printed}
-use Rattle.script.specs.Printed.{Outcome}
-use Rattle.engine.specs.WorldState.{WorldState, coded_state, Answered}
+use Rattle.grammar.specs.Spelling.{Spells}
+use Rattle.grammar.specs.Lines.{EndedLine, Reads, BeginsWrong}
+use Rattle.engine.specs.Script.{Obeys}
+use Rattle.engine.specs.WorldState.{WorldState, coded_state}
 
 -- Work: a world that is run, or the entries that are kept
 
 pub data Work : Type 0 where
-  -- steps are made on a world, and printed as the mode says
+  -- orders are carried out on a world, and printed as the mode says
   Running : (mode : Mode) → (state : WorldState) → Work
   -- entries are kept
   Keeping : (entries : List Entry) → Work
@@ -82,16 +80,12 @@ kept_entries (Keeping entries) = entries
 abbrev pub nothing_kept : Work
 nothing_kept = Keeping []
 
--- what a step makes of a world, and what is printed of it
-abbrev pub Makes : Mode → WorldState → Step → WorldState → List ℕ → Type 0
-Makes mode old step new text = (outcome : Outcome) × Answered old step outcome new × (text ≡ printed mode old outcome new)
-
 -- what a line makes of the work, and its output
 abbrev pub Does : Work → Line → Work → List ℕ → Type 0
 Does old Skipped new text = (new ≡ old) × (text ≡ [])
-Does (Running mode old) (Make step) new text = (state : WorldState) × (new ≡ Running mode state) × Makes mode old step state text
+Does (Running mode old) (Do order) new text = (state : WorldState) × (new ≡ Running mode state) × Obeys mode old order state text
 Does (Running mode old) (Enter entry) new text = ⊥
-Does (Keeping entries) (Make step) new text = ⊥
+Does (Keeping entries) (Do order) new text = ⊥
 Does (Keeping entries) (Enter entry) new text = (new ≡ Keeping (entries ++ entry ∷ [])) × (text ≡ [])
 
 -- what lines make of the work, and their output

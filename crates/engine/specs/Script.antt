@@ -1,20 +1,22 @@
 -- What a run of a script writes, and how reading ends.
-use Rattle.std.specs.Prelude.{◌≡◌, ℕ, ◌+◌, ◌<◌, List, [], ◌∷◌, ◌++◌, length, drop, Option, IfSome}
+use Rattle.std.specs.Prelude.{◌≡◌, ℕ, ◌+◌, ◌<◌, List, [], ◌∷◌, ◌++◌, length, drop, Option, Some, None, IfSome}
 use Rattle.std.specs.Io.KnownBytes.{Appends}
 use Rattle.mig_base.specs.declared.command.Entry.{Entry}
 use Rattle.report.specs.Texts.{entry_line}
-use Rattle.script.specs.declared.line.Language.{Language}
-use Rattle.script.specs.declared.line.Language.TheVariants as language
-use Rattle.script.specs.declared.line.Line.{Line}
-use Rattle.script.specs.declared.line.Line.TheVariants.{Skipped, Make, Enter}
+use Rattle.grammar.specs.declared.line.Language.{Language}
+use Rattle.grammar.specs.declared.line.Language.TheVariants as language
+use Rattle.grammar.specs.declared.line.Line.{Line}
+use Rattle.grammar.specs.declared.line.Line.TheVariants.{Skipped, Do, Enter}
 use Rattle.engine.specs.declared.line_runner.Mode.{Mode}
 use Rattle.engine.specs.declared.line_runner.Mode.TheVariants.{Lines, Transcript}
 use Rattle.engine.specs.declared.fault.RunFault.{RunFault}
 use Rattle.engine.specs.declared.fault.RunFault.TheVariants as faults
-use Rattle.script.specs.Lines.{HasNoFeed, Reads, BeginsWrong}
-use Rattle.script.specs.Printed.{outcome_line}
-use Rattle.script.specs.Printed.{Outcome}
-use Rattle.engine.specs.WorldState.{WorldState, Answered}
+use Rattle.grammar.specs.Lines.{HasNoFeed, Reads, BeginsWrong}
+use Rattle.grammar.specs.declared.order.Order.{Order}
+use Rattle.grammar.specs.Orders.{step_of}
+use Rattle.grammar.specs.Printed.{Outcome, outcome_line, progress_line}
+use Rattle.mig_base.specs.declared.schedule.Step.{Step}
+use Rattle.engine.specs.WorldState.{WorldState, Answered, Promised, epoch_in, progress_in}
 
 -- Runs of a script
 
@@ -32,17 +34,35 @@ abbrev pub printed : Mode → WorldState → Outcome → WorldState → List ℕ
 printed Lines old outcome new = outcome_line outcome
 printed Transcript old outcome new = entry_lines (gained old new)
 
+-- what is printed where progress is to be told
+abbrev pub told : Mode → WorldState → List ℕ
+told Lines state = progress_line (progress_in state)
+told Transcript state = []
+
+-- what a step makes of a world, and what is printed of it
+abbrev pub Makes : Mode → WorldState → Step → WorldState → List ℕ → Type 0
+Makes mode old step new text = (outcome : Outcome) × Answered old step outcome new × (text ≡ printed mode old outcome new)
+
+-- the same of what an order makes: its step, or none
+abbrev pub MakesAny : Mode → WorldState → Option Step → WorldState → List ℕ → Type 0
+MakesAny mode old (Some step) new text = Makes mode old step new text
+MakesAny mode old None new text = (new ≡ old) × (text ≡ told mode old)
+
+-- what an order makes of a world, and what is printed of it
+abbrev pub Obeys : Mode → WorldState → Order → WorldState → List ℕ → Type 0
+Obeys mode old order new text = MakesAny mode old (step_of order (epoch_in old)) new text
+
 -- from one state these lines lead to the other, and this is printed
 abbrev pub Runs : Mode → WorldState → List Line → WorldState → List ℕ → Type 0
 Runs mode old [] new text = (new ≡ old) × (text ≡ [])
 Runs mode old (Skipped ∷ lines) new text = Runs mode old lines new text
-Runs mode old (Make step ∷ lines) new text = (outcome : Outcome) × (mid : WorldState) × (more : List ℕ)
-    × Answered old step outcome mid × (text ≡ printed mode old outcome mid ++ more) × Runs mode mid lines new more
+Runs mode old (Do order ∷ lines) new text = (mid : WorldState) × (out : List ℕ) × (more : List ℕ)
+    × Obeys mode old order mid out × (text ≡ out ++ more) × Runs mode mid lines new more
 Runs mode old (Enter entry ∷ lines) new text = ⊥
 
--- the lines are run from this state, and this is printed
+-- the lines are run from this state, this is printed, and the last state is as promised
 abbrev pub Prints : Mode → WorldState → List Line → List ℕ → Type 0
-Prints mode start lines text = (end : WorldState) × Runs mode start lines end text
+Prints mode start lines text = (end : WorldState) × Runs mode start lines end text × Promised end
 
 -- How reading ends. Texts says which output lines have
 

@@ -2,7 +2,7 @@
 
 ghost use Rattle.std.specs.Prelude.{◌≡◌, ℕ, List};
 ghost use Rattle.mig_base.specs.Flat.{IsFlatRun};
-ghost use Rattle.script.specs.declared.line.Line.{Line};
+ghost use Rattle.grammar.specs.declared.line.Line.{Line};
 ghost use Rattle.engine.specs.declared.line_runner.Mode.{Mode};
 ghost use Rattle.engine.specs.declared.line_runner.Mode.TheVariants.{Transcript};
 ghost use Rattle.engine.specs.Script.{entry_lines, Runs};

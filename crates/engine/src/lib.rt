@@ -1,10 +1,10 @@
-//! Runs scripts of steps on a world, and checks transcripts against one flat memory.
+//! Runs scripts of a whole migration on a world, and checks transcripts against one flat memory.
 //!
-//! [`run_script`] reads a script and writes one line for each step, or one for each command that took effect, as its [`Mode`]
+//! [`run_script`] reads a script and writes one line for each order, or one for each command that took effect, as its [`Mode`]
 //! says; [`check_script`] reads such a transcript, and says whether it is that of one flat memory. Both read and write in pieces.
 //! A [`RunFault`] says what ended a run early. [`ScriptReader`] finds the lines in what is read, and [`LineRunner`] does each.
-//! What a run writes is `specs/Script.antt`, what a check writes `specs/Checking.antt`, and [`laws`] says that there is no other
-//! output. `docs/SCRIPT.md` says what a script is.
+//! What a run writes is `specs/Script.antt`, with what is promised of the world in which it ends, what a check writes
+//! `specs/Checking.antt`, and [`laws`] says that there is no other output. `docs/SCRIPT.md` says what a script is.
 //!
 //! The crate names no file, no command line and no exit status: readers and writers are its callers'.
 #![tactic(auto)]

@@ -1,28 +1,30 @@
-//! Doing one line: a step of a script is made on a world, and an entry of a transcript is kept.
+//! Doing one line: an order of a script is carried out on a world, and an entry of a transcript is kept.
 
 ghost use Rattle.std.specs.Prelude.{◌≡◌, ◌<◌, ◌≤◌, ◌++◌, [], OnOk, OnErr, IfErr, IfOk, string_bytes};
 ghost use Rattle.std.specs.Io.KnownBytes.{Appends};
 ghost use Rattle.engine.specs.declared.fault.RunFault.TheVariants.{WriteFault, NoMemory as OutOfMemory};
-ghost use Rattle.script.specs.declared.line.Language.TheVariants.{Script as AScript, Transcript as ATranscript};
-ghost use Rattle.script.specs.declared.line.Line.TheVariants.{Make, Enter};
-ghost use Rattle.engine.specs.Script.{entry_lines};
-ghost use Rattle.engine.specs.Engine.{Running, Keeping, Gathered, coded_gathered, work_of, language_of as language_of_work, kept_entries, Makes, Takes, Made, MakeFault, Front};
-ghost use Rattle.engine.specs.WorldState.{first_state};
+ghost use Rattle.grammar.specs.declared.line.Language.TheVariants.{Script as AScript, Transcript as ATranscript};
+ghost use Rattle.grammar.specs.declared.line.Line.TheVariants.{Do, Enter};
+ghost use Rattle.engine.specs.Script.{entry_lines, told, Makes, Obeys};
+ghost use Rattle.engine.specs.Engine.{Running, Keeping, Gathered, coded_gathered, work_of, language_of as language_of_work, kept_entries, Takes, Made, MakeFault, Front};
+ghost use Rattle.engine.specs.WorldState.{first_state, progress_in};
 
 use crate::fault::RunFault;
-use hosts::World;
-use mig_base::{Entry, NoMemory, Refusal, Step};
+use grammar::parse::parse;
+use grammar::{Language, Line, Order, Progress, Token, print_line, print_progress};
+use mig_base::refusal::Refusal;
+use mig_base::schedule::Step;
+use mig_base::{Entry, NoMemory};
 use report::print_entry;
-use script::parse::parse;
-use script::{Language, Line, Token, print_line};
 use std::alloc::Global;
 use std::io::Write;
 use std::marker::Model;
+use world::World;
 
 /// What a run writes.
 #[derive(Clone, Copy, Debug, PartialEq, Eq)]
 pub enum Mode {
-    /// One line for each step, with its outcome.
+    /// One line for each order: the outcome of its step, or the report that it asks for.
     Lines,
     /// One line for each entry of the transcript, as it is made.
     Transcript,
@@ -31,7 +33,7 @@ pub enum Mode {
 /// What is done with the lines.
 #[derive(Drop)]
 pub enum Job {
-    /// Their steps are made on a world, and printed as the mode says.
+    /// Their orders are carried out on a world, and printed as the mode says.
     Run { world: World, mode: Mode },
     /// Their entries are kept.
     Keep { entries: Vec<Entry> },
@@ -81,6 +83,51 @@ fn make_step(world: &mut World, mode: Mode, step: Step, text: &mut String) -> Re
     Ok(())
 }
 
+/// How far the migration of a world has come.
+fn progress_of(world: &World) -> Progress
+    ensures { result ≡ progress_in world.now }
+{
+    let counts = world.counts();
+    Progress {
+        phase: world.phase(),
+        rounds: counts.rounds,
+        sent: counts.sent,
+        left: world.owed_left(),
+        installed: counts.installed,
+        dropped: counts.dropped,
+        faults: counts.faults,
+    }
+}
+
+/// Puts what the mode prints of the progress of a world in the place of a text.
+fn tell_progress(world: &World, mode: Mode, text: &mut String) -> Result<(), RunFault>
+    ensures ok { OnOk result (string_bytes text.new ≡ told mode world.now) }
+    ensures fault { IfErr result (λ fault. fault ≡ OutOfMemory) }
+{
+    text.clear();
+    match mode {
+        Mode::Lines => print_progress(text, progress_of(world))?,
+        Mode::Transcript => {}
+    }
+    Ok(())
+}
+
+/// Carries out an order, and puts what the mode prints of it in the place of a text.
+fn carry_out(
+    world: &mut World,
+    mode: Mode,
+    order: Order,
+    text: &mut String,
+) -> Result<(), RunFault>
+    ensures ok { OnOk result (Obeys mode world.old order world.new (string_bytes text.new)) }
+    ensures fault { IfErr result (λ fault. fault ≡ OutOfMemory) }
+{
+    match order.step(world.epoch()) {
+        Some(step) => make_step(world, mode, step, text),
+        None => tell_progress(world, mode, text),
+    }
+}
+
 /// Does lines, and gathers their output.
 #[derive(Drop)]
 pub struct LineRunner {
@@ -115,7 +162,7 @@ impl LineRunner {
         }
     }
 
-    /// Makes steps on a new world of so many processors.
+    /// Carries out orders on a new world of so many processors.
     pub fn on_world(alloc: Global, cpus: u8, mode: Mode) -> Result<LineRunner, RunFault>
         requires low { 1 ≤ cpus }
         requires high { cpus ≤ 16 }
@@ -147,7 +194,7 @@ impl LineRunner {
         }
     }
 
-    /// The entries that were kept, none where steps are made.
+    /// The entries that were kept, none where a world is run.
     pub fn entries(&self) -> &[Entry]
         ensures { result.now ≡ kept_entries self.now.work }
     {
@@ -157,16 +204,16 @@ impl LineRunner {
         }
     }
 
-    /// Makes a step, and gathers what is printed of it.
-    fn make(&mut self, step: Step) -> Result<(), RunFault>
+    /// Carries out an order, and gathers what is printed of it.
+    fn obey(&mut self, order: Order) -> Result<(), RunFault>
         requires { language_of_work self.old.work ≡ AScript }
-        ensures ok { OnOk result (Takes self.old (Make step) self.new) }
+        ensures ok { OnOk result (Takes self.old (Do order) self.new) }
         ensures fault { IfErr result (λ fault. fault ≡ OutOfMemory) }
         ensures kept { OnErr result (self.new.output ≡ self.old.output) }
     {
         match &mut self.job {
             Job::Run { world, mode } => {
-                make_step(world, *mode, step, &mut self.printed)?;
+                carry_out(world, *mode, order, &mut self.printed)?;
                 self.output.extend_from_slice(self.printed.as_bytes())?;
                 Ok(())
             }
@@ -199,7 +246,7 @@ impl LineRunner {
         match parse(self.language(), &mut self.tokens, text)? {
             None => Err(RunFault::Line(number)),
             Some(Line::Skipped) => Ok(()),
-            Some(Line::Make(step)) => self.make(step),
+            Some(Line::Do(order)) => self.obey(order),
             Some(Line::Enter(entry)) => self.enter(entry),
         }
     }

@@ -14,7 +14,9 @@ use std::io::{Read, Write};
 /// The most bytes that are read at once.
 const PIECE: usize = 16_384;
 
-/// Runs a script on a new world of `cpus` processors, and writes what the mode says of each step.
+/// Runs a script on a new world of `cpus` processors, and writes what the mode says of each order. What `world` promises of every world
+/// holds of the one in which the run ends: its transcript is the run of one flat memory, and once the migration is complete the
+/// destination alone holds that memory.
 ///
 /// At most 4,294,967,295 reads are made; a script that needs more ends with a read fault. What the lines of one read cause is
 /// gathered, and is written before the next read and before any fault is answered. An interrupted read or write is a fault.

@@ -2,7 +2,7 @@
 
 ghost use Rattle.std.specs.Prelude.{◌≡◌, ◌+◌, ◌<◌, ◌≤◌, ◌^◌, ◌++◌, ℕ, List, [], ◌∷◌, length, OnOk, IfErr, IfSome, IfNone, vec_len};
 ghost use Rattle.std.specs.Str.Lines.{strip_carriage_return};
-ghost use Rattle.script.specs.Lines.{HasNoFeed};
+ghost use Rattle.grammar.specs.Lines.{HasNoFeed};
 ghost use Rattle.engine.specs.Engine.{Place, coded_place, kept_entries, start_of, Fed, FedUntil, Passes, Halts, Closes, CloseFault};
 
 use crate::fault::RunFault;
@@ -69,7 +69,7 @@ impl ScriptReader {
         }
     }
 
-    /// The entries that were kept, none where steps are made.
+    /// The entries that were kept, none where a world is run.
     pub fn entries(&self) -> &[Entry]
         ensures { result.now ≡ kept_entries self.now.work }
     {

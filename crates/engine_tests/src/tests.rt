@@ -5,10 +5,10 @@ use std::process::Abort;
 use std::test::Fail;
 
 const SCRIPT: &[u8] =
-    b"# first\r\ncpu 0 mmap 8192 rw\n\ncpu 0 store 0x10ff8 8 0x1122334455667788\r\ncpu 1 load 0x10ffc 4\ncpu 1 load 0x10ffc 8\ncpu 9 load 0 8";
+    b"# first\r\ncpu 0 mmap 8192 rw\n\ncpu 0 store 0x10ff8 8 0x1122334455667788\r\ncpu 1 load 0x10ffc 4\ncpu 1 load 0x10ffc 8\nstart\nround\nprogress\ncpu 9 load 0 8";
 
 const OUTPUT: &[u8] =
-    b"cpu 0 at 0x10000\ncpu 0 done\ncpu 1 value 0x11223344\ncpu 1 bad access\nrefused NoCpu\n";
+    b"cpu 0 at 0x10000\ncpu 0 done\ncpu 1 value 0x11223344\ncpu 1 bad access\nstarted epoch 1\nround 1 todo 1\nprogress phase precopy rounds 1 sent 0 left 0 installed 0 dropped 0 faults 0\nrefused NoCpu\n";
 
 const TRANSCRIPT: &[u8] =
     b"0 mmap 8192 rw => at 0x10000\n0 store 0x10ff8 8 0x1122334455667788 => done\n1 load 0x10ffc 4 => value 0x11223344\n1 load 0x10ffc 8 => bad access\n";

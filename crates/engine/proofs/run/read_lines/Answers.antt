@@ -2,7 +2,7 @@ use Rattle.std.proofs.Common.{◌≡◌, length, arith, rules, ap, sym, subst}
 use Rattle.std.proofs.lemmas.Result.{err_from_is_err_and}
 use Rattle.std.proofs.KnownBytes.{Keeps-refl}
 use Rattle.engine.specs.Engine.{Place}
-use Rattle.script.specs.Lines.{HasNoFeed}
+use Rattle.grammar.specs.Lines.{HasNoFeed}
 use Rattle.engine.proofs.Whole.{ran_none, ran_then, ran_halts, ran_read_fault, ran_finished, ran_stopped, at_end}
 use Rattle.engine.proofs.run.read_lines.Goals as goal
 

@@ -1,5 +1,5 @@
 use Rattle.std.proofs.Common.{◌≡◌, ◌*◌, ◌≤◌, []}
-use Rattle.script.specs.Lines.{HasNoFeed}
+use Rattle.grammar.specs.Lines.{HasNoFeed}
 use Rattle.engine.proofs.Whole.{Ran}
 use Rattle.engine.proofs.run.read_lines.Given as goal
 
