@@ -1,9 +1,0 @@
-pub mod Bytes
-pub mod Cuts
-pub mod Entries
-pub mod Grammar
-pub mod Keywords
-pub mod Meaning
-pub mod Numbers
-pub mod Spaces
-pub mod Tokens

@@ -1,5 +1,0 @@
-use Rattle.script.proofs.Meaning.{one_line, one_reading, one_fault, no_fault}
-use Rattle.script.proofs.laws.one_meaning.Goals as goal
-
-pub returns : goal.returns
-returns c = record { line = one_line; whole = one_reading; fault = one_fault; either = no_fault }

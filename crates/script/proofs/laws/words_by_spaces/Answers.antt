@@ -1,6 +1,0 @@
-use Rattle.std.proofs.Common.{refl}
-use Rattle.script.proofs.Spaces.{words_space, words_one, words_more}
-use Rattle.script.proofs.laws.words_by_spaces.Goals as goal
-
-pub returns : goal.returns
-returns c = record { nothing = refl; space = words_space; last = words_one; more = words_more }

@@ -1,7 +1,0 @@
-use Rattle.std.proofs.Common.{rules}
-use Rattle.script.specs.Parsing.{place_from}
-use Rattle.script.proofs.parse.place_of.Goals as goal
-
-pub returns-in-empty : goal.returns-in-empty
-unfolding place_from
-returns-in-empty c = search rules

@@ -1,7 +1,0 @@
-use Rattle.std.proofs.Common.{rules}
-use Rattle.script.specs.Parsing.{reply_from}
-use Rattle.script.proofs.parse_entry.reply_of.Goals as goal
-
-pub returns-in-Key-4 : goal.returns-in-Key-4
-unfolding reply_from
-returns-in-Key-4 c = search rules

@@ -1,6 +1,0 @@
-use Rattle.std.proofs.Common.{take}
-use Rattle.script.proofs.Entries.{HasNoArrow}
-use Rattle.script.proofs.parse_entry.split_reply.Given as goal
-
-abbrev pub invariant-loop-at : goal.invariant-loop-at
-invariant-loop-at l = HasNoArrow (take l.at l.tokens)

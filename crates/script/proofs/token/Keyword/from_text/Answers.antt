@@ -1,9 +1,0 @@
-use Rattle.std.proofs.Common.{ap, sym, arith, ◌∙◌}
-use Rattle.script.specs.Words.{keyword_text}
-use Rattle.script.proofs.Keywords.{listed}
-use Rattle.script.proofs.token.Keyword.from_text.Goals as goal
-
-pub returns-clause-none : goal.returns-clause-none
-returns-clause-none c = λ keyword e.
-    let place = listed keyword in
-    c.loop-keyword.invariant place.0 (omega (arith, place.1, c.loop-keyword-test.false)) (e ∙ ap keyword_text (sym place.2))

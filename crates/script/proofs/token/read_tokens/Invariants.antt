@@ -1,9 +1,0 @@
-use Rattle.std.proofs.Common.{length}
-use Rattle.script.proofs.Tokens.{ReadsTokens}
-use Rattle.script.proofs.token.read_tokens.Given as goal
-
-abbrev pub invariant-loop-word : goal.invariant-loop-word
-invariant-loop-word l = ReadsTokens l.text l.tokens.items l.rest
-
-abbrev pub decreases-loop-word : goal.decreases-loop-word
-decreases-loop-word l = length l.rest

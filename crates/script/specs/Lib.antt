@@ -1,5 +1,0 @@
-pub mod Lines
-pub mod Parsing
-pub mod Printed
-pub mod Spelling
-pub mod Words
