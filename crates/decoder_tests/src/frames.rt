@@ -8,17 +8,17 @@ use std::alloc::Global;
 use std::process::Abort;
 use std::test::Fail;
 
-/// Feeds a text byte by byte: nothing is answered before the last, and the bytes that are missing are those of the header, then of
-/// the frame.
+/// Feeds a text byte by byte: nothing is answered before the last, and until then bytes are missing.
 fn by_bytes(rt: &impl Abort, alloc: Global, bytes: &[u8]) -> Result<(), Fail> {
     let mut decoder = Decoder::new(alloc);
-    let mut left = bytes;
-    while let [byte, after @ ..] = left {
-        let missing = decoder.missing();
-        assert!(rt; missing != 0 && missing <= left.len() || left.len() < 12);
-        let rest = play(rt, alloc, &mut decoder, &[*byte], bytes)?;
-        assert_eq!(rt; rest.is_empty(), after.is_empty());
-        left = after;
+    if let [front @ .., last] = bytes {
+        for byte in front {
+            let rest = play(rt, alloc, &mut decoder, &[*byte], bytes)?;
+            assert_eq!(rt; rest.len(), bytes.len());
+            assert!(rt; decoder.missing() != 0);
+        }
+        let rest = play(rt, alloc, &mut decoder, &[*last], bytes)?;
+        assert!(rt; rest.is_empty());
     }
     assert_eq!(rt; decoder.missing(), 12);
     Ok(())
