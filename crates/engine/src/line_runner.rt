@@ -113,12 +113,7 @@ fn tell_progress(world: &World, mode: Mode, text: &mut String) -> Result<(), Run
 }
 
 /// Carries out an order, and puts what the mode prints of it in the place of a text.
-fn carry_out(
-    world: &mut World,
-    mode: Mode,
-    order: Order,
-    text: &mut String,
-) -> Result<(), RunFault>
+fn carry_out(world: &mut World, mode: Mode, order: Order, text: &mut String) -> Result<(), RunFault>
     ensures ok { OnOk result (Obeys mode world.old order world.new (string_bytes text.new)) }
     ensures fault { IfErr result (λ fault. fault ≡ OutOfMemory) }
 {

@@ -56,7 +56,7 @@ not_left from count to new_count q along old growth apart = grind (arith, nat_te
 moved_to_opened : (set : FinSet nat_cmp) (from count to new_count : ℕ) (growth : Bool) → ((from + count ≤ to) ⊎ (to + new_count ≤ from)) → moved_set (with_range set to new_count) from count to new_count growth ≡ moved_set set from count to new_count growth
 moved_to_opened set from count to new_count growth apart =
     let at : (q : ℕ) → cond (in_range to new_count q) (cond (ltb (q - to) count) (contains (with_range set to new_count) (from + (q - to))) growth) (not (in_range from count q) && contains (with_range set to new_count) q)
-            ≡ cond (in_range to new_count q) (cond (ltb (q - to) count) (contains set (from + (q - to))) growth) (not (in_range from count q) && contains set q) = λ q.
+    ≡ cond (in_range to new_count q) (cond (ltb (q - to) count) (contains set (from + (q - to))) growth) (not (in_range from count q) && contains set q) = λ q.
     ap (λ a. cond (in_range to new_count q) (cond (ltb (q - to) count) a growth) (not (in_range from count q) && contains (with_range set to new_count) q)) (member_with_range set to new_count (from + (q - to)))
     ∙ ap (λ b. cond (in_range to new_count q) (cond (ltb (q - to) count) (in_range to new_count (from + (q - to)) || contains set (from + (q - to))) growth) (not (in_range from count q) && b)) (member_with_range set to new_count q)
     ∙ not_left from count to new_count q (contains set (from + (q - to))) (contains set q) growth apart in
