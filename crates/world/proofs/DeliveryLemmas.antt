@@ -1,20 +1,20 @@
 -- Deliveries: what is refused, what moves bytes alone, and what a node takes.
-use Rattle.std.proofs.Common.{◌≡◌, ℕ, Bool, true, false, not, ◌&&◌, Option, Some, None, Ok, Err, Result, List, [], ◌∷◌, length, if◌then◌else◌, refl, sym, ap, ◌∙◌, subst, inl, inr, ⊎_elim, arith}
-use Rattle.std.proofs.lemmas.Bool.{false≢true}
+use Rattle.std.proofs.Common.{◌≡◌, ℕ, ◌≤◌, Bool, true, false, not, ◌&&◌, Some, None, Ok, Err, List, [], ◌∷◌, length, refl, sym, ap, ◌∙◌, subst, inr, ⊎_elim, arith}
+use Rattle.std.proofs.lemmas.Bool.{false≢true, not-false}
 use Rattle.std.proofs.lemmas.Bool.Decides.{nat_tests}
 use Rattle.std.specs.Ordering.{nat_cmp}
 use Rattle.std.specs.FinSet.{FinSet}
-use Rattle.mig_base.specs.Tests.{first_holding, is_empty}
+use Rattle.mig_base.specs.Tests.{is_empty}
 use Rattle.mig_base.specs.declared.effect.Effect.{Effect}
 use Rattle.mig_base.specs.declared.fault.TakeFault.{TakeFault}
 use Rattle.mig_base.specs.declared.phase.Received.{Received}
 use Rattle.mig_base.specs.declared.refusal.Refusal.{Refusal}
 use Rattle.mig_base.specs.declared.schedule.Step.{Step}
 use Rattle.mig_model.specs.Destination.{Destination, destination_answers, destination_took, urgent_took}
-use Rattle.mig_model.specs.Faults.{back_fault, frame_fault, rebuild_fault, take_fault, urgent_fault, wait_fault}
+use Rattle.mig_model.specs.Faults.{back_fault, frame_fault, rebuild_fault, take_fault, urgent_fault}
 use Rattle.mig_model.specs.Migration.{Answer, World, after_deliver, after_deliver_back, after_deliver_urgent, after_move, after_move_back, after_move_urgent, answer, deliver_back_first, deliver_first, deliver_urgent_first, frame_effect, is_early, is_end, is_short, made, outcome, outcome_by, unless}
 use Rattle.mig_model.specs.Runs.{Happens, may_lack}
-use Rattle.mig_model.specs.Source.{Source, source_answers, source_took}
+use Rattle.mig_model.specs.Source.{Source, rebuild_frames, source_answers, source_took}
 use Rattle.mig_model.specs.Wire.{Frame, Sent, Wire, wire_behind, wire_if, wire_with}
 use Rattle.mig_model.specs.Wire.Frame.{Recv}
 use Rattle.mig_model.proofs.EveryStep.{kept-reached, urgent-reached}
@@ -24,12 +24,16 @@ use Rattle.mig_model.proofs.UrgentKept.{is_taken_urgent}
 use Rattle.mig_model.proofs.WaitingAccesses.{as_many}
 use Rattle.mig_model.specs.Promises.{IsReached}
 use Rattle.mig_model.specs.Source.{space_of}
+use Rattle.std.proofs.lemmas.List.{length-map}
 use Rattle.frame_texts.specs.Flight as flight
+use Rattle.page_stream.specs.Frames.{frame_of}
+use Rattle.page_stream.specs.declared.frame.Frame.{Frame as CodeFrame}
+use Rattle.recovery.specs.Breaks.{frames_of}
 use Rattle.world.specs.Answers.{moving_answer}
 use Rattle.world.specs.Deliveries.{AreFrames, IsHandedBack, IsReceived, refusal_by}
 use Rattle.world.specs.Worlds.{IsWorld}
 use Rattle.world.proofs.FlightLemmas.{all_good, good, world_happens}
-use Rattle.world.proofs.StepLemmas.{happens_lacking, happens_made, happens_refused}
+use Rattle.world.proofs.StepLemmas.{happens_made, happens_refused}
 
 -- The first frame of a wire
 
@@ -111,7 +115,7 @@ pub deliver_took : (world : World) (n : ℕ) (sent : Sent) (left back : Wire) (e
 deliver_took world n sent left back effect node h first held full received answered =
     happens_made world (record world { destination = node; forward = left; back = back }) (Step.Deliver n) effect
     (deliver_takes world n sent left.frames h first full received.fits
-    ∙ (λ i. made (sym received.effect i) (record world {
+    ∙ (λ i. made (sym received.told i) (record world {
       destination = sym received.node i;
       forward = sym (left_is left held) i;
       back = wire_if (moving_up world h i) world.back (sym received.node i).epoch (destination_answers world.destination sent.frame);
@@ -203,32 +207,49 @@ pub back_right : (world : World) (sent : Sent) (rest : List Sent) → IsReached 
 back_right world sent rest reached h first =
     no_back_fault world.source sent (is_taken_back world sent rest (kept-reached world reached) (moving_up world h) first) (back_epoch world sent rest (kept-reached world reached) first)
 
+rebuilt_few : (switched : Bool) (node : Source) → node.switched ≡ switched → length (rebuild_frames Received.NotRun node) ≤ 2
+rebuilt_few true node is = grind (arith, nat_tests)
+rebuilt_few false node is = grind (arith, nat_tests)
+
+answers_few : (node : Source) (frame : Frame) → length (source_answers node frame) ≤ 2
+answers_few node (Recv Received.NotRun owed) = rebuilt_few node.switched node refl
+answers_few node (Recv Received.Running owed) = omega arith
+answers_few node (Recv Received.Ended owed) = omega arith
+answers_few node _ = omega arith
+
+-- there is room for what the source answers
+pub back_room : (node : Source) (sent : Sent) (frames : List CodeFrame) (room : ℕ) → frames_of frames ≡ source_answers node sent.frame → 2 ≤ room → length frames ≤ room
+back_room node sent frames room is enough =
+    let few = answers_few node sent.frame in
+    let same = sym (length-map frames frame_of) ∙ ap length is in
+    omega (arith, few, same, enough)
+
 pub recv_right : (world : World) (epoch : ℕ) (state : Received) (owed : FinSet nat_cmp) (rest : List Sent) → IsReached world → moving_answer world ≡ Ok tt → world.back.frames ≡ record { epoch = epoch; frame = Recv state owed } ∷ rest → rebuild_fault world.source state owed ≡ None
 recv_right world epoch state owed rest reached h first =
     no_rebuild_fault world.source state owed (present_below (space_of world.source) (kept-reached world reached).spaces.source_space) (is_taken_back world _ rest (kept-reached world reached) (moving_up world h) first)
 
 -- DeliverUrgent
 
-pub urgent_outside : (world : World) (n : ℕ) → world.destination.has_run ≡ false → outcome world (Step.DeliverUrgent n) ≡ Err Refusal.Phase
+pub urgent_outside : (world : World) (n : ℕ) → not world.destination.has_run ≡ true → outcome world (Step.DeliverUrgent n) ≡ Err Refusal.Phase
 unfolding unless outcome
 urgent_outside world n h = grind (arith, nat_tests)
 
-pub urgent_down : (world : World) (n : ℕ) → world.destination.has_run ≡ true → world.up ≡ false → outcome world (Step.DeliverUrgent n) ≡ Err Refusal.Broken
+pub urgent_down : (world : World) (n : ℕ) → not world.destination.has_run ≡ false → not world.up ≡ true → outcome world (Step.DeliverUrgent n) ≡ Err Refusal.Broken
 unfolding unless outcome
 urgent_down world n h down = grind (arith, nat_tests)
 
-urgent_moving : (world : World) (n : ℕ) → world.destination.has_run ≡ true → world.up ≡ true → answer world (Step.DeliverUrgent n) ≡ deliver_urgent_first world n world.urgent.frames
+urgent_moving : (world : World) (n : ℕ) → not world.destination.has_run ≡ false → not world.up ≡ false → answer world (Step.DeliverUrgent n) ≡ deliver_urgent_first world n world.urgent.frames
 unfolding unless
 urgent_moving world n ran up = grind (arith, nat_tests)
 
-pub urgent_nothing : (world : World) (n : ℕ) → world.destination.has_run ≡ true → world.up ≡ true → is_empty world.urgent.frames ≡ true → outcome world (Step.DeliverUrgent n) ≡ Err Refusal.NothingThere
+pub urgent_nothing : (world : World) (n : ℕ) → not world.destination.has_run ≡ false → not world.up ≡ false → is_empty world.urgent.frames ≡ true → outcome world (Step.DeliverUrgent n) ≡ Err Refusal.NothingThere
 unfolding outcome
 urgent_nothing world n ran up none = ap outcome_by (urgent_moving world n ran up ∙ ap (deliver_urgent_first world n) (none_there world.urgent.frames none))
 
 urgent_short : (world : World) (n : ℕ) (sent : Sent) (rest : List Sent) → is_short world.urgent sent.frame n ≡ true → deliver_urgent_first world n (sent ∷ rest) ≡ made (Effect.Moved n) (after_move_urgent world n)
 urgent_short world n sent rest short = rw short refl
 
-pub urgent_moved : (world : World) (n : ℕ) (sent : Sent) (rest : List Sent) → world.destination.has_run ≡ true → world.up ≡ true → world.urgent.frames ≡ sent ∷ rest → is_short world.urgent sent.frame n ≡ true →
+pub urgent_moved : (world : World) (n : ℕ) (sent : Sent) (rest : List Sent) → not world.destination.has_run ≡ false → not world.up ≡ false → world.urgent.frames ≡ sent ∷ rest → is_short world.urgent sent.frame n ≡ true →
     Happens world (Step.DeliverUrgent n) (Ok (Effect.Moved n)) (after_move_urgent world n)
 urgent_moved world n sent rest ran up first short =
     happens_made world (after_move_urgent world n) (Step.DeliverUrgent n) (Effect.Moved n) (urgent_moving world n ran up ∙ ap (deliver_urgent_first world n) first ∙ urgent_short world n sent rest short)
@@ -236,20 +257,25 @@ urgent_moved world n sent rest ran up first short =
 urgent_full : (world : World) (n : ℕ) (sent : Sent) (rest : List Sent) → is_short world.urgent sent.frame n ≡ false → deliver_urgent_first world n (sent ∷ rest) ≡ made (frame_effect sent.frame) (after_deliver_urgent world sent rest)
 urgent_full world n sent rest full = rw full refl
 
-urgent_takes : (world : World) (n : ℕ) (sent : Sent) (rest : List Sent) → world.destination.has_run ≡ true → world.up ≡ true → world.urgent.frames ≡ sent ∷ rest → is_short world.urgent sent.frame n ≡ false →
+urgent_takes : (world : World) (n : ℕ) (sent : Sent) (rest : List Sent) → not world.destination.has_run ≡ false → not world.up ≡ false → world.urgent.frames ≡ sent ∷ rest → is_short world.urgent sent.frame n ≡ false →
     answer world (Step.DeliverUrgent n) ≡ made (frame_effect sent.frame) (after_deliver_urgent world sent rest)
 urgent_takes world n sent rest ran up first full = urgent_moving world n ran up ∙ ap (deliver_urgent_first world n) first ∙ urgent_full world n sent rest full
 
-pub urgent_did : (world : World) (n : ℕ) (sent : Sent) (left : Wire) (node : Destination) → world.destination.has_run ≡ true → world.up ≡ true → world.urgent.frames ≡ sent ∷ left.frames → left.held ≡ 0 → is_short world.urgent sent.frame n ≡ false →
+pub urgent_did : (world : World) (n : ℕ) (sent : Sent) (left : Wire) (node : Destination) → not world.destination.has_run ≡ false → not world.up ≡ false → world.urgent.frames ≡ sent ∷ left.frames → left.held ≡ 0 → is_short world.urgent sent.frame n ≡ false →
     node ≡ urgent_took world.destination sent.frame → Happens world (Step.DeliverUrgent n) (Ok (frame_effect sent.frame)) (record world { destination = node; urgent = left })
 urgent_did world n sent left node ran up first held full took =
     happens_made world (record world { destination = node; urgent = left }) (Step.DeliverUrgent n) (frame_effect sent.frame)
     (urgent_takes world n sent left.frames ran up first full ∙ (λ i. made (frame_effect sent.frame) (record world { destination = sym took i; urgent = sym (left_is left held) i })))
 
-pub urgent_lacking : (world : World) (n : ℕ) (sent : Sent) (rest : List Sent) → world.destination.has_run ≡ true → world.up ≡ true → world.urgent.frames ≡ sent ∷ rest → is_short world.urgent sent.frame n ≡ false →
+pub urgent_lacking : (world : World) (n : ℕ) (sent : Sent) (rest : List Sent) → not world.destination.has_run ≡ false → not world.up ≡ false → world.urgent.frames ≡ sent ∷ rest → is_short world.urgent sent.frame n ≡ false →
     Happens world (Step.DeliverUrgent n) (Err Refusal.NoMemory) world
 unfolding outcome
 urgent_lacking world n sent rest ran up first full = inr (refl, ap (λ a. may_lack (Step.DeliverUrgent n) (outcome_by a)) (urgent_takes world n sent rest ran up first full), refl)
 
-pub urgent_right : (world : World) (sent : Sent) (rest : List Sent) → IsReached world → world.destination.has_run ≡ true → world.up ≡ true → world.urgent.frames ≡ sent ∷ rest → urgent_fault world.destination sent.epoch sent.frame ≡ None
-urgent_right world sent rest reached ran up first = no_urgent_fault world.destination sent (is_taken_urgent world sent rest (kept-reached world reached) (urgent-reached world reached) ran up first)
+pub urgent_right : (world : World) (sent : Sent) (rest : List Sent) → IsReached world → not world.destination.has_run ≡ false → not world.up ≡ false → world.urgent.frames ≡ sent ∷ rest → urgent_fault world.destination sent.epoch sent.frame ≡ None
+urgent_right world sent rest reached ran up first = no_urgent_fault world.destination sent (is_taken_urgent world sent rest (kept-reached world reached) (urgent-reached world reached) (not-false _ ran) (not-false _ up) first)
+
+-- A wire on which a frame was put back is as it was
+
+pub put_back_is : (wire left new : Wire) (sent : Sent) (held : ℕ) → wire.frames ≡ sent ∷ left.frames → held ≡ wire.held → new ≡ record { frames = sent ∷ left.frames; held = held } → new ≡ wire
+put_back_is wire left new sent held first same put = put ∙ (λ i. record { frames = sym first i; held = same i })

@@ -4,15 +4,15 @@ use Rattle.std.proofs.Common.{◌≡◌, ℕ, Bool, true, false, Ok, Err, List, 
 use Rattle.mig_base.specs.declared.effect.Effect.{Effect}
 use Rattle.mig_base.specs.declared.refusal.Refusal.{Refusal}
 use Rattle.mig_base.specs.declared.schedule.Step.{Step}
-use Rattle.mig_model.specs.Bounds.{IsCpuCount, IsFrame}
+use Rattle.mig_model.specs.Bounds.{IsCpuCount}
 use Rattle.mig_model.specs.Destination.{Destination}
-use Rattle.mig_model.specs.Migration.{World, next, outcome}
+use Rattle.mig_model.specs.Migration.{World, first_world_with, next, outcome}
 use Rattle.mig_model.specs.Promises.{IsReached}
 use Rattle.mig_model.specs.Runs.{Happens, Outcome, may_lack}
 use Rattle.mig_model.specs.Source.{Source}
 use Rattle.mig_model.specs.Wire.{Frame, Sent, sending, wire_if, wire_with}
 use Rattle.mig_model.proofs.Bounded.{bounded-reached}
-use Rattle.mig_model.proofs.ReachedLemmas.{reached-next}
+use Rattle.mig_model.proofs.ReachedLemmas.{after_steps-append}
 use Rattle.frame_texts.specs.Flight as flight
 use Rattle.frame_texts.proofs.GoodFrames.{frames_good}
 use Rattle.fault_handler.specs.Steps as to
@@ -21,11 +21,24 @@ use Rattle.world.specs.Deliveries.{AreFrames}
 use Rattle.world.specs.Worlds.{IsWorld}
 use Rattle.world.proofs.StepLemmas.{IsOfDestination, IsOfSource, destination_made, sending-append, source_made, source_urgent}
 
+-- the same processors after one step more
+next_reached : (old : World) (step : Step) (reached : IsReached old) → (again : IsReached (next old step)) × (again.cpus ≡ reached.cpus)
+next_reached old step reached =
+    (record {
+      cpus = reached.cpus;
+      epoch = reached.epoch;
+      rounds = reached.rounds;
+      steps = reached.steps ++ step ∷ [];
+      is = ap (λ w. next w step) reached.is ∙ sym (after_steps-append (first_world_with reached.cpus reached.epoch reached.rounds) reached.steps (step ∷ []));
+    }, refl)
+
 as_before : (old : World) (step : Step) (reached : IsReached old) → length (next old step).source.guest.cpus ≡ length old.source.guest.cpus
-as_before old step reached = (bounded-reached (next old step) (reached-next old step reached)).ready.many ∙ sym ((bounded-reached old reached).ready.many)
+as_before old step reached =
+    let again = next_reached old step reached in
+    (bounded-reached (next old step) again.0).ready.many ∙ again.1 ∙ sym ((bounded-reached old reached).ready.many)
 
 pub world_next : (old : World) (step : Step) → IsWorld old → IsWorld (next old step)
-world_next old step is = record { reached = reached-next old step is.reached; count = subst IsCpuCount (sym (as_before old step is.reached)) is.count }
+world_next old step is = record { reached = (next_reached old step is.reached).0; count = subst IsCpuCount (sym (as_before old step is.reached)) is.count }
 
 pub world_happens : (old new : World) (step : Step) (result : Outcome) → IsWorld old → Happens old step result new → IsWorld new
 world_happens old new step result is happens =

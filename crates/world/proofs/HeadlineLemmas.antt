@@ -1,5 +1,5 @@
 -- What is promised of every world, law by law.
-use Rattle.std.proofs.Common.{◌≡◌, ◌∙◌, List}
+use Rattle.std.proofs.Common.{List}
 use Rattle.mig_base.specs.declared.schedule.Step.{Step}
 use Rattle.mig_model.specs.Migration.{World, after_steps}
 use Rattle.mig_model.specs.Promises.{IsComplete, IsReached}
@@ -37,7 +37,7 @@ settles world reached =
     record {
       call = λ cpu command page ran is ok. settled_call world cpu command (kept-reached world reached) ran is page ok;
       install = λ addr source page h. settled_install world addr source h page;
-      dropped = λ source page h. settled_dropped world source h page;
+      dropped = λ source page h. settled_dropped world source page h;
       others = λ step page ran leaves. settled_else world step (kept-reached world reached) (are_accesses world reached) ran leaves page;
     }
 

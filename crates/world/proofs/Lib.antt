@@ -6,3 +6,5 @@ pub mod HeadlineLemmas
 pub mod RunLemmas
 pub mod SendingLemmas
 pub mod StepLemmas
+pub mod UrgentLemmas
+pub mod NewLemmas

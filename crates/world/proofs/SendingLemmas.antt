@@ -5,11 +5,12 @@ use Rattle.mig_base.specs.declared.refusal.Refusal.{Refusal}
 use Rattle.mig_base.specs.declared.schedule.Step.{Step}
 use Rattle.mig_base.specs.declared.schedule.Ticket.{Ticket}
 use Rattle.mig_model.specs.Migration.{World, outcome, unless}
-use Rattle.mig_model.specs.Runs.{Happens, Outcome, needs_memory}
+use Rattle.mig_model.specs.Source.{Source}
+use Rattle.mig_model.specs.Runs.{Outcome, needs_memory}
 use Rattle.precopy.proofs.WorldLemmas.{end_in, push_in, push_urgent_in, send_in, send_run_in, switch_in}
 use Rattle.precopy.specs.Steps.{IsChecked, world_of}
-use Rattle.world.specs.Answers.{IsAnswered, is_out_of_phase, is_phase, unless_down}
-use Rattle.world.proofs.StepLemmas.{IsOfSource, happens_lacking, happens_refused, source_outcome}
+use Rattle.world.specs.Answers.{IsAnswered, is_phase, stopped_answer, unless_down}
+use Rattle.world.proofs.StepLemmas.{IsOfSource, source_outcome}
 
 -- a step that sends is its source's while the link is up, and else a wrong phase comes before the broken link
 pub record Sends (world : World) (step : Step) : Type 0 where
@@ -81,15 +82,35 @@ by_link : (up : Bool) (world : World) (step : Step) (checked : Result (Unit {0})
 by_link true world step checked sends up is = checked_up world step checked sends up is
 by_link false world step checked sends down is = checked_down world step checked sends down is
 
-pub sends_checked : (world : World) (step : Step) (checked : Result (Unit {0}) Refusal) → Sends world step → IsChecked world.source step checked → IsAnswered world step (unless_down world.up checked)
+sends_checked : (world : World) (step : Step) (checked : Result (Unit {0}) Refusal) → Sends world step → IsChecked world.source step checked → IsAnswered world step (unless_down world.up checked)
 sends_checked world step checked sends is = by_link world.up world step checked sends refl is
 
-pub is_up : (up : Bool) (checked : Result (Unit {0}) Refusal) → unless_down up checked ≡ Ok tt → up ≡ true
-is_up true checked h = refl
-is_up false (Ok done) h = grind arith
-is_up false (Err refusal) h = grind arith
+up_by : (up : Bool) (checked : Result (Unit {0}) Refusal) (done : Unit {0}) → Ok done ≡ unless_down up checked → up ≡ true
+up_by true checked done h = refl
+up_by false (Ok other) done h = grind arith
+up_by false (Err refusal) done h = grind arith
 
--- What happens
+-- a step that sends goes on only while the link is up
+pub sends_up : (world : World) (checked : Result (Unit {0}) Refusal) (done : Unit {0}) → Ok done ≡ unless_down world.up checked → world.up ≡ true
+sends_up world checked done h = up_by world.up checked done h
 
-pub answered_refused : (world : World) (step : Step) (refusal : Refusal) → IsAnswered world step (Err refusal) → Happens world step (Err refusal) world
-answered_refused world step refusal is = happens_refused world step refusal is
+pub sends_answered : (world : World) (step : Step) (checked result : Result (Unit {0}) Refusal) → Sends world step → IsChecked world.source step checked → result ≡ unless_down world.up checked → IsAnswered world step result
+sends_answered world step checked result sends is h = subst (IsAnswered world step) (sym h) (sends_checked world step checked sends is)
+
+asked_by : (up : Bool) (node : Source) (step : Step) (checked : Result (Unit {0}) Refusal) (done : Unit {0}) → IsChecked node step checked → Ok done ≡ unless_down up checked → IsOk (outcome (world_of node) step)
+asked_by up node step (Ok other) done is h = is
+asked_by true node step (Err refusal) done is h = grind arith
+asked_by false node step (Err refusal) done is h = grind arith
+
+-- the source would make it
+pub sends_asked : (world : World) (step : Step) (checked : Result (Unit {0}) Refusal) (done : Unit {0}) → IsChecked world.source step checked → Ok done ≡ unless_down world.up checked → IsOk (outcome (world_of world.source) step)
+sends_asked world step checked done is h = asked_by world.up world.source step checked done is h
+
+-- Serve, which sends nothing
+
+pub serve_refused : (world : World) (refusal : Refusal) → stopped_answer world ≡ Err refusal → outcome world Step.Serve ≡ Err refusal
+unfolding unless outcome
+serve_refused world refusal h = grind arith
+
+pub serve_up : (world : World) (done : Unit {0}) → stopped_answer world ≡ Ok done → world.up ≡ true
+serve_up world done h = grind arith

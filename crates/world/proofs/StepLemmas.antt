@@ -1,5 +1,5 @@
 -- What happens where a node makes a step, or refuses it.
-use Rattle.std.proofs.Common.{◌≡◌, ℕ, ◌+◌, ◌⊎◌, Bool, true, false, Ok, Err, IsOk, Result, List, [], ◌∷◌, ◌++◌, refl, sym, ap, ◌∙◌, subst, inl, inr, ⊎_elim}
+use Rattle.std.proofs.Common.{◌≡◌, ℕ, Bool, true, false, Ok, Err, IsOk, IfOk, IfErr, OnErr, Result, List, [], ◌∷◌, ◌++◌, refl, sym, ap, ◌∙◌, subst, inl, inr, ⊎_elim}
 use Rattle.std.proofs.lemmas.Bool.{false≢true}
 use Rattle.std.proofs.lemmas.List.{append-nil, append_assoc}
 use Rattle.mig_base.specs.declared.command.Entry.{Entry}
@@ -7,10 +7,10 @@ use Rattle.mig_base.specs.declared.effect.Effect.{Effect}
 use Rattle.mig_base.specs.declared.refusal.Refusal.{Refusal}
 use Rattle.mig_base.specs.declared.schedule.Step.{Step}
 use Rattle.mig_model.specs.Destination.{Destination}
-use Rattle.mig_model.specs.Migration.{Answer, World, answer, destination_sends, made, next, next_by, outcome, outcome_by, source_sends}
+use Rattle.mig_model.specs.Migration.{Answer, World, answer, made, next, next_by, outcome, outcome_by}
 use Rattle.mig_model.specs.Runs.{Happens, Outcome, may_lack, needs_memory}
 use Rattle.mig_model.specs.Source.{Source}
-use Rattle.mig_model.specs.Wire.{Frame, Sent, Wire, sending, sending_if, wire_if, wire_with}
+use Rattle.mig_model.specs.Wire.{Frame, Sent, Wire, sending, wire_if, wire_with}
 use Rattle.fault_handler.specs.Steps as to
 use Rattle.precopy.specs.Steps as from
 
@@ -44,6 +44,13 @@ sending-append wire epoch (frame ∷ frames) =
     sending-append (wire ++ record { epoch = epoch; frame = frame } ∷ []) epoch frames
     ∙ append_assoc wire (record { epoch = epoch; frame = frame } ∷ []) (sending [] epoch frames)
     ∙ ap (λ rest. wire ++ rest) (sym (sending-append (record { epoch = epoch; frame = frame } ∷ []) epoch frames))
+
+sending-both : (wire : List Sent) (epoch : ℕ) (frames more : List Frame) → sending (sending wire epoch frames) epoch more ≡ sending wire epoch (frames ++ more)
+sending-both wire epoch [] more = refl
+sending-both wire epoch (frame ∷ frames) more = sending-both (wire ++ record { epoch = epoch; frame = frame } ∷ []) epoch frames more
+
+pub wire-both : (wire : Wire) (epoch : ℕ) (frames more : List Frame) → wire_with (wire_with wire epoch frames) epoch more ≡ wire_with wire epoch (frames ++ more)
+wire-both wire epoch frames more = λ i. record wire { frames = sending-both wire.frames epoch frames more i }
 
 -- Steps of the source
 
@@ -164,3 +171,20 @@ destination_tried world step effect entries transcript new is tried entered =
       back = (sent_if world.up world.back 0 [] ∙ sym (nothing_sent world.up world.back 0)) i;
       transcript = sym entered i;
     })))
+
+-- Steps that send nothing, whatever they answer
+
+pub source_step : (world : World) (step : Step) (result : Result Effect Refusal) (new : Source) → IsOfSource world step → needs_memory step ≡ true → IfOk result (λ effect. from.IsMade world.source step effect [] new) → IfErr result (from.IsRefused world.source step) → OnErr result (new ≡ world.source) →
+    Happens world step result (record world { source = new })
+source_step world step (Ok effect) new is needs made_ refused same = source_alone world step effect new is made_
+source_step world step (Err refusal) new is needs made_ refused same = rw same (source_refused world step refusal is needs refused)
+
+pub source_step_without : (world : World) (step : Step) (result : Result Effect Refusal) (new : Source) → IsOfSource world step → IfOk result (λ effect. from.IsMade world.source step effect [] new) → IfErr result (from.IsRefusedAs world.source step) → OnErr result (new ≡ world.source) →
+    Happens world step result (record world { source = new })
+source_step_without world step (Ok effect) new is made_ refused same = source_alone world step effect new is made_
+source_step_without world step (Err refusal) new is made_ refused same = rw same (happens_refused world step refusal (source_outcome world step is ∙ refused))
+
+pub destination_step : (world : World) (step : Step) (result : Result Effect Refusal) (new : Destination) → IsOfDestination world step → needs_memory step ≡ true → IfOk result (λ effect. to.IsMade world.destination step effect [] new) → IfErr result (to.IsRefused world.destination step) → OnErr result (new ≡ world.destination) →
+    Happens world step result (record world { destination = new })
+destination_step world step (Ok effect) new is needs made_ refused same = destination_alone world step effect new is made_
+destination_step world step (Err refusal) new is needs made_ refused same = rw same (destination_refused world step refusal is needs refused)

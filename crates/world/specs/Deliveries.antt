@@ -23,7 +23,7 @@ refusal_by fault = Refusal.NoMemory
 -- the destination has taken it
 pub record IsReceived (old : Destination) (sent : Sent) (effect : Effect) (new : Destination) : Type 0 where
   pub fits : take_fault old sent.epoch sent.frame ≡ None
-  pub effect : effect ≡ frame_effect sent.frame
+  pub told : effect ≡ frame_effect sent.frame
   pub node : new ≡ destination_took old sent.epoch sent.frame
 
 -- it was handed back, for want of memory, or since it has to wait

@@ -1,7 +1,7 @@
 -- What is promised of every world, whatever list of steps has led to it: by processors, handlers, pushers and deliveries, lost channels and
 -- resumptions. The transcript is the run of one flat memory on the same commands, in the order in which they took effect; no page is
 -- installed over one that is present; and when the migration is complete, the destination alone holds that flat memory, and no page is owed.
-use Rattle.std.specs.Prelude.{◌≡◌, ℕ, ◌/◌, ◌==◌, true, false, if◌then◌else◌, None, Ok, IsOk, is_some, List}
+use Rattle.std.specs.Prelude.{◌≡◌, ℕ, ◌/◌, ◌==◌, true, false, if◌then◌else◌, None, Ok, IsOk, List}
 use Rattle.mig_base.specs.Commands.{is_access}
 use Rattle.mig_base.specs.Flat.{IsFlatRun, memory_of, reply_of}
 use Rattle.mig_base.specs.declared.TheConstants.{PAGE_SIZE}

@@ -1,6 +1,6 @@
 //! What is told of a frame that a node takes, what it answers, and frames that are put on a wire.
 
-ghost use Rattle.std.specs.Prelude.{◌≡◌, ◌≤◌, ◌<◌, ◌+◌, ◌++◌, None, length, map, option_to_list, IfOk, IfErr, OnOk, OnErr};
+ghost use Rattle.std.specs.Prelude.{◌≡◌, ◌≤◌, ◌<◌, ◌+◌, ◌++◌, true, None, length, map, option_to_list, IfOk, IfErr, OnOk, OnErr};
 ghost use Rattle.std.specs.FinSet.{FinSet};
 ghost use Rattle.std.specs.Ordering.{nat_cmp};
 ghost use Rattle.mig_base.specs.declared.phase.Received.{Received};
@@ -54,7 +54,7 @@ pub(crate) fn receive(
     match destination.take(epoch, sent.frame) {
         Ok(answer) => {
             push_all(back, destination.epoch(), answers);
-            push_one(back, destination.epoch(), answer);
+            send_back(back, true, destination.epoch(), answer);
             Ok(effect)
         }
         Err((fault, frame)) => Err((refusal_of(fault), Sent { epoch, frame })),
@@ -146,14 +146,15 @@ pub(crate) fn push_all(wire: &mut Wire, epoch: u32, mut frames: Vec<Frame>)
     }
 }
 
-/// Puts a frame on a wire that has room for it, if there is one.
-pub(crate) fn push_one(wire: &mut Wire, epoch: u32, frame: Option<Frame>)
-    requires good { AreFrames (map frame_of (option_to_list frame)) }
+/// Puts a frame of the destination on a wire that has room for it, if there is one; while the link is down it is lost.
+pub(crate) fn send_back(wire: &mut Wire, up: bool, epoch: u32, frame: Option<Frame>)
+    requires good { up ≡ true → AreFrames (map frame_of (option_to_list frame)) }
     requires room { 0 < wire.old.room }
-    ensures { wire.new.wire ≡ machine.wire_with wire.old.wire epoch (map frame_of (option_to_list frame)) }
+    ensures { wire.new.wire ≡ machine.wire_if up wire.old.wire epoch (map frame_of (option_to_list frame)) }
 {
-    if let Some(frame) = frame {
-        wire.push(epoch, frame);
+    match frame {
+        Some(frame) if up => wire.push(epoch, frame),
+        _ => {}
     }
 }
 

@@ -126,7 +126,7 @@ impl World {
         ensures entries { result.now ≡ self.now.transcript }
         ensures flat { IsFlatRun result.now }
     {
-        &self.parts.transcript
+        self.parts.transcript.as_slice()
     }
 }
 

@@ -5,6 +5,7 @@ ghost use Rattle.mig_base.specs.declared.schedule.Step.{Step};
 ghost use Rattle.mig_model.specs.Migration.{has_started, is_paused_at};
 ghost use Rattle.mig_model.specs.Runs.{Happens};
 ghost use Rattle.mig_model.specs.Source.{is_released};
+ghost use Rattle.precopy.specs.Answers.{next_count};
 ghost use Rattle.world.specs.Worlds.{IsWorld, world_of};
 
 use super::Parts;
@@ -13,6 +14,7 @@ use mig_base::phase::{DestPhase, SourcePhase};
 use mig_base::refusal::Refusal;
 use mig_base::schedule::Side;
 use page_stream::Frame;
+use precopy::Source;
 use recovery::{notice_dest, notice_source};
 
 impl Parts {
@@ -39,7 +41,10 @@ impl Parts {
         requires { IsWorld (world_of self.old) }
         ensures { Happens (world_of self.old) (Step.Notice side) result (world_of self.new) }
     {
-        if !self.is_under_way() || self.is_paused(side) {
+        if !self.is_under_way() {
+            return Err(Refusal::Phase);
+        }
+        if self.is_paused(side) {
             return Err(Refusal::Phase);
         }
         if self.up {
@@ -56,15 +61,16 @@ impl Parts {
         requires { IsWorld (world_of self.old) }
         ensures { Happens (world_of self.old) Step.Resume result (world_of self.new) }
     {
-        if !self.is_paused(Side::Source) || !self.is_paused(Side::Destination) {
+        if !self.is_paused(Side::Source) {
+            return Err(Refusal::Phase);
+        }
+        if !self.is_paused(Side::Destination) {
             return Err(Refusal::Phase);
         }
         if self.up {
             return Err(Refusal::NotBroken);
         }
-        let Some(epoch) = self.source.epoch().checked_add(1) else {
-            return Err(Refusal::CountUsed);
-        };
+        let epoch = next_epoch(&self.source)?;
         let Ok(()) = self.forward.reserve(1) else {
             return Err(Refusal::NoMemory);
         };
@@ -93,4 +99,15 @@ impl Parts {
             Side::Destination => self.destination.phase() == DestPhase::Paused,
         }
     }
+}
+
+/// The epoch that a resumption begins.
+fn next_epoch(source: &Source) -> Result<u32, Refusal>
+    ensures { result ≡ next_count source.now.epoch }
+{
+    let epoch = source.epoch();
+    if epoch == u32::MAX {
+        return Err(Refusal::CountUsed);
+    }
+    Ok(epoch + 1)
 }

@@ -24,11 +24,12 @@ impl Parts {
         let Ok(()) = self.transcript.try_reserve(1) else {
             return Err(Refusal::NoMemory);
         };
-        let tried = if self.destination.has_run() {
-            self.destination.issue(cpu, command)?
-        } else {
-            self.source.issue(cpu, command)?
-        };
+        if self.destination.has_run() {
+            let there = self.destination.issue(cpu, command)?;
+            enter(&mut self.transcript, there.entry);
+            return Ok(there.effect);
+        }
+        let tried = self.source.issue(cpu, command)?;
         enter(&mut self.transcript, tried.entry);
         Ok(tried.effect)
     }
@@ -42,11 +43,12 @@ impl Parts {
         let Ok(()) = self.transcript.try_reserve(1) else {
             return Err(Refusal::NoMemory);
         };
-        let again = if self.destination.has_run() {
-            self.destination.retry(cpu)?
-        } else {
-            self.source.retry(cpu)?
-        };
+        if self.destination.has_run() {
+            let there = self.destination.retry(cpu)?;
+            enter(&mut self.transcript, there.entry);
+            return Ok(there.effect);
+        }
+        let again = self.source.retry(cpu)?;
         enter(&mut self.transcript, again.entry);
         Ok(again.effect)
     }

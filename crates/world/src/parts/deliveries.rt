@@ -1,12 +1,9 @@
 //! Deliveries: bytes reach a node, which takes the frame that they complete, and answers.
 
-ghost use Rattle.std.specs.Prelude.{◌≡◌, ◌∷◌, List, false};
+ghost use Rattle.std.specs.Prelude.{◌≡◌};
 ghost use Rattle.mig_base.specs.declared.schedule.Step.{Step};
-ghost use Rattle.mig_model.specs.Migration.{is_short};
 ghost use Rattle.mig_model.specs.Runs.{Happens};
-ghost use Rattle.mig_model.specs.Wire as machine;
 ghost use Rattle.world.specs.Answers.{moving_answer};
-ghost use Rattle.world.specs.Deliveries.{IsFull};
 ghost use Rattle.world.specs.Worlds.{IsWorld, world_of};
 
 use super::Parts;

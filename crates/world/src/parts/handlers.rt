@@ -5,6 +5,7 @@ ghost use Rattle.mig_model.specs.Runs.{Happens};
 ghost use Rattle.world.specs.Worlds.{IsWorld, world_of};
 
 use super::Parts;
+use crate::frames::send_back;
 use mig_base::effect::Effect;
 use mig_base::refusal::Refusal;
 
@@ -44,12 +45,7 @@ impl Parts {
             return Err(Refusal::NoMemory);
         };
         let (effect, request) = self.destination.act()?;
-        let Some(request) = request else {
-            return Ok(effect);
-        };
-        if self.up {
-            self.back.push(self.destination.epoch(), request);
-        }
+        send_back(&mut self.back, self.up, self.destination.epoch(), request);
         Ok(effect)
     }
 

@@ -36,8 +36,9 @@ impl Parts {
         let Ok(()) = self.urgent.reserve(1) else {
             return Err(Refusal::NoMemory);
         };
+        let epoch = self.source.epoch();
         let (effect, frame) = self.source.push_urgent(ticket)?;
-        self.urgent.push(self.source.epoch(), frame);
+        self.urgent.push(epoch, frame);
         Ok(effect)
     }
 

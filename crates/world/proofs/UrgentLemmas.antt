@@ -1,0 +1,55 @@
+-- The count of urgent frames is never at its greatest value, so that no push on the urgent wire is refused for it.
+use Rattle.std.proofs.Common.{◌≡◌, ℕ, ◌+◌, ◌≤◌, ◌⊎◌, refl, ltb, true, false, IsOk, Err, sym, ◌∙◌, arith, ⊎_elim}
+use Rattle.std.proofs.lemmas.Bool.{and_parts, false≢true}
+use Rattle.std.proofs.lemmas.Bool.Decides.{nat_tests}
+use Rattle.std.specs.FinSet.{contains, len}
+use Rattle.mig_base.specs.declared.TheConstants.{HIGH_PAGE}
+use Rattle.mig_base.specs.declared.phase.SourcePhase.{SourcePhase}
+use Rattle.mig_base.specs.declared.refusal.Refusal.{Refusal}
+use Rattle.mig_base.specs.declared.schedule.Step.{Step}
+use Rattle.mig_base.specs.declared.schedule.Ticket.{Ticket}
+use Rattle.mig_base.proofs.SetLemmas.{member_below}
+use Rattle.mig_model.specs.Guest.{is_present}
+use Rattle.mig_model.specs.Log.{present}
+use Rattle.mig_model.specs.Migration.{World, is_used, outcome, unless}
+use Rattle.mig_model.specs.Runs.{Happens}
+use Rattle.mig_model.specs.Source.{Source, is_released, is_stopped, space_of}
+use Rattle.mig_model.specs.Space.{Space}
+use Rattle.mig_model.proofs.Bounded.{memory_bounded}
+use Rattle.mig_model.proofs.EveryStep.{kept-reached}
+use Rattle.mig_model.proofs.UrgentFew.{few-reached}
+use Rattle.mig_model.proofs.WokenSteps.{stopped_switched}
+use Rattle.frame_texts.proofs.FrameBounds.{present_pages}
+use Rattle.precopy.specs.Steps.{IsRefused, world_of}
+use Rattle.world.specs.Worlds.{IsWorld}
+use Rattle.world.proofs.StepLemmas.{IsOfSource, source_refused}
+
+in_space : (space : Space) (page : ℕ) → contains (present space) page ≡ true → is_present space page ≡ true
+in_space space page h = (and_parts (ltb page HIGH_PAGE) (is_present space page) (sym (member_below (λ q. is_present space q) HIGH_PAGE page) ∙ h)).1
+
+below_most : (count left pages : ℕ) → count + left ≤ pages → pages ≤ 262144 → is_used count ≡ false
+below_most count left pages few most = grind (arith, nat_tests)
+
+unreleased : (phase : SourcePhase) → is_stopped phase ≡ true → is_released phase ≡ false
+unreleased phase stopped = grind (arith, nat_tests)
+
+urgent_unused : (world : World) → IsWorld world → is_stopped world.source.phase ≡ true → is_used world.source.urgent_sent ≡ false
+urgent_unused world is stopped =
+    let kept = kept-reached world is.reached in
+    let switched = stopped_switched world.source.phase world.source.switched stopped kept.phases.source_phase in
+    let few = (few-reached world is.reached).few switched (unreleased world.source.phase stopped) in
+    let space = space_of world.source in
+    let pages = present_pages space.host (present space) kept.spaces.source_space.host (memory_bounded world is.reached).source (in_space space) in
+    below_most world.source.urgent_sent (len world.source.remaining) (len (present space)) few pages.1
+
+stopped_by : (node : Source) (ticket : Ticket) → IsOk (outcome (world_of node) (Step.PushUrgent ticket)) → is_stopped node.phase ≡ true
+unfolding unless outcome
+stopped_by node ticket ok = grind (arith, nat_tests)
+
+pub urgent_refused : (world : World) (ticket : Ticket) (refusal : Refusal) → IsWorld world → IsOfSource world (Step.PushUrgent ticket) → IsOk (outcome (world_of world.source) (Step.PushUrgent ticket)) →
+    IsRefused world.source (Step.PushUrgent ticket) refusal ⊎ ((refusal ≡ Refusal.CountUsed) × (is_used world.source.urgent_sent ≡ true)) → Happens world (Step.PushUrgent ticket) (Err refusal) world
+urgent_refused world ticket refusal is of ok refused =
+    ⊎_elim
+    (λ (h : IsRefused world.source (Step.PushUrgent ticket) refusal). source_refused world (Step.PushUrgent ticket) refusal of refl h)
+    (λ (h : (refusal ≡ Refusal.CountUsed) × (is_used world.source.urgent_sent ≡ true)). absurd (false≢true (sym (urgent_unused world is (stopped_by world.source ticket ok)) ∙ h.1)))
+    refused
