@@ -25,8 +25,11 @@ use Rattle.engine.specs.WorldState.{WorldState, Answered, Promised, epoch_in, fi
 abbrev pub Grows : World → World → Type 0
 Grows old new = (more : List Entry) × (new.transcript ≡ old.transcript ++ more)
 
+no_more : (entries : List Entry) → (more : List Entry) × (entries ≡ entries ++ more)
+no_more entries = ([], sym (append-nil entries))
+
 stays : (world : World) → Grows world world
-stays world = ([], sym (append-nil world.transcript))
+stays world = no_more world.transcript
 
 same_entries : (world new : World) → new.transcript ≡ world.transcript → Grows world new
 same_entries world new same = ([], same ∙ sym (append-nil world.transcript))
@@ -34,27 +37,27 @@ same_entries world new same = ([], same ∙ sym (append-nil world.transcript))
 made_grows : (world : World) (step : Step) → MakesWorld (λ (new : World). Grows world new) world step
 made_grows world (Step.Issue cpu command) = λ there idle runs. (_, refl)
 made_grows world (Step.Retry cpu) = λ command is woken runs. (_, refl)
-made_grows world Step.Start = λ idle used. same_entries world _ refl
-made_grows world Step.Round = λ precopy quiet. same_entries world _ refl
-made_grows world Step.Send = λ page is precopy up quiet. same_entries world _ refl
-made_grows world (Step.SendRun count) = λ first number is size precopy up quiet. same_entries world _ refl
-made_grows world Step.SourceRead = λ noted is started runs. same_entries world _ refl
-made_grows world Step.SourceAct = λ fault rest is started runs quiet. same_entries world _ refl
-made_grows world Step.Switch = λ precopy up quiet. same_entries world _ refl
-made_grows world (Step.Deliver n) = (λ sent rest is short. same_entries world _ refl, λ sent rest is full started up late urgent. same_entries world _ refl)
-made_grows world (Step.DeliverBack n) = (λ sent rest is short. same_entries world _ refl, λ sent rest is full started up. same_entries world _ refl)
-made_grows world Step.DestRead = λ noted is ran. same_entries world _ refl
-made_grows world Step.DestAct = λ fault rest is ran quiet. same_entries world _ refl
-made_grows world Step.Install = λ copy rest is ran quiet. same_entries world _ refl
-made_grows world (Step.Push ticket) = λ stopped up own present remains. same_entries world _ refl
-made_grows world (Step.PushUrgent ticket) = λ stopped up own present remains. same_entries world _ refl
-made_grows world (Step.DeliverUrgent n) = (λ sent rest is short. same_entries world _ refl, λ sent rest is full ran up. same_entries world _ refl)
-made_grows world Step.Serve = λ page pages is stopped up. same_entries world _ refl
-made_grows world Step.End = λ stopped own up none. same_entries world _ refl
-made_grows world Step.Break = λ started kept up. same_entries world _ refl
-made_grows world (Step.Notice Side.Source) = λ started kept down. same_entries world _ refl
-made_grows world (Step.Notice Side.Destination) = λ started kept down. same_entries world _ refl
-made_grows world Step.Resume = λ source destination down used. same_entries world _ refl
+made_grows world Step.Start = λ idle used. no_more world.transcript
+made_grows world Step.Round = λ precopy quiet. no_more world.transcript
+made_grows world Step.Send = λ page is precopy up quiet. no_more world.transcript
+made_grows world (Step.SendRun count) = λ first number is size precopy up quiet. no_more world.transcript
+made_grows world Step.SourceRead = λ noted is started runs. no_more world.transcript
+made_grows world Step.SourceAct = λ fault rest is started runs quiet. no_more world.transcript
+made_grows world Step.Switch = λ precopy up quiet. no_more world.transcript
+made_grows world (Step.Deliver n) = (λ sent rest is short. no_more world.transcript, λ sent rest is full started up late urgent. no_more world.transcript)
+made_grows world (Step.DeliverBack n) = (λ sent rest is short. no_more world.transcript, λ sent rest is full started up. no_more world.transcript)
+made_grows world Step.DestRead = λ noted is ran. no_more world.transcript
+made_grows world Step.DestAct = λ fault rest is ran quiet. no_more world.transcript
+made_grows world Step.Install = λ copy rest is ran quiet. no_more world.transcript
+made_grows world (Step.Push ticket) = λ stopped up own present remains. no_more world.transcript
+made_grows world (Step.PushUrgent ticket) = λ stopped up own present remains. no_more world.transcript
+made_grows world (Step.DeliverUrgent n) = (λ sent rest is short. no_more world.transcript, λ sent rest is full ran up. no_more world.transcript)
+made_grows world Step.Serve = λ page pages is stopped up. no_more world.transcript
+made_grows world Step.End = λ stopped own up none. no_more world.transcript
+made_grows world Step.Break = λ started kept up. no_more world.transcript
+made_grows world (Step.Notice Side.Source) = λ started kept down. no_more world.transcript
+made_grows world (Step.Notice Side.Destination) = λ started kept down. no_more world.transcript
+made_grows world Step.Resume = λ source destination down used. no_more world.transcript
 
 next_grows : (world : World) (step : Step) → Grows world (next world step)
 next_grows world step = made-next (λ (new : World). Grows world new) world step (stays world) (made_grows world step)
