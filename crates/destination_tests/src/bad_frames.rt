@@ -10,7 +10,6 @@ use mig_base::effect::Effect;
 use mig_base::fault::TakeFault;
 use mig_base::phase::DestPhase;
 use mig_base::refusal::Refusal;
-use std::test::Fail;
 
 /// Pages 0x10 to 0x13 are mapped, and 0x12 is owed.
 const OWES_12: Sending = Package((0x10, 4), (0x12, 1), 2, None);
@@ -47,11 +46,6 @@ static EPOCHS: [Step; 25] = [
     (Phase, Ok(Stands(DestPhase::Running, true, 3))),
 ];
 
-#[test]
-fn frames_of_another_epoch(rt: HostRuntime) -> Result<(), Fail> {
-    play(&rt, rt.alloc(), &EPOCHS)
-}
-
 /// Pages 0x11 and 0x12 are kept. A Package may not owe one of them, nor one that it does not map, and has to map both. It is of as
 /// many processors as the destination.
 static TORN: [Step; 14] = [
@@ -70,11 +64,6 @@ static TORN: [Step; 14] = [
     (Phase, Ok(Stands(DestPhase::Discarding, false, 1))),
     (Take(1, Package((0x10, 4), (0x10, 1), 2, None)), TOOK),
 ];
-
-#[test]
-fn packages_that_do_not_fit(rt: HostRuntime) -> Result<(), Fail> {
-    play(&rt, rt.alloc(), &TORN)
-}
 
 const INSTALL_FIRST: Result<Answer, Refusal> = Ok(NotTaken(TakeFault::InstallFirst));
 
@@ -104,11 +93,6 @@ static ENDS: [Step; 20] = [
     (Counts, Ok(Counted([2, 0, 0], 0, 0))),
 ];
 
-#[test]
-fn ends_that_come_too_soon(rt: HostRuntime) -> Result<(), Fail> {
-    play(&rt, rt.alloc(), &ENDS)
-}
-
 /// A new epoch counts its urgent frames anew. Those of the one before may still wait to be installed.
 static COUNTED_ANEW: [Step; 13] = [
     (Take(1, Advise), TOOK),
@@ -127,6 +111,10 @@ static COUNTED_ANEW: [Step; 13] = [
 ];
 
 #[test]
-fn a_new_epoch_counts_anew(rt: HostRuntime) -> Result<(), Fail> {
-    play(&rt, rt.alloc(), &COUNTED_ANEW)
+fn frames_that_are_not_taken(rt: HostRuntime) {
+    let alloc = rt.alloc();
+    play(&rt, alloc, "frames of another epoch", &EPOCHS);
+    play(&rt, alloc, "packages that do not fit", &TORN);
+    play(&rt, alloc, "ends that come too soon", &ENDS);
+    play(&rt, alloc, "a new epoch counts anew", &COUNTED_ANEW);
 }

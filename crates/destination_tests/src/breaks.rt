@@ -13,7 +13,6 @@ use crate::play::{
 };
 use mig_base::Reply;
 use mig_base::phase::{DestPhase, Received};
-use std::test::Fail;
 
 const HAS_NOT_RUN: Answer = Reports(Brief::Recv(Received::NotRun, NONE));
 
@@ -44,11 +43,6 @@ static BEFORE_THE_RUN: [Step; 23] = [
     (Counts, Ok(Counted([0, 0, 0], 0, 2))),
 ];
 
-#[test]
-fn a_break_before_the_run(rt: HostRuntime) -> Result<(), Fail> {
-    play(&rt, rt.alloc(), &BEFORE_THE_RUN)
-}
-
 /// A destination that was never advised goes on as one that was.
 static NEVER_ADVISED: [Step; 5] = [
     (Pause, Ok(Done)),
@@ -57,11 +51,6 @@ static NEVER_ADVISED: [Step; 5] = [
     (Phase, Ok(Stands(DestPhase::Advised, false, 1))),
     (Take(1, Zero(0x10)), TOOK),
 ];
-
-#[test]
-fn a_break_before_the_advise(rt: HostRuntime) -> Result<(), Fail> {
-    play(&rt, rt.alloc(), &NEVER_ADVISED)
-}
 
 const ASKED_FOR_12: Answer = Sends((Some(Brief::Request(0x12)), None, None));
 
@@ -119,11 +108,6 @@ static WHILE_IT_RUNS: [Step; 34] = [
     (Take(2, End(0)), ALL_DONE),
 ];
 
-#[test]
-fn a_break_while_it_runs(rt: HostRuntime) -> Result<(), Fail> {
-    play(&rt, rt.alloc(), &WHILE_IT_RUNS)
-}
-
 /// A destination that has ended stays so, and needs nothing.
 static AFTER_THE_END: [Step; 11] = [
     (Take(1, Advise), TOOK),
@@ -140,6 +124,10 @@ static AFTER_THE_END: [Step; 11] = [
 ];
 
 #[test]
-fn a_break_after_the_end(rt: HostRuntime) -> Result<(), Fail> {
-    play(&rt, rt.alloc(), &AFTER_THE_END)
+fn breaks_and_resumptions(rt: HostRuntime) {
+    let alloc = rt.alloc();
+    play(&rt, alloc, "a break before the run", &BEFORE_THE_RUN);
+    play(&rt, alloc, "a break before the advise", &NEVER_ADVISED);
+    play(&rt, alloc, "a break while it runs", &WHILE_IT_RUNS);
+    play(&rt, alloc, "a break after the end", &AFTER_THE_END);
 }

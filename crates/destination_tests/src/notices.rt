@@ -15,8 +15,6 @@ use precopy::Source;
 use recovery::notice_dest;
 use std::alloc::Global;
 use std::process::Abort;
-use std::test::Fail;
-use vcpu::NewFault;
 
 const NOTICED: Result<Effect, Refusal> = Ok(Effect::Noticed {
     side: Side::Destination,
@@ -46,13 +44,12 @@ fn play(
     alloc: Global,
     source: &mut Source,
     rows: &[(Step, Result<Effect, Refusal>)],
-) -> Result<(), NewFault> {
+) {
     for (i, (step, wanted)) in rows.iter().enumerate() {
-        play_on(rt, alloc, source, &[*step]);
-        let mut destination = new_destination(alloc)?;
+        play_on(rt, alloc, source, "before the notice", &[*step]);
+        let mut destination = new_destination(rt, alloc);
         notices(rt, source, &mut destination, *wanted, i);
     }
-    Ok(())
 }
 
 /// What the source does, and what a destination that has not noticed the break is answered then.
@@ -74,8 +71,7 @@ static ROWS: [(Step, Result<Effect, Refusal>); 5] = [
 ];
 
 #[test]
-fn a_destination_notices_a_break(rt: HostRuntime) -> Result<(), Fail> {
-    let mut source = new_source(rt.alloc())?;
-    play(&rt, rt.alloc(), &mut source, &ROWS)?;
-    Ok(())
+fn a_destination_notices_a_break(rt: HostRuntime) {
+    let mut source = new_source(&rt, rt.alloc());
+    play(&rt, rt.alloc(), &mut source, &ROWS);
 }

@@ -11,7 +11,6 @@ use crate::play::{ALL_DONE, OUT_OF_PLACE, STALE, TOOK, play};
 use mig_base::effect::Effect;
 use mig_base::phase::DestPhase;
 use mig_base::refusal::Refusal;
-use std::test::Fail;
 
 /// Pages 0x10 to 0x13 are mapped, and none is owed.
 const NONE_OWED: Sending = Package((0x10, 4), (0x10, 0), 2, None);
@@ -40,11 +39,6 @@ static IDLE: [Step; 20] = [
     (Phase, Ok(Stands(DestPhase::Advised, false, 7))),
 ];
 
-#[test]
-fn an_idle_destination_takes_an_advise(rt: HostRuntime) -> Result<(), Fail> {
-    play(&rt, rt.alloc(), &IDLE)
-}
-
 /// A destination that was advised takes copies, and a Discard behind them.
 static ADVISED: [Step; 20] = [
     (Take(1, Advise), TOOK),
@@ -69,11 +63,6 @@ static ADVISED: [Step; 20] = [
     (Phase, Ok(Stands(DestPhase::Discarding, false, 1))),
 ];
 
-#[test]
-fn an_advised_destination_takes_copies(rt: HostRuntime) -> Result<(), Fail> {
-    play(&rt, rt.alloc(), &ADVISED)
-}
-
 /// Behind a Discard comes a Package.
 static DISCARDING: [Step; 19] = [
     (Take(1, Advise), TOOK),
@@ -96,11 +85,6 @@ static DISCARDING: [Step; 19] = [
     (Take(1, NONE_OWED), TOOK),
     (Phase, Ok(Stands(DestPhase::Running, true, 1))),
 ];
-
-#[test]
-fn a_package_comes_behind_a_discard(rt: HostRuntime) -> Result<(), Fail> {
-    play(&rt, rt.alloc(), &DISCARDING)
-}
 
 const DROPPED_10: Answer = Told(Effect::Dropped { origin: 0x10000 });
 
@@ -133,11 +117,6 @@ static RUNNING: [Step; 25] = [
     (Install, Err(Refusal::NothingThere)),
 ];
 
-#[test]
-fn a_destination_that_runs_takes_single_copies(rt: HostRuntime) -> Result<(), Fail> {
-    play(&rt, rt.alloc(), &RUNNING)
-}
-
 /// The urgent wire brings copies of single pages, and nothing else.
 static URGENT: [Step; 15] = [
     (Take(1, Advise), TOOK),
@@ -156,11 +135,6 @@ static URGENT: [Step; 15] = [
     (TakeUrgent(1, Zero(0x10)), TOOK),
     (Counts, Ok(Counted([0, 0, 0], 2, 0))),
 ];
-
-#[test]
-fn the_urgent_wire_brings_copies(rt: HostRuntime) -> Result<(), Fail> {
-    play(&rt, rt.alloc(), &URGENT)
-}
 
 /// A destination that has noticed a break takes a Resume of a later epoch, and nothing else.
 static PAUSED: [Step; 21] = [
@@ -187,11 +161,6 @@ static PAUSED: [Step; 21] = [
     (Take(5, Resume), OUT_OF_PLACE),
 ];
 
-#[test]
-fn a_paused_destination_takes_a_resume(rt: HostRuntime) -> Result<(), Fail> {
-    play(&rt, rt.alloc(), &PAUSED)
-}
-
 /// A destination that has ended takes nothing.
 static ENDED: [Step; 17] = [
     (Take(1, Advise), TOOK),
@@ -214,6 +183,23 @@ static ENDED: [Step; 17] = [
 ];
 
 #[test]
-fn a_destination_that_has_ended_takes_nothing(rt: HostRuntime) -> Result<(), Fail> {
-    play(&rt, rt.alloc(), &ENDED)
+fn each_frame_in_each_phase(rt: HostRuntime) {
+    let alloc = rt.alloc();
+    play(&rt, alloc, "an idle destination takes an advise", &IDLE);
+    play(&rt, alloc, "an advised destination takes copies", &ADVISED);
+    play(&rt, alloc, "a package comes behind a discard", &DISCARDING);
+    play(
+        &rt,
+        alloc,
+        "a running destination takes single copies",
+        &RUNNING,
+    );
+    play(&rt, alloc, "the urgent wire brings copies", &URGENT);
+    play(&rt, alloc, "a paused destination takes a resume", &PAUSED);
+    play(
+        &rt,
+        alloc,
+        "a destination that has ended takes nothing",
+        &ENDED,
+    );
 }

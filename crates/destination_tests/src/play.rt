@@ -12,11 +12,9 @@ use mig_base::refusal::Refusal;
 use mig_base::{Command, Message, PageNo, Reply};
 use std::alloc::Global;
 use std::process::Abort;
-use std::test::Fail;
-use vcpu::NewFault;
 
 /// What a refused call has to leave.
-#[derive(Clone, Copy, Debug, PartialEq, Eq)]
+#[derive(Clone, Copy, PartialEq)]
 struct Picture {
     phase: DestPhase,
     received: Received,
@@ -71,34 +69,41 @@ fn is_refused(answer: Result<Answer, Refusal>) -> bool {
 }
 
 /// Plays a table on a destination.
-fn play_on(rt: &impl Abort, alloc: Global, destination: &mut Destination, steps: &[Step]) {
+fn play_on(
+    rt: &impl Abort,
+    alloc: Global,
+    destination: &mut Destination,
+    name: &str,
+    steps: &[Step],
+) {
     for (i, (call, wanted)) in steps.iter().enumerate() {
         let before = Picture::of(destination);
         let mut answer = make(rt, alloc, destination, *call);
         if is_refused(answer) {
-            same(rt, &Picture::of(destination), &before, "refused step", i);
+            assert!(rt;
+                Picture::of(destination) == before,
+                "{name} {i}: a refused call has changed it"
+            );
         }
         if answer == Err(Refusal::NoMemory) {
             answer = make(rt, alloc, destination, *call);
         }
-        same(rt, &answer, wanted, "step", i);
+        same(rt, &answer, wanted, name, i);
     }
 }
 
 /// A destination of two processors, where memory is refused asked for again.
-pub fn new_destination(alloc: Global) -> Result<Destination, NewFault> {
+pub fn new_destination(rt: &impl Abort, alloc: Global) -> Destination {
     match Destination::new(alloc, 2) {
-        Ok(destination) => Ok(destination),
-        Err(NewFault::NoMemory) => Destination::new(alloc, 2),
-        Err(fault) => Err(fault),
+        Ok(destination) => destination,
+        Err(_) => Destination::new(alloc, 2).expect(rt, "a second time"),
     }
 }
 
 /// Plays a table on a new destination of two processors.
-pub fn play(rt: &impl Abort, alloc: Global, steps: &[Step]) -> Result<(), Fail> {
-    let mut destination = new_destination(alloc)?;
-    play_on(rt, alloc, &mut destination, steps);
-    Ok(())
+pub fn play(rt: &impl Abort, alloc: Global, name: &str, steps: &[Step]) {
+    let mut destination = new_destination(rt, alloc);
+    play_on(rt, alloc, &mut destination, name, steps);
 }
 
 /// A frame is taken, and nothing is to be sent.

@@ -13,8 +13,6 @@ use precopy::Source;
 use recovery::{notice_source, rebuild};
 use std::alloc::Global;
 use std::process::Abort;
-use std::test::Fail;
-use vcpu::NewFault;
 
 /// A call of a source.
 #[derive(Clone, Copy)]
@@ -135,7 +133,7 @@ fn is_refused(answer: Result<Answer, Refusal>) -> bool {
 }
 
 /// Plays a table on a source.
-pub fn play_on(rt: &impl Abort, alloc: Global, source: &mut Source, steps: &[Step]) {
+pub fn play_on(rt: &impl Abort, alloc: Global, source: &mut Source, name: &str, steps: &[Step]) {
     for (i, (call, wanted)) in steps.iter().enumerate() {
         let before = looks(source);
         let mut answer = make(rt, alloc, source, *call);
@@ -145,23 +143,21 @@ pub fn play_on(rt: &impl Abort, alloc: Global, source: &mut Source, steps: &[Ste
         if answer == Err(Refusal::NoMemory) {
             answer = make(rt, alloc, source, *call);
         }
-        same(rt, &answer, wanted, "step", i);
+        same(rt, &answer, wanted, name, i);
     }
 }
 
 /// A source of one processor, where memory is refused asked for again.
-pub fn new_source(alloc: Global) -> Result<Source, NewFault> {
+pub fn new_source(rt: &impl Abort, alloc: Global) -> Source {
     match Source::new(alloc, 1, 0, 0) {
-        Ok(source) => Ok(source),
-        Err(NewFault::NoMemory) => Source::new(alloc, 1, 0, 0),
-        Err(fault) => Err(fault),
+        Ok(source) => source,
+        Err(_) => Source::new(alloc, 1, 0, 0).expect(rt, "a second time"),
     }
 }
 
-fn play(rt: &impl Abort, alloc: Global, steps: &[Step]) -> Result<(), Fail> {
-    let mut source = new_source(alloc)?;
-    play_on(rt, alloc, &mut source, steps);
-    Ok(())
+fn play(rt: &impl Abort, alloc: Global, name: &str, steps: &[Step]) {
+    let mut source = new_source(rt, alloc);
+    play_on(rt, alloc, &mut source, name, steps);
 }
 
 const NO_FRAMES: Result<Answer, Refusal> = Ok(Sends((None, None, None)));
@@ -190,11 +186,6 @@ static BEFORE_THE_SWITCH: [Step; 19] = [
     (Round, Ok(Done)),
     (Looks, Ok(Stands(SourcePhase::Precopy, NONE, 2, 0))),
 ];
-
-#[test]
-fn a_break_before_the_switch(rt: HostRuntime) -> Result<(), Fail> {
-    play(&rt, rt.alloc(), &BEFORE_THE_SWITCH)
-}
 
 /// After the switch a destination that runs may need pages that the source has, and no others. One that has not run is sent a Discard
 /// of none and a Package that owes every present page.
@@ -233,6 +224,8 @@ static AFTER_THE_SWITCH: [Step; 24] = [
 ];
 
 #[test]
-fn a_break_after_the_switch(rt: HostRuntime) -> Result<(), Fail> {
-    play(&rt, rt.alloc(), &AFTER_THE_SWITCH)
+fn a_source_goes_on(rt: HostRuntime) {
+    let alloc = rt.alloc();
+    play(&rt, alloc, "a break before the switch", &BEFORE_THE_SWITCH);
+    play(&rt, alloc, "a break after the switch", &AFTER_THE_SWITCH);
 }

@@ -19,7 +19,6 @@ use mig_base::effect::Effect;
 use mig_base::phase::{DestPhase, Received};
 use mig_base::refusal::Refusal;
 use mig_base::{Command, Message, Reply};
-use std::test::Fail;
 
 const LOAD_12: Command = Command::Load {
     addr: 0x12000,
@@ -81,11 +80,6 @@ static ASKED_FOR: [Step; 43] = [
     (Counts, Ok(Counted([1, 0, 3], 0, 0))),
     (Phase, Ok(Stands(DestPhase::Ended, true, 1))),
 ];
-
-#[test]
-fn a_page_is_asked_for_and_comes(rt: HostRuntime) -> Result<(), Fail> {
-    play(&rt, rt.alloc(), &ASKED_FOR)
-}
 
 /// A page moves while its copy is in flight, and is installed where it belongs then.
 static MOVED: [Step; 20] = [
@@ -152,11 +146,6 @@ static MOVED: [Step; 20] = [
     (Take(1, End(0)), ALL_DONE),
 ];
 
-#[test]
-fn a_page_moves_in_flight(rt: HostRuntime) -> Result<(), Fail> {
-    play(&rt, rt.alloc(), &MOVED)
-}
-
 const UNMAPPED: Effect = Effect::ReadLast {
     event: Message::Unmap {
         start: 0x10000,
@@ -183,11 +172,6 @@ static GONE: [Step; 14] = [
     (Load(0, 0x10000), Ok(Replied(0, Reply::Value(9)))),
     (Counts, Ok(Counted([0, 1, 0], 0, 0))),
 ];
-
-#[test]
-fn a_page_is_unmapped_in_flight(rt: HostRuntime) -> Result<(), Fail> {
-    play(&rt, rt.alloc(), &GONE)
-}
 
 /// The guest gives up an owed page, which is zeros from then on. Its copy comes late, and is given up.
 static GIVEN_UP: [Step; 14] = [
@@ -217,11 +201,6 @@ static GIVEN_UP: [Step; 14] = [
     (Take(1, End(0)), ALL_DONE),
 ];
 
-#[test]
-fn an_owed_page_is_given_up(rt: HostRuntime) -> Result<(), Fail> {
-    play(&rt, rt.alloc(), &GIVEN_UP)
-}
-
 /// The pages of a run are kept, in place of older copies, and give way to newer ones.
 static KEPT_RUN: [Step; 12] = [
     (Take(1, Advise), TOOK),
@@ -237,11 +216,6 @@ static KEPT_RUN: [Step; 12] = [
     (Load(0, 0x13000), Ok(Replied(0, Reply::Value(0)))),
     (Take(1, End(0)), ALL_DONE),
 ];
-
-#[test]
-fn a_run_of_pages_is_kept(rt: HostRuntime) -> Result<(), Fail> {
-    play(&rt, rt.alloc(), &KEPT_RUN)
-}
 
 /// Copies of both wires are installed in the order in which they came.
 static BOTH_WIRES: [Step; 17] = [
@@ -264,11 +238,6 @@ static BOTH_WIRES: [Step; 17] = [
     (Phase, Ok(Stands(DestPhase::Ended, true, 1))),
 ];
 
-#[test]
-fn copies_come_on_both_wires(rt: HostRuntime) -> Result<(), Fail> {
-    play(&rt, rt.alloc(), &BOTH_WIRES)
-}
-
 /// A processor goes on with the load for which it waited at the source.
 static HANDED_OVER: [Step; 13] = [
     (Take(1, Advise), TOOK),
@@ -288,11 +257,6 @@ static HANDED_OVER: [Step; 13] = [
     (Retry(0), Ok(Replied(0, Reply::Value(4)))),
     (Retry(0), Err(Refusal::NotAsleep)),
 ];
-
-#[test]
-fn a_load_is_handed_over(rt: HostRuntime) -> Result<(), Fail> {
-    play(&rt, rt.alloc(), &HANDED_OVER)
-}
 
 /// Two faults of a page are held. The page comes before the second is resolved, and is unmapped before a third.
 static LATE: [Step; 20] = [
@@ -333,11 +297,6 @@ static LATE: [Step; 20] = [
     (Act, Ok(Acts(Effect::Forgot { addr: 0x11000 }, None))),
     (Retry(1), Ok(Replied(1, Reply::Segv { mapped: false }))),
 ];
-
-#[test]
-fn faults_are_resolved_late(rt: HostRuntime) -> Result<(), Fail> {
-    play(&rt, rt.alloc(), &LATE)
-}
 
 /// A page moves over another that is owed, whose copy is given up. Two events of one call are read in turn.
 static REPLACED: [Step; 17] = [
@@ -389,6 +348,20 @@ static REPLACED: [Step; 17] = [
 ];
 
 #[test]
-fn a_page_moves_over_another(rt: HostRuntime) -> Result<(), Fail> {
-    play(&rt, rt.alloc(), &REPLACED)
+fn pages_come(rt: HostRuntime) {
+    let alloc = rt.alloc();
+    play(&rt, alloc, "a page is asked for and comes", &ASKED_FOR);
+    play(&rt, alloc, "a page moves in flight", &MOVED);
+    play(&rt, alloc, "a page is unmapped in flight", &GONE);
+    play(&rt, alloc, "an owed page is given up", &GIVEN_UP);
+    play(&rt, alloc, "a page moves over another", &REPLACED);
+}
+
+#[test]
+fn copies_and_faults(rt: HostRuntime) {
+    let alloc = rt.alloc();
+    play(&rt, alloc, "a run of pages is kept", &KEPT_RUN);
+    play(&rt, alloc, "copies come on both wires", &BOTH_WIRES);
+    play(&rt, alloc, "a load is handed over", &HANDED_OVER);
+    play(&rt, alloc, "faults are resolved late", &LATE);
 }
