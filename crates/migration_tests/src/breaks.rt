@@ -95,7 +95,7 @@ static ALL_IS_OWED: [Row; 8] = [
     (Remaining, Remain(1, 0x10)),
     (Deliver, TookDiscard(0)),
     (Deliver, TookPackage(1)),
-    (Push(0x10000), SentPage(0x10000)),
+    (Push(0x10), SentPage(0x10000)),
     (Deliver, TookPage(0x10000)),
     (Install, Installed(0x10000, 0x10000)),
     (Load(0, 0x10000, 8), Replied(0, Value(1))),
@@ -135,9 +135,9 @@ static WOKEN: [Row; 20] = [
     (DestAct, Zeroed(0x11000)),
     (Retry(1), Replied(1, Done)),
     (Load(1, 0x11000, 8), Replied(1, Value(4))),
-    (Push(0x11000), Refused(Refusal::PageNotSendable)),
-    (PushFor(1, 0x10000), Refused(Refusal::StaleEpoch)),
-    (Push(0x10000), SentPage(0x10000)),
+    (Push(0x11), Refused(Refusal::PageNotSendable)),
+    (PushFor(1, 0x10), Refused(Refusal::StaleEpoch)),
+    (Push(0x10), SentPage(0x10000)),
     (Deliver, TookPage(0x10000)),
     (End, EndSent),
     (Deliver, Refused(Refusal::InstallFirst)),
@@ -150,19 +150,19 @@ static WOKEN: [Row; 20] = [
 
 /// While all copies are in flight.
 static IN_FLIGHT: [Row; 5] = [
-    (Push(0x10000), SentPage(0x10000)),
-    (Push(0x11000), SentPage(0x11000)),
-    (Push(0x12000), SentPage(0x12000)),
+    (Push(0x10), SentPage(0x10000)),
+    (Push(0x11), SentPage(0x11000)),
+    (Push(0x12), SentPage(0x12000)),
     (Break, Broken),
     (End, Refused(Refusal::Broken)),
 ];
 
 static PUSHED_ANEW: [Row; 14] = [
     (Back, TookRecv(Received::Running, 3)),
-    (PushFor(1, 0x10000), Refused(Refusal::StaleEpoch)),
-    (Push(0x10000), SentPage(0x10000)),
-    (Push(0x11000), SentPage(0x11000)),
-    (Push(0x12000), SentPage(0x12000)),
+    (PushFor(1, 0x10), Refused(Refusal::StaleEpoch)),
+    (Push(0x10), SentPage(0x10000)),
+    (Push(0x11), SentPage(0x11000)),
+    (Push(0x12), SentPage(0x12000)),
     (Deliver, TookPage(0x10000)),
     (Deliver, TookPage(0x11000)),
     (Deliver, TookPage(0x12000)),
@@ -176,14 +176,14 @@ static PUSHED_ANEW: [Row; 14] = [
 
 /// While a copy waits to be installed: its page is still owed, and the second copy is given up.
 static ARRIVED: [Row; 3] = [
-    (Push(0x10000), SentPage(0x10000)),
+    (Push(0x10), SentPage(0x10000)),
     (Deliver, TookPage(0x10000)),
     (Break, Broken),
 ];
 
 static GIVEN_UP: [Row; 8] = [
     (Back, TookRecv(Received::Running, 1)),
-    (Push(0x10000), SentPage(0x10000)),
+    (Push(0x10), SentPage(0x10000)),
     (Install, Installed(0x10000, 0x10000)),
     (Store(0, 0x10000, 8, 4), Replied(0, Done)),
     (Deliver, TookPage(0x10000)),
@@ -213,10 +213,10 @@ static ASKED_ANEW: [Row; 22] = [
     (Back, TookRequest(0x10000)),
     (Back, Refused(Refusal::NothingThere)),
     (Serve, Asked(0x12000)),
-    (PushUrgent(0x12000), SentPage(0x12000)),
+    (PushUrgent(0x12), SentPage(0x12000)),
     (Serve, Asked(0x10000)),
-    (PushUrgent(0x10000), SentPage(0x10000)),
-    (Push(0x11000), SentPage(0x11000)),
+    (PushUrgent(0x10), SentPage(0x10000)),
+    (Push(0x11), SentPage(0x11000)),
     (DeliverUrgent, TookPage(0x12000)),
     (DeliverUrgent, TookPage(0x10000)),
     (Deliver, TookPage(0x11000)),
@@ -247,7 +247,7 @@ static TWICE: [Row; 8] = [
 
 /// After the End was taken.
 static ENDED: [Row; 6] = [
-    (Push(0x10000), SentPage(0x10000)),
+    (Push(0x10), SentPage(0x10000)),
     (Deliver, TookPage(0x10000)),
     (Install, Installed(0x10000, 0x10000)),
     (End, EndSent),
@@ -264,7 +264,7 @@ static KNOWN_TO_HAVE_ENDED: [Row; 4] = [
 
 /// While an End and an urgent page are in flight. The next epoch has an End of its own, and counts urgent frames anew.
 static END_IN_FLIGHT: [Row; 4] = [
-    (PushUrgent(0x10000), SentPage(0x10000)),
+    (PushUrgent(0x10), SentPage(0x10000)),
     (End, EndSent),
     (End, Refused(Refusal::Phase)),
     (Break, Broken),
@@ -274,7 +274,7 @@ static ENDED_ANEW: [Row; 11] = [
     (End, Refused(Refusal::Phase)),
     (Back, TookRecv(Received::Running, 1)),
     (End, Refused(Refusal::PagesLeft)),
-    (PushUrgent(0x10000), SentPage(0x10000)),
+    (PushUrgent(0x10), SentPage(0x10000)),
     (End, EndSent),
     (Deliver, Refused(Refusal::UrgentFirst)),
     (DeliverUrgent, TookPage(0x10000)),

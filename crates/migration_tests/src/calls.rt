@@ -1,7 +1,7 @@
 //! Steps of a world, and looks at it, as a table writes them.
 
 use mig_base::schedule::{Side, Step, Ticket};
-use mig_base::{Addr, Command, PAGE_SIZE, PageNo, Place, Prot};
+use mig_base::{Addr, Command, PageNo, Place, Prot};
 
 /// A step with its arguments, the processor first, or a look at a world.
 #[derive(Clone, Copy)]
@@ -39,12 +39,12 @@ pub enum Call {
     DestRead,
     DestAct,
     Install,
-    /// The page at an address, for the present epoch.
-    Push(Addr),
-    /// The epoch of the ticket, and the address.
-    PushFor(u32, Addr),
-    PushUrgent(Addr),
-    PushUrgentFor(u32, Addr),
+    /// A page, for the present epoch.
+    Push(PageNo),
+    /// The epoch of the ticket, and the page.
+    PushFor(u32, PageNo),
+    PushUrgent(PageNo),
+    PushUrgentFor(u32, PageNo),
     DeliverUrgent,
     UrgentPart(u64),
     Serve,
@@ -105,13 +105,6 @@ fn command_of(call: Call) -> Option<(u8, Command)> {
     }
 }
 
-fn ticket(epoch: u32, addr: Addr) -> Ticket {
-    Ticket {
-        epoch,
-        page: (addr / PAGE_SIZE) as PageNo,
-    }
-}
-
 /// The step of a call at an epoch. None for a look.
 pub fn step_of(call: Call, epoch: u32) -> Option<Step> {
     if let Some((cpu, command)) = command_of(call) {
@@ -126,10 +119,10 @@ pub fn step_of(call: Call, epoch: u32) -> Option<Step> {
         SourceRead => Some(Step::SourceRead),
         SourceAct => Some(Step::SourceAct),
         Switch => Some(Step::Switch),
-        Push(addr) => Some(Step::Push(ticket(epoch, addr))),
-        PushFor(epoch, addr) => Some(Step::Push(ticket(epoch, addr))),
-        PushUrgent(addr) => Some(Step::PushUrgent(ticket(epoch, addr))),
-        PushUrgentFor(epoch, addr) => Some(Step::PushUrgent(ticket(epoch, addr))),
+        Push(page) => Some(Step::Push(Ticket { epoch, page })),
+        PushFor(epoch, page) => Some(Step::Push(Ticket { epoch, page })),
+        PushUrgent(page) => Some(Step::PushUrgent(Ticket { epoch, page })),
+        PushUrgentFor(epoch, page) => Some(Step::PushUrgent(Ticket { epoch, page })),
         Serve => Some(Step::Serve),
         End => Some(Step::End),
         _ => step_of_link(call),

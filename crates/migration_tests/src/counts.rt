@@ -153,7 +153,7 @@ static ANSWERED: [Row; 8] = [
     (DestAct, Requested(0x11000, 0x11000)),
     (DestRead, Refused(Refusal::NothingThere)),
     (Back, TookRequest(0x11000)),
-    (Push(0x11000), SentPage(0x11000)),
+    (Push(0x11), SentPage(0x11000)),
     (Deliver, TookPage(0x11000)),
     (Retry(7), Refused(Refusal::NotWoken)),
     (Install, Installed(0x11000, 0x11000)),
