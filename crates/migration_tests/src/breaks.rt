@@ -12,7 +12,7 @@ use crate::calls::Call::{
     Round, Send, SendRun, Serve, Source, SourceAct, SourceRead, Start, Store, Switch,
 };
 use crate::openings::{NOTHING, OWED, OWED_THREE, RESUMED, SENT, STARTED};
-use crate::play::{Row, new_world, play};
+use crate::play::{Behind, Row, on_world};
 use mig_base::Reply::{At, Done, Value};
 use mig_base::cpu_state::CpuState;
 use mig_base::phase::{Received, SourcePhase};
@@ -24,15 +24,9 @@ use std::process::Abort;
 
 /// Plays an opening, what happens up to a break, how both sides go on, and what follows.
 fn play_broken(rt: &impl Abort, alloc: Global, table: &str, parts: (&[Row], &[Row], &[Row])) {
-    match new_world(alloc, 2, (0, 0)) {
-        Ok(mut world) => {
-            play(rt, &mut world, "opening", parts.0);
-            play(rt, &mut world, table, parts.1);
-            play(rt, &mut world, "resumed", &RESUMED);
-            play(rt, &mut world, table, parts.2);
-        }
-        Err(_) => assert!(rt; false, "no world for {table}"),
-    }
+    let parts = (parts.0, parts.1, RESUMED.as_slice(), parts.2);
+    let told = on_world(rt, alloc, (2, 0, 0), table, parts, Behind::Nothing);
+    assert!(rt; told == Ok(true), "no world for {table}");
 }
 
 /// While a round is sent. The guest runs on, and a page that was sent stays protected.

@@ -9,7 +9,8 @@ use crate::calls::Call::{
     Back, Break, Cpu, Deliver, DestAct, DestRead, End, Install, Load, Map, Notice, Progress, Push,
     Resume, Retry, Round, Send, Source, Start, Store, Switch, Transcript,
 };
-use crate::play::{Row, new_world, play};
+use crate::openings::NOTHING;
+use crate::play::{Behind, Row, on_world, play, play_behind};
 use mig_base::Reply::{At, Done, Value};
 use mig_base::cpu_state::CpuState;
 use mig_base::phase::SourcePhase;
@@ -22,10 +23,17 @@ use world::World;
 
 /// Plays a table on a world of one processor whose counts of epochs and of rounds stand at these.
 fn play_at(rt: &impl Abort, alloc: Global, counts: (u32, u32), rows: &[Row]) {
-    match new_world(alloc, 1, counts) {
-        Ok(mut world) => play(rt, &mut world, "counts", rows),
-        Err(_) => assert!(rt; false),
-    }
+    let none = NOTHING.as_slice();
+    let new = (1, counts.0, counts.1);
+    let told = on_world(
+        rt,
+        alloc,
+        new,
+        "counts",
+        (rows, none, none, none),
+        Behind::Nothing,
+    );
+    assert!(rt; told == Ok(true));
 }
 
 static NO_EPOCH: [Row; 3] = [
@@ -73,26 +81,17 @@ fn the_greatest_counts(rt: HostRuntime) {
     play_at(&rt, rt.alloc(), (6, 5), &FURTHER);
 }
 
-/// Whether a world of so many processors is made. Where memory is refused it is asked for again.
-fn is_allowed(rt: &impl Abort, alloc: Global, cpus: u8) -> bool {
-    match World::new(alloc, cpus) {
-        Ok(_) => true,
-        Err(Refusal::NoMemory) => World::new(alloc, cpus).is_ok(),
-        Err(refusal) => {
-            assert_eq!(rt; refusal, Refusal::NoCpu);
-            false
-        }
-    }
-}
-
 #[test]
 fn counts_of_processors(rt: HostRuntime) {
-    for (cpus, wanted) in [(0, false), (1, true), (16, true), (17, false), (255, false)] {
-        assert_eq!(rt;
-            is_allowed(&rt, rt.alloc(), cpus),
-            wanted,
-            "{cpus} processors"
-        );
+    for (cpus, wanted) in [
+        (0, Err(Refusal::NoCpu)),
+        (1, Ok(true)),
+        (16, Ok(true)),
+        (17, Err(Refusal::NoCpu)),
+        (255, Err(Refusal::NoCpu)),
+    ] {
+        let told = play_behind(&rt, rt.alloc(), cpus, Behind::Nothing);
+        assert!(rt; told == wanted, "{cpus} processors");
     }
 }
 
@@ -167,7 +166,7 @@ static MANY_ENDED: [Row; 5] = [
     (Progress, Stands(WorldPhase::Complete, [0, 1, 0, 1, 0, 2])),
 ];
 
-fn play_many(rt: &impl Abort, world: &mut World) {
+pub fn play_many(rt: &impl Abort, world: &mut World) {
     play(rt, world, "many", &MANY);
     all_load(rt, world, 0x10000);
     play(rt, world, "switched", &MANY_SWITCHED);
@@ -182,8 +181,6 @@ fn play_many(rt: &impl Abort, world: &mut World) {
 
 #[test]
 fn the_most_processors(rt: HostRuntime) {
-    match new_world(rt.alloc(), 16, (0, 0)) {
-        Ok(mut world) => play_many(&rt, &mut world),
-        Err(_) => assert!(rt; false),
-    }
+    let told = play_behind(&rt, rt.alloc(), 16, Behind::Many);
+    assert!(rt; told == Ok(true));
 }

@@ -2,6 +2,9 @@
 
 use crate::answers::Answer;
 use crate::calls::{Call, step_of};
+use crate::counts::play_many;
+use crate::openings::NOTHING;
+use crate::runs::{play_longest, run_all};
 use crate::same::same;
 use mig_base::WorldPhase;
 use mig_base::counts::Counts;
@@ -15,6 +18,9 @@ use world::World;
 
 /// A step or a look, and the answer that is wanted.
 pub type Row = (Call, Answer);
+
+/// Tables that are played one behind the other.
+pub type Parts<'a> = (&'a [Row], &'a [Row], &'a [Row], &'a [Row]);
 
 /// What a refused step has to leave.
 #[derive(Clone, Copy, Debug, PartialEq, Eq)]
@@ -103,22 +109,91 @@ pub fn play(rt: &impl Abort, world: &mut World, table: &str, rows: &[Row]) {
     }
 }
 
-/// A world, where memory is refused asked for again.
-pub fn new_world(alloc: Global, cpus: u8, counts: (u32, u32)) -> Result<World, Refusal> {
-    match World::with_counts(alloc, cpus, counts.0, counts.1) {
-        Ok(world) => Ok(world),
-        Err(Refusal::NoMemory) => World::with_counts(alloc, cpus, counts.0, counts.1),
-        Err(refusal) => Err(refusal),
+/// What is played behind the tables, that no table can say.
+#[derive(Clone, Copy)]
+pub enum Behind {
+    Nothing,
+    /// A guest of 16 processors.
+    Many,
+    /// As many pages as a run can have, and two more.
+    Longest,
+    /// All steps in one call.
+    OneCall,
+}
+
+/// Plays tables on a world, and what comes behind them. Whether memory was found for it.
+fn tell(
+    rt: &impl Abort,
+    alloc: Global,
+    world: &mut World,
+    table: &str,
+    parts: Parts,
+    behind: Behind,
+) -> bool {
+    play(rt, world, table, parts.0);
+    play(rt, world, table, parts.1);
+    play(rt, world, table, parts.2);
+    play(rt, world, table, parts.3);
+    match behind {
+        Behind::Nothing => {}
+        Behind::Many => play_many(rt, world),
+        Behind::Longest => play_longest(rt, world),
+        Behind::OneCall => return run_all(rt, alloc, world),
     }
+    true
+}
+
+/// Makes a world, and plays on it. The only function that owns one, since its proof gives up all that a world owns.
+fn tell_of_one(
+    rt: &impl Abort,
+    alloc: Global,
+    new: (u8, u32, u32),
+    table: &str,
+    parts: Parts,
+    behind: Behind,
+) -> Result<bool, Refusal> {
+    let mut world = World::with_counts(alloc, new.0, new.1, new.2)?;
+    Ok(tell(rt, alloc, &mut world, table, parts, behind))
+}
+
+/// Plays on a new world of so many processors, whose counts of epochs and of rounds stand at the numbers given. Where memory is refused
+/// for the world it is asked for again.
+pub fn on_world(
+    rt: &impl Abort,
+    alloc: Global,
+    new: (u8, u32, u32),
+    table: &str,
+    parts: Parts,
+    behind: Behind,
+) -> Result<bool, Refusal> {
+    let told = tell_of_one(rt, alloc, new, table, parts, behind);
+    if told == Err(Refusal::NoMemory) {
+        return tell_of_one(rt, alloc, new, table, parts, behind);
+    }
+    told
 }
 
 /// Plays a table on a new world of two processors, behind an opening.
 pub fn play_new(rt: &impl Abort, alloc: Global, table: &str, opening: &[Row], rows: &[Row]) {
-    match new_world(alloc, 2, (0, 0)) {
-        Ok(mut world) => {
-            play(rt, &mut world, "opening", opening);
-            play(rt, &mut world, table, rows);
-        }
-        Err(_) => assert!(rt; false, "no world for {table}"),
-    }
+    let parts = (opening, rows, NOTHING.as_slice(), NOTHING.as_slice());
+    let told = on_world(rt, alloc, (2, 0, 0), table, parts, Behind::Nothing);
+    assert!(rt; told == Ok(true), "no world for {table}");
+}
+
+/// Plays what no table can say on a new world.
+pub fn play_behind(
+    rt: &impl Abort,
+    alloc: Global,
+    cpus: u8,
+    behind: Behind,
+) -> Result<bool, Refusal> {
+    let none = NOTHING.as_slice();
+    on_world(
+        rt,
+        alloc,
+        (cpus, 0, 0),
+        "none",
+        (none, none, none, none),
+        behind,
+    )
 }

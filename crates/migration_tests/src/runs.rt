@@ -11,8 +11,8 @@ use crate::calls::Call::{
     SourceAct, SourceRead, Start, Store, Switch,
 };
 use crate::calls::step_of;
-use crate::openings::RESUMED;
-use crate::play::{Row, new_world, play};
+use crate::openings::{NOTHING, RESUMED};
+use crate::play::{Behind, Row, on_world, play, play_behind};
 use crate::same::same;
 use mig_base::Reply::{At, BadAccess, Done, Value};
 use mig_base::phase::Received;
@@ -78,9 +78,12 @@ static SENT_ANEW: [Row; 27] = [
 ];
 
 /// A page for each of `count` stores, from 0x10000 on.
-fn store_to(rt: &impl Abort, world: &mut World, count: u64) {
+fn store_to(rt: &impl Abort, world: &mut World, count: u32) {
     for i in 0..count {
-        let row = (Store(0, 0x10000 + 4096 * i, 1, 1), Replied(0, Done));
+        let row = (
+            Store(0, 0x10000 + 4096 * u64::from(i), 1, 1),
+            Replied(0, Done),
+        );
         play(rt, world, "stores", [row].as_slice());
     }
 }
@@ -100,13 +103,7 @@ static LONGEST: [Row; 9] = [
     (Progress, Stands(WorldPhase::Precopy, [1, 66, 0, 0, 0, 0])),
 ];
 
-fn play_runs(rt: &impl Abort, world: &mut World) {
-    play(rt, world, "in runs", &IN_RUNS);
-    play(rt, world, "resumed", &RESUMED);
-    play(rt, world, "sent anew", &SENT_ANEW);
-}
-
-fn play_longest(rt: &impl Abort, world: &mut World) {
+pub fn play_longest(rt: &impl Abort, world: &mut World) {
     play(rt, world, "mapped", &MAPPED);
     store_to(rt, world, 66);
     play(rt, world, "longest", &LONGEST);
@@ -114,14 +111,23 @@ fn play_longest(rt: &impl Abort, world: &mut World) {
 
 #[test]
 fn pages_in_runs(rt: HostRuntime) {
-    match new_world(rt.alloc(), 2, (0, 0)) {
-        Ok(mut world) => play_runs(&rt, &mut world),
-        Err(_) => assert!(rt; false),
-    }
-    match new_world(rt.alloc(), 2, (0, 0)) {
-        Ok(mut world) => play_longest(&rt, &mut world),
-        Err(_) => assert!(rt; false),
-    }
+    let parts = (
+        IN_RUNS.as_slice(),
+        RESUMED.as_slice(),
+        SENT_ANEW.as_slice(),
+        NOTHING.as_slice(),
+    );
+    let told = on_world(
+        &rt,
+        rt.alloc(),
+        (2, 0, 0),
+        "in runs",
+        parts,
+        Behind::Nothing,
+    );
+    assert!(rt; told == Ok(true));
+    let told = play_behind(&rt, rt.alloc(), 2, Behind::Longest);
+    assert!(rt; told == Ok(true));
 }
 
 const MAP: Command = Command::Mmap {
@@ -195,7 +201,7 @@ fn steps_of(rows: &[Row; 9]) -> [Step; 9] {
 }
 
 /// Makes all steps in one call. Whether memory was there for each; if so all is as wanted.
-fn run_all(rt: &impl Abort, alloc: Global, world: &mut World) -> bool {
+pub fn run_all(rt: &impl Abort, alloc: Global, world: &mut World) -> bool {
     let steps = steps_of(&IN_ONE_CALL);
     let Ok(outcomes) = world.run(alloc, steps.as_slice()) else {
         assert_eq!(rt; world.phase(), WorldPhase::Idle);
@@ -213,10 +219,7 @@ fn run_all(rt: &impl Abort, alloc: Global, world: &mut World) -> bool {
 }
 
 fn is_run(rt: &impl Abort, alloc: Global) -> bool {
-    match new_world(alloc, 2, (0, 0)) {
-        Ok(mut world) => run_all(rt, alloc, &mut world),
-        Err(_) => false,
-    }
+    play_behind(rt, alloc, 2, Behind::OneCall) == Ok(true)
 }
 
 /// One call for all steps, which goes on after a refusal. Where memory was refused a second world is run.
