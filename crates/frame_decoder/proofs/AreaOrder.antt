@@ -21,7 +21,7 @@ use Rattle.mig_model.specs.Bounds.{IsPage}
 use Rattle.mig_model.specs.Ioctls.{same_prot}
 use Rattle.mig_model.specs.Lengths.{begins_area}
 use Rattle.mig_model.proofs.Facts.{by_test}
-use Rattle.mig_model.proofs.IoctlLemmas.{same_prot-self}
+use Rattle.mig_model.proofs.PageCalls.{same_prot_self}
 use Rattle.frame_texts.specs.Texts.{AreMappedBelow, list_below, area_at, areas_of}
 use Rattle.frame_texts.proofs.RunsAndAreas.{same_prot_tells, prot_in-areas_of}
 use Rattle.frame_decoder.specs.Reading.{area_next}
@@ -65,12 +65,9 @@ areas_inside state (a ∷ areas) q h there =
 
 -- Mapped pages as areas
 
-pub prot_in-area : (areas : FinMap nat_cmp Prot) → AreMappedBelow areas → (q : ℕ) → prot_in (areas_of areas) q ≡ get areas q
-unfolding prot_in
-prot_in-area areas below q = prot_in-areas_of areas below q
-
 pub map_back : (areas : FinMap nat_cmp Prot) → AreMappedBelow areas → pages_in (areas_of areas) ≡ areas
-map_back areas below = same_pages (pages_in (areas_of areas)) areas (λ q. get-pages_in (areas_of areas) q ∙ prot_in-area areas below q)
+unfolding prot_in
+map_back areas below = same_pages (pages_in (areas_of areas)) areas (λ q. get-pages_in (areas_of areas) q ∙ prot_in-areas_of areas below q)
 
 abbrev alike : FinMap nat_cmp Prot → ℕ → ℕ → Bool
 alike areas first page = same_prot (get areas first) (get areas page)
@@ -78,10 +75,6 @@ alike areas first page = same_prot (get areas first) (get areas page)
 mapped_some : (o : Option Prot) → is_some o ≡ true → o ≡ Some (unwrap_or o NoAccess)
 mapped_some (Some prot) h = refl
 mapped_some None h = absurd cc
-
-alike_self : (o : Option Prot) → is_some o ≡ true → same_prot o o ≡ true
-alike_self (Some prot) h = same_prot-self prot
-alike_self None h = absurd cc
 
 -- the pages of the area that begins at a page
 in_area : (areas : FinMap nat_cmp Prot) (first q : ℕ) → in_range first (area_at areas first).count q ≡ true → (q < HIGH_PAGE) × (get areas first ≡ get areas q)
@@ -92,7 +85,7 @@ in_area areas first q h =
 area_some : (areas : FinMap nat_cmp Prot) (first : ℕ) → AreMappedBelow areas → contains_key areas first ≡ true → 0 < (area_at areas first).count
 area_some areas first below h =
     let inside : ltb first HIGH_PAGE ≡ true = lt-ltb first HIGH_PAGE (below first h) in
-    run_length-some (pages_where (alike areas first)) first HIGH_PAGE (member_below (alike areas first) HIGH_PAGE first ∙ rw (inside, alike_self (get areas first) h) refl) (omega arith)
+    run_length-some (pages_where (alike areas first)) first HIGH_PAGE (member_below (alike areas first) HIGH_PAGE first ∙ rw (inside, same_prot_self (get areas first) h) refl) (omega arith)
 
 area_inside : (areas : FinMap nat_cmp Prot) (first : ℕ) → 0 < (area_at areas first).count → first + (area_at areas first).count ≤ HIGH_PAGE
 area_inside areas first some =
@@ -104,7 +97,7 @@ area_inside areas first some =
 goes_on : (areas : FinMap nat_cmp Prot) (first next : ℕ) → first < next → get areas first ≡ get areas (next - 1) → get areas first ≡ get areas next → begins_area areas next ≡ true → ⊥
 goes_on areas first next past before here begins =
     let positive : ltb 0 next ≡ true = lt-ltb 0 next (omega (arith, past)) in
-    let same : same_prot (get areas next) (get areas (next - 1)) ≡ true = ap (λ o. same_prot (get areas next) o) (sym before ∙ here) ∙ alike_self (get areas next) (and_first (contains_key areas next) _ begins) in
+    let same : same_prot (get areas next) (get areas (next - 1)) ≡ true = ap (λ o. same_prot (get areas next) o) (sym before ∙ here) ∙ same_prot_self (get areas next) (and_first (contains_key areas next) _ begins) in
     let no = and_second (contains_key areas next) (not (ltb 0 next && same_prot (get areas next) (get areas (next - 1)))) begins in
     false≢true (rw (positive, same) at no)
 
@@ -180,5 +173,6 @@ areas_higher (a ∷ areas) h pages =
     (record { from = (pages a.first (rw first_in refl)).0; some = some; inside = h.0.inside; differ = λ e same. cc }, h.1)
 
 pub map_fits : (areas : FinMap nat_cmp Prot) → AreMappedBelow areas → ((page : ℕ) → contains_key areas page ≡ true → IsPage page) → AreasFit (LOW_PAGE, None) (areas_of areas)
+unfolding prot_in
 map_fits areas below pages =
-    areas_higher (areas_of areas) (in_order areas HIGH_PAGE below).ordered (λ q there. pages q (sym (ap (λ (o : Option Prot). is_some o) (prot_in-area areas below q)) ∙ there))
+    areas_higher (areas_of areas) (in_order areas HIGH_PAGE below).ordered (λ q there. pages q (sym (ap (λ (o : Option Prot). is_some o) (prot_in-areas_of areas below q)) ∙ there))

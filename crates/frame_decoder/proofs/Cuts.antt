@@ -1,6 +1,7 @@
 -- Whatever the pieces, the frames are those at the front of the stream.
 use Rattle.std.proofs.Common.{◌≡◌, ℕ, ◌+◌, ◌≤◌, List, [], ◌∷◌, ◌++◌, length, take, drop, Option, Some, None, Ok, Err, refl, sym, ap, subst, ◌∙◌, append_assoc, arith, inl, inr}
 use Rattle.std.proofs.lemmas.List.{append-nil, length-append, length-drop, take-append-le, drop-append-le}
+use Rattle.mig_base.proofs.TestLemmas.{some_is_none}
 use Rattle.mig_model.specs.Wire.{Sent}
 use Rattle.frame_decoder.specs.declared.fault.StreamFault.{StreamFault}
 use Rattle.frame_decoder.specs.declared.fault.StreamFault.TheVariants as faults
@@ -33,17 +34,14 @@ record Stays (old : Held) (feeds : List Feed) (new : Held) : Type 0 where
   pub frames : all_frames feeds ≡ []
   pub same : new ≡ old
 
-some_none : {A : Type 0} (x : A) (o : Option A) → o ≡ Some x → o ≡ None → ⊥
-some_none x o p q = cc
-
 same_kept : (fault : StreamFault) (old mid : Held) (other : StreamFault) (piece : List ℕ) → old.fault ≡ Some fault → FedFault old piece other mid → mid ≡ old
 same_kept fault old mid other piece e (inl k) = k.1
-same_kept fault old mid other piece e (inr k) = absurd (some_none fault old.fault e k.0)
+same_kept fault old mid other piece e (inr k) = absurd (some_is_none fault old.fault e k.0)
 
 stays_step : (fault : StreamFault) (old : Held) (piece : List ℕ) (answer : Answer) (mid : Held) → old.fault ≡ Some fault → Fed old piece answer mid
     → (frames_of (record { piece = piece; answer = answer }) ≡ []) × (mid ≡ old)
-stays_step fault old piece (Ok frames) mid e f = absurd (some_none fault old.fault e f.0)
-stays_step fault old piece (Err faults.NoMemory) mid e f = absurd (some_none fault old.fault e f.0)
+stays_step fault old piece (Ok frames) mid e f = absurd (some_is_none fault old.fault e f.0)
+stays_step fault old piece (Err faults.NoMemory) mid e f = absurd (some_is_none fault old.fault e f.0)
 stays_step fault old piece (Err faults.BadTag) mid e f = (refl, same_kept fault old mid faults.BadTag piece e f)
 stays_step fault old piece (Err faults.BadLength) mid e f = (refl, same_kept fault old mid faults.BadLength piece e f)
 stays_step fault old piece (Err faults.BadField) mid e f = (refl, same_kept fault old mid faults.BadField piece e f)
@@ -92,7 +90,7 @@ split_then old bytes piece frames mid (Some fault) fs new is s run goes =
 
 fault_then : (old : Held) (piece : List ℕ) (fault : StreamFault) (mid : Held) (fs : List Feed) (new : Held) → old.fault ≡ None → FedFault old piece fault mid → IsRun mid fs new → Goes mid fs new
     → Reads old.version (old.bytes ++ (piece ++ joined fs)) (all_frames fs) new
-fault_then old piece fault mid fs new none (inl k) run goes = absurd (some_none fault old.fault k.0 none)
+fault_then old piece fault mid fs new none (inl k) run goes = absurd (some_is_none fault old.fault k.0 none)
 fault_then old piece fault mid fs new none (inr k) run goes = split_then old.version old.bytes piece [] mid mid.fault fs new refl k.2 run goes
 
 feed_then : (old : Held) (piece : List ℕ) (answer : Answer) (mid : Held) (fs : List Feed) (new : Held) → old.fault ≡ None → IsPart old.version old.bytes → Fed old piece answer mid → IsRun mid fs new → Goes mid fs new

@@ -127,7 +127,7 @@ pub switch_good : (source : Source) → IsSound (space_of source).host → IsMap
 switch_good source sound mapping sent right count =
     package_good source (less source.log.sent source.log.clean) (not_clean source) sound mapping (less_pages source.log.sent source.log.clean sent) (λ page h. owed_is_present source page h) right count
 
-member_present : (space : Space) (page : ℕ) → contains (present space) page ≡ true → is_present space page ≡ true
+pub member_present : (space : Space) (page : ℕ) → contains (present space) page ≡ true → is_present space page ≡ true
 member_present space page h = (and_parts (ltb page HIGH_PAGE) (is_present space page) (sym (member_below (λ q. is_present space q) HIGH_PAGE page) ∙ h)).1
 
 rebuilt_by : (switched : Bool) (source : Source) → IsSound (space_of source).host → IsMapping (space_of source).host.areas → (switched ≡ true → AllRight source.guest.cpus) → IsCpuCount (length source.guest.cpus) →

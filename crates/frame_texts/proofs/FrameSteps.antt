@@ -173,7 +173,7 @@ read_limited world noted h = grind (arith, nat_tests, read_host, with_host, HasB
 acted_limited : {cpus : ℕ} → (act : Act) (world : World) (page : ℕ) → AreLimited cpus world → AreLimited cpus (record world { source = source_acted_by act world.source page })
 acted_limited act world page h = grind (arith, nat_tests, with_host, zeroed_bytes)
 
-stopped_unreleased : (phase : SourcePhase) → is_stopped phase ≡ true → is_released phase ≡ false
+pub stopped_unreleased : (phase : SourcePhase) → is_stopped phase ≡ true → is_released phase ≡ false
 stopped_unreleased phase h = grind (arith, nat_tests)
 
 switch_limited : {cpus : ℕ} → (world : World) → IsReady cpus world → is_precopy world.source.phase ≡ true → AreLimited cpus world → AreLimited cpus (after_switch world)

@@ -19,27 +19,22 @@ use Rattle.mig_model.proofs.Bounded.{memory_bounded}
 use Rattle.mig_model.proofs.EveryStep.{kept-reached}
 use Rattle.mig_model.proofs.UrgentFew.{few-reached}
 use Rattle.mig_model.proofs.WokenSteps.{stopped_switched}
-use Rattle.frame_texts.proofs.FrameBounds.{present_pages}
+use Rattle.frame_texts.proofs.FrameBounds.{member_present, present_pages}
+use Rattle.frame_texts.proofs.FrameSteps.{stopped_unreleased}
 use Rattle.precopy.specs.Steps.{IsRefused, world_of}
 use Rattle.world.specs.Worlds.{IsWorld}
 use Rattle.world.proofs.StepLemmas.{IsOfSource, source_refused}
 
-in_space : (space : Space) (page : ℕ) → contains (present space) page ≡ true → is_present space page ≡ true
-in_space space page h = (and_parts (ltb page HIGH_PAGE) (is_present space page) (sym (member_below (λ q. is_present space q) HIGH_PAGE page) ∙ h)).1
-
 below_most : (count left pages : ℕ) → count + left ≤ pages → pages ≤ 262144 → is_used count ≡ false
 below_most count left pages few most = grind (arith, nat_tests)
-
-unreleased : (phase : SourcePhase) → is_stopped phase ≡ true → is_released phase ≡ false
-unreleased phase stopped = grind (arith, nat_tests)
 
 urgent_unused : (world : World) → IsWorld world → is_stopped world.source.phase ≡ true → is_used world.source.urgent_sent ≡ false
 urgent_unused world is stopped =
     let kept = kept-reached world is.reached in
     let switched = stopped_switched world.source.phase world.source.switched stopped kept.phases.source_phase in
-    let few = (few-reached world is.reached).few switched (unreleased world.source.phase stopped) in
+    let few = (few-reached world is.reached).few switched (stopped_unreleased world.source.phase stopped) in
     let space = space_of world.source in
-    let pages = present_pages space.host (present space) kept.spaces.source_space.host (memory_bounded world is.reached).source (in_space space) in
+    let pages = present_pages space.host (present space) kept.spaces.source_space.host (memory_bounded world is.reached).source (member_present space) in
     below_most world.source.urgent_sent (len world.source.remaining) (len (present space)) few pages.1
 
 stopped_by : (node : Source) (ticket : Ticket) → IsOk (outcome (world_of node) (Step.PushUrgent ticket)) → is_stopped node.phase ≡ true
