@@ -1,10 +1,46 @@
--- Each keyword is in the list of all.
-use Rattle.std.proofs.Common.{◌≡◌, ℕ, ◌<◌, List, [], ◌∷◌, get_or, refl, lit<}
+-- Each keyword is in the list of all, and stands there with its text.
+use Rattle.std.proofs.Common.{◌≡◌, ℕ, zero, suc, ◌+◌, ◌<◌, ◌≤◌, List, [], ◌∷◌, length, map, slice_index_or, get_or, Bor, refl, sym, ap, ◌∙◌, ◌⊎◌, ⊎_elim, arith, lit<}
+use Rattle.grammar.specs.Words.{keyword_text}
+use Rattle.std.proofs.lemmas.Bool.{cases_lt}
 use Rattle.grammar.specs.declared.keyword.Keyword.{Keyword}
 use Rattle.grammar.specs.declared.keyword.Keyword.TheVariants as key
 
 abbrev pub all_keywords : List Keyword
 all_keywords = key.Cpu ∷ key.Load ∷ key.Store ∷ key.Mmap ∷ key.Munmap ∷ key.NoAccess ∷ key.Read ∷ key.ReadWrite ∷ key.Mremap ∷ key.DontNeed ∷ key.Fixed ∷ key.NoReplace ∷ key.MayMove ∷ key.Retry ∷ key.Start ∷ key.Round ∷ key.Send ∷ key.SendRun ∷ key.SourceRead ∷ key.SourceAct ∷ key.Switch ∷ key.Deliver ∷ key.Back ∷ key.DeliverUrgent ∷ key.DestRead ∷ key.DestAct ∷ key.Install ∷ key.Push ∷ key.PushUrgent ∷ key.Serve ∷ key.End ∷ key.Break ∷ key.Notice ∷ key.Source ∷ key.Dest ∷ key.Resume ∷ key.Progress ∷ key.Gives ∷ key.Value ∷ key.Done ∷ key.At ∷ key.Segv ∷ key.Unmapped ∷ key.Protected ∷ key.Bad ∷ key.Access ∷ key.Refused ∷ key.Eperm ∷ key.Enoent ∷ key.Eagain ∷ key.Enomem ∷ key.Efault ∷ key.Eexist ∷ key.Einval ∷ []
+
+-- each stands with its text
+abbrev pub AreWords : List (Keyword × Bor (List ℕ)) → Type 0
+AreWords [] = Unit {0}
+AreWords (pair ∷ rest) = (pair.1.now ≡ keyword_text pair.0) × AreWords rest
+
+-- all keywords, each with its text
+pub record Texts (pairs : List (Keyword × Bor (List ℕ))) : Type 0 where
+  pub words : AreWords pairs
+  pub keywords : map (λ pair. pair.0) pairs ≡ all_keywords
+
+text_at : (pairs : List (Keyword × Bor (List ℕ))) (k : ℕ) (other : Keyword × Bor (List ℕ)) → AreWords pairs → k < length pairs → (slice_index_or pairs k other).1.now ≡ keyword_text (slice_index_or pairs k other).0
+text_at [] k other words l = absurd (omega (arith, l))
+text_at (pair ∷ rest) zero other words l = words.0
+text_at (pair ∷ rest) (suc k) other words l = text_at rest k other words.1 (omega (arith, l))
+
+-- the word at a place is that of its keyword
+pub found_at : (pairs : List (Keyword × Bor (List ℕ))) (k : ℕ) (other : Keyword × Bor (List ℕ)) (word : List ℕ) → Texts pairs → k < length pairs → (slice_index_or pairs k other).1.now ≡ word →
+    word ≡ keyword_text (slice_index_or pairs k other).0
+found_at pairs k other word texts l e = sym e ∙ text_at pairs k other texts.words l
+
+keyword_at : (pairs : List (Keyword × Bor (List ℕ))) (k : ℕ) (other : Keyword × Bor (List ℕ)) → k < length pairs → (slice_index_or pairs k other).0 ≡ get_or (map (λ pair. pair.0) pairs) k key.Cpu
+keyword_at [] k other l = absurd (omega (arith, l))
+keyword_at (pair ∷ rest) zero other l = refl
+keyword_at (pair ∷ rest) (suc k) other l = keyword_at rest k other (omega (arith, l))
+
+-- a word that is not at a place is not that of the keyword there, nor of one before it where it is of none before
+pub none_before : (pairs : List (Keyword × Bor (List ℕ))) (place : ℕ) (other : Keyword × Bor (List ℕ)) (word : List ℕ) → Texts pairs → place < length pairs →
+    ((k : ℕ) → k < place → word ≡ keyword_text (get_or all_keywords k key.Cpu) → ⊥) → ((slice_index_or pairs place other).1.now ≡ word → ⊥) → (k : ℕ) → k < place + 1 → word ≡ keyword_text (get_or all_keywords k key.Cpu) → ⊥
+none_before pairs place other word texts l before not_here k below e =
+    ⊎_elim
+    (λ (lower : k < place). before k lower e)
+    (λ (past : place ≤ k). let here : k ≡ place = omega (arith, past, below) in not_here (text_at pairs place other texts.words l ∙ ap keyword_text (keyword_at pairs place other l ∙ ap (λ (keywords : List Keyword). get_or keywords place key.Cpu) texts.keywords) ∙ ap (λ p. keyword_text (get_or all_keywords p key.Cpu)) (sym here) ∙ sym e))
+    (cases_lt k place)
 
 pub listed : (keyword : Keyword) → (k : ℕ) × (k < 54) × (get_or all_keywords k key.Cpu ≡ keyword)
 listed key.Cpu = (0, lit< tt, refl)
