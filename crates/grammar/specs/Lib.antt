@@ -1,3 +1,4 @@
+pub mod Kinds
 pub mod Lines
 pub mod Orders
 pub mod Parsing

@@ -1,8 +1,9 @@
 //! The words that a line may have besides numbers.
 
-ghost use Rattle.std.specs.Prelude.{◌≡◌, IfSome, IfNone};
+ghost use Rattle.std.specs.Prelude.{◌≡◌, IfSome, IfNone, true};
 ghost use Rattle.grammar.specs.declared.keyword.Keyword.{Keyword as KeywordOf};
 ghost use Rattle.grammar.specs.Words.{keyword_text};
+ghost use Rattle.grammar.specs.Kinds.{is_of_command, is_of_step, is_of_reply};
 
 /// A word of scripts or transcripts.
 #[derive(Clone, Copy, Debug, PartialEq, Eq)]
@@ -67,74 +68,101 @@ pub enum Keyword {
 }
 
 impl Keyword {
-    /// Each keyword, and how it is written.
-    const WORDS: [(Keyword, &'static [u8]); 54] = [
-        (Keyword::Cpu, b"cpu"),
-        (Keyword::Load, b"load"),
-        (Keyword::Store, b"store"),
-        (Keyword::Mmap, b"mmap"),
-        (Keyword::Munmap, b"munmap"),
-        (Keyword::NoAccess, b"none"),
-        (Keyword::Read, b"r"),
-        (Keyword::ReadWrite, b"rw"),
-        (Keyword::Mremap, b"mremap"),
-        (Keyword::DontNeed, b"dontneed"),
-        (Keyword::Fixed, b"fixed"),
-        (Keyword::NoReplace, b"noreplace"),
-        (Keyword::MayMove, b"maymove"),
-        (Keyword::Retry, b"retry"),
-        (Keyword::Start, b"start"),
-        (Keyword::Round, b"round"),
-        (Keyword::Send, b"send"),
-        (Keyword::SendRun, b"sendrun"),
-        (Keyword::SourceRead, b"sread"),
-        (Keyword::SourceAct, b"sact"),
-        (Keyword::Switch, b"switch"),
-        (Keyword::Deliver, b"deliver"),
-        (Keyword::Back, b"back"),
-        (Keyword::DeliverUrgent, b"udeliver"),
-        (Keyword::DestRead, b"dread"),
-        (Keyword::DestAct, b"dact"),
-        (Keyword::Install, b"install"),
-        (Keyword::Push, b"push"),
-        (Keyword::PushUrgent, b"upush"),
-        (Keyword::Serve, b"serve"),
-        (Keyword::End, b"end"),
-        (Keyword::Break, b"break"),
-        (Keyword::Notice, b"notice"),
-        (Keyword::Source, b"source"),
-        (Keyword::Dest, b"dest"),
-        (Keyword::Resume, b"resume"),
-        (Keyword::Progress, b"progress"),
-        (Keyword::Gives, b"=>"),
-        (Keyword::Value, b"value"),
-        (Keyword::Done, b"done"),
-        (Keyword::At, b"at"),
-        (Keyword::Segv, b"segv"),
-        (Keyword::Unmapped, b"unmapped"),
-        (Keyword::Protected, b"protected"),
-        (Keyword::Bad, b"bad"),
-        (Keyword::Access, b"access"),
-        (Keyword::Refused, b"refused"),
-        (Keyword::Eperm, b"EPERM"),
-        (Keyword::Enoent, b"ENOENT"),
-        (Keyword::Eagain, b"EAGAIN"),
-        (Keyword::Enomem, b"ENOMEM"),
-        (Keyword::Efault, b"EFAULT"),
-        (Keyword::Eexist, b"EEXIST"),
-        (Keyword::Einval, b"EINVAL"),
-    ];
-
     /// The keyword that is written so.
     pub fn from_text(word: &[u8]) -> Option<Keyword>
         ensures found { IfSome result (λ keyword. word.now ≡ keyword_text keyword) }
         ensures none { IfNone result ((keyword : KeywordOf) → word.now ≡ keyword_text keyword → ⊥) }
     {
-        for (keyword, text) in Keyword::WORDS {
-            if text == word {
-                return Some(keyword);
-            }
+        if let Some(keyword) = of_command(word) {
+            return Some(keyword);
         }
-        None
+        if let Some(keyword) = of_step(word) {
+            return Some(keyword);
+        }
+        of_reply(word)
+    }
+}
+
+/// A word of commands.
+fn of_command(word: &[u8]) -> Option<Keyword>
+    ensures found { IfSome result (λ keyword. word.now ≡ keyword_text keyword) }
+    ensures none { IfNone result ((keyword : KeywordOf) → is_of_command keyword ≡ true → word.now ≡ keyword_text keyword → ⊥) }
+{
+    match word {
+        b"cpu" => Some(Keyword::Cpu),
+        b"load" => Some(Keyword::Load),
+        b"store" => Some(Keyword::Store),
+        b"mmap" => Some(Keyword::Mmap),
+        b"munmap" => Some(Keyword::Munmap),
+        b"none" => Some(Keyword::NoAccess),
+        b"r" => Some(Keyword::Read),
+        b"rw" => Some(Keyword::ReadWrite),
+        b"mremap" => Some(Keyword::Mremap),
+        b"dontneed" => Some(Keyword::DontNeed),
+        b"fixed" => Some(Keyword::Fixed),
+        b"noreplace" => Some(Keyword::NoReplace),
+        b"maymove" => Some(Keyword::MayMove),
+        _ => None,
+    }
+}
+
+/// A word of the other steps.
+fn of_step(word: &[u8]) -> Option<Keyword>
+    ensures found { IfSome result (λ keyword. word.now ≡ keyword_text keyword) }
+    ensures none { IfNone result ((keyword : KeywordOf) → is_of_step keyword ≡ true → word.now ≡ keyword_text keyword → ⊥) }
+{
+    match word {
+        b"retry" => Some(Keyword::Retry),
+        b"start" => Some(Keyword::Start),
+        b"round" => Some(Keyword::Round),
+        b"send" => Some(Keyword::Send),
+        b"sendrun" => Some(Keyword::SendRun),
+        b"sread" => Some(Keyword::SourceRead),
+        b"sact" => Some(Keyword::SourceAct),
+        b"switch" => Some(Keyword::Switch),
+        b"deliver" => Some(Keyword::Deliver),
+        b"back" => Some(Keyword::Back),
+        b"udeliver" => Some(Keyword::DeliverUrgent),
+        b"dread" => Some(Keyword::DestRead),
+        b"dact" => Some(Keyword::DestAct),
+        b"install" => Some(Keyword::Install),
+        b"push" => Some(Keyword::Push),
+        b"upush" => Some(Keyword::PushUrgent),
+        b"serve" => Some(Keyword::Serve),
+        b"end" => Some(Keyword::End),
+        b"break" => Some(Keyword::Break),
+        b"notice" => Some(Keyword::Notice),
+        b"source" => Some(Keyword::Source),
+        b"dest" => Some(Keyword::Dest),
+        b"resume" => Some(Keyword::Resume),
+        b"progress" => Some(Keyword::Progress),
+        _ => None,
+    }
+}
+
+/// A word of replies.
+fn of_reply(word: &[u8]) -> Option<Keyword>
+    ensures found { IfSome result (λ keyword. word.now ≡ keyword_text keyword) }
+    ensures none { IfNone result ((keyword : KeywordOf) → is_of_reply keyword ≡ true → word.now ≡ keyword_text keyword → ⊥) }
+{
+    match word {
+        b"=>" => Some(Keyword::Gives),
+        b"value" => Some(Keyword::Value),
+        b"done" => Some(Keyword::Done),
+        b"at" => Some(Keyword::At),
+        b"segv" => Some(Keyword::Segv),
+        b"unmapped" => Some(Keyword::Unmapped),
+        b"protected" => Some(Keyword::Protected),
+        b"bad" => Some(Keyword::Bad),
+        b"access" => Some(Keyword::Access),
+        b"refused" => Some(Keyword::Refused),
+        b"EPERM" => Some(Keyword::Eperm),
+        b"ENOENT" => Some(Keyword::Enoent),
+        b"EAGAIN" => Some(Keyword::Eagain),
+        b"ENOMEM" => Some(Keyword::Enomem),
+        b"EFAULT" => Some(Keyword::Efault),
+        b"EEXIST" => Some(Keyword::Eexist),
+        b"EINVAL" => Some(Keyword::Einval),
+        _ => None,
     }
 }
