@@ -136,7 +136,7 @@ def timed(name, count, arguments, script):
     for _ in range(3):
         with open(script) as source, open(os.devnull, "w") as sink:
             begun = time.perf_counter()
-            child = subprocess.Popen([PROGRAM, *arguments], stdin=source, stdout=sink)
+            child = subprocess.Popen([PROGRAM, *arguments], stdin=source, stdout=sink, env=page.environment())
             _, status, usage = os.wait4(child.pid, 0)
             seconds = time.perf_counter() - begun
         if status:

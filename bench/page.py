@@ -1,5 +1,6 @@
 """Puts what a script has measured into its part of docs/PERFORMANCE.md, between two comments that name the part."""
 
+import os
 import pathlib
 import platform
 
@@ -13,6 +14,11 @@ def machine():
         if line.startswith("model name"):
             return f"{line.partition(':')[2].strip()}, {len([it for it in open('/proc/cpuinfo') if it.startswith('processor')])} processors"
     return platform.machine()
+
+
+def environment():
+    """The environment that the launcher gives the program: huge pages for the allocator, where the kernel has them."""
+    return {"GLIBC_TUNABLES": "glibc.malloc.hugetlb=1", **os.environ}
 
 
 def put(part, text):

@@ -1,0 +1,130 @@
+#!/usr/bin/env python3
+"""Times what a migration does for each page, by script and by World::step, as ratios to a loop that copies pages.
+
+Run it from anywhere, once ./postmig prove has built the program, and `rt run` the crate world_bench: python3 bench/migration.py
+[--write]. With --write the table goes to docs/PERFORMANCE.md.
+"""
+
+import os
+import pathlib
+import re
+import subprocess
+import sys
+import tempfile
+import time
+
+import page
+from bench import LOW, PAGE, PROGRAM, stored
+
+STEPS = page.TOP / "crates" / "world_bench" / "out" / "world_bench"
+NUMBERS = (1024, 16_384, 262_144)
+RUNS = 5
+
+
+def begun(pages):
+    yield from stored(pages)
+    yield from ("start", "deliver", "round")
+
+
+def sent(pages):
+    yield from begun(pages)
+    for _ in range(pages):
+        yield from ("send", "deliver")
+
+
+def stored_again(pages):
+    yield from sent(pages)
+    for index in range(pages):
+        yield from (f"cpu 0 store {LOW + index * PAGE:#x} 8 1", "sread", "sact", "retry 0")
+
+
+def switched(pages):
+    yield from stored(pages)
+    yield from ("start", "switch", "deliver", "deliver", "deliver")
+
+
+def pushed(pages):
+    yield from switched(pages)
+    for index in range(pages):
+        yield from (f"push {LOW + index * PAGE:#x}", "deliver", "install")
+
+
+def faulted(pages):
+    yield from switched(pages)
+    for index in range(pages):
+        addr = f"{LOW + index * PAGE:#x}"
+        yield from (f"cpu 0 load {addr} 8", "dread", "dact", "back", "serve", f"push {addr}", "deliver", "install", "retry 0")
+
+
+# What is done for each page, as world_bench calls it, with the script of what comes before and the script with it.
+WORK = {
+    "pre-copy": (begun, sent),
+    "store": (sent, stored_again),
+    "post-copy": (switched, pushed),
+    "fault": (switched, faulted),
+}
+
+
+def play(lines):
+    """The seconds of the program's run on a script, the best of some runs, and its greatest memory in bytes."""
+    best, memory = None, 0
+    with tempfile.TemporaryDirectory() as folder:
+        script = pathlib.Path(folder) / "script"
+        with open(script, "w") as file:
+            file.writelines(line + "\n" for line in lines)
+        for _ in range(RUNS):
+            with open(script) as source, open(os.devnull, "w") as sink:
+                start = time.perf_counter()
+                child = subprocess.Popen([PROGRAM, "run"], stdin=source, stdout=sink, env=page.environment())
+                _, status, usage = os.wait4(child.pid, 0)
+                seconds = time.perf_counter() - start
+            if status:
+                sys.exit(f"{lines}: status {status}")
+            best = seconds if best is None else min(best, seconds)
+            memory = max(memory, usage.ru_maxrss * 1024)
+    return best, memory
+
+
+def steps(pages):
+    """Nanoseconds a page by World::step, the least of some runs, and those of the copies."""
+    least = {}
+    for _ in range(RUNS):
+        line = subprocess.run([STEPS, str(pages)], check=True, capture_output=True, text=True, env=page.environment()).stdout
+        for name, nanoseconds in re.findall(r"([a-z-]+) (\d+)[, ]", line.split(": ")[1]):
+            least[name] = min(least.get(name, 10**12), int(nanoseconds))
+    return least
+
+
+def table():
+    yield "| for each page | pages | by script, ns | by step, ns | a copy, ns | by script, copies | by step, copies |"
+    yield "|---|---|---|---|---|---|---|"
+    for pages in NUMBERS:
+        by_step = steps(pages)
+        copy = max(by_step["copy"], 1)
+        before = {}
+        for name, (base, whole) in WORK.items():
+            if base not in before:
+                before[base] = play(base(pages))[0]
+            seconds, memory = play(whole(pages))
+            script = (seconds - before[base]) * 1e9 / pages
+            yield f"| {name} | {pages:,} | {script:,.0f} | {by_step[name]:,} | {copy:,} | {script / copy:.1f} | {by_step[name] / copy:.1f} |"
+            if name == "post-copy":
+                present = 2 * pages * PAGE
+                note = f"peak {memory / 2**20:,.0f} MiB, {memory / present:.2f} of the pages present on both hosts"
+                yield f"| {name}, whole run | {pages:,} | {note} | | | | |"
+
+
+def main():
+    for program in (PROGRAM, STEPS):
+        if not program.exists():
+            sys.exit(f"{program} is not there")
+    rows = []
+    for row in table():
+        print(row, flush=True)
+        rows.append(row)
+    if sys.argv[1:] == ["--write"]:
+        page.put("migration", f"Measured on {page.machine()}.\n\n" + "\n".join(rows))
+
+
+if __name__ == "__main__":
+    main()

@@ -1,0 +1,92 @@
+//! Times a whole migration, step by step and without a script: for each page what pre-copy does for it, a store to a page that was
+//! sent, what post-copy does for it, and a fault at the destination.
+//!
+//! With no argument it does so for a few pages, and says so. Each argument is a number of pages, for which it prints how many
+//! nanoseconds a page took, and beside them those of a loop that copies as many pages from one to another.
+#![tactic(auto)]
+
+mod copies;
+mod migration;
+
+use crate::migration::Work;
+use mig_base::NoMemory;
+use mig_base::refusal::Refusal;
+use std::time::{Duration, Instant};
+use std::{env, io};
+use world::World;
+
+/// The pages of a run without an argument.
+const FEW: u32 = 16;
+
+/// What is told of a refusal: no other is to be expected than want of memory.
+fn refused(_: Refusal) -> io::Error {
+    io::Error::from(io::ErrorKind::OutOfMemory)
+}
+
+fn lacking(_: NoMemory) -> io::Error {
+    io::Error::from(io::ErrorKind::OutOfMemory)
+}
+
+/// How long the work for all pages takes, on a world that has something on them.
+fn time_on(rt: &HostRuntime, world: &mut World, work: Work, pages: u32) -> io::Result<Duration> {
+    migration::prepare(world, work, pages).map_err(refused)?;
+    let begun = Instant::now(rt)?;
+    migration::make_all(world, work, pages).map_err(refused)?;
+    begun.elapsed(rt)
+}
+
+/// The same on a world of its own.
+fn time_work(rt: &HostRuntime, work: Work, pages: u32) -> io::Result<Duration> {
+    let mut world = migration::stored(rt.alloc(), pages).map_err(refused)?;
+    time_on(rt, &mut world, work, pages)
+}
+
+/// How long it takes to copy so many pages to others.
+fn time_copies(rt: &HostRuntime, pages: u32) -> io::Result<Duration> {
+    let sources = copies::boxes(rt.alloc(), pages, 1).map_err(lacking)?;
+    let mut targets = copies::boxes(rt.alloc(), pages, 2).map_err(lacking)?;
+    let begun = Instant::now(rt)?;
+    copies::copy(&sources, &mut targets);
+    begun.elapsed(rt)
+}
+
+/// Nanoseconds a page.
+fn nanoseconds(time: Duration, pages: u32) -> u128 {
+    time.as_nanos() / u128::from(pages.max(1))
+}
+
+/// Prints what so many pages take.
+fn measure(rt: &HostRuntime, pages: u32) -> io::Result<()> {
+    let precopy = nanoseconds(time_work(rt, Work::PreCopy, pages)?, pages);
+    let store = nanoseconds(time_work(rt, Work::Store, pages)?, pages);
+    let postcopy = nanoseconds(time_work(rt, Work::PostCopy, pages)?, pages);
+    let fault = nanoseconds(time_work(rt, Work::Fault, pages)?, pages);
+    let copy = nanoseconds(time_copies(rt, pages)?, pages);
+    println!(rt; "{pages} pages: pre-copy {precopy}, store {store}, post-copy {postcopy}, fault {fault}, copy {copy} ns a page")
+}
+
+/// Prints what the number of pages takes that a word says.
+fn measure_word(rt: &HostRuntime, word: &str) -> io::Result<()> {
+    match word.parse::<u32>() {
+        Ok(pages) => measure(rt, pages),
+        Err(_) => Err(io::Error::from(io::ErrorKind::InvalidInput)),
+    }
+}
+
+/// Does the work for a few pages, and says so.
+fn try_few(rt: &HostRuntime) -> io::Result<()> {
+    time_work(rt, Work::Store, FEW)?;
+    time_work(rt, Work::Fault, FEW)?;
+    println!(rt; "{FEW} pages are migrated")
+}
+
+fn main(rt: HostRuntime) -> io::Result<()> {
+    let words: Vec<String> = env::args(&rt)?.skip(1).collect(rt.alloc())?;
+    if words.is_empty() {
+        return try_few(&rt);
+    }
+    for word in &words {
+        measure_word(&rt, word)?;
+    }
+    Ok(())
+}
