@@ -1,4 +1,4 @@
-//! Runs scripts of a whole migration on a world, and checks transcripts against one flat memory.
+//! Runs scripts of a migration on a world, and checks transcripts against one flat memory.
 //!
 //! [`run_script`] reads a script and writes one line for each order, or one for each command that took effect, as its [`Mode`]
 //! says; [`check_script`] reads such a transcript, and says whether it is that of one flat memory. Both read and write in pieces.

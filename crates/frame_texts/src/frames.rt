@@ -1,4 +1,4 @@
-//! What holds of the texts of frames, which are their bytes on the wires of a whole migration. Each law is a function with an empty
+//! What holds of the texts of frames, which are their bytes on the wires of a migration. Each law is a function with an empty
 //! body, whose contract is the law.
 
 ghost use Rattle.std.specs.Prelude.{◌≡◌, ◌≢◌, ℕ, ◌+◌, ◌-◌, ◌*◌, ◌^◌, ◌<◌, ◌≤◌, true, length, Option, Some, None, List, [], ◌∷◌, ◌++◌};

@@ -1,4 +1,4 @@
-//! The texts of frames: the bytes that the frames of a whole migration are on its wires, and the laws that a codec rests on. There is no
+//! The texts of frames: the bytes that the frames of a migration are on its wires, and the laws that a codec rests on. There is no
 //! code here to run.
 //!
 //! The machine of `mig_model` carries frames, and counts how many bytes complete one (its `specs/Lengths.antt`). Here

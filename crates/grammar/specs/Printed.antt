@@ -12,8 +12,8 @@ use Rattle.mig_base.specs.declared.phase.Received.{Received}
 use Rattle.mig_base.specs.declared.phase.Received.TheVariants as received
 use Rattle.mig_base.specs.declared.schedule.Side.{Side}
 use Rattle.mig_base.specs.declared.schedule.Side.TheVariants as side
-use Rattle.mig_base.specs.declared.step.WorldPhase.{WorldPhase}
-use Rattle.mig_base.specs.declared.step.WorldPhase.TheVariants as phase
+use Rattle.mig_base.specs.declared.phase.WorldPhase.{WorldPhase}
+use Rattle.mig_base.specs.declared.phase.WorldPhase.TheVariants as phase
 use Rattle.grammar.specs.declared.progress.Progress.{Progress}
 
 -- what a world answers to a step

@@ -1,7 +1,7 @@
 //! The two languages of lines: what a line of a script or of a transcript says, and how what comes of it is printed.
 //!
 //! [`parse::parse`] reads the text of a line as a [`Line`]: an [`Order`] of a script, an entry of a transcript, or nothing.
-//! [`Language`] says which of the two languages the line is in. An order is a step of a whole migration, the push of a page, or
+//! [`Language`] says which of the two languages the line is in. An order is a step of a migration, the push of a page, or
 //! that progress is to be told; [`Order::step`] is the step that it makes. [`token`] splits a text into words, each a [`Keyword`]
 //! or a number. [`print_line`] prints the line of a step's outcome, [`print_progress`] that of a [`Progress`].
 //! `specs/Spelling.antt` says how a line is spelled, `specs/Lines.antt` where lines end, `specs/Printed.antt` what is printed, and

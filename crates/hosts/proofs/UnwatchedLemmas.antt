@@ -1,8 +1,8 @@
 -- A space whose userfault object is not enabled is a host and nothing else.
-use Rattle.std.proofs.Common.{◌≡◌, ℕ, ◌+◌, ◌&&◌, ◌||◌, ◌-◌, ◌++◌, [], Bool, true, false, cond, not, eqb, ltb, List, refl, sym, ap, ◌∙◌, subst}
+use Rattle.std.proofs.Common.{◌≡◌, ℕ, ◌+◌, ◌&&◌, ◌||◌, ◌-◌, ◌++◌, [], Bool, true, false, cond, not, ltb, List, refl, sym, ap, ◌∙◌, subst}
 use Rattle.std.specs.Ordering.{nat_cmp}
 use Rattle.std.specs.FinMap.{contains_key}
-use Rattle.std.specs.FinSet.{FinSet, contains, empty, remove}
+use Rattle.std.specs.FinSet.{FinSet, contains, empty}
 use Rattle.mig_base.specs.declared.TheConstants.{HIGH_PAGE}
 use Rattle.mig_base.specs.declared.command.Command.{Command}
 use Rattle.mig_base.specs.declared.command.Command.TheVariants.{Load, Store, Mmap, Munmap, Mremap, DontNeed}
@@ -17,7 +17,7 @@ use Rattle.mig_base.specs.Ranges.{in_range}
 use Rattle.mig_base.specs.Sets.{without, moved_set}
 use Rattle.mig_base.proofs.TestLemmas.{and_false}
 use Rattle.mig_base.proofs.RangeLemmas.{none_below-from}
-use Rattle.mig_base.proofs.SetLemmas.{same_members, member_without, member_removed, member_below}
+use Rattle.mig_base.proofs.SetLemmas.{same_members, member_without, member_below}
 use Rattle.mig_model.specs.Host.{Host, memory, host_after, IsSound}
 use Rattle.mig_model.specs.Userfault.{fresh_object, is_registered, is_watched}
 use Rattle.mig_model.specs.Space.{Space, access_of, accessed_by, accessed, is_made, told, call_messages, modes_after, protected_after, all_queued, called_with, called}
@@ -62,10 +62,6 @@ stays_accessed space cpu command is unwatched =
 pub nothing_without : (first count : ℕ) → without empty first count ≡ empty
 nothing_without first count =
     same_members (without empty first count) empty (λ q. member_without empty first count q ∙ ap (λ b. b && not (in_range first count q)) (no_member q) ∙ sym (no_member q))
-
-pub nothing_removed : (page : ℕ) → remove {R = nat_cmp} empty page ≡ empty
-nothing_removed page =
-    same_members (remove empty page) empty (λ q. member_removed empty page q ∙ ap (λ b. not (eqb q page) && b) (no_member q) ∙ and_false (not (eqb q page)) ∙ sym (no_member q))
 
 none_anywhere : (low here along a old b : Bool) → a ≡ false → b ≡ false → (low && cond here (cond along a false) (old && b)) ≡ false
 none_anywhere low here along a old b h k = rw (h, k) (in_or_not low here along old)
@@ -176,7 +172,3 @@ stays_after_call space new cpu command call unwatched is = subst IsUnwatched (sy
 
 pub memory_kept : (host value new : Host) (command : Command) → host ≡ value → IsSound host → new ≡ host_after host command → memory new ≡ after (memory value) command
 memory_kept host value new command view sound is = ap memory is ∙ memory-changed host command (reply_of (memory host) command) sound refl ∙ ap (λ h. after (memory h) command) view
-
--- a table of which no page is protected, once a page has other bytes
-pub still_open : (first second third : FinSet nat_cmp) (page : ℕ) → first ≡ empty → second ≡ first → third ≡ remove second page → third ≡ empty
-still_open first second third page h k l = l ∙ ap (λ s. remove s page) (k ∙ h) ∙ nothing_removed page

@@ -1,3 +1,1 @@
-pub mod Frames
-pub mod Worlds
 pub mod Spaces

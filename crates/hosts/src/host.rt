@@ -100,7 +100,7 @@ impl Host {
 }
 
 /// Whether a command is a load or store.
-pub(crate) fn is_access(command: Command) -> bool
+fn is_access(command: Command) -> bool
     ensures { result ≡ is_load_or_store command }
 {
     matches!(command, Command::Load { .. } | Command::Store { .. })

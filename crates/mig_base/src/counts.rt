@@ -1,4 +1,4 @@
-//! What a whole migration counts.
+//! What a migration counts.
 
 /// The counts of a world. Rounds begin at the number that the world was made with; no break and no resumption resets a count. Those of
 /// 64 bits stop at their greatest value.

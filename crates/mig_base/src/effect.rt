@@ -1,4 +1,4 @@
-//! What an accepted step of a whole migration did, as it is told.
+//! What an accepted step of a migration did, as it is told.
 
 use crate::phase::Received;
 use crate::schedule::Side;

@@ -1,9 +1,8 @@
 //! The words of a migration that every crate shares.
 //!
 //! Addresses, pages and protections; the commands of processors and the replies to them; the steps of a world and their
-//! outcomes, and those of a whole migration in [`schedule`], [`effect`], [`refusal`], [`fault`], [`phase`], [`cpu_state`] and
-//! [`counts`]; [`Message`], what a userfault object tells, [`Wake`], whom it wakes, and [`flags`], the numbers of its calls;
-//! [`PageSet`], a set of pages.
+//! outcomes, in [`schedule`], [`effect`], [`refusal`], [`fault`], [`phase`], [`cpu_state`] and [`counts`]; [`Message`], what a
+//! userfault object tells, [`Wake`], whom it wakes, and [`flags`], the numbers of its calls; [`PageSet`], a set of pages.
 //! What the commands do to one flat memory is a definition, `specs/Flat.antt`, after mmap(2), munmap(2), mremap(2) and
 //! madvise(2): this crate executes no command.
 #![tactic(auto)]
@@ -27,14 +26,13 @@ pub mod phase;
 pub mod refusal;
 pub mod schedule;
 mod slots;
-pub mod step;
 pub mod wake;
 mod words;
 
 pub use crate::command::{Access, Command, Entry, Errno, Place, Reply};
 pub use crate::message::Message;
 pub use crate::page_set::PageSet;
-pub use crate::step::{DestinationPhase, Effect, Refusal, SourcePhase, Step, WorldPhase};
+pub use crate::phase::WorldPhase;
 pub use crate::wake::Wake;
 use std::alloc::{AllocError, AllocFailed};
 use thiserror::Error;

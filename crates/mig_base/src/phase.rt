@@ -1,5 +1,5 @@
 //! The phases of the two nodes, as QEMU's postcopy document has them (docs/devel/migration/postcopy.rst, "Postcopy states" and
-//! "Postcopy recovery").
+//! "Postcopy recovery"), and how far a migration has come.
 
 /// The phases of the source.
 #[derive(Clone, Copy, Debug, PartialEq, Eq)]
@@ -42,4 +42,19 @@ pub enum Received {
     Running,
     /// It was told that nothing more is sent.
     Ended,
+}
+
+/// How far a migration has come.
+#[derive(Clone, Copy, Debug, PartialEq, Eq)]
+pub enum WorldPhase {
+    /// No migration was started.
+    Idle,
+    /// The source runs the processors, and the destination is told of its memory.
+    Precopy,
+    /// The source has stopped and the destination does not run yet.
+    Switching,
+    /// The destination runs the processors.
+    Postcopy,
+    /// The destination alone holds the memory.
+    Complete,
 }

@@ -1,4 +1,4 @@
-//! Why a step of a whole migration is refused.
+//! Why a step of a migration is refused.
 
 /// Why a step is refused. Where several reasons apply the first of this list is given, with `UrgentFirst` behind `InstallFirst`. A
 /// refused step changes nothing. Only want of memory comes before these two, where a Deliver reads the frame that it completes, and

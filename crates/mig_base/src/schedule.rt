@@ -1,4 +1,4 @@
-//! What may happen next in the world of a whole migration. A list of these is a schedule.
+//! What may happen next in the world of a migration. A list of these is a schedule.
 
 use crate::{Command, PageNo};
 

@@ -1,4 +1,4 @@
--- Break, Notice and Resume keep what every world of the whole migration keeps.
+-- Break, Notice and Resume keep what every world keeps.
 use Rattle.std.proofs.lemmas.Bool.Decides.{nat_tests}
 use Rattle.std.proofs.Common.{◌≡◌, true, false, arith}
 use Rattle.mig_base.specs.declared.schedule.Side.{Side}

@@ -22,7 +22,6 @@ use Rattle.mig_model.specs.Wire.{Frame, Sent, kept_after, wire_behind}
 use Rattle.mig_model.specs.Wire.Frame.{Discard, Recv}
 use Rattle.mig_model.specs.Migration.{World, after_deliver_back}
 use Rattle.mig_model.specs.Invariant.{IsSoundWorld, IsSoundPushing, IsSoundLog, IsSwitching, AreOf, AreFaithful, copies_of, has_copy, seen_host, current_host}
-use Rattle.mig_model.proofs.FrameLemmas.{discard_none}
 use Rattle.mig_model.proofs.SpaceLemmas.{IsSoundSpace-fresh}
 use Rattle.mig_model.proofs.FirstFrame.{empty_not, delivered_back}
 use Rattle.mig_model.specs.Log.{no_pages, present}
@@ -30,8 +29,8 @@ use Rattle.mig_model.specs.Owed.{owed_after, settled_by}
 use Rattle.mig_model.specs.Source.{released, space_of, rebuild_frames}
 use Rattle.mig_model.specs.Destination.{settled}
 use Rattle.mig_model.proofs.WireLemmas.{fits-more, fits-none, flight_up}
-use Rattle.mig_model.proofs.Facts.{and_second, not_up, no_page}
-use Rattle.mig_model.proofs.Stopping.{flow_open, log_stopped, pushing_stopped}
+use Rattle.mig_model.proofs.Facts.{and_second, none_or, not_up, no_page}
+use Rattle.mig_model.proofs.Stopping.{flow_open, get-discarded, log_stopped, pushing_stopped}
 
 -- a world with these phases and this wire back, whose link is up
 abbrev at_back : SourcePhase → DestPhase → (ran switched : Bool) → (forward back : List Sent) → World → World
@@ -101,7 +100,7 @@ all_owed low o none = grind arith
 
 nothing_kept : (kept : FinMap nat_cmp (List ℕ)) (page : ℕ) → kept ≡ finmap.empty → get (kept_after kept (Discard no_pages)) page ≡ None
 nothing_kept kept page h =
-    ap (λ k. get k page) (discard_none kept) ∙ ap (λ k. get k page) h ∙ get-empty nat_cmp page
+    get-discarded kept no_pages page ∙ none_or (contains no_pages page) (get kept page) (ap (λ k. get k page) h ∙ get-empty nat_cmp page)
 
 -- it has not run, and the source has stopped: a Package that owes all present pages
 recv_switched : (owed : FinSet nat_cmp) (epoch : ℕ) (rest : List Sent) (world : World) →

@@ -34,7 +34,7 @@ use Rattle.mig_base.specs.declared.command.Command.{Command}
 use Rattle.mig_base.specs.declared.command.Entry.{Entry}
 use Rattle.mig_base.specs.Commands.{is_access}
 use Rattle.mig_model.proofs.FaultLemmas.{AreFaults-tried}
-use Rattle.mig_model.proofs.WorldLemmas.{holds_after, flat_after}
+use Rattle.mig_model.proofs.EntryLemmas.{holds_after, flat_after}
 use Rattle.mig_model.proofs.SeenLemmas.{IsSound-seen}
 use Rattle.mig_model.proofs.TriedLemmas.{IsReady, IsEntered, command_tries}
 use Rattle.mig_model.proofs.TriedLemmas.IsEntered.{Silent, Entered}

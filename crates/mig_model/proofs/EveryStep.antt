@@ -1,4 +1,4 @@
--- What every world of the whole migration keeps is kept by every step, and by every list of them.
+-- What every world keeps is kept by every step, and by every list of them.
 use Rattle.std.proofs.lemmas.Bool.Decides.{nat_tests}
 use Rattle.std.proofs.Common.{◌≡◌, ℕ, ◌||◌, Bool, true, false, not, List, [], ◌∷◌, refl, sym, subst, arith}
 use Rattle.mig_base.specs.declared.schedule.Side.{Side}

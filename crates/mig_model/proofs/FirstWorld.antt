@@ -1,4 +1,4 @@
--- A world in which nothing has happened keeps what every world of the whole migration keeps.
+-- A world in which nothing has happened keeps what every world keeps.
 use Rattle.std.proofs.Common.{◌≡◌, false, true, List, [], length, ◌≤◌, ◌≢◌, ℕ, Some, refl, sym, ◌∙◌, inr, arith}
 use Rattle.std.specs.Ordering.{nat_cmp}
 use Rattle.std.specs.FinMap.{get, empty, get-empty}

@@ -29,10 +29,7 @@ pub mod PromiseLemmas
 pub mod StaysComplete
 pub mod WirePromises
 pub mod FlightPromises
-pub mod FrameLemmas
-pub mod WorldLemmas
-pub mod Taking
-pub mod Completing
+pub mod EntryLemmas
 pub mod UrgentWire
 pub mod UrgentKept
 pub mod UrgentSteps
@@ -69,7 +66,6 @@ pub mod PageCalls
 pub mod FaultPages
 pub mod HandlerCalls
 pub mod ViewPromises
-pub mod Every
 pub mod Delivery
 pub mod SourceCalls
 pub mod SourceSending

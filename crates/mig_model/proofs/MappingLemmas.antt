@@ -21,7 +21,7 @@ use Rattle.mig_model.specs.Destination.{settled}
 use Rattle.mig_model.specs.Bounds.{IsMapping, IsPage, IsWithinBounds}
 use Rattle.mig_model.proofs.FlatLimits.{memory_of_few}
 use Rattle.mig_model.proofs.HostLemmas.{is_mapped-memory, mapped_count-memory}
-use Rattle.mig_model.proofs.WorldLemmas.{entry_of, holds_after, sound_after}
+use Rattle.mig_model.proofs.EntryLemmas.{entry_of, holds_after, sound_after}
 
 -- the flat memory of a transcript
 pub flat_within : (entries : List Entry) → IsWithinBounds (memory_of entries)

@@ -1,4 +1,4 @@
--- Each step of the whole migration changes only its parts.
+-- Each step changes only its parts.
 use Rattle.std.proofs.lemmas.Bool.Decides.{nat_tests}
 use Rattle.std.proofs.Common.{◌≡◌, ℕ, ◌+◌, Bool, true, false, List, [], ◌∷◌, ◌++◌, refl, sym, ap, append-nil, arith}
 use Rattle.std.proofs.lemmas.List.{append_assoc}

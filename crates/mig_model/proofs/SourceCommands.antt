@@ -27,7 +27,7 @@ use Rattle.mig_model.proofs.SourceCalls.{untouched, IsUnregistered, right_messag
 use Rattle.mig_model.specs.Cpus.{access_took, call_took, entries_of}
 use Rattle.mig_model.specs.Source.{space_of}
 use Rattle.mig_model.proofs.Facts.{queued_missing, queued_protect, entered_once, modes_events}
-use Rattle.mig_model.proofs.WorldLemmas.{entry_of, flat_after, holds_after}
+use Rattle.mig_model.proofs.EntryLemmas.{entry_of, flat_after, holds_after}
 
 -- Loads and stores that are answered
 

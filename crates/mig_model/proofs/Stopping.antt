@@ -1,4 +1,4 @@
--- Push, Serve, End and Switch keep what every world of the whole migration keeps.
+-- Push, Serve, End and Switch keep what every world keeps.
 use Rattle.std.proofs.Common.{◌≡◌, ◌≢◌, ℕ, ◌<◌, ◌&&◌, ◌||◌, Bool, true, false, cond, not, eqb, Option, Some, None, List, [], ◌∷◌, ◌++◌, refl, sym, ap, ◌∙◌, subst, ◌⊎◌, arith, append-nil, length, is_some, unwrap_or, ◌≤◌, ltb}
 use Rattle.std.specs.Ordering.{nat_cmp}
 use Rattle.std.specs.FinMap.{FinMap, get, get-retain_keys, nat_cmp-IsAntisymmetric}

@@ -7,7 +7,7 @@ use Rattle.std.specs.FinMap.{len, len-empty}
 use Rattle.mig_base.specs.declared.TheConstants.{MAX_CPUS}
 use Rattle.mig_base.specs.declared.phase.SourcePhase.{SourcePhase}
 use Rattle.mig_base.specs.declared.refusal.Refusal.{Refusal}
-use Rattle.mig_base.specs.declared.step.WorldPhase.{WorldPhase}
+use Rattle.mig_base.specs.declared.phase.WorldPhase.{WorldPhase}
 use Rattle.mig_model.specs.Migration.{World, first_world_with}
 use Rattle.mig_model.specs.Source.{is_released}
 use Rattle.mig_model.specs.Views.{new_world_with, owed_left, phase_by, phase_of}

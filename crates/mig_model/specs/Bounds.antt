@@ -1,4 +1,4 @@
--- Bounds that every world of the whole migration keeps, beside its invariant: with them each frame in flight has a text, and each call
+-- Bounds that every world keeps, beside its invariant: with them each frame in flight has a text, and each call
 -- of a userfault object that a node makes is one that the object accepts.
 use Rattle.std.specs.Prelude.{◌≡◌, ℕ, ◌+◌, ◌*◌, ◌^◌, ◌<◌, ◌≤◌, Bool, true, false, Option, Some, None, List, [], ◌∷◌, length}
 use Rattle.std.specs.List.{All}

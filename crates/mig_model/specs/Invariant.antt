@@ -1,4 +1,4 @@
--- What every world of the whole migration keeps, clause by clause: a theorem is one clause or a few, and the others are there so that
+-- What every world keeps, clause by clause: a theorem is one clause or a few, and the others are there so that
 -- each step keeps all of them.
 use Rattle.std.specs.Prelude.{◌≡◌, ◌≢◌, ℕ, ◌+◌, ◌/◌, ◌%◌, ◌<◌, ◌≤◌, ◌==◌, ◌&&◌, ◌||◌, ◌⊎◌, Bool, true, false, if◌then◌else◌, Option, Some, None, List, [], ◌∷◌, ◌++◌, length}
 use Rattle.std.specs.Option.{option_and_then}

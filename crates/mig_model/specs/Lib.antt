@@ -1,7 +1,4 @@
 pub mod Host
-pub mod Frame
-pub mod Node
-pub mod World
 pub mod Userfault
 pub mod Space
 pub mod Ioctls
@@ -24,5 +21,3 @@ pub mod Promises
 pub mod Replies
 pub mod Unbroken
 pub mod Runs
-pub mod Kept
-pub mod Codes

@@ -1,4 +1,4 @@
--- The machine of the whole migration: what each step of a world answers, and the world after it. The steps are those of processors,
+-- The machine: what each step of a world answers, and the world after it. The steps are those of processors,
 -- fault handlers, pushers and deliveries, and broken channels and their resumption.
 use Rattle.std.specs.Prelude.{ℕ, ◌+◌, ◌-◌, ◌*◌, ◌^◌, ◌==◌, ◌&&◌, ◌||◌, not, nat_lt, Bool, true, false, if◌then◌else◌, Option, Some, None, is_some, Result, Ok, Err, List, [], ◌∷◌, ◌++◌, length}
 use Rattle.std.specs.FinSet as finset

@@ -1,4 +1,4 @@
--- Which parts of a world each step of the whole migration may change. Every other part stays as it was: no step of the source puts
+-- Which parts of a world each step may change. Every other part stays as it was: no step of the source puts
 -- anything at the destination but by the wire.
 use Rattle.std.specs.Prelude.{◌≡◌, true, false, List, ◌++◌}
 use Rattle.mig_base.specs.declared.phase.DestPhase.{DestPhase}

@@ -6,7 +6,7 @@ use Rattle.mig_base.specs.declared.counts.Counts.{Counts}
 use Rattle.mig_base.specs.declared.cpu_state.CpuState.{CpuState}
 use Rattle.mig_base.specs.declared.phase.SourcePhase.{SourcePhase}
 use Rattle.mig_base.specs.declared.refusal.Refusal.{Refusal}
-use Rattle.mig_base.specs.declared.step.WorldPhase.{WorldPhase}
+use Rattle.mig_base.specs.declared.phase.WorldPhase.{WorldPhase}
 use Rattle.mig_model.specs.Cpus.{processor_at}
 use Rattle.mig_model.specs.Guest.{counted}
 use Rattle.mig_model.specs.Migration.{World, first_world_with, guest_of, has_no_cpu}

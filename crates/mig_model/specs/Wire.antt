@@ -1,4 +1,4 @@
--- What the two nodes of a whole migration tell each other, after the messages of QEMU's postcopy document
+-- What the two nodes of a migration tell each other, after the messages of QEMU's postcopy document
 -- (docs/devel/migration/postcopy.rst), and the copies of pages that are under way.
 use Rattle.std.specs.Prelude.{ℕ, ◌+◌, ◌==◌, not, Bool, true, false, Option, if◌then◌else◌, List, [], ◌∷◌, ◌++◌}
 use Rattle.std.specs.List.{list_all}

@@ -1,5 +1,5 @@
-//! Bounds that hold after every list of steps of the whole migration: of the guest's memory, of its processors and of the urgent wire.
-//! Each law is a function with an empty body, whose contract is the law.
+//! Bounds that hold after every list of steps: of the guest's memory, of its processors and of the urgent wire. Each law is a
+//! function with an empty body, whose contract is the law.
 
 ghost use Rattle.std.specs.Prelude.{◌≡◌, List, length};
 ghost use Rattle.mig_base.specs.declared.command.Entry.{Entry};

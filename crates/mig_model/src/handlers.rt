@@ -1,6 +1,6 @@
-//! The handlers use the calls of the userfault object: where a step of the whole migration changes what an object watches, or puts or
-//! protects a page, the row of that call in `specs/Ioctls.antt` answers no error, leaves the space that the machine has, and wakes the
-//! processors that the machine wakes. Each law is a function with an empty body, whose contract is the law.
+//! The handlers use the calls of the userfault object: where a step changes what an object watches, or puts or protects a page, the row of
+//! that call in `specs/Ioctls.antt` answers no error, leaves the space that the machine has, and wakes the processors that the machine
+//! wakes. Each law is a function with an empty body, whose contract is the law.
 
 ghost use Rattle.std.specs.Prelude.{◌≡◌, ℕ, ◌*◌, ◌∷◌, List, Ok, IsOk};
 ghost use Rattle.std.specs.Ordering.{nat_cmp};

@@ -1,4 +1,4 @@
-//! What holds of the whole migration after every list of steps: by processors, fault handlers, pushers and deliveries, lost channels
+//! What holds of a migration after every list of steps: by processors, fault handlers, pushers and deliveries, lost channels
 //! and resumptions, in any order, those that are refused among them. Each law is a function with an empty body, whose contract is
 //! the law.
 
@@ -27,7 +27,7 @@ ghost use Rattle.mig_model.specs.Wire.{Sent, Copy, empty_wire, wire_with};
 ghost use Rattle.mig_model.specs.Wire.Frame.{Recv};
 ghost use Rattle.mig_model.specs.Migration.{World, guest_of, is_short, after_move, after_move_back, after_move_urgent, frame_effect, outcome, next, first_world, after_steps, has_started, is_used};
 ghost use Rattle.mig_model.specs.Invariant.{IsSoundWorld, AreSoundUrgent, AreSoundCalls, IsPrecopying, IsSwitching, IsReceiving, current_host, package_in};
-ghost use Rattle.mig_base.specs.declared.step.WorldPhase.{WorldPhase};
+ghost use Rattle.mig_base.specs.declared.phase.WorldPhase.{WorldPhase};
 ghost use Rattle.mig_model.specs.Views.{phase_of, new_world_with, owed_left};
 ghost use Rattle.mig_model.specs.Faults.{back_fault, frame_fault, rebuild_fault, take_fault, urgent_fault};
 ghost use Rattle.mig_model.specs.Replies.{HandsOver, call_reply, last_reply};

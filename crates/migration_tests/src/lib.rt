@@ -1,4 +1,4 @@
-//! Tests of the world of a whole migration, from its start to its completion.
+//! Tests of the world of a migration, from its start to its completion.
 //!
 //! A test is a table of steps with the answers that are wanted, worked out by hand. One loop plays a table; where a step is refused it
 //! looks that the world is as before, and where memory was refused it makes the step again. So a test passes whichever allocation is

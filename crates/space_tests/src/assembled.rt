@@ -5,7 +5,7 @@ ghost use Rattle.std.specs.Prelude.{◌≤◌};
 use crate::parts::parts;
 use crate::spaces::{Answer, Call, play_on};
 use hosts::Host;
-use mig_base::{Command, Errno, Message, NoMemory, PageNo, Prot, Reply};
+use mig_base::{Command, Errno, Message, NoMemory, PageNo, Place, Prot, Reply};
 use std::alloc::Global;
 use std::process::Abort;
 use std::test::Fail;
@@ -232,10 +232,16 @@ const NOTHING: Seen = Seen {
     present: 0,
 };
 
-/// Looks at a host of the parts, makes the commands on it, and looks at it again.
-fn command_host(rt: &impl Abort, host: &mut Host) -> Result<(), Fail> {
-    assert_eq!(rt; looked(host)?, PARTS);
-    for (i, (command, wanted)) in COMMANDS.iter().enumerate() {
+/// Looks at a host, makes commands on it, and looks at it again.
+fn command_host(
+    rt: &impl Abort,
+    host: &mut Host,
+    seen: Seen,
+    commands: &[(Command, Reply)],
+    left: Seen,
+) -> Result<(), Fail> {
+    assert_eq!(rt; looked(host)?, seen);
+    for (i, (command, wanted)) in commands.iter().enumerate() {
         let before = looked(host)?;
         let mut reply = host.perform(*command);
         if reply == Err(NoMemory) {
@@ -244,7 +250,7 @@ fn command_host(rt: &impl Abort, host: &mut Host) -> Result<(), Fail> {
         }
         assert_eq!(rt; reply, Ok(*wanted), "command {i}");
     }
-    assert_eq!(rt; looked(host)?, SECOND);
+    assert_eq!(rt; looked(host)?, left);
     Ok(())
 }
 
@@ -252,13 +258,76 @@ fn command_host(rt: &impl Abort, host: &mut Host) -> Result<(), Fail> {
 fn a_host_of_parts(rt: HostRuntime) -> Result<(), Fail> {
     let (areas, pages) = parts(rt.alloc())?;
     let mut host = Host::assemble(rt.alloc(), areas, pages);
-    command_host(&rt, &mut host)
+    command_host(&rt, &mut host, PARTS, &COMMANDS, SECOND)
 }
+
+/// Commands on a host on which nothing is mapped, and their replies.
+const FROM_NOTHING: [(Command, Reply); 7] = [
+    (
+        Command::Load {
+            addr: 0x10000,
+            width: 1,
+        },
+        Reply::Segv { mapped: false },
+    ),
+    (
+        Command::Mmap {
+            addr_len: 4096,
+            prot: Prot::ReadWrite,
+            place: Place::Anywhere,
+        },
+        Reply::At(0x10000),
+    ),
+    (
+        Command::Store {
+            addr: 0x10ff8,
+            width: 8,
+            value: 0x1122_3344_5566_7788,
+        },
+        Reply::Done,
+    ),
+    (
+        Command::Load {
+            addr: 0x10ffc,
+            width: 4,
+        },
+        Reply::Value(0x1122_3344),
+    ),
+    (
+        Command::Load {
+            addr: 0x10ffc,
+            width: 8,
+        },
+        Reply::BadAccess,
+    ),
+    (
+        Command::Mremap {
+            addr: 0x10000,
+            old_len: 4096,
+            new_len: 4096,
+            may_move: true,
+            fixed: Some(0x11000),
+        },
+        Reply::At(0x11000),
+    ),
+    (
+        Command::Load {
+            addr: 0x11ff8,
+            width: 8,
+        },
+        Reply::Value(0x1122_3344_5566_7788),
+    ),
+];
+
+/// The page has moved to the second place, and begins with a zero.
+const MOVED: Seen = Seen {
+    prots: [None, WRITE],
+    bytes: [None, Some(0)],
+    present: 1,
+};
 
 #[test]
 fn a_new_host(rt: HostRuntime) -> Result<(), Fail> {
-    let bare = Host::new(rt.alloc());
-    let seen = looked(&bare)?;
-    assert_eq!(rt; seen, NOTHING);
-    Ok(())
+    let mut host = Host::new(rt.alloc());
+    command_host(&rt, &mut host, NOTHING, &FROM_NOTHING, MOVED)
 }

@@ -9,7 +9,7 @@ use Rattle.mig_base.specs.declared.command.Command.{Command}
 use Rattle.mig_base.specs.declared.effect.Effect.{Effect}
 use Rattle.mig_base.specs.declared.phase.Received.{Received}
 use Rattle.mig_base.specs.declared.schedule.Step.{Step}
-use Rattle.mig_base.specs.declared.step.WorldPhase.{WorldPhase}
+use Rattle.mig_base.specs.declared.phase.WorldPhase.{WorldPhase}
 use Rattle.mig_model.specs.Destination.{is_running, settled}
 use Rattle.mig_model.specs.Host.{memory}
 use Rattle.mig_model.specs.Invariant.{IsPrecopying, IsReceiving, IsSwitching, current_host}

@@ -1,4 +1,4 @@
-//! The world of a whole migration: the two nodes, the three wires between them, and the transcript.
+//! The world of a migration: the two nodes, the three wires between them, and the transcript.
 //!
 //! [`World::step`] makes one step of a processor, a fault handler, a pusher, a delivery, a break or a resumption, and [`World::run`] makes
 //! steps in turn. Whoever calls chooses the schedule; a world never chooses. Each node changes by its own calls alone, and what one tells

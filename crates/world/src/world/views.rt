@@ -1,7 +1,7 @@
 //! What a world tells of itself.
 
 ghost use Rattle.std.specs.Prelude.{◌≡◌};
-ghost use Rattle.mig_base.specs.declared.step.WorldPhase.{WorldPhase};
+ghost use Rattle.mig_base.specs.declared.phase.WorldPhase.{WorldPhase};
 ghost use Rattle.mig_model.specs.Views as views;
 ghost use Rattle.world.specs.Headline.{IsMoved};
 

@@ -1,9 +1,0 @@
-//! Tests of the worlds of `hosts`, step by step.
-//!
-//! A test is a table of calls with the answers that are wanted, worked out by hand. One loop for each type plays a table; where
-//! memory is refused it looks that the object is as before, and makes the call again. So a test passes whichever allocation
-//! is refused.
-#![tactic(auto)]
-
-#[cfg(test)]
-mod worlds;
