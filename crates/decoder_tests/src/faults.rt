@@ -13,7 +13,8 @@ const LENGTH: StreamFault = StreamFault::BadLength;
 
 const FIELD: StreamFault = StreamFault::BadField;
 
-static FAULTS: [(&[u8], StreamFault); 23] = [
+/// Bytes with one fault each.
+pub static FAULTS: [(&[u8], StreamFault); 23] = [
     // A tag that is not known, a version that is not, and a run in version 1.
     (b"\x01\x09\x00\x00\x00\x00\x00\x01\x00\x00\x00\x00", TAG),
     (b"\x03\x01\x00\x00\x00\x00\x00\x01\x00\x00\x00\x00", TAG),

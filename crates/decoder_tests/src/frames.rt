@@ -1,9 +1,11 @@
 //! Frames, prefixes, changes and cuts.
 
+use crate::faults::FAULTS;
 use crate::reading::{fed, look, play, text_again};
 use crate::vectors::{BOTH, PAGE, RUN};
-use frame_decoder::Decoder;
+use frame_decoder::{Decoder, read_text};
 use mig_base::{NoMemory, PAGE_BYTES};
+use page_stream::Frame;
 use std::alloc::Global;
 use std::process::Abort;
 use std::test::Fail;
@@ -24,6 +26,28 @@ fn by_bytes(rt: &impl Abort, alloc: Global, bytes: &[u8]) -> Result<(), Fail> {
     Ok(())
 }
 
+/// Reads the bytes of one text, and once more where memory was refused.
+fn read(alloc: Global, bytes: &[u8]) -> Result<Option<(u32, Frame)>, NoMemory> {
+    match read_text(alloc, bytes) {
+        Ok(read) => Ok(read),
+        Err(_) => read_text(alloc, bytes),
+    }
+}
+
+/// Reads a text whole, and not with one byte too few.
+fn alone(rt: &impl Abort, alloc: Global, bytes: &[u8]) -> Result<(), Fail> {
+    let Some(sent) = read(alloc, bytes)? else {
+        assert!(rt; false);
+        return Ok(());
+    };
+    let rest = look(rt, alloc, &[sent], bytes)?;
+    assert!(rt; rest.is_empty());
+    if let [front @ .., _] = bytes {
+        assert!(rt; read(alloc, front)?.is_none());
+    }
+    Ok(())
+}
+
 /// Feeds a text whole, with one byte too few, and byte by byte.
 fn one_text(rt: &impl Abort, alloc: Global, bytes: &[u8]) -> Result<(), Fail> {
     let mut decoder = Decoder::new(alloc);
@@ -36,7 +60,8 @@ fn one_text(rt: &impl Abort, alloc: Global, bytes: &[u8]) -> Result<(), Fail> {
         let rest = play(rt, alloc, &mut decoder, &[*last], bytes)?;
         assert!(rt; rest.is_empty());
     }
-    by_bytes(rt, alloc, bytes)
+    by_bytes(rt, alloc, bytes)?;
+    alone(rt, alloc, bytes)
 }
 
 #[test]
@@ -122,6 +147,20 @@ fn cuts_agree(rt: HostRuntime) -> Result<(), Fail> {
     };
     for at in 0..400 {
         one_cut(&rt, rt.alloc(), &stream, at, 5)?;
+    }
+    Ok(())
+}
+
+/// More than one text is not the text of a frame, and none is where a fault stands.
+#[test]
+fn bytes_that_are_no_text(rt: HostRuntime) -> Result<(), Fail> {
+    let stream = match joined(rt.alloc()) {
+        Ok(stream) => stream,
+        Err(_) => joined(rt.alloc())?,
+    };
+    assert!(&rt; read(rt.alloc(), &stream)?.is_none());
+    for (bytes, _) in &FAULTS {
+        assert!(&rt; read(rt.alloc(), *bytes)?.is_none());
     }
     Ok(())
 }

@@ -11,4 +11,5 @@ pub mod Whole
 pub mod Feeds
 pub mod Cuts
 pub mod Unique
+pub mod OneFrame
 pub mod Filling

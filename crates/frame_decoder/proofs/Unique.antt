@@ -23,7 +23,7 @@ use Rattle.frame_decoder.proofs.Cuts.{any_cut}
 pub written_again : (version : Version) (sent : Sent) → IsSent version sent → IsEncodable machine.Version.Two sent.epoch sent.frame
 written_again version sent h = encodable sent.epoch sent.frame h.epoch h.frame.right
 
-read_back : (version : Version) (sent : Sent) → IsSent version sent → IsEncodable (version_of version) sent.epoch sent.frame
+pub read_back : (version : Version) (sent : Sent) → IsSent version sent → IsEncodable (version_of version) sent.epoch sent.frame
 read_back version sent h = let two = written_again version sent h in record { has = h.frame.has; epoch_fits = h.epoch; whole = two.whole; fits = two.fits }
 
 -- Where a reading ends
@@ -64,11 +64,11 @@ one_end fixed unread r q (Some a) (Some b) x y = record { held = x.1 ∙ sym y.1
 abbrev head_of : Version → Sent → Header
 head_of v sent = record { version = v; tag = tag_of sent.frame; epoch = sent.epoch; len = length (body_text sent.frame) }
 
-part_no_frame : (fixed : Option Version) (bytes : List ℕ) (v : Version) (sent : Sent) → HeadIs fixed bytes v sent.epoch sent.frame → IsPart fixed bytes → ⊥
+pub part_no_frame : (fixed : Option Version) (bytes : List ℕ) (v : Version) (sent : Sent) → HeadIs fixed bytes v sent.epoch sent.frame → IsPart fixed bytes → ⊥
 part_no_frame fixed bytes v sent head (inl p) = omega (arith, p.short, head.long)
 part_no_frame fixed bytes v sent head (inr p) = let same = ap (λ (h : Header). h.len) (same_header p.header (head_of v sent) (header_at fixed bytes) p.reads head.reads) in omega (arith, p.short, head.long, same)
 
-breach_no_frame : (fixed : Option Version) (bytes : List ℕ) (v : Version) (sent : Sent) (fault : StreamFault) → IsFrameIn v sent.frame → HeadIs fixed bytes v sent.epoch sent.frame → Breach fixed bytes fault → ⊥
+pub breach_no_frame : (fixed : Option Version) (bytes : List ℕ) (v : Version) (sent : Sent) (fault : StreamFault) → IsFrameIn v sent.frame → HeadIs fixed bytes v sent.epoch sent.frame → Breach fixed bytes fault → ⊥
 breach_no_frame fixed bytes v sent fault fits head (inl b) = header_or_fault (head_of v sent) fault (header_at fixed bytes) head.reads b.reads
 breach_no_frame fixed bytes v sent fault fits head (inr b) =
     let same : head_of v sent ≡ b.header = same_header (head_of v sent) b.header (header_at fixed bytes) head.reads b.reads in

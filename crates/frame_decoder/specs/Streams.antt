@@ -28,6 +28,11 @@ pub record IsSent (version : Version) (sent : Sent) : Type 0 where
 abbrev pub texts : Version → List Sent → List ℕ
 texts version frames = flat_map (λ sent. text (version_of version) sent.epoch sent.frame) frames
 
+-- the bytes are the text of the frame in that version, all of it and no more
+pub record IsTextOf (version : Version) (bytes : List ℕ) (sent : Sent) : Type 0 where
+  pub whole : bytes ≡ text (version_of version) sent.epoch sent.frame
+  pub fits : IsSent version sent
+
 -- The version that is fixed
 
 -- a frame of this version may come

@@ -1,8 +1,10 @@
 //! Frames one after the other.
 
-ghost use Rattle.std.specs.Prelude.{◌≡◌, IfOk};
+ghost use Rattle.std.specs.Prelude.{◌≡◌, IfOk, Some};
+ghost use Rattle.std.specs.Option.{IfSome, option_map};
+ghost use Rattle.mig_model.specs.Wire.{Sent};
 ghost use Rattle.frame_decoder.specs.Reading.{next_of, next_at};
-ghost use Rattle.frame_decoder.specs.Streams.{lacks, sents};
+ghost use Rattle.frame_decoder.specs.Streams.{IsTextOf, lacks, sent_of, sents};
 ghost use Rattle.frame_decoder.specs.Taking.{Stands, IsTaken};
 
 use crate::body::read_body;
@@ -63,6 +65,25 @@ fn front(alloc: Global, fixed: Option<Version>, bytes: &[u8]) -> Result<Next, No
     ensures { IfOk result (λ next. Stands fixed bytes.now (next_of next)) }
 {
     next_frame(alloc, fixed, bytes)
+}
+
+/// Reads the text of one frame, of either version: the epoch and the frame, or `None` where the bytes are not exactly one text. A
+/// [`Decoder`](crate::Decoder) tells which fault they have.
+///
+/// The bytes are read in their place. `NoMemory` is for the frame.
+pub fn read_text(alloc: Global, bytes: &[u8]) -> Result<Option<(u32, Frame)>, NoMemory>
+    ensures read { IfOk result (λ read. IfSome read (λ sent. (version : Version) × IsTextOf version bytes.now (sent_of sent))) }
+    ensures whole { (version : Version) (sent : Sent) → IsTextOf version bytes.now sent → IfOk result (λ read. option_map sent_of read ≡ Some sent) }
+{
+    match front(alloc, None, bytes)? {
+        Next::Whole {
+            epoch,
+            frame,
+            len,
+            ..
+        } if len == bytes.len() => Ok(Some((epoch, frame))),
+        _ => Ok(None),
+    }
 }
 
 /// How many bytes are missing of a header, then of its frame. It takes no memory.

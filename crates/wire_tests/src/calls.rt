@@ -12,26 +12,24 @@ enum Call {
     /// Makes room for a frame, and sends an End in an epoch that tells of so many urgent frames: 16 bytes.
     Send(u32, u32),
     /// So many bytes come.
-    Advance(u64),
+    Arrive(u64),
     /// The first frame is taken off.
-    Take,
-    /// It is taken off, and put back.
-    TakeAndPutBack,
+    Drop,
     Clear,
 }
 
-use Call::{Advance, Clear, Send, Take, TakeAndPutBack};
+use Call::{Arrive, Clear, Drop, Send};
 
 #[derive(Clone, Copy, Debug, PartialEq, Eq)]
 enum Answer {
     Done,
-    Handed(bool),
-    /// The epoch of a frame, what it tells, and how many of its bytes had come.
-    Taken(u32, u32, u64),
-    Nothing,
+    /// No frame is complete.
+    Waits,
+    /// The epoch of the frame that is complete, and what it tells.
+    Came(u32, u32),
 }
 
-use Answer::{Done, Handed, Nothing, Taken};
+use Answer::{Came, Done, Waits};
 
 fn told(frame: &Frame) -> u32 {
     match frame {
@@ -46,31 +44,24 @@ fn send(wire: &mut Wire, epoch: u32, urgent: u32) -> Result<Answer, NoMemory> {
     Ok(Done)
 }
 
-fn take(wire: &mut Wire, back: bool) -> Answer {
-    let Some((sent, held)) = wire.take() else {
-        return Nothing;
-    };
-    let taken = Taken(sent.epoch, told(&sent.frame), held);
-    if back {
-        wire.put_back(sent, held);
+fn arrive(wire: &mut Wire, n: u64) -> Result<Answer, NoMemory> {
+    match wire.arrive(n)? {
+        Some(sent) => Ok(Came(sent.epoch, told(&sent.frame))),
+        None => Ok(Waits),
     }
-    taken
 }
 
 fn make(wire: &mut Wire, call: Call) -> Result<Answer, NoMemory> {
     match call {
-        Send(epoch, urgent) => send(wire, epoch, urgent),
-        Advance(n) => Ok(Handed(wire.advance(n))),
-        Take => Ok(take(wire, false)),
-        TakeAndPutBack => Ok(take(wire, true)),
-        Clear => {
-            wire.clear();
-            Ok(Done)
-        }
+        Send(epoch, urgent) => return send(wire, epoch, urgent),
+        Arrive(n) => return arrive(wire, n),
+        Drop => wire.drop_first(),
+        Clear => wire.clear(),
     }
+    Ok(Done)
 }
 
-/// The first frame, as it would be taken.
+/// The first frame, as it was sent.
 fn first(wire: &Wire) -> Option<(u32, u32)> {
     let sent = wire.first()?;
     Some((sent.epoch, told(&sent.frame)))
@@ -97,24 +88,45 @@ fn frames_in_their_order(rt: HostRuntime) -> Result<(), Fail> {
         &rt,
         &mut wire,
         &[
-            (Take, Nothing),
-            (Advance(0), Handed(false)),
+            (Arrive(0), Waits),
+            (Drop, Done),
             (Send(1, 7), Done),
             (Send(1, 8), Done),
             (Send(2, 9), Done),
-            (Advance(0), Handed(true)),
-            (Advance(15), Handed(true)),
-            // With one byte more it is complete.
-            (Advance(1), Handed(false)),
-            (TakeAndPutBack, Taken(1, 7, 15)),
-            (Advance(1), Handed(false)),
-            (Take, Taken(1, 7, 15)),
+            (Arrive(0), Waits),
+            (Arrive(15), Waits),
+            // With one byte more it is complete. It stays until it is taken off.
+            (Arrive(1), Came(1, 7)),
+            (Arrive(1), Came(1, 7)),
+            (Arrive(0), Waits),
+            (Drop, Done),
             // None of the next frame has come.
-            (Advance(15), Handed(true)),
-            (Take, Taken(1, 8, 15)),
-            (Advance(u64::MAX), Handed(false)),
-            (Take, Taken(2, 9, 0)),
-            (Take, Nothing),
+            (Arrive(15), Waits),
+            (Arrive(u64::MAX), Came(1, 8)),
+            (Drop, Done),
+            (Arrive(u64::MAX), Came(2, 9)),
+            (Drop, Done),
+            (Arrive(u64::MAX), Waits),
+        ],
+    );
+    assert!(&rt; wire.is_empty());
+    Ok(())
+}
+
+/// A frame that is taken off before its bytes have come leaves none of them.
+#[test]
+fn a_frame_that_is_cut_off(rt: HostRuntime) -> Result<(), Fail> {
+    let mut wire = Wire::new(rt.alloc());
+    play(
+        &rt,
+        &mut wire,
+        &[
+            (Send(1, 7), Done),
+            (Send(2, 8), Done),
+            (Arrive(15), Waits),
+            (Drop, Done),
+            (Arrive(15), Waits),
+            (Arrive(1), Came(2, 8)),
         ],
     );
     Ok(())
@@ -129,12 +141,13 @@ fn a_wire_that_breaks(rt: HostRuntime) -> Result<(), Fail> {
         &[
             (Send(1, 7), Done),
             (Send(1, 8), Done),
-            (Advance(3), Handed(true)),
+            (Arrive(3), Waits),
             (Clear, Done),
-            (Take, Nothing),
+            (Arrive(u64::MAX), Waits),
             (Send(2, 9), Done),
-            (Advance(15), Handed(true)),
-            (Take, Taken(2, 9, 15)),
+            (Arrive(15), Waits),
+            (Arrive(1), Came(2, 9)),
+            (Drop, Done),
         ],
     );
     assert!(&rt; wire.is_empty());

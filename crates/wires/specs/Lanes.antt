@@ -1,8 +1,12 @@
 -- A wire of the code: the machine's wire, and the room for more frames.
-use Rattle.std.specs.Prelude.{◌≡◌, ℕ, ◌<◌, List, [], ◌∷◌}
+use Rattle.std.specs.Prelude.{◌≡◌, ℕ, ◌<◌, ◌⊎◌, true, false, List, [], ◌∷◌, Option, Some, None, Result, Ok, Err}
+use Rattle.mig_base.specs.declared.NoMemory.{NoMemory}
 use Rattle.mig_model.specs.Bounds.{IsFrame}
 use Rattle.mig_model.specs.Lengths.{text_len}
+use Rattle.mig_model.specs.Migration.{is_short}
 use Rattle.mig_model.specs.Wire as machine
+use Rattle.frame_texts.specs.Texts.{text}
+use Rattle.frame_texts.specs.Texts.Version.{Two}
 use Rattle.page_stream.specs.Frames.{frame_of}
 use Rattle.wires.specs.declared.sent.Sent.{Sent}
 
@@ -17,6 +21,14 @@ pub record Lane : Type 0 where
   -- for how many frames there is room
   pub room : ℕ
 
+-- the bytes of a frame on the wire: its text of version 2
+abbrev pub text_of : Sent → List ℕ
+text_of sent = text Two sent.epoch (frame_of sent.frame)
+
+-- the text stands there, or nothing yet
+abbrev pub IsBlankOr : (text bytes : List ℕ) → Type 0
+IsBlankOr text bytes = (bytes ≡ []) ⊎ (bytes ≡ text)
+
 -- each frame is well formed
 abbrev pub AreFrames : List Sent → Type 0
 AreFrames [] = Unit {0}
@@ -26,3 +38,28 @@ AreFrames (sent ∷ rest) = IsFrame (frame_of sent.frame) × AreFrames rest
 abbrev pub IsHeld : List Sent → ℕ → Type 0
 IsHeld [] held = held ≡ 0
 IsHeld (sent ∷ rest) held = held < text_len (frame_of sent.frame)
+
+-- the text of the first frame stands there where bytes of it have come, and else it may; nothing does where no frame is in flight
+abbrev pub IsWritten : List Sent → (bytes : List ℕ) → (held : ℕ) → Type 0
+IsWritten [] bytes held = bytes ≡ []
+IsWritten (sent ∷ rest) bytes held = IsBlankOr (text_of sent) bytes × (bytes ≡ [] → held ≡ 0)
+
+-- so many more bytes do not complete the first frame
+pub record IsMoved (old : machine.Wire) (n : ℕ) (new : machine.Wire) : Type 0 where
+  pub sent : machine.Sent
+  pub rest : List machine.Sent
+  pub first : old.frames ≡ sent ∷ rest
+  pub short : is_short old sent.frame n ≡ true
+  pub moved : new ≡ machine.wire_moved old n
+
+-- they complete it
+pub record IsWhole (old : machine.Wire) (n : ℕ) (sent : Sent) : Type 0 where
+  pub rest : List machine.Sent
+  pub first : old.frames ≡ sent_of sent ∷ rest
+  pub whole : is_short old (frame_of sent.frame) n ≡ false
+
+-- what comes of so many more bytes of the first frame: they are with the decoder, or complete it, or want for memory
+abbrev pub Arrives : machine.Wire → ℕ → Result (Option Sent) NoMemory → machine.Wire → Type 0
+Arrives old n (Ok None) new = ((old.frames ≡ []) × (new ≡ old)) ⊎ IsMoved old n new
+Arrives old n (Ok (Some sent)) new = IsWhole old n sent × (new ≡ old)
+Arrives old n (Err error) new = new ≡ old

@@ -1,34 +1,43 @@
 //! The type that callers see.
 
-ghost use Rattle.std.specs.Prelude.{◌≡◌, ◌+◌, ◌<◌, ◌≤◌, ◌∷◌, ◌++◌, [], not, true, false, Some, None, OnOk, List};
+ghost use Rattle.std.specs.Prelude.{◌≡◌, ◌+◌, ◌<◌, ◌≤◌, ◌∷◌, ◌++◌, [], None, IfOk, OnOk, OnErr, List};
 ghost use Rattle.std.specs.Option.{IfSome};
 ghost use Rattle.mig_base.specs.Tests.{is_empty as is_none_of};
 ghost use Rattle.mig_model.specs.Bounds.{IsFrame};
-ghost use Rattle.mig_model.specs.Lengths.{text_len};
-ghost use Rattle.mig_model.specs.Migration.{is_short};
 ghost use Rattle.mig_model.specs.Wire as machine;
+ghost use Rattle.frame_texts.specs.Texts.{text};
+ghost use Rattle.frame_texts.specs.Texts.Version.{Two};
+ghost use Rattle.frame_decoder.specs.Streams.{IsTextOf};
+ghost use Rattle.frame_decoder.specs.declared.version.Version.TheVariants as versions;
 ghost use Rattle.page_stream.specs.Frames.{frame_of};
-ghost use Rattle.wires.specs.Lanes.{sent_of};
+ghost use Rattle.wires.specs.Lanes.{Arrives, IsBlankOr, sent_of};
 
 use crate::sent::Sent;
+use frame_decoder::read_text;
 use mig_base::NoMemory;
-use page_stream::Frame;
+use page_stream::{Frame, encode_into};
 use std::alloc::Global;
 use std::collections::VecDeque;
 use std::marker::Model;
 
 /// One way between the nodes: the frames in flight, in the order in which they were sent, and how many bytes of the first are with
 /// the decoder at its end, fewer than its text has. Each frame is well formed.
+///
+/// Of the first frame the wire holds the bytes, its text of version 2: they are written when the first of them come, and the frame that
+/// arrives is read from them. The room of the bytes is kept from frame to frame. The frames behind it are not written yet.
 #[derive(Drop)]
 pub struct Wire {
+    alloc: Global,
     frames: VecDeque<Sent>,
+    /// The text of the first frame, or nothing where it has not been written.
+    text: Vec<u8>,
     held: u64,
 }
 
 impl Model for Wire {
     ghost use Rattle.std.specs.Prelude.{map, ◌-◌};
     ghost use Rattle.std.specs.VecDeque.{deque_capacity, deque_len};
-    ghost use Rattle.wires.specs.Lanes.{AreFrames, IsHeld, Lane, sent_of};
+    ghost use Rattle.wires.specs.Lanes.{AreFrames, IsHeld, IsWritten, Lane, sent_of};
     ghost use Rattle.wires.specs.Codes.{coded_lane};
 
     ghost Value = { Lane };
@@ -37,7 +46,7 @@ impl Model for Wire {
 
     ghost view = { λ w. record { wire = record { frames = map sent_of w.frames.items; held = w.held }; room = deque_capacity w.frames - deque_len w.frames } };
 
-    ghost invariant = { λ w. AreFrames w.frames.items × IsHeld w.frames.items w.held };
+    ghost invariant = { λ w. AreFrames w.frames.items × IsHeld w.frames.items w.held × IsWritten w.frames.items w.text.items w.held };
 }
 
 impl Wire {
@@ -46,7 +55,9 @@ impl Wire {
         ensures { result.wire ≡ machine.empty_wire }
     {
         Wire {
+            alloc,
             frames: VecDeque::new(alloc),
+            text: Vec::new(alloc),
             held: 0,
         }
     }
@@ -88,52 +99,40 @@ impl Wire {
         };
     }
 
-    /// Hands `n` more bytes of the first frame to the decoder, unless they complete it: whether they were handed over. Where nothing is in
-    /// flight they are not.
-    pub fn advance(&mut self, n: u64) -> bool
-        ensures answer { (sent : machine.Sent) (rest : List machine.Sent) → self.old.wire.frames ≡ sent ∷ rest → result ≡ is_short self.old.wire sent.frame n }
-        ensures none { self.old.wire.frames ≡ [] → result ≡ false }
-        ensures moved { result ≡ true → self.new.wire ≡ machine.wire_moved self.old.wire n }
-        ensures stays { result ≡ false → self.new ≡ self.old }
+    /// `n` more bytes of the first frame come. Unless they complete it, the decoder has them, and the answer is `None`. Else it is the
+    /// frame, read from its bytes, and the wire is as before until [`drop_first`](Wire::drop_first): whoever cannot take the frame lets
+    /// it come again. Where nothing is in flight the answer is `None`.
+    ///
+    /// `NoMemory` is for the bytes, which are written once for a frame, or for the frame that is read, and leaves the wire as it was.
+    pub fn arrive(&mut self, n: u64) -> Result<Option<Sent>, NoMemory>
+        ensures arrived { Arrives self.old.wire n result self.new.wire }
+        ensures frame { IfOk result (λ read. IfSome read (λ sent. IsFrame (frame_of sent.frame))) }
         ensures room { self.new.room ≡ self.old.room }
     {
         let Some(sent) = self.frames.front() else {
-            return false;
+            return Ok(None);
         };
-        if n >= sent.frame.text_len() - self.held {
-            return false;
+        write_once(&sent.frame, sent.epoch, &mut self.text)?;
+        let text: &[u8] = &self.text;
+        if n < text.len() as u64 - self.held {
+            self.held += n;
+            return Ok(None);
         }
-        self.held += n;
-        true
+        match read_text(self.alloc, text)? {
+            Some((epoch, frame)) => Ok(Some(Sent { epoch, frame })),
+            None => unreachable!(),
+        }
     }
 
-    /// Takes the first frame off the wire, with how many of its bytes were with the decoder.
-    pub fn take(&mut self) -> Option<(Sent, u64)>
-        ensures none { result ≡ None → (self.old.wire.frames ≡ []) × (self.new ≡ self.old) }
-        ensures first { IfSome result (λ taken. (self.old.wire.frames ≡ sent_of taken.0 ∷ self.new.wire.frames) × (taken.1 ≡ self.old.wire.held)) }
-        ensures well_formed { IfSome result (λ taken. IsFrame (frame_of taken.0.frame)) }
-        ensures short { IfSome result (λ taken. taken.1 < text_len (frame_of taken.0.frame)) }
-        ensures held { self.new.wire.held ≡ 0 }
-        ensures room { IfSome result (λ taken. self.new.room ≡ self.old.room + 1) }
+    /// Takes the first frame, and all bytes of it that have come, off the wire.
+    pub fn drop_first(&mut self)
+        ensures first { (sent : machine.Sent) (rest : List machine.Sent) → self.old.wire.frames ≡ sent ∷ rest → self.new.wire ≡ machine.wire_behind rest }
+        ensures none { self.old.wire.frames ≡ [] → self.new ≡ self.old }
+        ensures room { self.old.room ≤ self.new.room }
     {
-        let sent = self.frames.pop_front()?;
-        let held = self.held;
+        let _ = self.frames.pop_front();
+        self.text.clear();
         self.held = 0;
-        Some((sent, held))
-    }
-
-    /// Puts a frame that was taken, and is refused, back at the front, with as many of its bytes at the decoder as before.
-    pub fn put_back(&mut self, sent: Sent, held: u64)
-        requires well_formed { IsFrame (frame_of sent.frame) }
-        requires short { held < text_len (frame_of sent.frame) }
-        requires room { 0 < self.old.room }
-        ensures wire { self.new.wire ≡ record { frames = sent_of sent ∷ self.old.wire.frames; held = held } }
-        ensures room { self.new.room + 1 ≡ self.old.room }
-    {
-        let Ok(()) = self.frames.push_front(sent) else {
-            unreachable!();
-        };
-        self.held = held;
     }
 
     /// Loses all that is in flight: the channel breaks. Its room stays.
@@ -142,6 +141,20 @@ impl Wire {
         ensures room { self.old.room ≤ self.new.room }
     {
         self.frames.clear();
+        self.text.clear();
         self.held = 0;
     }
+}
+
+/// Writes the text of a frame, unless it stands there. `NoMemory` leaves the bytes as they were.
+fn write_once(frame: &Frame, epoch: u32, bytes: &mut Vec<u8>) -> Result<(), NoMemory>
+    requires right { IsFrame (frame_of frame.now) }
+    requires once { IsBlankOr (text Two epoch (frame_of frame.now)) bytes.old.items }
+    ensures ok { OnOk result (IsTextOf versions.Two bytes.new.items (record { epoch = epoch; frame = frame_of frame.now })) }
+    ensures err { OnErr result (bytes.new.items ≡ bytes.old.items) }
+{
+    if !bytes.is_empty() {
+        return Ok(());
+    }
+    encode_into(frame, epoch, bytes)
 }

@@ -1,5 +1,5 @@
 -- Deliveries: what is refused, what moves bytes alone, and what a node takes.
-use Rattle.std.proofs.Common.{◌≡◌, ℕ, ◌≤◌, Bool, true, false, not, ◌&&◌, Some, None, Ok, Err, List, [], ◌∷◌, length, refl, sym, ap, ◌∙◌, subst, inr, ⊎_elim, arith}
+use Rattle.std.proofs.Common.{◌≡◌, ℕ, ◌≤◌, Bool, true, false, not, ◌&&◌, Option, Some, None, Ok, Err, List, [], ◌∷◌, length, refl, sym, ap, ◌∙◌, subst, inr, ⊎_elim, arith}
 use Rattle.std.proofs.lemmas.Bool.{false≢true, not-false}
 use Rattle.std.proofs.lemmas.Bool.Decides.{nat_tests}
 use Rattle.std.specs.Ordering.{nat_cmp}
@@ -29,8 +29,10 @@ use Rattle.frame_texts.specs.Flight as flight
 use Rattle.page_stream.specs.Frames.{frame_of}
 use Rattle.page_stream.specs.declared.frame.Frame.{Frame as CodeFrame}
 use Rattle.recovery.specs.Breaks.{frames_of}
+use Rattle.wires.specs.Lanes.{Arrives, IsMoved, IsWhole, sent_of}
+use Rattle.wires.specs.declared.sent.Sent.{Sent as CodeSent}
 use Rattle.world.specs.Answers.{moving_answer}
-use Rattle.world.specs.Deliveries.{AreFrames, IsHandedBack, IsReceived, refusal_by}
+use Rattle.world.specs.Deliveries.{AreFrames, IsRefused, IsReceived, refusal_by}
 use Rattle.world.specs.Worlds.{IsWorld}
 use Rattle.world.proofs.FlightLemmas.{all_good, good, world_happens}
 use Rattle.world.proofs.StepLemmas.{happens_made, happens_refused}
@@ -122,7 +124,7 @@ deliver_took world n sent left back effect node h first held full received answe
     }))
     ∙ (λ i. made effect (record world { destination = node; forward = left; back = sym answered i })))
 
--- A frame that is handed back
+-- A frame that is refused
 
 wait_refused : (world : World) (sent : Sent) (rest : List Sent) (fault : TakeFault) → frame_fault world.destination sent.epoch sent.frame ≡ None → take_fault world.destination sent.epoch sent.frame ≡ Some fault → complete_answer world sent rest ≡ Err (refusal_by fault)
 unfolding unless
@@ -132,21 +134,26 @@ lacks_at_all : (world : World) (n : ℕ) (sent : Sent) (rest : List Sent) → ma
 unfolding unless
 lacks_at_all world n sent rest = grind (arith, nat_tests)
 
-deliver_lacking : (world : World) (n : ℕ) (sent : Sent) (rest : List Sent) → moving_answer world ≡ Ok tt → world.forward.frames ≡ sent ∷ rest → is_short world.forward sent.frame n ≡ false → Happens world (Step.Deliver n) (Err Refusal.NoMemory) world
+lacks_first : (world : World) (n : ℕ) (sent : Sent) (rest : List Sent) (short : Bool) → is_short world.forward sent.frame n ≡ short → may_lack (Step.Deliver n) (outcome_by (deliver_first world n (sent ∷ rest))) ≡ true
+lacks_first world n sent rest true short = rw short refl
+lacks_first world n sent rest false full = rw full (lacks_at_all world n sent rest)
+
+-- memory may be wanted for the bytes, for the frame and for what is made of it
+pub deliver_lacking : (world : World) (n : ℕ) (sent : Sent) (rest : List Sent) → moving_answer world ≡ Ok tt → world.forward.frames ≡ sent ∷ rest → Happens world (Step.Deliver n) (Err Refusal.NoMemory) world
 unfolding outcome
-deliver_lacking world n sent rest h first full =
-    inr (refl, ap (λ a. may_lack (Step.Deliver n) (outcome_by a)) (deliver_complete world n sent rest h first full) ∙ lacks_at_all world n sent rest, refl)
+deliver_lacking world n sent rest h first =
+    inr (refl, ap (λ a. may_lack (Step.Deliver n) (outcome_by a)) (deliver_moving world n h ∙ ap (deliver_first world n) first) ∙ lacks_first world n sent rest (is_short world.forward sent.frame n) refl, refl)
 
 deliver_waits : (world : World) (n : ℕ) (sent : Sent) (rest : List Sent) (fault : TakeFault) → moving_answer world ≡ Ok tt → world.forward.frames ≡ sent ∷ rest → is_short world.forward sent.frame n ≡ false → frame_fault world.destination sent.epoch sent.frame ≡ None →
     take_fault world.destination sent.epoch sent.frame ≡ Some fault → outcome world (Step.Deliver n) ≡ Err (refusal_by fault)
 unfolding outcome
 deliver_waits world n sent rest fault h first full right waits = ap outcome_by (deliver_complete world n sent rest h first full ∙ wait_refused world sent rest fault right waits)
 
-pub deliver_handed_back : (world : World) (n : ℕ) (sent : Sent) (rest : List Sent) (refusal : Refusal) → moving_answer world ≡ Ok tt → world.forward.frames ≡ sent ∷ rest → is_short world.forward sent.frame n ≡ false → frame_fault world.destination sent.epoch sent.frame ≡ None →
-    IsHandedBack world.destination sent refusal → Happens world (Step.Deliver n) (Err refusal) world
-deliver_handed_back world n sent rest refusal h first full right back =
+pub deliver_refused : (world : World) (n : ℕ) (sent : Sent) (rest : List Sent) (refusal : Refusal) → moving_answer world ≡ Ok tt → world.forward.frames ≡ sent ∷ rest → is_short world.forward sent.frame n ≡ false → frame_fault world.destination sent.epoch sent.frame ≡ None →
+    IsRefused world.destination sent refusal → Happens world (Step.Deliver n) (Err refusal) world
+deliver_refused world n sent rest refusal h first full right back =
     ⊎_elim
-    (λ (short : refusal ≡ Refusal.NoMemory). subst (λ r. Happens world (Step.Deliver n) (Err r) world) (sym short) (deliver_lacking world n sent rest h first full))
+    (λ (short : refusal ≡ Refusal.NoMemory). subst (λ r. Happens world (Step.Deliver n) (Err r) world) (sym short) (deliver_lacking world n sent rest h first))
     (λ (waits : (fault : TakeFault) × (take_fault world.destination sent.epoch sent.frame ≡ Some fault) × (refusal ≡ refusal_by fault)).
     subst (λ r. Happens world (Step.Deliver n) (Err r) world) (sym waits.2) (happens_refused world (Step.Deliver n) (refusal_by waits.0) (deliver_waits world n sent rest waits.0 h first full right waits.1)))
     back
@@ -199,9 +206,14 @@ back_took world n sent left forward node h first held full took answered =
     }))
     ∙ (λ i. made (frame_effect sent.frame) (record world { source = node; back = left; forward = sym answered i })))
 
-pub back_lacking : (world : World) (n : ℕ) (sent : Sent) (rest : List Sent) → moving_answer world ≡ Ok tt → world.back.frames ≡ sent ∷ rest → is_short world.back sent.frame n ≡ false → Happens world (Step.DeliverBack n) (Err Refusal.NoMemory) world
+back_lacks_first : (world : World) (n : ℕ) (sent : Sent) (rest : List Sent) (short : Bool) → is_short world.back sent.frame n ≡ short → may_lack (Step.DeliverBack n) (outcome_by (deliver_back_first world n (sent ∷ rest))) ≡ true
+back_lacks_first world n sent rest true short = rw short refl
+back_lacks_first world n sent rest false full = rw full refl
+
+pub back_lacking : (world : World) (n : ℕ) (sent : Sent) (rest : List Sent) → moving_answer world ≡ Ok tt → world.back.frames ≡ sent ∷ rest → Happens world (Step.DeliverBack n) (Err Refusal.NoMemory) world
 unfolding outcome
-back_lacking world n sent rest h first full = inr (refl, ap (λ a. may_lack (Step.DeliverBack n) (outcome_by a)) (back_takes world n sent rest h first full), refl)
+back_lacking world n sent rest h first =
+    inr (refl, ap (λ a. may_lack (Step.DeliverBack n) (outcome_by a)) (back_moving world n h ∙ ap (deliver_back_first world n) first) ∙ back_lacks_first world n sent rest (is_short world.back sent.frame n) refl, refl)
 
 pub back_right : (world : World) (sent : Sent) (rest : List Sent) → IsReached world → moving_answer world ≡ Ok tt → world.back.frames ≡ sent ∷ rest → back_fault world.source sent.epoch sent.frame ≡ None
 back_right world sent rest reached h first =
@@ -267,15 +279,27 @@ urgent_did world n sent left node ran up first held full took =
     happens_made world (record world { destination = node; urgent = left }) (Step.DeliverUrgent n) (frame_effect sent.frame)
     (urgent_takes world n sent left.frames ran up first full ∙ (λ i. made (frame_effect sent.frame) (record world { destination = sym took i; urgent = sym (left_is left held) i })))
 
-pub urgent_lacking : (world : World) (n : ℕ) (sent : Sent) (rest : List Sent) → not world.destination.has_run ≡ false → not world.up ≡ false → world.urgent.frames ≡ sent ∷ rest → is_short world.urgent sent.frame n ≡ false →
-    Happens world (Step.DeliverUrgent n) (Err Refusal.NoMemory) world
+urgent_lacks_first : (world : World) (n : ℕ) (sent : Sent) (rest : List Sent) (short : Bool) → is_short world.urgent sent.frame n ≡ short → may_lack (Step.DeliverUrgent n) (outcome_by (deliver_urgent_first world n (sent ∷ rest))) ≡ true
+urgent_lacks_first world n sent rest true short = rw short refl
+urgent_lacks_first world n sent rest false full = rw full refl
+
+pub urgent_lacking : (world : World) (n : ℕ) (sent : Sent) (rest : List Sent) → not world.destination.has_run ≡ false → not world.up ≡ false → world.urgent.frames ≡ sent ∷ rest → Happens world (Step.DeliverUrgent n) (Err Refusal.NoMemory) world
 unfolding outcome
-urgent_lacking world n sent rest ran up first full = inr (refl, ap (λ a. may_lack (Step.DeliverUrgent n) (outcome_by a)) (urgent_takes world n sent rest ran up first full), refl)
+urgent_lacking world n sent rest ran up first =
+    inr (refl, ap (λ a. may_lack (Step.DeliverUrgent n) (outcome_by a)) (urgent_moving world n ran up ∙ ap (deliver_urgent_first world n) first) ∙ urgent_lacks_first world n sent rest (is_short world.urgent sent.frame n) refl, refl)
 
 pub urgent_right : (world : World) (sent : Sent) (rest : List Sent) → IsReached world → not world.destination.has_run ≡ false → not world.up ≡ false → world.urgent.frames ≡ sent ∷ rest → urgent_fault world.destination sent.epoch sent.frame ≡ None
 urgent_right world sent rest reached ran up first = no_urgent_fault world.destination sent (is_taken_urgent world sent rest (kept-reached world reached) (urgent-reached world reached) (not-false _ ran) (not-false _ up) first)
 
--- A wire on which a frame was put back is as it was
+-- What comes of bytes that arrive
 
-pub put_back_is : (wire left new : Wire) (sent : Sent) (held : ℕ) → wire.frames ≡ sent ∷ left.frames → held ≡ wire.held → new ≡ record { frames = sent ∷ left.frames; held = held } → new ≡ wire
-put_back_is wire left new sent held first same put = put ∙ (λ i. record { frames = sym first i; held = same i })
+pub arrived_moved : (old : Wire) (n : ℕ) (read : Option CodeSent) (new : Wire) → is_empty old.frames ≡ false → read ≡ None → Arrives old n (Ok read) new → IsMoved old n new
+arrived_moved old n None new some is arrived = ⊎_elim (λ (none : (old.frames ≡ []) × (new ≡ old)). absurd (not_empty old.frames some none.0)) (λ (moved : IsMoved old n new). moved) arrived
+arrived_moved old n (Some sent) new some is arrived = absurd (let no = is in cc)
+
+pub arrived_whole : (old : Wire) (n : ℕ) (read : Option CodeSent) (sent : CodeSent) (new : Wire) → read ≡ Some sent → Arrives old n (Ok read) new → IsWhole old n sent × (new ≡ old)
+arrived_whole old n read sent new is arrived = subst (λ read. Arrives old n (Ok read) new) is arrived
+
+-- the wire once its first frame is taken
+pub taken_off : (old new left : Wire) (n : ℕ) (sent : CodeSent) (whole : IsWhole old n sent) → new ≡ old → ((first : Sent) (rest : List Sent) → new.frames ≡ first ∷ rest → left ≡ wire_behind rest) → left ≡ wire_behind whole.rest
+taken_off old new left n sent whole same off = off (sent_of sent) whole.rest (ap (λ wire. wire.frames) same ∙ whole.first)

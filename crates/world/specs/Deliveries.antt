@@ -26,7 +26,7 @@ pub record IsReceived (old : Destination) (sent : Sent) (effect : Effect) (new :
   pub told : effect ≡ frame_effect sent.frame
   pub node : new ≡ destination_took old sent.epoch sent.frame
 
--- it was handed back, for want of memory, or since it has to wait
-abbrev pub IsHandedBack : Destination → Sent → Refusal → Type 0
-IsHandedBack old sent refusal =
+-- it was not taken, for want of memory, or since it has to wait
+abbrev pub IsRefused : Destination → Sent → Refusal → Type 0
+IsRefused old sent refusal =
     (refusal ≡ Refusal.NoMemory) ⊎ ((fault : TakeFault) × (take_fault old sent.epoch sent.frame ≡ Some fault) × (refusal ≡ refusal_by fault))

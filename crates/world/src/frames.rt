@@ -14,7 +14,7 @@ ghost use Rattle.fault_handler.specs.Taking.{answered_at_once};
 ghost use Rattle.page_stream.specs.Frames.{frame_of};
 ghost use Rattle.recovery.specs.Breaks.{frames_of};
 ghost use Rattle.wires.specs.Lanes.{sent_of};
-ghost use Rattle.world.specs.Deliveries.{AreFrames, IsHandedBack, IsReceived, refusal_by};
+ghost use Rattle.world.specs.Deliveries.{AreFrames, IsRefused, IsReceived, refusal_by};
 
 use fault_handler::Destination;
 use mig_base::effect::Effect;
@@ -28,56 +28,50 @@ use recovery::{rebuild, report_received, rerequest};
 use std::alloc::Global;
 use wires::{Sent, Wire};
 
-/// The destination takes a frame, and answers it on the wire back. A frame that it does not take now is handed back, and nothing is changed.
+/// The destination takes a frame, and answers it on the wire back. A frame that it does not take now changes nothing.
 pub(crate) fn receive(
     alloc: Global,
     destination: &mut Destination,
     back: &mut Wire,
     sent: Sent,
-) -> Result<Effect, (Refusal, Sent)>
+) -> Result<Effect, Refusal>
     requires frame { IsFrame (frame_of sent.frame) }
     requires right { frame_fault destination.old sent.epoch (frame_of sent.frame) ≡ None }
     requires answers { take_fault destination.old sent.epoch (frame_of sent.frame) ≡ None → AreFrames (to.destination_answers destination.old (frame_of sent.frame)) }
     ensures received { IfOk result (λ effect. IsReceived destination.old (sent_of sent) effect destination.new) }
     ensures answered { OnOk result (back.new.wire ≡ machine.wire_with back.old.wire destination.new.epoch (to.destination_answers destination.old (frame_of sent.frame))) }
-    ensures refused { IfErr result (λ refused. (refused.1 ≡ sent) × IsHandedBack destination.old (sent_of sent) refused.0) }
+    ensures refused { IfErr result (λ refusal. IsRefused destination.old (sent_of sent) refusal) }
     ensures err { OnErr result ((destination.new ≡ destination.old) × (back.new.wire ≡ back.old.wire)) }
 {
     let effect = told(&sent.frame);
     let Ok(answers) = answers_to(alloc, destination, &sent.frame) else {
-        return Err((Refusal::NoMemory, sent));
+        return Err(Refusal::NoMemory);
     };
     let Ok(()) = back.reserve(answers.len() + 1) else {
-        return Err((Refusal::NoMemory, sent));
+        return Err(Refusal::NoMemory);
     };
-    let epoch = sent.epoch;
-    match destination.take(epoch, sent.frame) {
+    match destination.take(sent.epoch, sent.frame) {
         Ok(answer) => {
             push_all(back, destination.epoch(), answers);
             send_back(back, true, destination.epoch(), answer);
             Ok(effect)
         }
-        Err((fault, frame)) => Err((refusal_of(fault), Sent { epoch, frame })),
+        Err((fault, _)) => Err(refusal_of(fault)),
     }
 }
 
-/// The destination takes a frame of the urgent wire. Where there is no memory for it, it is handed back, and nothing is changed.
-pub(crate) fn receive_urgent(
-    destination: &mut Destination,
-    sent: Sent,
-) -> Result<Effect, (NoMemory, Sent)>
+/// The destination takes a frame of the urgent wire. Where there is no memory for it, nothing is changed.
+pub(crate) fn receive_urgent(destination: &mut Destination, sent: Sent) -> Result<Effect, NoMemory>
     requires frame { IsFrame (frame_of sent.frame) }
     requires right { urgent_fault destination.old sent.epoch (frame_of sent.frame) ≡ None }
     ensures effect { IfOk result (λ effect. effect ≡ frame_effect (frame_of sent.frame)) }
     ensures took { OnOk result (destination.new ≡ to.urgent_took destination.old (frame_of sent.frame)) }
-    ensures refused { IfErr result (λ refused. refused.1 ≡ sent) }
     ensures err { OnErr result (destination.new ≡ destination.old) }
 {
     let effect = told(&sent.frame);
-    let epoch = sent.epoch;
-    match destination.take_urgent(epoch, sent.frame) {
+    match destination.take_urgent(sent.epoch, sent.frame) {
         Ok(()) => Ok(effect),
-        Err((_, frame)) => Err((NoMemory, Sent { epoch, frame })),
+        Err(_) => Err(NoMemory),
     }
 }
 

@@ -8,7 +8,6 @@ ghost use Rattle.world.specs.Worlds.{IsWorld, world_of};
 
 use super::Parts;
 use crate::frames::{hear, push_all, receive, receive_urgent, told};
-use mig_base::NoMemory;
 use mig_base::effect::Effect;
 use mig_base::phase::SourcePhase;
 use mig_base::refusal::Refusal;
@@ -23,20 +22,16 @@ impl Parts {
         if self.forward.is_empty() {
             return Err(Refusal::NothingThere);
         }
-        if self.forward.advance(n) {
-            return Ok(Effect::Moved { bytes: n });
-        }
-        let Some((sent, held)) = self.forward.take() else {
-            unreachable!();
+        let Ok(arrived) = self.forward.arrive(n) else {
+            return Err(Refusal::NoMemory);
         };
-        match receive(self.alloc, &mut self.destination, &mut self.back, sent) {
-            Ok(effect) => Ok(effect),
-            Err((refusal, sent)) => {
-                // It stays the first, with as many of its bytes arrived as before.
-                self.forward.put_back(sent, held);
-                Err(refusal)
-            }
-        }
+        let Some(sent) = arrived else {
+            return Ok(Effect::Moved { bytes: n });
+        };
+        // A frame that is refused stays the first, with as many of its bytes arrived as before.
+        let effect = receive(self.alloc, &mut self.destination, &mut self.back, sent)?;
+        self.forward.drop_first();
+        Ok(effect)
     }
 
     /// Bytes of the wire back arrive at the source, which takes the frame that they complete.
@@ -48,26 +43,22 @@ impl Parts {
         if self.back.is_empty() {
             return Err(Refusal::NothingThere);
         }
-        if self.back.advance(n) {
+        let Ok(arrived) = self.back.arrive(n) else {
+            return Err(Refusal::NoMemory);
+        };
+        let Some(sent) = arrived else {
             return Ok(Effect::Moved { bytes: n });
-        }
+        };
         // A source that owes everything anew sends two frames, a Discard and a Package.
         let Ok(()) = self.forward.reserve(2) else {
             return Err(Refusal::NoMemory);
         };
-        let Some((sent, held)) = self.back.take() else {
-            unreachable!();
+        let Ok(frames) = hear(self.alloc, &mut self.source, &sent) else {
+            return Err(Refusal::NoMemory);
         };
-        match hear(self.alloc, &mut self.source, &sent) {
-            Ok(frames) => {
-                push_all(&mut self.forward, self.source.epoch(), frames);
-                Ok(told(&sent.frame))
-            }
-            Err(NoMemory) => {
-                self.back.put_back(sent, held);
-                Err(Refusal::NoMemory)
-            }
-        }
+        self.back.drop_first();
+        push_all(&mut self.forward, self.source.epoch(), frames);
+        Ok(told(&sent.frame))
     }
 
     /// Bytes of the urgent wire arrive at the destination, which takes the frame that they complete.
@@ -84,19 +75,17 @@ impl Parts {
         if self.urgent.is_empty() {
             return Err(Refusal::NothingThere);
         }
-        if self.urgent.advance(n) {
-            return Ok(Effect::Moved { bytes: n });
-        }
-        let Some((sent, held)) = self.urgent.take() else {
-            unreachable!();
+        let Ok(arrived) = self.urgent.arrive(n) else {
+            return Err(Refusal::NoMemory);
         };
-        match receive_urgent(&mut self.destination, sent) {
-            Ok(effect) => Ok(effect),
-            Err((NoMemory, sent)) => {
-                self.urgent.put_back(sent, held);
-                Err(Refusal::NoMemory)
-            }
-        }
+        let Some(sent) = arrived else {
+            return Ok(Effect::Moved { bytes: n });
+        };
+        let Ok(effect) = receive_urgent(&mut self.destination, sent) else {
+            return Err(Refusal::NoMemory);
+        };
+        self.urgent.drop_first();
+        Ok(effect)
     }
 
     /// Whether a migration has begun, and then whether the link is up.

@@ -1,9 +1,10 @@
-use Rattle.std.proofs.Common.{ap, sym, ◌∙◌, ◌∷◌}
+use Rattle.std.proofs.Common.{refl, sym, ◌∙◌}
 use Rattle.std.proofs.lemmas.Result.{err_from_is_err_and}
 use Rattle.mig_base.specs.declared.schedule.Step.{Step}
+use Rattle.mig_model.specs.Wire.{wire_behind}
 use Rattle.wires.specs.Lanes.{sent_of}
 use Rattle.world.specs.Worlds.{world_of}
-use Rattle.world.proofs.DeliveryLemmas.{answers_good, deliver_handed_back, deliver_moved, deliver_nothing, deliver_stopped, deliver_took, first_there, forward_right, put_back_is}
+use Rattle.world.proofs.DeliveryLemmas.{answers_good, arrived_moved, arrived_whole, deliver_lacking, deliver_moved, deliver_nothing, deliver_refused, deliver_stopped, deliver_took, first_there, forward_right, taken_off}
 use Rattle.world.proofs.StepLemmas.{happens_refused}
 use Rattle.world.proofs.parts.Parts.deliver.Goals as goal
 
@@ -15,32 +16,36 @@ returns-in_err-ensure_moving c =
 pub returns-then-is_empty : goal.returns-then-is_empty
 returns-then-is_empty c = happens_refused (world_of c.args.self.now) (Step.Deliver c.args.n) _ (deliver_nothing (world_of c.args.self.now) c.args.n (sym c.in_ok-ensure_moving.ensures) (sym c.is_empty.ensures ∙ c.if-is_empty.true))
 
-pub returns-then-advance : goal.returns-then-advance
-returns-then-advance c =
+pub returns-in_default : goal.returns-in_default
+returns-in_default c =
     let first = first_there c.args.self.now.forward.wire.frames (sym c.is_empty.ensures ∙ c.if-is_empty.false) in
-    rw (c.advance.ensures.moved c.if-advance.true)
-    (deliver_moved (world_of c.args.self.now) c.args.n first.sent first.rest (sym c.in_ok-ensure_moving.ensures) first.is (sym (c.advance.ensures.answer first.sent first.rest first.is) ∙ c.if-advance.true))
+    rw c.in_default.ensures.arrived (deliver_lacking (world_of c.args.self.now) c.args.n first.sent first.rest (sym c.in_ok-ensure_moving.ensures) first.is)
+
+pub returns-in_default-arrived : goal.returns-in_default-arrived
+returns-in_default-arrived c =
+    let moved = arrived_moved c.args.self.now.forward.wire c.args.n c.in-Ok.arrived c.arrive.new.self.wire (sym c.is_empty.ensures ∙ c.if-is_empty.false) c.in_default-arrived.is c.in-Ok.ensures.arrived in
+    rw moved.moved (deliver_moved (world_of c.args.self.now) c.args.n moved.sent moved.rest (sym c.in_ok-ensure_moving.ensures) moved.first moved.short)
 
 pub receive-requires-clause-right : goal.receive-requires-clause-right
 receive-requires-clause-right c =
-    let first = ap (λ lane. lane.wire.frames) (sym (c.advance.ensures.stays c.if-advance.false)) ∙ c.in-Some.ensures.first.0 in
-    forward_right (world_of c.args.self.now) (sent_of c.in-Some.sent) _ c.requires.reached (sym c.in_ok-ensure_moving.ensures) first
+    let whole = arrived_whole c.args.self.now.forward.wire c.args.n c.in-Ok.arrived c.in-Some.sent c.arrive.new.self.wire c.in-Some.is c.in-Ok.ensures.arrived in
+    forward_right (world_of c.args.self.now) (sent_of c.in-Some.sent) whole.0.rest c.requires.reached (sym c.in_ok-ensure_moving.ensures) whole.0.first
 
 pub receive-requires-clause-answers : goal.receive-requires-clause-answers
 receive-requires-clause-answers c = λ fits.
-    let first = ap (λ lane. lane.wire.frames) (sym (c.advance.ensures.stays c.if-advance.false)) ∙ c.in-Some.ensures.first.0 in
-    answers_good (world_of c.args.self.now) c.args.n (sent_of c.in-Some.sent) _ c.requires (sym c.in_ok-ensure_moving.ensures) first (sym (c.advance.ensures.answer _ _ first) ∙ c.if-advance.false) fits
+    let whole = arrived_whole c.args.self.now.forward.wire c.args.n c.in-Ok.arrived c.in-Some.sent c.arrive.new.self.wire c.in-Some.is c.in-Ok.ensures.arrived in
+    answers_good (world_of c.args.self.now) c.args.n (sent_of c.in-Some.sent) whole.0.rest c.requires (sym c.in_ok-ensure_moving.ensures) whole.0.first whole.0.whole fits
 
-pub returns-in-Ok : goal.returns-in-Ok
-returns-in-Ok c =
-    let first = ap (λ lane. lane.wire.frames) (sym (c.advance.ensures.stays c.if-advance.false)) ∙ c.in-Some.ensures.first.0 in
-    deliver_took (world_of c.args.self.now) c.args.n (sent_of c.in-Some.sent) c.take.new.self.wire c.receive.new.back.wire c.in-Ok.effect c.receive.new.destination (sym c.in_ok-ensure_moving.ensures) first c.take.ensures.held (sym (c.advance.ensures.answer _ _ first) ∙ c.if-advance.false) c.in-Ok.ensures.received c.in-Ok.ensures.answered
+pub returns-in_err-effect : goal.returns-in_err-effect
+returns-in_err-effect c =
+    let p = err_from_is_err_and c.from_residual-in_err-effect.result c.from_residual-in_err-effect.ensures.1 in
+    let whole = arrived_whole c.args.self.now.forward.wire c.args.n c.in-Ok.arrived c.in-Some.sent c.arrive.new.self.wire c.in-Some.is c.in-Ok.ensures.arrived in
+    let right = forward_right (world_of c.args.self.now) (sent_of c.in-Some.sent) whole.0.rest c.requires.reached (sym c.in_ok-ensure_moving.ensures) whole.0.first in
+    rw (p.1, p.2, whole.1, c.in_err-effect.ensures.err.0, c.in_err-effect.ensures.err.1)
+    (deliver_refused (world_of c.args.self.now) c.args.n (sent_of c.in-Some.sent) whole.0.rest _ (sym c.in_ok-ensure_moving.ensures) whole.0.first whole.0.whole right c.in_err-effect.ensures.refused)
 
-pub returns-in-Err : goal.returns-in-Err
-returns-in-Err c =
-    let first = ap (λ lane. lane.wire.frames) (sym (c.advance.ensures.stays c.if-advance.false)) ∙ c.in-Some.ensures.first.0 in
-    let held = c.in-Some.ensures.first.1 ∙ ap (λ lane. lane.wire.held) (c.advance.ensures.stays c.if-advance.false) in
-    let back = put_back_is c.args.self.now.forward.wire c.take.new.self.wire c.put_back.new.self.wire (sent_of c.in-Some.sent) c.in-Some.held first held
-    (c.put_back.ensures.wire ∙ (λ i. record { frames = sent_of (c.in-Err.ensures.refused.0 i) ∷ c.take.new.self.wire.frames; held = c.in-Some.held })) in
-    rw (back, c.in-Err.ensures.err.0, c.in-Err.ensures.err.1)
-    (deliver_handed_back (world_of c.args.self.now) c.args.n (sent_of c.in-Some.sent) _ c.in-Err.refusal (sym c.in_ok-ensure_moving.ensures) first (sym (c.advance.ensures.answer _ _ first) ∙ c.if-advance.false) (forward_right (world_of c.args.self.now) (sent_of c.in-Some.sent) _ c.requires.reached (sym c.in_ok-ensure_moving.ensures) first) c.in-Err.ensures.refused.1)
+pub returns : goal.returns
+returns c =
+    let whole = arrived_whole c.args.self.now.forward.wire c.args.n c.in-Ok.arrived c.in-Some.sent c.arrive.new.self.wire c.in-Some.is c.in-Ok.ensures.arrived in
+    rw (taken_off c.args.self.now.forward.wire c.arrive.new.self.wire c.drop_first.new.self.wire c.args.n c.in-Some.sent whole.0 whole.1 c.drop_first.ensures.first)
+    (deliver_took (world_of c.args.self.now) c.args.n (sent_of c.in-Some.sent) (wire_behind whole.0.rest) c.receive.new.back.wire c.in_ok-effect.effect c.receive.new.destination (sym c.in_ok-ensure_moving.ensures) whole.0.first refl whole.0.whole c.in_ok-effect.ensures.received c.in_ok-effect.ensures.answered)
