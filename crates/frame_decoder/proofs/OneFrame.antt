@@ -1,6 +1,6 @@
 -- Bytes that are the text of one frame.
 use Rattle.std.proofs.Common.{◌≡◌, ℕ, List, [], ◌++◌, length, drop, None, refl, sym, ap, subst, ◌∙◌, arith}
-use Rattle.std.proofs.lemmas.List.{append-nil, drop_all, length-drop}
+use Rattle.std.proofs.lemmas.List.{append-nil, length-drop}
 use Rattle.mig_model.specs.Wire.{Sent}
 use Rattle.frame_texts.specs.Texts.{text}
 use Rattle.frame_texts.proofs.OneText.{same_text}
@@ -42,14 +42,6 @@ text_is_all version other bytes sent front len is stands =
     record {
       same = λ i. record { epoch = t.epoch i; frame = t.frame i };
       all = omega (arith, stands.inside, length-drop len bytes, ap length t.rest);
-    }
-
--- a frame at the front that takes all bytes is their text
-pub front_is_text : (version : Version) (bytes : List ℕ) (sent : Sent) (len : ℕ) → len ≡ length bytes → FrontIs None bytes version sent.epoch sent.frame len → IsTextOf version bytes sent
-front_is_text version bytes sent len all stands =
-    record {
-      whole = stands.whole ∙ ap (λ rest. text (version_of version) sent.epoch sent.frame ++ rest) (drop_all len bytes (omega (arith, all))) ∙ append-nil (text (version_of version) sent.epoch sent.frame);
-      fits = stands.fits;
     }
 
 -- what stands at the front of a text is the whole frame

@@ -1,5 +1,5 @@
 -- Frames on a wire.
-use Rattle.std.proofs.Common.{◌≡◌, ℕ, ◌+◌, ◌-◌, ◌<◌, ◌^◌, true, Option, Some, None, List, [], ◌∷◌, ◌++◌, map, length, ltb, get_or, ap, sym, subst, arith, inl, inr, refl, ◌∙◌, Bor}
+use Rattle.std.proofs.Common.{◌≡◌, ℕ, ◌+◌, ◌-◌, ◌<◌, true, Option, Some, None, List, [], ◌∷◌, ◌++◌, map, length, ltb, get_or, ap, sym, subst, arith, inl, inr, ◌∙◌, Bor}
 use Rattle.std.proofs.lemmas.Bool.{false≢true, le-ltb, lt-ltb}
 use Rattle.std.proofs.lemmas.Option.{same_Some}
 use Rattle.std.specs.Option.{IfSome, option_map}
@@ -8,20 +8,14 @@ use Rattle.mig_model.specs.Bounds.{IsFrame}
 use Rattle.mig_model.specs.Lengths.{text_len}
 use Rattle.mig_model.specs.Wire as machine
 use Rattle.frame_texts.proofs.Encodable.{encodable}
-use Rattle.frame_texts.proofs.LengthBounds.{text_short}
 use Rattle.frame_texts.proofs.TextLemmas.{length-text}
-use Rattle.frame_texts.specs.Texts.{text}
 use Rattle.frame_texts.specs.Texts.Version.{Two}
 use Rattle.frame_decoder.specs.Streams.{IsTextOf, sent_of as decoded}
-use Rattle.frame_decoder.specs.Versions.{AreFewIn}
 use Rattle.frame_decoder.specs.declared.version.Version.TheVariants as versions
 use Rattle.page_stream.specs.Frames.{frame_of}
 use Rattle.page_stream.specs.declared.frame.Frame.{Frame}
-use Rattle.wires.specs.Lanes.{AreFrames, IsBlankOr, IsHeld, IsMoved, IsWhole, IsWritten, sent_of, text_of}
+use Rattle.wires.specs.Lanes.{AreFrames, IsHeld, IsMoved, IsWhole, IsWritten, sent_of}
 use Rattle.wires.specs.declared.sent.Sent.{Sent}
-
-pub text_fits : (sent : Sent) → IsFrame (frame_of sent.frame) → text_len (frame_of sent.frame) < 2 ^ 64
-text_fits sent formed = let short = text_short (frame_of sent.frame) formed in omega arith
 
 -- a frame that is appended
 pub frames_with : (items : List Sent) (sent : Sent) → IsFrame (frame_of sent.frame) → AreFrames items → AreFrames (items ++ sent ∷ [])
@@ -44,10 +38,6 @@ pub first_is : (items : List Sent) (sent : Sent) → true ≡ ltb 0 (length item
 first_is [] sent some is = absurd (false≢true (sym some))
 first_is (first ∷ rest) sent some is = (map sent_of rest, ap (λ s. sent_of s ∷ map sent_of rest) (sym is))
 
-pub first_formed : (items : List Sent) (sent : Sent) → true ≡ ltb 0 (length items) → sent ≡ get_or items 0 sent → AreFrames items → IsFrame (frame_of sent.frame)
-first_formed [] sent some is are = absurd (false≢true (sym some))
-first_formed (first ∷ rest) sent some is are = subst (λ s. IsFrame (frame_of s.frame)) (sym is) are.0
-
 pub first_shown : (items : List Sent) (lent : Option (Bor Sent)) → IsItemAt items 0 lent → IfSome lent (λ sent. (rest : List machine.Sent) × (map sent_of items ≡ sent_of sent.now ∷ rest))
 first_shown items None is = tt
 first_shown items (Some sent) is = first_is items sent.now is.0 is.1
@@ -67,10 +57,6 @@ pub length-text_of : (sent : machine.Sent) (bytes : List ℕ) → IsTextOf versi
 length-text_of sent bytes is =
     let fits = encodable sent.epoch sent.frame is.fits.epoch is.fits.frame.right in
     ap length is.whole ∙ length-text Two sent.epoch sent.frame fits.has fits.whole
-
--- before it is written again
-pub once : (items : List Sent) (sent : Sent) (bytes : List ℕ) (held : ℕ) → HasFirst items sent → IsWritten items bytes held → IsBlankOr (text_of sent) bytes
-once items sent bytes held first is = let written : IsWritten (sent ∷ first.rest) bytes held = subst (λ items. IsWritten items bytes held) first.is is in written.0
 
 -- fewer bytes than it has are with the decoder
 pub held_below : (items : List Sent) (sent : Sent) (held : ℕ) → HasFirst items sent → IsHeld items held → held < text_len (frame_of sent.frame)
@@ -106,15 +92,6 @@ completes items sent read bytes held n first is same enough =
       first = ap (map sent_of) first.is ∙ ap (λ sent. sent ∷ map sent_of first.rest) (sym same);
       whole = ap (λ sent. ltb n (text_len sent.frame - held)) same ∙ le-ltb _ _ (omega (arith, long, enough));
     }
-
--- it is read as the frame that was sent
-few : (frame : machine.Frame) → IsFrame frame → AreFewIn versions.Two frame
-few (machine.Frame.Package areas owed commands) is = (is.0.few, is.1.1)
-few (machine.Frame.Recv state owed) is = is.1
-few frame is = grind arith
-
-pub text_stands : (epoch : ℕ) (frame : machine.Frame) (bytes : List ℕ) → epoch < 2 ^ 32 → IsFrame frame → bytes ≡ text Two epoch frame → IsTextOf versions.Two bytes (record { epoch = epoch; frame = frame })
-text_stands epoch frame bytes small formed is = record { whole = is; fits = record { epoch = small; frame = record { has = refl; right = formed; few = few frame formed } } }
 
 -- what was read
 
