@@ -32,11 +32,19 @@ enum Call {
     Read,
     /// Two ranges of as many pages: the first of each, and the count.
     Move(PageNo, PageNo, u32),
+    /// The same in its two steps.
+    OpenMove(PageNo, PageNo, u32),
+    /// A range is opened, and closed again.
+    OpenClose(PageNo, u32),
+    Limit(PageNo, u32, Mode),
+    /// So many of the last events are given up.
+    TakeBack(u8),
 }
 
 use Call::{
-    Changing, Enable, Event, Features, Forget, HasModes, HasOneMode, IsAnyRegistered, LoadFault,
-    MissingFault, ModeAt, Move, Next, ProtectFault, Read, Register, Unregister,
+    Changing, Enable, Event, Features, Forget, HasModes, HasOneMode, IsAnyRegistered, Limit,
+    LoadFault, MissingFault, ModeAt, Move, Next, OpenClose, OpenMove, ProtectFault, Read, Register,
+    TakeBack, Unregister,
 };
 
 #[derive(Clone, Copy, Debug, PartialEq, Eq)]
@@ -71,6 +79,36 @@ fn seen(object: &Userfault) -> ([Mode; 20], Option<Message>, usize) {
     (modes(object), object.next_message(), object.changing())
 }
 
+/// Moves modes to a range that is opened for them.
+fn open_and_move(
+    rt: &impl Abort,
+    object: &mut Userfault,
+    from: PageNo,
+    to: PageNo,
+    count: u32,
+) -> Result<(), NoMemory> {
+    inside(rt, from, count);
+    inside(rt, to, count);
+    apart(rt, from, to, count);
+    object.open_range(to, count)?;
+    object.move_to_open(from, to, count);
+    Ok(())
+}
+
+/// Opens a range, looks that it is open, and closes it again.
+fn open_and_close(
+    rt: &impl Abort,
+    object: &mut Userfault,
+    first: PageNo,
+    count: u32,
+) -> Result<(), NoMemory> {
+    inside(rt, first, count);
+    let modes = object.open_range(first, count)?;
+    assert!(rt; object.has_modes(first, count, BOTH));
+    object.close_range(first, count, &modes);
+    Ok(())
+}
+
 /// Makes a call that may be refused memory, if it is one.
 fn change(rt: &impl Abort, object: &mut Userfault, call: Call) -> Result<(), NoMemory> {
     match call {
@@ -88,6 +126,8 @@ fn change(rt: &impl Abort, object: &mut Userfault, call: Call) -> Result<(), NoM
             apart(rt, from, to, count);
             object.move_range(from, to, count)
         }
+        OpenMove(from, to, count) => open_and_move(rt, object, from, to, count),
+        OpenClose(first, count) => open_and_close(rt, object, first, count),
         _ => Ok(()),
     }
 }
@@ -117,6 +157,14 @@ fn answered(rt: &impl Abort, object: &mut Userfault, call: Call) -> Answer {
         HasOneMode(first, count) => {
             inside(rt, first, count);
             return Is(object.has_one_mode(first, count));
+        }
+        Limit(first, count, mode) => {
+            inside(rt, first, count);
+            object.limit_range(first, count, mode);
+        }
+        TakeBack(count) => {
+            assert!(rt; usize::from(count) <= object.changing());
+            object.take_back_events(count);
         }
         Changing => return Count(object.changing()),
         Next => return Unread(object.next_message()),
@@ -319,6 +367,40 @@ fn a_moved_range_touches_no_other_page(rt: HostRuntime) -> Result<(), Fail> {
     play(&rt, rt.alloc(), &MOVED)
 }
 
+/// A range that is opened has its own modes again once it is closed. Else it gets others, of which some may be taken away.
+const OPENED: [(Call, Answer); 25] = [
+    (Register(0x3fe, 2, MISSING), Done),
+    (Register(0x401, 1, PROTECT), Done),
+    (Register(0x402, 1, BOTH), Done),
+    (OpenClose(0x3ff, 5), Done),
+    (ModeAt(0x3fe), Has(MISSING)),
+    (ModeAt(0x3ff), Has(MISSING)),
+    (ModeAt(0x400), Has(NONE)),
+    (ModeAt(0x401), Has(PROTECT)),
+    (ModeAt(0x402), Has(BOTH)),
+    (ModeAt(0x403), Has(NONE)),
+    (OpenMove(0x3ff, 0x801, 4), Done),
+    (HasModes(0x3fe, 1, MISSING), Is(true)),
+    (IsAnyRegistered(0x3ff, 4), Is(false)),
+    (ModeAt(0x800), Has(NONE)),
+    (ModeAt(0x801), Has(MISSING)),
+    (ModeAt(0x802), Has(NONE)),
+    (ModeAt(0x803), Has(PROTECT)),
+    (ModeAt(0x804), Has(BOTH)),
+    (Limit(0x803, 2, PROTECT), Done),
+    (ModeAt(0x803), Has(PROTECT)),
+    (ModeAt(0x804), Has(PROTECT)),
+    (Limit(0x801, 3, MISSING), Done),
+    (ModeAt(0x801), Has(MISSING)),
+    (ModeAt(0x803), Has(NONE)),
+    (OpenClose(0x10, 0), Done),
+];
+
+#[test]
+fn ranges_open_and_close(rt: HostRuntime) -> Result<(), Fail> {
+    play(&rt, rt.alloc(), &OPENED)
+}
+
 const REMOVE: Message = Message::Remove {
     start: 0x10000,
     end: 0x11000,
@@ -386,6 +468,28 @@ const FAULTS_FIRST: [(Call, Answer); 16] = [
 #[test]
 fn faults_are_read_before_events(rt: HostRuntime) -> Result<(), Fail> {
     play(&rt, rt.alloc(), &FAULTS_FIRST)
+}
+
+/// The last events are given up, and no fault.
+const TAKEN_BACK: [(Call, Answer); 13] = [
+    (Event(REMOVE, 1), Done),
+    (Event(UNMAP, 3), Done),
+    (MissingFault(0x11000, 2), Done),
+    (TakeBack(1), Done),
+    (Changing, Count(1)),
+    (Read, Got(Some((MISSING_11, 2)))),
+    (TakeBack(0), Done),
+    (Read, Got(Some((REMOVE, 1)))),
+    (Event(UNMAP, 3), Done),
+    (Event(REMOVE, 1), Done),
+    (TakeBack(2), Done),
+    (Changing, Count(0)),
+    (Read, Got(None)),
+];
+
+#[test]
+fn events_are_taken_back(rt: HostRuntime) -> Result<(), Fail> {
+    play(&rt, rt.alloc(), &TAKEN_BACK)
 }
 
 /// A page has one unread fault of each kind, whoever caused it. Once that is read there may be another.

@@ -10,6 +10,8 @@ mod assembled;
 #[cfg(test)]
 mod map_calls;
 #[cfg(test)]
+mod moves;
+#[cfg(test)]
 mod objects;
 #[cfg(test)]
 mod parts;

@@ -88,16 +88,21 @@ fn first_byte(space: &Space, page: PageNo) -> Option<u8> {
     }
 }
 
-/// The first eight pages, the message that is read next and how many events are unread.
-pub fn seen(space: &Space) -> Result<([Page; 8], Option<Message>, usize), Fail> {
+/// The pages that are looked at where memory is refused: those of the tables, in three leaves of each table of pages.
+const LOOKED_AT: [PageNo; 16] = [
+    0x10, 0x11, 0x12, 0x13, 0x14, 0x15, 0x16, 0x17, 0x400, 0x401, 0x402, 0x403, 0x800, 0x801,
+    0x802, 0x803,
+];
+
+/// These pages, the message that is read next and how many events are unread.
+pub fn seen(space: &Space) -> Result<([Page; 16], Option<Message>, usize), Fail> {
     let areas = match space.areas() {
         Ok(areas) => areas,
         Err(NoMemory) => space.areas()?,
     };
-    let mut pages = [NO_PAGE; 8];
-    for i in 0..8u32 {
-        let page = 0x10 + i;
-        pages[i as usize] = (
+    let mut pages = [NO_PAGE; 16];
+    for (place, page) in pages.iter_mut().zip(LOOKED_AT) {
+        *place = (
             areas.prot_at(page),
             first_byte(space, page),
             space.mode_at(page),

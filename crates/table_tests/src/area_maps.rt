@@ -15,6 +15,10 @@ enum Call {
     Unmap(PageNo, u32),
     /// Two ranges of as many pages: the first of each, and the count.
     Move(PageNo, PageNo, u32),
+    /// The areas are taken out with room for a move, and put back.
+    Room,
+    /// Two ranges, each a first page and a count, and the protection of the second.
+    Relocate(PageNo, u32, PageNo, u32, Prot),
     OneProt(PageNo, u32),
     ProtAt(PageNo),
     MappedPages,
@@ -26,7 +30,7 @@ enum Call {
     Pages,
 }
 
-use Call::{Gap, Map, MappedIn, MappedPages, Move, OneProt, Pages, ProtAt, Unmap};
+use Call::{Gap, Map, MappedIn, MappedPages, Move, OneProt, Pages, ProtAt, Relocate, Room, Unmap};
 
 #[derive(Clone, Copy, Debug, PartialEq, Eq)]
 enum Answer {
@@ -71,6 +75,16 @@ fn change(rt: &impl Abort, map: &mut AreaMap, call: Call) -> Result<(), NoMemory
             apart(rt, from, to, count);
             map.move_range(from, to, count)
         }
+        Room => {
+            *map = map.with_room()?.into_areas();
+            Ok(())
+        }
+        Relocate(from, count, to, new_count, prot) => {
+            inside(rt, from, count);
+            inside(rt, to, new_count);
+            *map = map.with_room()?.relocated(from, count, to, new_count, prot);
+            Ok(())
+        }
         _ => Ok(()),
     }
 }
@@ -78,7 +92,7 @@ fn change(rt: &impl Abort, map: &mut AreaMap, call: Call) -> Result<(), NoMemory
 /// What a map answers to a call once it has made it.
 fn answered(rt: &impl Abort, map: &AreaMap, call: Call) -> Answer {
     match call {
-        Map(..) | Unmap(..) | Move(..) => Done,
+        Map(..) | Unmap(..) | Move(..) | Room | Relocate(..) => Done,
         OneProt(first, count) => {
             inside(rt, first, count);
             assert!(rt; count > 0);
@@ -219,6 +233,41 @@ const REPLACED: Steps<15> = [
 #[test]
 fn a_move_replaces_what_it_meets(rt: HostRuntime) -> Result<(), Fail> {
     play(&rt, rt.alloc(), &REPLACED)
+}
+
+const FOUR_READ: Area = Area {
+    first: 0x10,
+    count: 4,
+    prot: Prot::Read,
+};
+
+/// A range goes over another, back to where it joins its neighbours, to a longer one, and to a page of its own.
+const RELOCATED: Steps<20> = [
+    (Room, Done),
+    (MappedPages, Count(0)),
+    (Map(0x10, 4, Prot::Read), Done),
+    (Map(0x14, 2, Prot::ReadWrite), Done),
+    (Map(0x20, 4, Prot::NoAccess), Done),
+    (Room, Done),
+    (MappedPages, Count(10)),
+    (Pages, Picture(*b"rrrrww..........nnnn............")),
+    (Relocate(0x11, 2, 0x21, 2, Prot::Read), Done),
+    (Pages, Picture(*b"r..rww..........nrrn............")),
+    (MappedPages, Count(8)),
+    (Relocate(0x21, 2, 0x11, 2, Prot::Read), Done),
+    (Pages, Picture(*b"rrrrww..........n..n............")),
+    (Call::Area(0), Answer::Area(Some(FOUR_READ))),
+    (Relocate(0x14, 2, 0x28, 4, Prot::ReadWrite), Done),
+    (Pages, Picture(*b"rrrr............n..n....wwww....")),
+    (MappedPages, Count(10)),
+    (Relocate(0x28, 4, 0x2a, 1, Prot::ReadWrite), Done),
+    (Pages, Picture(*b"rrrr............n..n......w.....")),
+    (MappedPages, Count(7)),
+];
+
+#[test]
+fn areas_are_relocated_in_their_room(rt: HostRuntime) -> Result<(), Fail> {
+    play(&rt, rt.alloc(), &RELOCATED)
 }
 
 const COUNTED: Steps<12> = [

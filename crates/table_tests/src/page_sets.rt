@@ -12,15 +12,21 @@ use std::test::Fail;
 enum Call {
     Insert(PageNo),
     InsertRange(PageNo, u32),
+    /// A range is put in this set and in another, which is new.
+    InsertBoth(PageNo, u32),
     Remove(PageNo),
     RemoveRange(PageNo, u32),
     Contains(PageNo),
     Len,
     Next(PageNo, bool),
+    /// The same below an end.
+    NextBefore(PageNo, bool, PageNo),
     Ranges,
 }
 
-use Call::{Contains, Insert, InsertRange, Len, Next, Ranges, Remove, RemoveRange};
+use Call::{
+    Contains, Insert, InsertBoth, InsertRange, Len, Next, NextBefore, Ranges, Remove, RemoveRange,
+};
 
 #[derive(Clone, Copy, Debug, PartialEq, Eq)]
 enum Answer {
@@ -56,6 +62,28 @@ fn first_runs(runs: &[Run]) -> [Option<(PageNo, u32)>; 4] {
     found
 }
 
+/// Puts a range in a set and in a new one, and looks at that.
+fn insert_both(
+    rt: &impl Abort,
+    alloc: Global,
+    set: &mut PageSet,
+    first: PageNo,
+    count: u32,
+) -> Result<(), NoMemory> {
+    inside(rt, first, count);
+    let mut other = PageSet::new(alloc);
+    PageSet::insert_range_in_both(set, &mut other, first, count)?;
+    same(rt, &other.len(), &count, "pages of the other", 0);
+    same(
+        rt,
+        &other.contains(first),
+        &(count > 0),
+        "other",
+        first as usize,
+    );
+    Ok(())
+}
+
 fn make(rt: &impl Abort, alloc: Global, set: &mut PageSet, call: Call) -> Result<Answer, NoMemory> {
     match call {
         Insert(page) => {
@@ -66,6 +94,7 @@ fn make(rt: &impl Abort, alloc: Global, set: &mut PageSet, call: Call) -> Result
             inside(rt, first, count);
             set.insert_range(first, count)?;
         }
+        InsertBoth(first, count) => insert_both(rt, alloc, set, first, count)?,
         Remove(page) => {
             inside(rt, page, 1);
             set.remove(page);
@@ -79,6 +108,10 @@ fn make(rt: &impl Abort, alloc: Global, set: &mut PageSet, call: Call) -> Result
         Next(from, want) => {
             inside(rt, from, 0);
             return Ok(Number(set.next(from, want)));
+        }
+        NextBefore(from, want, end) => {
+            assert!(rt; from <= end && end <= HIGH_PAGE);
+            return Ok(Number(set.next_before(from, want, end)));
         }
         Ranges => return Ok(Runs(first_runs(set.ranges(alloc)?.as_slice()))),
     }
@@ -155,6 +188,31 @@ const WHOLE: [(Call, Answer); 6] = [
 #[test]
 fn a_range_is_put_in_whole(rt: HostRuntime) -> Result<(), Fail> {
     play(&rt, rt.alloc(), &WHOLE)
+}
+
+/// A range for two sets, across a border of chunks, and the pages of one of them below an end.
+const BELOW_AN_END: [(Call, Answer); 13] = [
+    (Insert(0x10), Done),
+    (InsertBoth(0x3fe, 4), Done),
+    (InsertBoth(0x20, 0), Done),
+    (
+        Ranges,
+        Runs([Some((0x10, 1)), Some((0x3fe, 4)), None, None]),
+    ),
+    (NextBefore(0, true, 0x10), Number(0x10)),
+    (NextBefore(0, true, 0x11), Number(0x10)),
+    (NextBefore(0x11, true, 0x3fd), Number(0x3fd)),
+    (NextBefore(0x11, true, 0x10_0000), Number(0x3fe)),
+    (NextBefore(0x3fe, false, 0x401), Number(0x401)),
+    (NextBefore(0x3fe, false, 0x500), Number(0x402)),
+    (NextBefore(0x402, true, 0x10_0000), Number(0x10_0000)),
+    (NextBefore(0x402, false, 0x402), Number(0x402)),
+    (NextBefore(0x10_0000, true, 0x10_0000), Number(0x10_0000)),
+];
+
+#[test]
+fn pages_below_an_end(rt: HostRuntime) -> Result<(), Fail> {
+    play(&rt, rt.alloc(), &BELOW_AN_END)
 }
 
 /// Runs across the borders of words and of chunks.

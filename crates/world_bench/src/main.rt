@@ -27,7 +27,7 @@ fn lacking(_: NoMemory) -> io::Error {
     io::Error::from(io::ErrorKind::OutOfMemory)
 }
 
-/// How long the work for all pages takes, on a world that has something on them.
+/// How long the work for all pages takes, on a new world.
 fn time_on(rt: &HostRuntime, world: &mut World, work: Work, pages: u32) -> io::Result<Duration> {
     migration::prepare(world, work, pages).map_err(refused)?;
     let begun = Instant::now(rt)?;
@@ -37,8 +37,10 @@ fn time_on(rt: &HostRuntime, world: &mut World, work: Work, pages: u32) -> io::R
 
 /// The same on a world of its own.
 fn time_work(rt: &HostRuntime, work: Work, pages: u32) -> io::Result<Duration> {
-    let mut world = migration::stored(rt.alloc(), pages).map_err(refused)?;
-    time_on(rt, &mut world, work, pages)
+    match World::new(rt.alloc(), 1) {
+        Ok(mut world) => time_on(rt, &mut world, work, pages),
+        Err(refusal) => Err(refused(refusal)),
+    }
 }
 
 /// How long it takes to copy so many pages to others.

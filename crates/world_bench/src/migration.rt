@@ -3,7 +3,6 @@
 use mig_base::refusal::Refusal;
 use mig_base::schedule::{Step, Ticket};
 use mig_base::{Command, LOW_PAGE, PAGE_SIZE, PageNo, Place, Prot, page_address};
-use std::alloc::Global;
 use world::World;
 
 /// At least as many bytes as a frame has.
@@ -106,9 +105,10 @@ fn store_all(world: &mut World, pages: u32) -> Result<(), Refusal> {
     Ok(())
 }
 
-/// What comes before the work for the pages, on a world that has something on them.
+/// What comes before the work for the pages: something is put on each, and the migration begins.
 pub fn prepare(world: &mut World, work: Work, pages: u32) -> Result<(), Refusal> {
     let deliver = Step::Deliver { n: WHOLE };
+    store_all(world, pages)?;
     make(world, &[Step::Start, deliver])?;
     match work {
         Work::PreCopy => make(world, &[Step::Round]),
@@ -118,11 +118,4 @@ pub fn prepare(world: &mut World, work: Work, pages: u32) -> Result<(), Refusal>
         }
         Work::PostCopy | Work::Fault => make(world, &[Step::Switch, deliver, deliver]),
     }
-}
-
-/// A world of one processor, with something on so many pages of its source.
-pub fn stored(alloc: Global, pages: u32) -> Result<World, Refusal> {
-    let mut world = World::new(alloc, 1)?;
-    store_all(&mut world, pages)?;
-    Ok(world)
 }

@@ -1,0 +1,178 @@
+//! Times the destination of a migration: the copies that come for the pages that it is owed, their installation, and map calls over
+//! pages that are still owed.
+//!
+//! With no argument it does so with a few pages, and says so. Each argument is a number of pages, `MAX_PAGES` at the most, for which it
+//! prints how many nanoseconds a page took: to come, to be installed, and in a loop that copies as many pages from box to box; and how many a map call
+//! over one page took, to the end of the reading of its messages.
+#![tactic(auto)]
+
+mod copies;
+mod destination;
+
+use destination::{APART, Call, Failed};
+use fault_handler::Destination;
+use mig_base::{LOW_PAGE, MAX_PAGES, NoMemory};
+use std::time::{Duration, Instant};
+use std::{env, io};
+
+/// The pages that come where there is no argument.
+const FEW: u32 = 64;
+
+/// The map calls that are timed, unless there are too few pages for them.
+const CALLS: u32 = 512;
+
+/// How often they are timed.
+const ROUNDS: u32 = 8;
+
+/// What is told of a call that failed: no other reason is to be expected than want of memory.
+fn failed(_: Failed) -> io::Error {
+    io::Error::from(io::ErrorKind::OutOfMemory)
+}
+
+fn lacking(_: NoMemory) -> io::Error {
+    io::Error::from(io::ErrorKind::OutOfMemory)
+}
+
+/// How long the coming of all copies takes.
+fn time_arrival(
+    rt: &HostRuntime,
+    destination: &mut Destination,
+    pages: u32,
+) -> io::Result<Duration> {
+    let begun = Instant::now(rt)?;
+    destination::arrive_all(rt.alloc(), destination, pages).map_err(failed)?;
+    begun.elapsed(rt)
+}
+
+/// How long their installation takes.
+fn time_installs(
+    rt: &HostRuntime,
+    destination: &mut Destination,
+    pages: u32,
+) -> io::Result<Duration> {
+    let begun = Instant::now(rt)?;
+    destination::install_all(destination, pages).map_err(failed)?;
+    begun.elapsed(rt)
+}
+
+/// How long both take on a new destination.
+fn time_both(
+    rt: &HostRuntime,
+    destination: &mut Destination,
+    pages: u32,
+) -> io::Result<(Duration, Duration)> {
+    destination::start(rt.alloc(), destination, pages).map_err(failed)?;
+    let arrival = time_arrival(rt, destination, pages)?;
+    Ok((arrival, time_installs(rt, destination, pages)?))
+}
+
+/// The same on a destination of its own.
+fn time_destination(rt: &HostRuntime, pages: u32) -> io::Result<(Duration, Duration)> {
+    match Destination::new(rt.alloc(), 1) {
+        Ok(mut destination) => time_both(rt, &mut destination, pages),
+        Err(_) => Err(failed(Failed)),
+    }
+}
+
+/// How long so many map calls of a kind take on a new destination, over the last of its pages.
+fn time_calls_of(
+    rt: &HostRuntime,
+    destination: &mut Destination,
+    pages: u32,
+    kind: Call,
+) -> io::Result<Duration> {
+    destination::start(rt.alloc(), destination, pages).map_err(failed)?;
+    let calls = calls_over(pages);
+    let first = LOW_PAGE.wrapping_add(pages.saturating_sub(CALLS * APART));
+    let begun = Instant::now(rt)?;
+    destination::make_all(destination, kind, first, calls).map_err(failed)?;
+    begun.elapsed(rt)
+}
+
+/// The same on a destination of its own.
+fn time_once(rt: &HostRuntime, pages: u32, kind: Call) -> io::Result<Duration> {
+    match Destination::new(rt.alloc(), 1) {
+        Ok(mut destination) => time_calls_of(rt, &mut destination, pages, kind),
+        Err(_) => Err(failed(Failed)),
+    }
+}
+
+/// How many nanoseconds a call takes, in the best of some rounds.
+fn time_calls(rt: &HostRuntime, pages: u32, kind: Call) -> io::Result<u128> {
+    let mut least = time_once(rt, pages, kind)?;
+    for _ in 1..ROUNDS {
+        least = least.min(time_once(rt, pages, kind)?);
+    }
+    Ok(nanoseconds(least, calls_over(pages)))
+}
+
+/// How long the copies from box to box take.
+fn time_copies(rt: &HostRuntime, pages: u32) -> io::Result<Duration> {
+    let boxes = copies::boxes(rt.alloc(), pages).map_err(lacking)?;
+    let begun = Instant::now(rt)?;
+    // They are there until the time is taken.
+    let _copies = copies::copy(rt.alloc(), boxes.as_slice()).map_err(lacking)?;
+    begun.elapsed(rt)
+}
+
+/// Nanoseconds for each of so many.
+fn nanoseconds(time: Duration, count: u32) -> u128 {
+    time.as_nanos() / u128::from(count.max(1))
+}
+
+/// How many map calls are made over the last of so many pages.
+fn calls_over(pages: u32) -> u32 {
+    CALLS.min(pages / APART)
+}
+
+/// Prints what so many pages take.
+fn measure_pages(rt: &HostRuntime, pages: u32) -> io::Result<()> {
+    let (arrival, install) = time_destination(rt, pages)?;
+    let copy = time_copies(rt, pages)?;
+    let arrival = nanoseconds(arrival, pages);
+    let install = nanoseconds(install, pages);
+    let copy = nanoseconds(copy, pages);
+    println!(rt; "{pages} pages: arrival {arrival}, install {install}, copy {copy} ns a page")
+}
+
+/// Prints what map calls take while so many pages are owed.
+fn measure_calls(rt: &HostRuntime, pages: u32) -> io::Result<()> {
+    let dontneed = time_calls(rt, pages, Call::DontNeed)?;
+    let munmap = time_calls(rt, pages, Call::Unmap)?;
+    let mremap = time_calls(rt, pages, Call::Move)?;
+    println!(rt;
+        "{pages} pages owed: madvise {dontneed}, munmap {munmap}, mremap {mremap} ns a call"
+    )
+}
+
+/// Prints both for the number of pages that a word says.
+fn measure_word(rt: &HostRuntime, word: &str) -> io::Result<()> {
+    match word.parse::<u32>() {
+        Ok(pages) if pages <= MAX_PAGES => {
+            measure_pages(rt, pages)?;
+            measure_calls(rt, pages)
+        }
+        _ => Err(io::Error::from(io::ErrorKind::InvalidInput)),
+    }
+}
+
+/// Installs a few pages, makes a few map calls, and says so.
+fn install_few(rt: &HostRuntime) -> io::Result<()> {
+    time_destination(rt, FEW)?;
+    let calls = calls_over(FEW);
+    for kind in [Call::DontNeed, Call::Unmap, Call::Move] {
+        time_once(rt, FEW, kind)?;
+    }
+    println!(rt; "{FEW} pages are installed, and {calls} map calls of each kind made")
+}
+
+fn main(rt: HostRuntime) -> io::Result<()> {
+    let words: Vec<String> = env::args(&rt)?.skip(1).collect(rt.alloc())?;
+    if words.is_empty() {
+        return install_few(&rt);
+    }
+    for word in &words {
+        measure_word(&rt, word)?;
+    }
+    Ok(())
+}
