@@ -123,7 +123,7 @@ pub(crate) fn take_frames(
     let mut frames = Vec::new(alloc);
     let mut rest = bytes;
     let mut version = fixed;
-    'frames: loop {
+    let fault = 'frames: loop {
         match front(alloc, version, rest)? {
             Next::Whole {
                 version: found,
@@ -136,24 +136,14 @@ pub(crate) fn take_frames(
                 rest = after;
                 version = Some(found);
             }
-            Next::Part => {
-                let read = bytes.len() - rest.len();
-                return Ok(Taken {
-                    frames,
-                    read,
-                    fault: None,
-                    version,
-                });
-            }
-            Next::Fault(fault) => {
-                let read = bytes.len() - rest.len();
-                return Ok(Taken {
-                    frames,
-                    read,
-                    fault: Some(fault),
-                    version,
-                });
-            }
+            Next::Part => break 'frames None,
+            Next::Fault(fault) => break 'frames Some(fault),
         }
-    }
+    };
+    Ok(Taken {
+        frames,
+        read: bytes.len() - rest.len(),
+        fault,
+        version,
+    })
 }
