@@ -1,20 +1,15 @@
 -- The count of urgent frames is never at its greatest value, so that no push on the urgent wire is refused for it.
-use Rattle.std.proofs.Common.{◌≡◌, ℕ, ◌+◌, ◌≤◌, ◌⊎◌, refl, ltb, true, false, IsOk, Err, sym, ◌∙◌, arith, ⊎_elim}
-use Rattle.std.proofs.lemmas.Bool.{and_parts, false≢true}
+use Rattle.std.proofs.Common.{◌≡◌, ℕ, ◌+◌, ◌≤◌, ◌⊎◌, refl, true, false, IsOk, Err, sym, ◌∙◌, arith, ⊎_elim}
+use Rattle.std.proofs.lemmas.Bool.{false≢true}
 use Rattle.std.proofs.lemmas.Bool.Decides.{nat_tests}
-use Rattle.std.specs.FinSet.{contains, len}
-use Rattle.mig_base.specs.declared.TheConstants.{HIGH_PAGE}
-use Rattle.mig_base.specs.declared.phase.SourcePhase.{SourcePhase}
+use Rattle.std.specs.FinSet.{len}
 use Rattle.mig_base.specs.declared.refusal.Refusal.{Refusal}
 use Rattle.mig_base.specs.declared.schedule.Step.{Step}
 use Rattle.mig_base.specs.declared.schedule.Ticket.{Ticket}
-use Rattle.mig_base.proofs.SetLemmas.{member_below}
-use Rattle.mig_model.specs.Guest.{is_present}
 use Rattle.mig_model.specs.Log.{present}
 use Rattle.mig_model.specs.Migration.{World, is_used, outcome, unless}
 use Rattle.mig_model.specs.Runs.{Happens}
-use Rattle.mig_model.specs.Source.{Source, is_released, is_stopped, space_of}
-use Rattle.mig_model.specs.Space.{Space}
+use Rattle.mig_model.specs.Source.{Source, is_stopped, space_of}
 use Rattle.mig_model.proofs.Bounded.{memory_bounded}
 use Rattle.mig_model.proofs.EveryStep.{kept-reached}
 use Rattle.mig_model.proofs.UrgentFew.{few-reached}
