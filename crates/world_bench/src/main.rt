@@ -64,7 +64,9 @@ fn measure(rt: &HostRuntime, pages: u32) -> io::Result<()> {
     let postcopy = nanoseconds(time_work(rt, Work::PostCopy, pages)?, pages);
     let fault = nanoseconds(time_work(rt, Work::Fault, pages)?, pages);
     let copy = nanoseconds(time_copies(rt, pages)?, pages);
-    println!(rt; "{pages} pages: pre-copy {precopy}, store {store}, post-copy {postcopy}, fault {fault}, copy {copy} ns a page")
+    println!(rt;
+        "{pages} pages: pre-copy {precopy}, store {store}, post-copy {postcopy}, fault {fault}, copy {copy} ns a page"
+    )
 }
 
 /// Prints what the number of pages takes that a word says.

@@ -74,7 +74,13 @@ fn make_for(world: &mut World, work: Work, page: PageNo) -> Result<(), Refusal> 
         Work::Fault => {
             make(
                 world,
-                &[load(page), Step::DestRead, Step::DestAct, deliver_back, Step::Serve],
+                &[
+                    load(page),
+                    Step::DestRead,
+                    Step::DestAct,
+                    deliver_back,
+                    Step::Serve,
+                ],
             )?;
             make(
                 world,
