@@ -79,7 +79,7 @@ def play(lines):
                 _, status, usage = os.wait4(child.pid, 0)
                 seconds = time.perf_counter() - start
             if status:
-                sys.exit(f"{lines}: status {status}")
+                sys.exit(f"{PROGRAM}: status {os.waitstatus_to_exitcode(status)}")
             best = seconds if best is None else min(best, seconds)
             memory = max(memory, usage.ru_maxrss * 1024)
     return best, memory
