@@ -6,6 +6,7 @@ use guest::Tried;
 use mig_base::effect::Effect;
 use mig_base::{
     Addr, Command, LOW_PAGE, MAX_PAGES, PAGE_BYTES, PAGE_SIZE, PageNo, PageSet, Prot, Reply,
+    page_address,
 };
 use page_stream::{Frame, PageBytes, Waiting};
 use std::alloc::Global;
@@ -34,7 +35,7 @@ pub enum Call {
 impl Call {
     /// The command of a processor.
     fn command(self, page: PageNo) -> Command {
-        let addr = Addr::from(page) * PAGE_SIZE;
+        let addr = page_address(page);
         match self {
             Call::DontNeed => Command::DontNeed {
                 addr,
