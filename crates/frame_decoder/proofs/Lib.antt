@@ -6,6 +6,7 @@ pub mod MapReading
 pub mod CommandReading
 pub mod Bodies
 pub mod BodyLengths
+pub mod FrontTexts
 pub mod Fronts
 pub mod Whole
 pub mod Feeds

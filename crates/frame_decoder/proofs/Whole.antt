@@ -26,11 +26,11 @@ spells_one fixed v p may fits =
     let one : texts v (p ∷ []) ≡ text (version_of v) p.epoch p.frame = flat_map-cons (λ (p : Sent). text (version_of v) p.epoch p.frame) p [] ∙ append-nil (text (version_of v) p.epoch p.frame) in
     record { version = v; whole = sym one; each = (fits, tt); fixes = (may, refl) }
 
-each_join : (v : Version) (xs ys : List Sent) → AllByRecursion (IsSent v) xs → AllByRecursion (IsSent v) ys → AllByRecursion (IsSent v) (xs ++ ys)
+pub each_join : (v : Version) (xs ys : List Sent) → AllByRecursion (IsSent v) xs → AllByRecursion (IsSent v) ys → AllByRecursion (IsSent v) (xs ++ ys)
 each_join v [] ys hx hy = hy
 each_join v (x ∷ xs) ys hx hy = (hx.0, each_join v xs ys hx.1 hy)
 
-texts_join : (v : Version) (xs ys : List Sent) → texts v (xs ++ ys) ≡ texts v xs ++ texts v ys
+pub texts_join : (v : Version) (xs ys : List Sent) → texts v (xs ++ ys) ≡ texts v xs ++ texts v ys
 texts_join v xs ys = flat_map-append (λ (p : Sent). text (version_of v) p.epoch p.frame) xs ys
 
 join_texts : (v : Version) (x y : List ℕ) (fs gs : List Sent) → x ≡ texts v fs → y ≡ texts v gs → x ++ y ≡ texts v (fs ++ gs)

@@ -24,5 +24,5 @@ mod version;
 
 pub use crate::decoder::Decoder;
 pub use crate::fault::StreamFault;
-pub use crate::stream::read_text;
+pub use crate::stream::{front_len, read_text};
 pub use crate::version::Version;

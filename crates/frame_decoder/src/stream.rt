@@ -1,11 +1,14 @@
 //! Frames one after the other.
 
-ghost use Rattle.std.specs.Prelude.{◌≡◌, IfOk, Some};
+ghost use Rattle.std.specs.Prelude.{◌≡◌, ◌++◌, ℕ, List, IfOk, Some};
 ghost use Rattle.std.specs.Option.{IfSome, option_map};
+ghost use Rattle.mig_model.specs.Lengths.{text_len};
 ghost use Rattle.mig_model.specs.Wire.{Sent};
+ghost use Rattle.frame_texts.specs.Texts.{text};
 ghost use Rattle.frame_decoder.specs.Reading.{next_of, next_at};
-ghost use Rattle.frame_decoder.specs.Streams.{IsTextOf, lacks, sent_of, sents};
+ghost use Rattle.frame_decoder.specs.Streams.{IsSent, IsTextOf, lacks, sent_of, sents};
 ghost use Rattle.frame_decoder.specs.Taking.{Stands, IsTaken};
+ghost use Rattle.frame_decoder.specs.Versions.{version_of};
 
 use crate::body::read_body;
 use crate::fault::StreamFault;
@@ -83,6 +86,20 @@ pub fn read_text(alloc: Global, bytes: &[u8]) -> Result<Option<(u32, Frame)>, No
             ..
         } if len == bytes.len() => Ok(Some((epoch, frame))),
         _ => Ok(None),
+    }
+}
+
+/// How many bytes the text has that stands at the front of a stream, as its header says; of bytes that begin with no text, nothing is
+/// told. It takes no memory.
+pub fn front_len(bytes: &[u8]) -> usize
+    ensures { (version : Version) (sent : Sent) (rest : List ℕ) → IsSent version sent → bytes.now ≡ text (version_of version) sent.epoch sent.frame ++ rest → result ≡ text_len sent.frame }
+{
+    if bytes.len() < HEADER_LEN {
+        return bytes.len();
+    }
+    match read_header(None, bytes) {
+        Ok(header) => HEADER_LEN + header.len as usize,
+        Err(_) => bytes.len(),
     }
 }
 

@@ -31,6 +31,7 @@ pub fn encode_into(frame: &Frame, epoch: u32, into: &mut Vec<u8>) -> Result<(), 
     ensures ok { OnOk result (into.new.items ≡ into.old.items ++ text Two epoch (frame_of frame.now)) }
     ensures err { OnErr result (into.new.items ≡ into.old.items) }
     ensures room { vec_len into.old + texts.text_len (frame_of frame.now) ≤ vec_capacity into.old → IsOk result }
+    ensures capacity { vec_capacity into.old ≤ vec_capacity into.new }
 {
     let len = frame.body_len();
     into.try_reserve((HEADER_LEN + len) as usize)?;

@@ -120,3 +120,51 @@ fn each_kind_of_frame(rt: HostRuntime) -> Result<(), Fail> {
     }
     Ok(())
 }
+
+/// The front of a run of 64 pages.
+static LONG_RUN: &[u8] =
+    b"\x02\x08\x00\x00\x00\x00\x00\x01\x00\x04\x00\x08\x00\x00\x00\x10\x00\x00\x00\x40";
+
+/// Sends the frame of these bytes in an epoch.
+fn send_text(
+    rt: &impl Abort,
+    alloc: Global,
+    wire: &mut Wire,
+    epoch: u32,
+    bytes: &[u8],
+) -> Result<(), NoMemory> {
+    let read = read_text(alloc, bytes).or_else(|_| read_text(alloc, bytes))?;
+    if let Some((_, frame)) = read {
+        send(rt, wire, epoch, frame)?;
+    }
+    Ok(())
+}
+
+/// The first frame is taken off, if it was sent in that epoch.
+fn take(rt: &impl Abort, wire: &mut Wire, epoch: u32) -> Result<(), NoMemory> {
+    assert!(rt; !wire.is_empty());
+    let arrived = arrive(wire, u64::MAX)?;
+    assert_eq!(rt; arrived.map(|sent| sent.epoch), Some(epoch));
+    wire.drop_first();
+    Ok(())
+}
+
+/// 30 MB are in flight, more than a wire holds in one piece; frames come in the order in which they were sent, while others are sent.
+#[test]
+fn many_frames_in_flight(rt: HostRuntime) -> Result<(), Fail> {
+    let mut wire = Wire::new(rt.alloc());
+    let bytes = text(rt.alloc(), LONG_RUN, 64 * PAGE_BYTES)
+        .or_else(|_| text(rt.alloc(), LONG_RUN, 64 * PAGE_BYTES))?;
+    for epoch in 0..120 {
+        send_text(&rt, rt.alloc(), &mut wire, epoch, &bytes)?;
+    }
+    for epoch in 0..120 {
+        take(&rt, &mut wire, epoch)?;
+        send_text(&rt, rt.alloc(), &mut wire, 120 + epoch, &bytes)?;
+    }
+    for epoch in 120..240 {
+        take(&rt, &mut wire, epoch)?;
+    }
+    assert!(&rt; wire.is_empty());
+    Ok(())
+}

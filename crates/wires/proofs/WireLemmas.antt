@@ -1,96 +1,87 @@
--- Frames on a wire.
-use Rattle.std.proofs.Common.{◌≡◌, ℕ, ◌+◌, ◌-◌, ◌<◌, true, Option, Some, None, List, [], ◌∷◌, ◌++◌, map, length, ltb, get_or, ap, sym, subst, arith, inl, inr, ◌∙◌, Bor}
-use Rattle.std.proofs.lemmas.Bool.{false≢true, le-ltb, lt-ltb}
+-- The first frame on a wire.
+use Rattle.std.proofs.Common.{◌≡◌, ℕ, ◌+◌, ◌-◌, ◌<◌, ◌≤◌, ltb, Option, Some, None, List, [], ◌∷◌, ◌++◌, length, take, drop, ap, refl, sym, subst, arith, ◌∙◌}
+use Rattle.std.proofs.lemmas.Bool.{le-ltb, lt-ltb}
+use Rattle.std.proofs.lemmas.List.{drop-drop, length-drop}
 use Rattle.std.proofs.lemmas.Option.{same_Some}
-use Rattle.std.specs.Option.{IfSome, option_map}
-use Rattle.std.specs.Slice.{IsItemAt}
-use Rattle.mig_model.specs.Bounds.{IsFrame}
+use Rattle.std.specs.Option.{option_map}
 use Rattle.mig_model.specs.Lengths.{text_len}
 use Rattle.mig_model.specs.Wire as machine
-use Rattle.frame_texts.proofs.Encodable.{encodable}
-use Rattle.frame_texts.proofs.TextLemmas.{length-text}
-use Rattle.frame_texts.specs.Texts.Version.{Two}
-use Rattle.frame_decoder.specs.Streams.{IsTextOf, sent_of as decoded}
+use Rattle.frame_texts.specs.Texts.{text}
+use Rattle.frame_decoder.specs.Streams.{IsSent, IsTextOf, sent_of as decoded}
+use Rattle.frame_decoder.specs.Versions.{version_of}
+use Rattle.frame_decoder.specs.declared.version.Version.{Version}
 use Rattle.frame_decoder.specs.declared.version.Version.TheVariants as versions
-use Rattle.page_stream.specs.Frames.{frame_of}
 use Rattle.page_stream.specs.declared.frame.Frame.{Frame}
-use Rattle.wires.specs.Lanes.{AreFrames, IsHeld, IsMoved, IsWhole, IsWritten, sent_of}
+use Rattle.wires.specs.Chunks.{AreChunks, frames_in, in_flight, in_full, left}
+use Rattle.wires.specs.Lanes.{IsHeld, IsMoved, IsWhole, sent_of}
+use Rattle.wires.specs.declared.chunks.Chunks.{Chunks}
 use Rattle.wires.specs.declared.sent.Sent.{Sent}
+use Rattle.wires.proofs.ChunkLemmas.{AreThose, has_first}
 
--- a frame that is appended
-pub frames_with : (items : List Sent) (sent : Sent) → IsFrame (frame_of sent.frame) → AreFrames items → AreFrames (items ++ sent ∷ [])
-frames_with [] sent formed are = (formed, tt)
-frames_with (first ∷ rest) sent formed are = (are.0, frames_with rest sent formed are.1)
+-- what a call says that tells the length of the text at the front
+abbrev pub IsFrontLen : List ℕ → ℕ → Type 0
+IsFrontLen bytes len = (version : Version) (sent : machine.Sent) (rest : List ℕ) → IsSent version sent → bytes ≡ text (version_of version) sent.epoch sent.frame ++ rest → len ≡ text_len sent.frame
 
-some_bytes : (frame : machine.Frame) → 0 < text_len frame
-some_bytes frame = omega arith
+-- the first frame in flight, where the chunk that is read has a byte left
+pub record HasFront (chunks : Chunks) (bytes : List ℕ) (len : ℕ) : Type 0 where
+  pub sent : machine.Sent
+  pub rest : List machine.Sent
+  pub flight : in_flight chunks ≡ sent ∷ rest
+  pub len_is : len ≡ text_len sent.frame
+  pub inside : len ≤ length bytes
+  pub text_is : IsTextOf versions.Two (take len bytes) sent
+  pub behind : in_flight (record chunks { taken = chunks.taken + len }) ≡ rest
+  pub are : AreChunks (record chunks { taken = chunks.taken + len })
 
-pub held_with : (items : List Sent) (sent : Sent) (held : ℕ) → IsHeld items held → IsHeld (items ++ sent ∷ []) held
-held_with [] sent held none = rw none (some_bytes (frame_of sent.frame))
-held_with (first ∷ rest) sent held is = is
+pub has_front : (chunks : Chunks) (bytes : List ℕ) (len : ℕ) → AreChunks chunks → bytes ≡ left chunks → (bytes ≡ [] → ⊥) → IsFrontLen bytes len → HasFront chunks bytes len
+has_front chunks bytes len are is some tells =
+    let first = has_first (left chunks) are.reading (λ none. some (is ∙ none)) in
+    let long : len ≡ text_len first.sent.frame = tells versions.Two first.sent (drop (text_len first.sent.frame) (left chunks)) first.is (is ∙ first.front) in
+    let others = in_full chunks.full.items ++ frames_in chunks.writing.items in
+    let next : drop (chunks.taken + len) chunks.reading.items ≡ drop (text_len first.sent.frame) (left chunks) = ap (λ (len : ℕ). drop (chunks.taken + len) chunks.reading.items) long ∙ sym (drop-drop (text_len first.sent.frame) chunks.taken chunks.reading.items) in
+    let after : AreThose (drop (chunks.taken + len) chunks.reading.items) first.rest = subst (λ (b : List ℕ). AreThose b first.rest) (sym next) first.behind in
+    let enough : len ≤ length (left chunks) = let inside = first.inside in omega (arith, long, inside) in
+    record {
+      sent = first.sent;
+      rest = first.rest ++ others;
+      flight = ap (λ (frames : List machine.Sent). frames ++ others) first.frames_are;
+      len_is = long;
+      inside = let same = ap length is in omega (arith, same, enough);
+      text_is = subst (λ (b : List ℕ). IsTextOf versions.Two b first.sent) (λ i. take (sym long i) (sym is i)) first.text_is;
+      behind = ap (λ (frames : List machine.Sent). frames ++ others) after.frames_are;
+      are = record {
+        inside = let whole = length-drop chunks.taken chunks.reading.items in let before = are.inside in omega (arith, enough, whole, before);
+        reading = after.are;
+        full = are.full;
+        writing = are.writing;
+      };
+    }
 
-pub written_with : (items : List Sent) (sent : Sent) (bytes : List ℕ) (held : ℕ) → IsHeld items held → IsWritten items bytes held → IsWritten (items ++ sent ∷ []) bytes held
-written_with [] sent bytes held none blank = (inl blank, λ empty. none)
-written_with (first ∷ rest) sent bytes held none is = is
+-- fewer bytes than its text has are with the decoder
+pub held_below : (frames : List machine.Sent) (sent : machine.Sent) (rest : List machine.Sent) (held : ℕ) → frames ≡ sent ∷ rest → IsHeld frames held → held < text_len sent.frame
+held_below frames sent rest held is below = subst (λ (frames : List machine.Sent). IsHeld frames held) is below
 
--- the first frame
-pub first_is : (items : List Sent) (sent : Sent) → true ≡ ltb 0 (length items) → sent ≡ get_or items 0 sent → (rest : List machine.Sent) × (map sent_of items ≡ sent_of sent ∷ rest)
-first_is [] sent some is = absurd (false≢true (sym some))
-first_is (first ∷ rest) sent some is = (map sent_of rest, ap (λ s. sent_of s ∷ map sent_of rest) (sym is))
+pub held_there : (frames : List machine.Sent) (sent : machine.Sent) (rest : List machine.Sent) (held : ℕ) → frames ≡ sent ∷ rest → held < text_len sent.frame → IsHeld frames held
+held_there frames sent rest held is below = subst (λ (frames : List machine.Sent). IsHeld frames held) (sym is) below
 
-pub first_shown : (items : List Sent) (lent : Option (Bor Sent)) → IsItemAt items 0 lent → IfSome lent (λ sent. (rest : List machine.Sent) × (map sent_of items ≡ sent_of sent.now ∷ rest))
-first_shown items None is = tt
-first_shown items (Some sent) is = first_is items sent.now is.0 is.1
-
-pub record HasFirst (items : List Sent) (sent : Sent) : Type 0 where
-  pub rest : List Sent
-  pub is : items ≡ sent ∷ rest
-
-pub has_first : (items : List Sent) (sent : Sent) → true ≡ ltb 0 (length items) → sent ≡ get_or items 0 sent → HasFirst items sent
-has_first [] sent some is = absurd (false≢true (sym some))
-has_first (first ∷ rest) sent some is = record { rest = rest; is = ap (λ first. first ∷ rest) (sym is) }
-
--- The text of the first frame
-
--- it has as many bytes as complete the frame
-pub length-text_of : (sent : machine.Sent) (bytes : List ℕ) → IsTextOf versions.Two bytes sent → length bytes ≡ text_len sent.frame
-length-text_of sent bytes is =
-    let fits = encodable sent.epoch sent.frame is.fits.epoch is.fits.frame.right in
-    ap length is.whole ∙ length-text Two sent.epoch sent.frame fits.has fits.whole
-
--- fewer bytes than it has are with the decoder
-pub held_below : (items : List Sent) (sent : Sent) (held : ℕ) → HasFirst items sent → IsHeld items held → held < text_len (frame_of sent.frame)
-held_below items sent held first is = subst (λ items. IsHeld items held) first.is is
-
--- once it is written, so many bytes of it may be with the decoder
-pub written_now : (items : List Sent) (sent : Sent) (bytes : List ℕ) (held : ℕ) → HasFirst items sent → AreFrames items → IsTextOf versions.Two bytes (sent_of sent) → held < length bytes →
-    AreFrames items × IsHeld items held × IsWritten items bytes held
-written_now items sent bytes held first are is below =
-    let long = length-text_of (sent_of sent) bytes is in (
-      are,
-      subst (λ items. IsHeld items held) (sym first.is) (omega (arith, long, below)),
-      subst (λ items. IsWritten items bytes held) (sym first.is) (inr is.whole, λ none. absurd (omega (arith, below, ap length none))),
-    )
-
--- the decoder has fewer bytes than there are
-pub held_inside : (items : List Sent) (sent : Sent) (bytes : List ℕ) (held : ℕ) → HasFirst items sent → IsHeld items held → IsTextOf versions.Two bytes (sent_of sent) → held < length bytes
-held_inside items sent bytes held first held_is is = let long = length-text_of (sent_of sent) bytes is in let below = held_below items sent held first held_is in omega (arith, long, below)
+-- so none are with it of the next
+pub none_held : (frames : List machine.Sent) → IsHeld frames 0
+none_held [] = refl
+none_held (sent ∷ rest) = omega arith
 
 -- whether so many more complete the frame
-pub moves : (items : List Sent) (sent : Sent) (bytes : List ℕ) (held n : ℕ) → HasFirst items sent → IsTextOf versions.Two bytes (sent_of sent) → n < length bytes - held →
-    IsMoved (record { frames = map sent_of items; held = held }) n (record { frames = map sent_of items; held = held + n })
-moves items sent bytes held n first is less =
-    let long = length-text_of (sent_of sent) bytes is in
-    record { sent = sent_of sent; rest = map sent_of first.rest; first = ap (map sent_of) first.is; short = lt-ltb _ _ (omega (arith, long, less)); moved = λ i. record { frames = map sent_of items; held = held + n } }
+pub moves : (old new : List machine.Sent) (sent : machine.Sent) (rest : List machine.Sent) (held len n : ℕ) → new ≡ old → new ≡ sent ∷ rest → len ≡ text_len sent.frame → n < len - held →
+    IsMoved (record { frames = old; held = held }) n (record { frames = new; held = held + n })
+moves old new sent rest held len n stays first long less =
+    record { sent = sent; rest = rest; first = sym stays ∙ first; short = lt-ltb _ _ (omega (arith, long, less)); moved = λ i. record { frames = stays i; held = held + n } }
 
-pub completes : (items : List Sent) (sent read : Sent) (bytes : List ℕ) (held n : ℕ) → HasFirst items sent → IsTextOf versions.Two bytes (sent_of sent) → sent_of read ≡ sent_of sent → (n < length bytes - held → ⊥) →
-    IsWhole (record { frames = map sent_of items; held = held }) n read
-completes items sent read bytes held n first is same enough =
-    let long = length-text_of (sent_of sent) bytes is in
+pub completes : (old new : List machine.Sent) (sent : machine.Sent) (rest : List machine.Sent) (read : Sent) (held len n : ℕ) → new ≡ old → new ≡ sent ∷ rest → len ≡ text_len sent.frame → sent_of read ≡ sent → (n < len - held → ⊥) →
+    IsWhole (record { frames = old; held = held }) n read
+completes old new sent rest read held len n stays first long same enough =
     record {
-      rest = map sent_of first.rest;
-      first = ap (map sent_of) first.is ∙ ap (λ sent. sent ∷ map sent_of first.rest) (sym same);
-      whole = ap (λ sent. ltb n (text_len sent.frame - held)) same ∙ le-ltb _ _ (omega (arith, long, enough));
+      rest = rest;
+      first = sym stays ∙ first ∙ ap (λ (sent : machine.Sent). sent ∷ rest) (sym same);
+      whole = ap (λ (sent : machine.Sent). ltb n (text_len sent.frame - held)) same ∙ le-ltb _ _ (omega (arith, long, enough));
     }
 
 -- what was read
@@ -101,3 +92,10 @@ none_is_not (Some x) sent is none = cc
 
 pub read_is : (read : Option (ℕ × Frame)) (epoch : ℕ) (frame : Frame) (sent : machine.Sent) → option_map decoded read ≡ Some sent → read ≡ Some (epoch, frame) → sent_of (record { epoch = epoch; frame = frame }) ≡ sent
 read_is read epoch frame sent is found = same_Some (decoded (epoch, frame)) sent (sym (ap (option_map decoded) found) ∙ is)
+
+-- the frames behind the first
+pub same_rest : (frames : List machine.Sent) (first sent : machine.Sent) (rest others : List machine.Sent) → frames ≡ first ∷ rest → frames ≡ sent ∷ others → rest ≡ others
+same_rest frames first sent rest others is so = ap (λ (frames : List machine.Sent). drop 1 frames) (sym is ∙ so)
+
+pub not_none : (frames : List machine.Sent) (first : machine.Sent) (rest : List machine.Sent) → frames ≡ first ∷ rest → frames ≡ [] → ⊥
+not_none frames first rest is none = cc

@@ -1,12 +1,9 @@
 -- A wire of the code: the machine's wire, and the room for more frames.
 use Rattle.std.specs.Prelude.{◌≡◌, ℕ, ◌<◌, ◌⊎◌, true, false, List, [], ◌∷◌, Option, Some, None, Result, Ok, Err}
 use Rattle.mig_base.specs.declared.NoMemory.{NoMemory}
-use Rattle.mig_model.specs.Bounds.{IsFrame}
 use Rattle.mig_model.specs.Lengths.{text_len}
 use Rattle.mig_model.specs.Migration.{is_short}
 use Rattle.mig_model.specs.Wire as machine
-use Rattle.frame_texts.specs.Texts.{text}
-use Rattle.frame_texts.specs.Texts.Version.{Two}
 use Rattle.page_stream.specs.Frames.{frame_of}
 use Rattle.wires.specs.declared.sent.Sent.{Sent}
 
@@ -18,31 +15,13 @@ sent_of sent = record { epoch = sent.epoch; frame = frame_of sent.frame }
 pub record Lane : Type 0 where
   -- the frames in flight, and how many bytes of the first are with the decoder
   pub wire : machine.Wire
-  -- for how many frames there is room
+  -- for how many frames there is room, however long they are
   pub room : ℕ
 
--- the bytes of a frame on the wire: its text of version 2
-abbrev pub text_of : Sent → List ℕ
-text_of sent = text Two sent.epoch (frame_of sent.frame)
-
--- the text stands there, or nothing yet
-abbrev pub IsBlankOr : (text bytes : List ℕ) → Type 0
-IsBlankOr text bytes = (bytes ≡ []) ⊎ (bytes ≡ text)
-
--- each frame is well formed
-abbrev pub AreFrames : List Sent → Type 0
-AreFrames [] = Unit {0}
-AreFrames (sent ∷ rest) = IsFrame (frame_of sent.frame) × AreFrames rest
-
 -- the bytes of the first frame that are with the decoder do not complete it, and there are none where no frame is in flight
-abbrev pub IsHeld : List Sent → ℕ → Type 0
+abbrev pub IsHeld : List machine.Sent → ℕ → Type 0
 IsHeld [] held = held ≡ 0
-IsHeld (sent ∷ rest) held = held < text_len (frame_of sent.frame)
-
--- the text of the first frame stands there where bytes of it have come, and else it may; nothing does where no frame is in flight
-abbrev pub IsWritten : List Sent → (bytes : List ℕ) → (held : ℕ) → Type 0
-IsWritten [] bytes held = bytes ≡ []
-IsWritten (sent ∷ rest) bytes held = IsBlankOr (text_of sent) bytes × (bytes ≡ [] → held ≡ 0)
+IsHeld (sent ∷ rest) held = held < text_len sent.frame
 
 -- so many more bytes do not complete the first frame
 pub record IsMoved (old : machine.Wire) (n : ℕ) (new : machine.Wire) : Type 0 where

@@ -7,6 +7,7 @@
 //! Contracts see the machine's wire (`mig_model`, `specs/Wire.antt`) and the room (`specs/Lanes.antt`).
 #![tactic(auto)]
 
+mod chunks;
 pub mod sent;
 pub mod wire;
 

@@ -1,52 +1,45 @@
 //! The type that callers see.
 
-ghost use Rattle.std.specs.Prelude.{◌≡◌, ◌+◌, ◌<◌, ◌≤◌, ◌∷◌, ◌++◌, [], None, IfOk, OnOk, OnErr, List};
+ghost use Rattle.std.specs.Prelude.{◌≡◌, ◌+◌, ◌<◌, ◌≤◌, ◌∷◌, [], None, IfOk, OnOk, List};
 ghost use Rattle.std.specs.Option.{IfSome};
 ghost use Rattle.mig_base.specs.Tests.{is_empty as is_none_of};
 ghost use Rattle.mig_model.specs.Bounds.{IsFrame};
 ghost use Rattle.mig_model.specs.Wire as machine;
-ghost use Rattle.frame_texts.specs.Texts.{text};
-ghost use Rattle.frame_texts.specs.Texts.Version.{Two};
-ghost use Rattle.frame_decoder.specs.Streams.{IsTextOf};
-ghost use Rattle.frame_decoder.specs.declared.version.Version.TheVariants as versions;
 ghost use Rattle.page_stream.specs.Frames.{frame_of};
-ghost use Rattle.wires.specs.Lanes.{Arrives, IsBlankOr, sent_of};
+ghost use Rattle.wires.specs.Lanes.{Arrives};
 
+use crate::chunks::Chunks;
 use crate::sent::Sent;
-use frame_decoder::read_text;
+use frame_decoder::{front_len, read_text};
 use mig_base::NoMemory;
-use page_stream::{Frame, encode_into};
+use page_stream::Frame;
 use std::alloc::Global;
-use std::collections::VecDeque;
 use std::marker::Model;
 
 /// One way between the nodes: the frames in flight, in the order in which they were sent, and how many bytes of the first are with
 /// the decoder at its end, fewer than its text has. Each frame is well formed.
 ///
-/// Of the first frame the wire holds the bytes, its text of version 2: they are written when the first of them come, and the frame that
-/// arrives is read from them. The room of the bytes is kept from frame to frame. The frames behind it are not written yet.
+/// The wire holds bytes alone, the texts of version 2 of its frames, one after the other. A frame is written as it is sent, and read where
+/// it stands once its last byte has come.
 #[derive(Drop)]
 pub struct Wire {
     alloc: Global,
-    frames: VecDeque<Sent>,
-    /// The text of the first frame, or nothing where it has not been written.
-    text: Vec<u8>,
+    chunks: Chunks,
     held: u64,
 }
 
 impl Model for Wire {
-    ghost use Rattle.std.specs.Prelude.{map, ◌-◌};
-    ghost use Rattle.std.specs.VecDeque.{deque_capacity, deque_len};
-    ghost use Rattle.wires.specs.Lanes.{AreFrames, IsHeld, IsWritten, Lane, sent_of};
+    ghost use Rattle.wires.specs.Chunks.{AreChunks, in_flight, room};
+    ghost use Rattle.wires.specs.Lanes.{IsHeld, Lane};
     ghost use Rattle.wires.specs.Codes.{coded_lane};
 
     ghost Value = { Lane };
 
     ghost coded = { coded_lane };
 
-    ghost view = { λ w. record { wire = record { frames = map sent_of w.frames.items; held = w.held }; room = deque_capacity w.frames - deque_len w.frames } };
+    ghost view = { λ w. record { wire = record { frames = in_flight w.chunks; held = w.held }; room = room w.chunks } };
 
-    ghost invariant = { λ w. AreFrames w.frames.items × IsHeld w.frames.items w.held × IsWritten w.frames.items w.text.items w.held };
+    ghost invariant = { λ w. AreChunks w.chunks × IsHeld (in_flight w.chunks) w.held };
 }
 
 impl Wire {
@@ -56,8 +49,7 @@ impl Wire {
     {
         Wire {
             alloc,
-            frames: VecDeque::new(alloc),
-            text: Vec::new(alloc),
+            chunks: Chunks::new(alloc),
             held: 0,
         }
     }
@@ -66,58 +58,47 @@ impl Wire {
     pub fn is_empty(&self) -> bool
         ensures { result ≡ is_none_of self.now.wire.frames }
     {
-        self.frames.is_empty()
+        self.chunks.is_empty()
     }
 
-    /// The first frame in flight.
-    pub fn first(&self) -> Option<&Sent>
-        ensures none { result ≡ None → self.now.wire.frames ≡ [] }
-        ensures first { IfSome result (λ sent. (rest : List machine.Sent) × (self.now.wire.frames ≡ sent_of sent.now ∷ rest)) }
-        ensures frame { IfSome result (λ sent. IsFrame (frame_of sent.now.frame)) }
-    {
-        self.frames.front()
-    }
-
-    /// Makes room for so many frames. `NoMemory` where the room was refused; what is in flight stays either way.
+    /// Makes room for so many frames, however long they are. `NoMemory` where the room was refused; what is in flight stays either way.
     pub fn reserve(&mut self, count: usize) -> Result<(), NoMemory>
         ensures stays { self.new.wire ≡ self.old.wire }
         ensures room { OnOk result (count ≤ self.new.room) }
     {
-        self.frames.reserve(count)?;
-        Ok(())
+        self.chunks.reserve(self.alloc, count)
     }
 
-    /// Appends a frame, for which there is room.
+    /// Sends a frame, for which there is room: its bytes are written at the end.
     pub fn push(&mut self, epoch: u32, frame: Frame)
         requires well_formed { IsFrame (frame_of frame) }
         requires room { 0 < self.old.room }
         ensures wire { self.new.wire ≡ machine.wire_with self.old.wire epoch (frame_of frame ∷ []) }
-        ensures room { self.new.room + 1 ≡ self.old.room }
+        ensures room { self.old.room ≤ self.new.room + 1 }
     {
-        let Ok(()) = self.frames.push_back(Sent { epoch, frame }) else {
-            unreachable!();
-        };
+        self.chunks.write(epoch, &frame);
     }
 
     /// `n` more bytes of the first frame come. Unless they complete it, the decoder has them, and the answer is `None`. Else it is the
     /// frame, read from its bytes, and the wire is as before until [`drop_first`](Wire::drop_first): whoever cannot take the frame lets
     /// it come again. Where nothing is in flight the answer is `None`.
     ///
-    /// `NoMemory` is for the bytes, which are written once for a frame, or for the frame that is read, and leaves the wire as it was.
+    /// `NoMemory` is for the frame that is read, and leaves the wire as it was.
     pub fn arrive(&mut self, n: u64) -> Result<Option<Sent>, NoMemory>
         ensures arrived { Arrives self.old.wire n result self.new.wire }
         ensures frame { IfOk result (λ read. IfSome read (λ sent. IsFrame (frame_of sent.frame))) }
-        ensures room { self.new.room ≡ self.old.room }
     {
-        let Some(sent) = self.frames.front() else {
+        self.chunks.turn();
+        let left = self.chunks.left();
+        if left.is_empty() {
             return Ok(None);
-        };
-        write_once(&sent.frame, sent.epoch, &mut self.text)?;
-        let text: &[u8] = &self.text;
-        if n < text.len() as u64 - self.held {
+        }
+        let len = front_len(left);
+        if n < len as u64 - self.held {
             self.held += n;
             return Ok(None);
         }
+        let (text, _) = left.split_at(len);
         match read_text(self.alloc, text)? {
             Some((epoch, frame)) => Ok(Some(Sent { epoch, frame })),
             None => unreachable!(),
@@ -127,34 +108,22 @@ impl Wire {
     /// Takes the first frame, and all bytes of it that have come, off the wire.
     pub fn drop_first(&mut self)
         ensures first { (sent : machine.Sent) (rest : List machine.Sent) → self.old.wire.frames ≡ sent ∷ rest → self.new.wire ≡ machine.wire_behind rest }
-        ensures none { self.old.wire.frames ≡ [] → self.new ≡ self.old }
-        ensures room { self.old.room ≤ self.new.room }
+        ensures none { self.old.wire.frames ≡ [] → self.new.wire ≡ self.old.wire }
     {
-        let _ = self.frames.pop_front();
-        self.text.clear();
+        self.chunks.turn();
+        let left = self.chunks.left();
+        if left.is_empty() {
+            return;
+        }
+        self.chunks.taken += front_len(left);
         self.held = 0;
     }
 
-    /// Loses all that is in flight: the channel breaks. Its room stays.
+    /// Loses all that is in flight: the channel breaks.
     pub fn clear(&mut self)
         ensures wire { self.new.wire ≡ machine.empty_wire }
-        ensures room { self.old.room ≤ self.new.room }
     {
-        self.frames.clear();
-        self.text.clear();
+        self.chunks.clear();
         self.held = 0;
     }
-}
-
-/// Writes the text of a frame, unless it stands there. `NoMemory` leaves the bytes as they were.
-fn write_once(frame: &Frame, epoch: u32, bytes: &mut Vec<u8>) -> Result<(), NoMemory>
-    requires right { IsFrame (frame_of frame.now) }
-    requires once { IsBlankOr (text Two epoch (frame_of frame.now)) bytes.old.items }
-    ensures ok { OnOk result (IsTextOf versions.Two bytes.new.items (record { epoch = epoch; frame = frame_of frame.now })) }
-    ensures err { OnErr result (bytes.new.items ≡ bytes.old.items) }
-{
-    if !bytes.is_empty() {
-        return Ok(());
-    }
-    encode_into(frame, epoch, bytes)
 }

@@ -128,7 +128,7 @@ pub(crate) fn push_all(wire: &mut Wire, epoch: u32, mut frames: Vec<Frame>)
     requires good { AreFrames (frames_of frames.items) }
     requires room { length frames.items ≤ wire.old.room }
     ensures wire { wire.new.wire ≡ machine.wire_with wire.old.wire epoch (frames_of frames.items) }
-    ensures room { wire.new.room + length frames.items ≡ wire.old.room }
+    ensures room { wire.old.room ≤ wire.new.room + length frames.items }
 {
     frames.reverse();
     while let Some(frame) = frames.pop() {

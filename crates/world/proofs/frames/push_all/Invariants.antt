@@ -1,4 +1,4 @@
-use Rattle.std.proofs.Common.{◌≡◌, ◌+◌, length, vec_len}
+use Rattle.std.proofs.Common.{◌≡◌, ◌+◌, ◌≤◌, length, vec_len}
 use Rattle.std.specs.Prelude.{reverse}
 use Rattle.mig_model.specs.Wire.{wire_with}
 use Rattle.recovery.specs.Breaks.{frames_of}
@@ -9,7 +9,7 @@ abbrev pub invariant-loop-frame : goal.invariant-loop-frame
 invariant-loop-frame l = record {
   sent : wire_with l.wire.wire l.epoch (frames_of (reverse l.frames.items)) ≡ wire_with l.fn.wire.wire l.epoch (frames_of l.fn.frames.items);
   good : AreFrames (frames_of (reverse l.frames.items));
-  room : l.wire.room + length l.fn.frames.items ≡ l.fn.wire.room + length l.frames.items;
+  room : l.fn.wire.room + length l.frames.items ≤ l.wire.room + length l.fn.frames.items;
 }
 
 abbrev pub decreases-loop-frame : goal.decreases-loop-frame

@@ -1,41 +1,48 @@
-use Rattle.std.proofs.Common.{arith, inr, refl}
+use Rattle.std.proofs.Common.{◌+◌, ap, arith, inr, length, sym, ◌∙◌}
+use Rattle.std.proofs.lemmas.Bool.{eqb-false}
 use Rattle.frame_decoder.specs.Streams.{IsTextOf}
 use Rattle.frame_decoder.specs.declared.version.Version.TheVariants as versions
-use Rattle.wires.specs.Lanes.{sent_of}
-use Rattle.wires.proofs.WireLemmas.{completes, has_first, held_inside, moves, none_is_not, read_is, written_now}
+use Rattle.wires.specs.Chunks.{in_flight}
+use Rattle.wires.proofs.WireLemmas.{completes, has_front, held_below, held_there, moves, none_is_not, read_is}
 use Rattle.wires.proofs.wire.Wire.arrive.Goals as goal
 
-pub overflow_sub-text : goal.overflow_sub-text
-overflow_sub-text c =
-    let first = has_first c.self.inside.frames.items c.in-Some.sent.now c.in-Some.ensures.item.0 c.in-Some.ensures.item.1 in
-    let inside = held_inside c.self.inside.frames.items c.in-Some.sent.now c.write_once.new.bytes.items c.self.inside.held first c.self.invariant.1 c.in_ok-write_once.ensures.ok in
-    rw c.deref-text.ensures.value (omega (arith, inside))
+pub overflow_sub-len : goal.overflow_sub-len
+overflow_sub-len c =
+    let front = has_front c.turn.new.self c.left-left.result.now c.front_len-len.result c.turn.ensures.chunks c.left-left.ensures (λ none. eqb-false _ _ (sym c.is_empty.ensures ∙ c.if-is_empty.false) (ap length none)) c.front_len-len.ensures in
+    let below = held_below (in_flight c.self.inside.chunks) front.sent front.rest c.self.inside.held (sym c.turn.ensures.stays ∙ front.flight) c.self.invariant.1 in
+    let long = front.len_is in
+    omega (arith, below, long)
 
-pub invariant_of-self-then-n-text : goal.invariant_of-self-then-n-text
-invariant_of-self-then-n-text c =
-    let first = has_first c.self.inside.frames.items c.in-Some.sent.now c.in-Some.ensures.item.0 c.in-Some.ensures.item.1 in
-    let less = c.if-n-text.true in
-    written_now c.self.inside.frames.items c.in-Some.sent.now c.write_once.new.bytes.items _ first c.self.invariant.0 c.in_ok-write_once.ensures.ok (rw (← c.deref-text.ensures.value) (omega (arith, less)))
+pub invariant_of-self-then-n-len : goal.invariant_of-self-then-n-len
+invariant_of-self-then-n-len c =
+    let front = has_front c.turn.new.self c.left-left.result.now c.front_len-len.result c.turn.ensures.chunks c.left-left.ensures (λ none. eqb-false _ _ (sym c.is_empty.ensures ∙ c.if-is_empty.false) (ap length none)) c.front_len-len.ensures in
+    let long = front.len_is in
+    (c.turn.ensures.chunks, held_there (in_flight c.turn.new.self) front.sent front.rest (c.self.inside.held + c.args.n) front.flight (omega (arith, long, c.if-n-len.true)))
 
-pub returns-then-n-text-clause-arrived : goal.returns-then-n-text-clause-arrived
-returns-then-n-text-clause-arrived c =
-    let first = has_first c.self.inside.frames.items c.in-Some.sent.now c.in-Some.ensures.item.0 c.in-Some.ensures.item.1 in
-    rw (← c.self.view_is) (inr (moves c.self.inside.frames.items c.in-Some.sent.now c.write_once.new.bytes.items c.self.inside.held c.args.n first c.in_ok-write_once.ensures.ok (rw (← c.deref-text.ensures.value) c.if-n-text.true)))
+pub returns-then-n-len-clause-arrived : goal.returns-then-n-len-clause-arrived
+returns-then-n-len-clause-arrived c =
+    let front = has_front c.turn.new.self c.left-left.result.now c.front_len-len.result c.turn.ensures.chunks c.left-left.ensures (λ none. eqb-false _ _ (sym c.is_empty.ensures ∙ c.if-is_empty.false) (ap length none)) c.front_len-len.ensures in
+    rw (← c.self.view_is) (inr (moves (in_flight c.self.inside.chunks) (in_flight c.turn.new.self) front.sent front.rest c.self.inside.held c.front_len-len.result c.args.n c.turn.ensures.stays front.flight front.len_is c.if-n-len.true))
+
+pub split_at-requires : goal.split_at-requires
+split_at-requires c =
+    let front = has_front c.turn.new.self c.left-left.result.now c.front_len-len.result c.turn.ensures.chunks c.left-left.ensures (λ none. eqb-false _ _ (sym c.is_empty.ensures ∙ c.if-is_empty.false) (ap length none)) c.front_len-len.ensures in
+    front.inside
 
 pub unreachable-requires : goal.unreachable-requires
 unreachable-requires c =
-    let stands : IsTextOf versions.Two c.deref-text.result.now (sent_of c.in-Some.sent.now) = rw c.deref-text.ensures.value c.in_ok-write_once.ensures.ok in
-    let read = c.in_ok-epoch.ensures.whole versions.Two (sent_of c.in-Some.sent.now) stands in
-    none_is_not c.in_ok-epoch.field-0 (sent_of c.in-Some.sent.now) read c.in-None.is
+    let front = has_front c.turn.new.self c.left-left.result.now c.front_len-len.result c.turn.ensures.chunks c.left-left.ensures (λ none. eqb-false _ _ (sym c.is_empty.ensures ∙ c.if-is_empty.false) (ap length none)) c.front_len-len.ensures in
+    let stands : IsTextOf versions.Two c.split_at.result.0.now front.sent = rw c.split_at.ensures.front front.text_is in
+    none_is_not c.in_ok-epoch.field-0 front.sent (c.in_ok-epoch.ensures.whole versions.Two front.sent stands) c.in-None.is
 
 pub returns-clause-arrived : goal.returns-clause-arrived
 returns-clause-arrived c =
-    let first = has_first c.self.inside.frames.items c.in-Some.sent.now c.in-Some.ensures.item.0 c.in-Some.ensures.item.1 in
-    let stands : IsTextOf versions.Two c.deref-text.result.now (sent_of c.in-Some.sent.now) = rw c.deref-text.ensures.value c.in_ok-write_once.ensures.ok in
-    let read = c.in_ok-epoch.ensures.whole versions.Two (sent_of c.in-Some.sent.now) stands in
-    let same = read_is c.in_ok-epoch.field-0 c.in-Some-2.epoch c.in-Some-2.frame (sent_of c.in-Some.sent.now) read c.in-Some-2.is in
-    let enough = c.if-n-text.false in
+    let front = has_front c.turn.new.self c.left-left.result.now c.front_len-len.result c.turn.ensures.chunks c.left-left.ensures (λ none. eqb-false _ _ (sym c.is_empty.ensures ∙ c.if-is_empty.false) (ap length none)) c.front_len-len.ensures in
+    let stands : IsTextOf versions.Two c.split_at.result.0.now front.sent = rw c.split_at.ensures.front front.text_is in
+    let read = c.in_ok-epoch.ensures.whole versions.Two front.sent stands in
+    let same = read_is c.in_ok-epoch.field-0 c.in-Some.epoch c.in-Some.frame front.sent read c.in-Some.is in
+    let enough = c.if-n-len.false in
     rw (← c.self.view_is) (
-      completes c.self.inside.frames.items c.in-Some.sent.now _ c.deref-text.result.now c.self.inside.held c.args.n first stands same (λ less. omega (arith, enough, less)),
-      refl,
+      completes (in_flight c.self.inside.chunks) (in_flight c.turn.new.self) front.sent front.rest _ c.self.inside.held c.front_len-len.result c.args.n c.turn.ensures.stays front.flight front.len_is same (λ less. omega (arith, enough, less)),
+      (λ i. record { frames = c.turn.ensures.stays i; held = c.self.inside.held }),
     )

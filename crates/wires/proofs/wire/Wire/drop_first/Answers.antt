@@ -1,0 +1,28 @@
+use Rattle.std.proofs.Common.{ap, arith, length, sym, ◌∙◌, ◌∷◌, ◌≡◌}
+use Rattle.std.proofs.lemmas.Bool.{eqb-false}
+use Rattle.wires.specs.Chunks.{in_flight}
+use Rattle.wires.proofs.WireLemmas.{has_front, none_held, not_none, same_rest}
+use Rattle.wires.proofs.wire.Wire.drop_first.Goals as goal
+
+pub overflow_add-self : goal.overflow_add-self
+overflow_add-self c =
+    let front = has_front c.turn.new.self c.left-left.result.now c.front_len.result c.turn.ensures.chunks c.left-left.ensures (λ none. eqb-false _ _ (sym c.is_empty.ensures ∙ c.if-is_empty.false) (ap length none)) c.front_len.ensures in
+    let inside = front.are.inside in
+    omega (arith, inside, c.turn.new.self.reading.small)
+
+pub invariant_of-self-2 : goal.invariant_of-self-2
+invariant_of-self-2 c =
+    let front = has_front c.turn.new.self c.left-left.result.now c.front_len.result c.turn.ensures.chunks c.left-left.ensures (λ none. eqb-false _ _ (sym c.is_empty.ensures ∙ c.if-is_empty.false) (ap length none)) c.front_len.ensures in
+    (front.are, none_held _)
+
+pub returns-clause-first : goal.returns-clause-first
+returns-clause-first c = λ sent rest is.
+    let front = has_front c.turn.new.self c.left-left.result.now c.front_len.result c.turn.ensures.chunks c.left-left.ensures (λ none. eqb-false _ _ (sym c.is_empty.ensures ∙ c.if-is_empty.false) (ap length none)) c.front_len.ensures in
+    let old : in_flight c.turn.new.self ≡ sent ∷ rest = c.turn.ensures.stays ∙ ap (λ w. w.wire.frames) c.self.view_is ∙ is in
+    let left = front.behind ∙ same_rest (in_flight c.turn.new.self) front.sent sent front.rest rest front.flight old in
+    λ i. record { frames = left i; held = 0 }
+
+pub returns-clause-none : goal.returns-clause-none
+returns-clause-none c = λ none.
+    let front = has_front c.turn.new.self c.left-left.result.now c.front_len.result c.turn.ensures.chunks c.left-left.ensures (λ none. eqb-false _ _ (sym c.is_empty.ensures ∙ c.if-is_empty.false) (ap length none)) c.front_len.ensures in
+    absurd (not_none (in_flight c.turn.new.self) front.sent front.rest front.flight (c.turn.ensures.stays ∙ ap (λ w. w.wire.frames) c.self.view_is ∙ none))

@@ -1,0 +1,51 @@
+-- The bytes in flight, as frames.
+use Rattle.std.specs.Prelude.{◌≡◌, ℕ, zero, suc, ◌-◌, ◌/◌, ◌≤◌, List, [], ◌∷◌, ◌++◌, length, drop, Some}
+use Rattle.std.specs.Global.{Vec}
+use Rattle.std.specs.List.{flat_map, AllByRecursion}
+use Rattle.std.specs.Vec.{vec_capacity, vec_len}
+use Rattle.mig_model.specs.Wire.{Sent}
+use Rattle.frame_decoder.specs.Reading.{Front, next_at}
+use Rattle.frame_decoder.specs.Streams.{IsSent, texts}
+use Rattle.frame_decoder.specs.declared.version.Version.TheVariants as versions
+use Rattle.wires.specs.declared.chunks.Chunks.{Chunks}
+use Rattle.wires.specs.declared.chunks.TheConstants.{LONGEST_TEXT}
+
+-- the frames whose texts of version 2 stand at the front of the bytes, one after the other; so many at most
+unfoldable pub frames_from : (most : ℕ) → List ℕ → List Sent
+frames_from zero bytes = []
+frames_from (suc most) bytes = elim (next_at (Some versions.Two) bytes) [ Front.Whole version epoch frame len ↦ record { epoch = epoch; frame = frame } ∷ frames_from most (drop len bytes) | Front.Part ↦ [] | Front.Fault fault ↦ [] ]
+
+abbrev pub frames_in : List ℕ → List Sent
+frames_in bytes = frames_from (length bytes) bytes
+
+-- the bytes are the texts of these frames, and nothing more
+pub record AreTexts (bytes : List ℕ) : Type 0 where
+  pub whole : bytes ≡ texts versions.Two (frames_in bytes)
+  pub each : AllByRecursion (IsSent versions.Two) (frames_in bytes)
+
+-- a chunk behind the first has a frame
+pub record IsFull (chunk : Vec ℕ) : Type 0 where
+  pub texts : AreTexts chunk.items
+  pub some : chunk.items ≡ [] → ⊥
+
+-- the bytes of the first chunk that were not taken
+abbrev pub left : Chunks → List ℕ
+left chunks = drop chunks.taken chunks.reading.items
+
+abbrev pub in_full : List (Vec ℕ) → List Sent
+in_full chunks = flat_map (λ (chunk : Vec ℕ). frames_in chunk.items) chunks
+
+-- the frames in flight
+abbrev pub in_flight : Chunks → List Sent
+in_flight chunks = frames_in (left chunks) ++ (in_full chunks.full.items ++ frames_in chunks.writing.items)
+
+-- for how many frames there is room, however long they are
+abbrev pub room : Chunks → ℕ
+room chunks = (vec_capacity chunks.writing - vec_len chunks.writing) / LONGEST_TEXT
+
+-- every chunk has whole texts
+pub record AreChunks (chunks : Chunks) : Type 0 where
+  pub inside : chunks.taken ≤ length chunks.reading.items
+  pub reading : AreTexts (left chunks)
+  pub full : AllByRecursion IsFull chunks.full.items
+  pub writing : AreTexts chunks.writing.items

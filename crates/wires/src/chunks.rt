@@ -1,0 +1,142 @@
+//! The bytes in flight.
+
+ghost use Rattle.std.specs.Prelude.{◌≡◌, ◌+◌, ◌≤◌, ◌<◌, ◌++◌, ◌∷◌, [], drop, length, OnOk};
+ghost use Rattle.mig_base.specs.Tests.{is_empty as is_none_of};
+ghost use Rattle.mig_model.specs.Bounds.{IsFrame};
+ghost use Rattle.frame_decoder.specs.Streams.{sent_of};
+ghost use Rattle.page_stream.specs.Frames.{frame_of};
+ghost use Rattle.wires.specs.Chunks.{AreChunks, in_flight, left, room};
+
+use mig_base::{MAX_CPUS, MAX_PAGES, NoMemory};
+use page_stream::{Frame, encode_into};
+use std::alloc::Global;
+use std::collections::VecDeque;
+
+/// The bytes of the longest text, that of a Package: a header, two counts and a number of processors, an area or an owed page for
+/// each page that may be mapped, and a store for each processor.
+const LONGEST_TEXT: usize = 12 + 9 + 17 * MAX_PAGES as usize + 18 * MAX_CPUS as usize;
+
+/// The least capacity of a chunk, in bytes. The kernel gives memory for what is written of it alone.
+const CHUNK_LEN: usize = 4 * LONGEST_TEXT;
+
+/// The bytes in flight, in chunks. Each has whole texts, so that a frame is read where it was written, and no byte is moved.
+#[derive(Drop)]
+pub(crate) struct Chunks {
+    /// The chunk that is read, and how many of its bytes were taken.
+    pub(crate) reading: Vec<u8>,
+    pub(crate) taken: usize,
+    /// The chunks behind it that have no room.
+    pub(crate) full: VecDeque<Vec<u8>>,
+    /// The chunk that is written.
+    pub(crate) writing: Vec<u8>,
+}
+
+impl Chunks {
+    /// No bytes. It takes no memory.
+    pub(crate) fn new(alloc: Global) -> Chunks
+        ensures chunks { AreChunks result }
+        ensures none { in_flight result ≡ [] }
+    {
+        Chunks {
+            reading: Vec::new(alloc),
+            taken: 0,
+            full: VecDeque::new(alloc),
+            writing: Vec::new(alloc),
+        }
+    }
+
+    /// Whether there are none.
+    pub(crate) fn is_empty(&self) -> bool
+        requires { AreChunks self.now }
+        ensures { result ≡ is_none_of (in_flight self.now) }
+    {
+        if self.taken < self.reading.len() {
+            return false;
+        }
+        if self.full.is_empty() {
+            return self.writing.is_empty();
+        }
+        false
+    }
+
+    /// Makes room for so many frames, however long they are.
+    pub(crate) fn reserve(&mut self, alloc: Global, count: usize) -> Result<(), NoMemory>
+        requires { AreChunks self.old }
+        ensures chunks { AreChunks self.new }
+        ensures stays { in_flight self.new ≡ in_flight self.old }
+        ensures room { OnOk result (count ≤ room self.new) }
+    {
+        let Some(wanted) = count.checked_mul(LONGEST_TEXT) else {
+            return Err(NoMemory);
+        };
+        if wanted <= self.writing.capacity() - self.writing.len() {
+            return Ok(());
+        }
+        let mut chunk = Vec::with_capacity(alloc, wanted.max(CHUNK_LEN))?;
+        if self.writing.is_empty() {
+            self.writing = chunk;
+            return Ok(());
+        }
+        self.full.reserve(1)?;
+        std::mem::swap(&mut self.writing, &mut chunk);
+        let Ok(()) = self.full.push_back(chunk) else {
+            unreachable!();
+        };
+        Ok(())
+    }
+
+    /// Writes the text of a frame, for which there is room.
+    pub(crate) fn write(&mut self, epoch: u32, frame: &Frame)
+        requires chunks { AreChunks self.old }
+        requires well_formed { IsFrame (frame_of frame.now) }
+        requires room { 0 < room self.old }
+        ensures chunks { AreChunks self.new }
+        ensures written { in_flight self.new ≡ in_flight self.old ++ record { epoch = epoch; frame = frame_of frame.now } ∷ [] }
+        ensures room { room self.old ≤ room self.new + 1 }
+    {
+        let Ok(()) = encode_into(frame, epoch, &mut self.writing) else {
+            unreachable!();
+        };
+    }
+
+    /// Goes on to the next chunk where all bytes of the one that is read were taken. The first frame in flight is then in it.
+    pub(crate) fn turn(&mut self)
+        requires { AreChunks self.old }
+        ensures chunks { AreChunks self.new }
+        ensures stays { in_flight self.new ≡ in_flight self.old }
+        ensures first { left self.new ≡ [] → in_flight self.new ≡ [] }
+    {
+        if self.taken < self.reading.len() {
+            return;
+        }
+        self.taken = 0;
+        match self.full.pop_front() {
+            Some(chunk) => self.reading = chunk,
+            None => {
+                self.reading.clear();
+                std::mem::swap(&mut self.reading, &mut self.writing);
+            }
+        }
+    }
+
+    /// The bytes that are left of the chunk that is read.
+    pub(crate) fn left(&self) -> &[u8]
+        requires { AreChunks self.now }
+        ensures { result.now ≡ left self.now }
+    {
+        let (_, left) = self.reading.split_at(self.taken);
+        left
+    }
+
+    /// Loses all bytes.
+    pub(crate) fn clear(&mut self)
+        requires { AreChunks self.old }
+        ensures chunks { AreChunks self.new }
+        ensures none { in_flight self.new ≡ [] }
+    {
+        self.reading.clear();
+        self.taken = 0;
+        self.full.clear();
+        self.writing.clear();
+    }
+}
