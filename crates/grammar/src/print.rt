@@ -212,6 +212,13 @@ pub fn print_line(text: &mut String, outcome: Result<Effect, Refusal>) -> Result
     ensures err { OnErr result (string_bytes text.new ≡ string_bytes text.old) }
 {
     let outcome = OutcomeText(outcome);
+    if text.is_empty() {
+        if write!(text, "{outcome}\n").is_err() {
+            text.clear();
+            return Err(NoMemory);
+        }
+        return Ok(());
+    }
     let mut line = String::with_capacity(*text.allocator(), LINE)?;
     write!(line, "{outcome}\n")?;
     text.push_str(&line)?;

@@ -225,6 +225,13 @@ pub fn print_entry(text: &mut String, entry: Entry) -> Result<(), NoMemory>
     ensures err { OnErr result (string_bytes text.new ≡ string_bytes text.old) }
 {
     let entry = EntryText(entry);
+    if text.is_empty() {
+        if write!(text, "{entry}\n").is_err() {
+            text.clear();
+            return Err(NoMemory);
+        }
+        return Ok(());
+    }
     let mut line = String::with_capacity(*text.allocator(), LINE)?;
     write!(line, "{entry}\n")?;
     text.push_str(&line)?;
