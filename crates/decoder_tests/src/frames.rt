@@ -3,7 +3,7 @@
 use crate::faults::FAULTS;
 use crate::reading::{fed, look, play, text_again};
 use crate::vectors::{BOTH, PAGE, RUN};
-use frame_decoder::{Decoder, read_text};
+use frame_decoder::{Decoder, front_len, read_text};
 use mig_base::{NoMemory, PAGE_BYTES};
 use page_stream::Frame;
 use std::alloc::Global;
@@ -40,6 +40,7 @@ fn alone(rt: &impl Abort, alloc: Global, bytes: &[u8]) -> Result<(), Fail> {
         assert!(rt; false);
         return Ok(());
     };
+    assert_eq!(rt; front_len(bytes), bytes.len());
     let rest = look(rt, alloc, &[sent], bytes)?;
     assert!(rt; rest.is_empty());
     if let [front @ .., _] = bytes {
