@@ -72,8 +72,14 @@ fn time_reading(rt: &HostRuntime, stream: &[u8], sizes: Sizes) -> io::Result<Dur
     let mut decoder = Decoder::new(rt.alloc());
     let piece = sizes.piece as usize;
     let begun = Instant::now(rt)?;
-    codec::read_again(&mut decoder, stream, piece, sizes.batch as usize, sizes.rounds)
-        .map_err(failed)?;
+    codec::read_again(
+        &mut decoder,
+        stream,
+        piece,
+        sizes.batch as usize,
+        sizes.rounds,
+    )
+    .map_err(failed)?;
     begun.elapsed(rt)
 }
 
