@@ -153,8 +153,11 @@ fn take(rt: &impl Abort, wire: &mut Wire, epoch: u32) -> Result<(), NoMemory> {
 #[test]
 fn many_frames_in_flight(rt: HostRuntime) -> Result<(), Fail> {
     let mut wire = Wire::new(rt.alloc());
-    let bytes = text(rt.alloc(), LONG_RUN, 64 * PAGE_BYTES)
-        .or_else(|_| text(rt.alloc(), LONG_RUN, 64 * PAGE_BYTES))?;
+    let bytes = text(rt.alloc(), LONG_RUN, 64 * PAGE_BYTES).or_else(|_| text(
+        rt.alloc(),
+        LONG_RUN,
+        64 * PAGE_BYTES,
+    ))?;
     for epoch in 0..120 {
         send_text(&rt, rt.alloc(), &mut wire, epoch, &bytes)?;
     }

@@ -172,7 +172,7 @@ set_aside old new are taken read full written some =
         writing = last.are;
       },
       flight_parts new (frames_in (left old)) (in_full old.full.items ++ frames_in old.writing.items) [] (ap (λ (b : List ℕ). frames_in b) same) (ap in_full full ∙ in_full-with old.full.items old.writing) last.frames_are
-      ∙ ap (λ (rest : List Sent). frames_in (left old) ++ rest) (append-nil (in_full old.full.items ++ frames_in old.writing.items)),
+          ∙ ap (λ (rest : List Sent). frames_in (left old) ++ rest) (append-nil (in_full old.full.items ++ frames_in old.writing.items)),
     )
 
 -- another chunk is written, while the one before had no byte
@@ -204,8 +204,8 @@ written_more old new sent are is taken read full written =
         writing = last.are;
       },
       flight_parts new a b (d ++ sent ∷ []) (ap (λ (b : List ℕ). frames_in b) same) (ap in_full full) last.frames_are
-      ∙ ap (λ (rest : List Sent). a ++ rest) (sym (append_assoc b d (sent ∷ [])))
-      ∙ sym (append_assoc a (b ++ d) (sent ∷ [])),
+          ∙ ap (λ (rest : List Sent). a ++ rest) (sym (append_assoc b d (sent ∷ [])))
+          ∙ sym (append_assoc a (b ++ d) (sent ∷ [])),
     )
 
 -- the next chunk is read

@@ -1,9 +1,8 @@
 //! The bytes in flight.
 
-ghost use Rattle.std.specs.Prelude.{◌≡◌, ◌+◌, ◌≤◌, ◌<◌, ◌++◌, ◌∷◌, [], drop, length, OnOk};
+ghost use Rattle.std.specs.Prelude.{◌≡◌, ◌+◌, ◌≤◌, ◌<◌, ◌++◌, ◌∷◌, [], OnOk};
 ghost use Rattle.mig_base.specs.Tests.{is_empty as is_none_of};
 ghost use Rattle.mig_model.specs.Bounds.{IsFrame};
-ghost use Rattle.frame_decoder.specs.Streams.{sent_of};
 ghost use Rattle.page_stream.specs.Frames.{frame_of};
 ghost use Rattle.wires.specs.Chunks.{AreChunks, in_flight, left, room};
 
