@@ -18,7 +18,7 @@ body_same bytes more len le =
     let inside : len ≤ length (drop 12 bytes) = omega (arith, length-drop 12 bytes) in
     ap (take len) front ∙ take-append-le len (drop 12 bytes) more inside
 
-breach_more : (fixed : Option Version) (bytes more : List ℕ) (fault : StreamFault) → Breach fixed bytes fault → Breach fixed (bytes ++ more) fault
+pub breach_more : (fixed : Option Version) (bytes more : List ℕ) (fault : StreamFault) → Breach fixed bytes fault → Breach fixed (bytes ++ more) fault
 breach_more fixed bytes more fault (inl b) = inl (record { long = omega (arith, b.long, length-append bytes more); reads = header_front fixed bytes more b.long ∙ b.reads })
 breach_more fixed bytes more fault (inr b) = inr (record {
   header = b.header;

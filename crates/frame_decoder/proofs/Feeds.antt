@@ -85,11 +85,11 @@ header_front fixed (x0 ∷ x1 ∷ x2 ∷ x3 ∷ x4 ∷ x5 ∷ x6 ∷ x7 ∷ x8 �
 header_front fixed (x0 ∷ x1 ∷ x2 ∷ x3 ∷ x4 ∷ x5 ∷ x6 ∷ x7 ∷ x8 ∷ x9 ∷ x10 ∷ []) b long = absurd (omega arith)
 header_front fixed (x0 ∷ x1 ∷ x2 ∷ x3 ∷ x4 ∷ x5 ∷ x6 ∷ x7 ∷ x8 ∷ x9 ∷ x10 ∷ x11 ∷ rest) b long = refl
 
-lacks_header : (fixed : Option Version) (bytes : List ℕ) → length bytes < 12 → lacks fixed bytes ≡ 12 - length bytes
+pub lacks_header : (fixed : Option Version) (bytes : List ℕ) → length bytes < 12 → lacks fixed bytes ≡ 12 - length bytes
 unfolding lacks
 lacks_header fixed bytes lt = let t : ltb (length bytes) 12 ≡ true = lt-ltb _ _ lt in rw t refl
 
-lacks_body : (fixed : Option Version) (bytes : List ℕ) (h : Header) → 12 ≤ length bytes → header_at fixed bytes ≡ Ok h → lacks fixed bytes ≡ 12 + h.len - length bytes
+pub lacks_body : (fixed : Option Version) (bytes : List ℕ) (h : Header) → 12 ≤ length bytes → header_at fixed bytes ≡ Ok h → lacks fixed bytes ≡ 12 + h.len - length bytes
 unfolding lacks
 lacks_body fixed bytes h le e = let t : ltb (length bytes) 12 ≡ false = le-ltb _ _ le in rw (t, e) refl
 

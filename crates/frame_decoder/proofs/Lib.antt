@@ -10,6 +10,7 @@ pub mod FrontTexts
 pub mod Fronts
 pub mod Whole
 pub mod Feeds
+pub mod Fillings
 pub mod Cuts
 pub mod Unique
 pub mod OneFrame

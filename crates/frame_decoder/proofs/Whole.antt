@@ -1,7 +1,6 @@
 -- Frames one after the other.
-use Rattle.std.proofs.Common.{◌≡◌, ℕ, ◌+◌, ◌-◌, true, false, is_some, List, [], ◌∷◌, ◌++◌, length, take, drop, Some, None, Option, refl, sym, ap, subst, ◌∙◌, append_assoc, arith}
+use Rattle.std.proofs.Common.{◌≡◌, ℕ, ◌+◌, ◌-◌, List, [], ◌∷◌, ◌++◌, length, take, drop, Some, None, Option, refl, sym, ap, subst, ◌∙◌, append_assoc, arith}
 use Rattle.std.specs.List.{AllByRecursion}
-use Rattle.std.proofs.lemmas.Bool.{false≢true}
 use Rattle.std.proofs.lemmas.List.{append-nil, drop_at, length-append, map-append, take-append-drop, take_at}
 use Rattle.std.proofs.lemmas.List.Concat.{flat_map-cons, flat_map-append}
 use Rattle.mig_model.specs.Wire.{Sent}
@@ -14,14 +13,14 @@ use Rattle.frame_decoder.specs.declared.version.Version.{Version}
 use Rattle.frame_decoder.specs.declared.version.Version.TheVariants as versions
 use Rattle.frame_decoder.specs.Versions.{version_of}
 use Rattle.frame_decoder.specs.Streams.{IsSent, texts, May, Fixes, Spells, Splits, sent_of, sents}
-use Rattle.frame_decoder.specs.Taking.{FrontIs, StopsAt, IsTaken}
+use Rattle.frame_decoder.specs.Taking.{FrontIs, StopsAt, IsTaken, left_of}
 
 -- Frames of one version
 
 pub spells_none : (fixed : Option Version) → Spells fixed [] [] fixed
 spells_none fixed = record { version = versions.One; whole = refl; each = tt; fixes = refl }
 
-spells_one : (fixed : Option Version) (v : Version) (p : Sent) → May fixed v → IsSent v p → Spells fixed (text (version_of v) p.epoch p.frame) (p ∷ []) (Some v)
+pub spells_one : (fixed : Option Version) (v : Version) (p : Sent) → May fixed v → IsSent v p → Spells fixed (text (version_of v) p.epoch p.frame) (p ∷ []) (Some v)
 spells_one fixed v p may fits =
     let one : texts v (p ∷ []) ≡ text (version_of v) p.epoch p.frame = flat_map-cons (λ (p : Sent). text (version_of v) p.epoch p.frame) p [] ∙ append-nil (text (version_of v) p.epoch p.frame) in
     record { version = v; whole = sym one; each = (fits, tt); fixes = (may, refl) }
@@ -99,13 +98,6 @@ reading_ends fixed bytes frames rest now fault stops t =
     }
 
 -- What is held
-
--- the bytes that are left
-pub holds_rest : (fixed : Option Version) (bytes : List ℕ) (frames : List Sent) (read : ℕ) (fault : Option StreamFault) (now : Option Version) (held : List ℕ) → IsTaken fixed bytes frames read fault now → is_some fault ≡ false → held ≡ drop read bytes → Splits fixed bytes frames held fault now
-holds_rest fixed bytes frames read None now held t none is = record { read = take read bytes; unread = drop read bytes; whole = sym (take-append-drop read bytes); spells = t.spells; ends = (t.stops, is) }
-holds_rest fixed bytes frames read (Some fault) now held t none is = absurd (false≢true (sym none))
-
--- nothing behind a fault
-pub holds_nothing : (fixed : Option Version) (bytes : List ℕ) (frames : List Sent) (read : ℕ) (fault : Option StreamFault) (now : Option Version) (held : List ℕ) → IsTaken fixed bytes frames read fault now → is_some fault ≡ true → held ≡ [] → Splits fixed bytes frames held fault now
-holds_nothing fixed bytes frames read None now held t some is = absurd (false≢true some)
-holds_nothing fixed bytes frames read (Some fault) now held t some is = record { read = take read bytes; unread = drop read bytes; whole = sym (take-append-drop read bytes); spells = t.spells; ends = (t.stops, is) }
+pub holds_left : (fixed : Option Version) (bytes : List ℕ) (frames : List Sent) (read : ℕ) (fault : Option StreamFault) (now : Option Version) (held : List ℕ) → IsTaken fixed bytes frames read fault now → held ≡ left_of read fault bytes → Splits fixed bytes frames held fault now
+holds_left fixed bytes frames read None now held t is = record { read = take read bytes; unread = drop read bytes; whole = sym (take-append-drop read bytes); spells = t.spells; ends = (t.stops, is) }
+holds_left fixed bytes frames read (Some fault) now held t is = record { read = take read bytes; unread = drop read bytes; whole = sym (take-append-drop read bytes); spells = t.spells; ends = (t.stops, is) }

@@ -1,11 +1,12 @@
 -- What the decoder's own functions find at the front of some bytes.
-use Rattle.std.specs.Prelude.{◌≡◌, ℕ, ◌≤◌, List, ◌++◌, length, take, drop, Option, Some, None}
+use Rattle.std.specs.Prelude.{◌≡◌, ℕ, ◌+◌, ◌<◌, ◌≤◌, ◌⊎◌, List, [], ◌++◌, length, take, drop, Option, Some, None, Ok}
 use Rattle.mig_model.specs.Wire.{Frame, Sent}
 use Rattle.frame_texts.specs.Texts.{text}
 use Rattle.frame_decoder.specs.declared.fault.StreamFault.{StreamFault}
 use Rattle.frame_decoder.specs.declared.version.Version.{Version}
 use Rattle.frame_decoder.specs.Reading.{Front}
-use Rattle.frame_decoder.specs.Streams.{May, IsSent, IsPart, Breach, Spells}
+use Rattle.frame_decoder.specs.Headers.{Header, header_at}
+use Rattle.frame_decoder.specs.Streams.{May, IsSent, IsPart, Breach, Spells, lacks}
 use Rattle.frame_decoder.specs.Versions.{version_of}
 
 -- a frame at the front
@@ -32,3 +33,25 @@ pub record IsTaken (fixed : Option Version) (bytes : List ℕ) (frames : List Se
   pub inside : read ≤ length bytes
   pub spells : Spells fixed (take read bytes) frames new
   pub stops : StopsAt new (drop read bytes) fault
+
+-- what is held of such bytes: those that are left, and nothing behind a fault
+abbrev pub left_of : (read : ℕ) → Option StreamFault → List ℕ → List ℕ
+left_of read None bytes = drop read bytes
+left_of read (Some fault) bytes = []
+
+-- What is held, filled up from a piece
+
+-- the bytes that were missing came from the piece, or all that it has
+abbrev pub IsFilled : (fixed : Option Version) → (old piece new rest : List ℕ) → Type 0
+IsFilled fixed old piece new rest = ((length piece < lacks fixed old) × (new ≡ old ++ piece) × (rest ≡ []))
+    ⊎ ((lacks fixed old ≤ length piece) × (new ≡ old ++ take (lacks fixed old) piece) × (rest ≡ drop (lacks fixed old) piece))
+
+-- a header, and no more than its body
+pub record IsOneFrame (fixed : Option Version) (bytes : List ℕ) : Type 0 where
+  pub long : 12 ≤ length bytes
+  pub is : (header : Header) → header_at fixed bytes ≡ Ok header → length bytes ≡ 12 + header.len
+
+-- less than a frame, and nothing is left of the piece; or one frame, if it is one
+pub record IsFilledUp (fixed : Option Version) (old piece new rest : List ℕ) : Type 0 where
+  pub joined : new ++ rest ≡ old ++ piece
+  pub ends : ((rest ≡ []) × IsPart fixed new) ⊎ IsOneFrame fixed new

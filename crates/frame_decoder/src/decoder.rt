@@ -1,17 +1,29 @@
 //! Frames out of the pieces of a stream.
 
-ghost use Rattle.std.specs.Prelude.{◌≡◌, ◌+◌, ◌*◌, ◌<◌, ◌++◌, ◌≤◌, [], length, drop, IfOk, OnOk, OnErr};
+ghost use Rattle.std.specs.Prelude.{◌≡◌, ◌+◌, ◌*◌, ◌<◌, ◌++◌, ◌≤◌, [], length, drop, take, Option, IfOk, OnOk, OnErr};
 ghost use Rattle.mig_base.specs.declared.TheConstants.{MAX_CPUS, MAX_PAGES};
-ghost use Rattle.frame_decoder.specs.Streams.{Splits, IsPart, IsFault, lacks, missing, sents};
+ghost use Rattle.frame_decoder.specs.Streams.{Splits, IsPart, IsFault, IsTextOf, May, lacks, missing, sent_of, sents};
 ghost use Rattle.frame_decoder.specs.Feeding.{Fed, answer_of, answered, fresh};
+ghost use Rattle.frame_decoder.specs.Taking.{IsFilled, IsFilledUp, left_of};
 
 use crate::fault::StreamFault;
-use crate::stream::{Taken, lacking, take_frames};
+use crate::stream::{Next, Taken, front, lacking, take_frames};
 use crate::version::Version;
 use mig_base::NoMemory;
 use page_stream::Frame;
 use std::alloc::Global;
 use std::marker::Model;
+
+/// What is left to be held of bytes from which frames were taken: nothing behind a fault.
+fn left_of<'a>(taken: &Taken, bytes: &'a [u8]) -> &'a [u8]
+    requires { taken.now.read ≤ length bytes.now }
+    ensures { result.now ≡ left_of taken.now.read taken.now.fault bytes.now }
+{
+    match taken.fault {
+        Some(_) => &[],
+        None => bytes.split_at(taken.read).1,
+    }
+}
 
 /// Reads a piece in its place, where nothing is held, and holds what is left of it.
 fn read_in_place(
@@ -25,12 +37,104 @@ fn read_in_place(
     ensures err { OnErr result (held.new.items ≡ held.old.items) }
 {
     let taken = take_frames(alloc, fixed, piece)?;
-    if taken.fault.is_some() {
-        return Ok(taken);
-    }
-    let (_, rest) = piece.split_at(taken.read);
-    held.extend_from_slice(rest)?;
+    held.extend_from_slice(left_of(&taken, piece))?;
     Ok(taken)
+}
+
+/// Holds the bytes of a piece that are missing, and answers the others.
+fn fill<'a>(
+    fixed: Option<Version>,
+    held: &mut Vec<u8>,
+    piece: &'a [u8],
+) -> Result<&'a [u8], NoMemory>
+    ensures ok { IfOk result (λ rest. IsFilled fixed held.old.items piece.now held.new.items rest.now) }
+    ensures err { OnErr result (held.new.items ≡ held.old.items) }
+{
+    let missing = lacking(fixed, held);
+    if piece.len() < missing {
+        held.extend_from_slice(piece)?;
+        return Ok(&[]);
+    }
+    let (front, rest) = piece.split_at(missing);
+    held.extend_from_slice(front)?;
+    Ok(rest)
+}
+
+/// Holds the bytes of a piece that the header misses, and then those that its frame misses, and answers the others.
+fn fill_frame<'a>(
+    fixed: Option<Version>,
+    held: &mut Vec<u8>,
+    piece: &'a [u8],
+) -> Result<&'a [u8], NoMemory>
+    requires part { IsPart fixed held.old.items }
+    ensures ok { IfOk result (λ rest. IsFilledUp fixed held.old.items piece.now held.new.items rest.now) }
+    ensures begins { take (length held.old.items) held.new.items ≡ held.old.items }
+{
+    let rest = fill(fixed, held, piece)?;
+    fill(fixed, held, rest)
+}
+
+/// Holds what is left of a piece in place of the bytes that are held.
+fn hold(held: &mut Vec<u8>, left: &[u8]) -> Result<(), NoMemory>
+    ensures ok { OnOk result (held.new.items ≡ left.now) }
+    ensures err { OnErr result (held.new.items ≡ held.old.items) }
+{
+    let count = held.len();
+    held.extend_from_slice(left)?;
+    drop_front(held, count);
+    Ok(())
+}
+
+/// Reads what is left of a piece in its place, where a frame is held, and holds what is left then.
+fn read_behind(
+    alloc: Global,
+    version: Version,
+    sent: (u32, Frame),
+    held: &mut Vec<u8>,
+    rest: &[u8],
+) -> Result<Taken, NoMemory>
+    requires { IsTextOf version held.old.items (sent_of sent) }
+    ensures ok { IfOk result (λ taken. (fixed : Option Version) → May fixed version → Splits fixed (held.old.items ++ rest.now) (sents taken.frames.items) held.new.items taken.fault taken.version) }
+    ensures err { OnErr result (held.new.items ≡ held.old.items) }
+{
+    let mut taken = take_frames(alloc, Some(version), rest)?;
+    taken.frames.insert(0, sent)?;
+    hold(held, left_of(&taken, rest))?;
+    Ok(taken)
+}
+
+/// Reads the frame that is held in part, filled up from a piece, and then what is left of the piece. Where that fails, bytes of the
+/// piece may be held.
+fn read_filled(
+    alloc: Global,
+    fixed: Option<Version>,
+    held: &mut Vec<u8>,
+    piece: &[u8],
+) -> Result<Taken, NoMemory>
+    requires part { IsPart fixed held.old.items }
+    ensures ok { IfOk result (λ taken. Splits fixed (held.old.items ++ piece.now) (sents taken.frames.items) held.new.items taken.fault taken.version) }
+    ensures err { OnErr result (take (length held.old.items) held.new.items ≡ held.old.items) }
+{
+    let rest = fill_frame(fixed, held, piece)?;
+    let fault = match front(alloc, fixed, held)? {
+        Next::Whole {
+            version,
+            epoch,
+            frame,
+            ..
+        } => return read_behind(alloc, version, (epoch, frame), held, rest),
+        Next::Part => None,
+        Next::Fault(fault) => {
+            held.clear();
+            Some(fault)
+        }
+    };
+    Ok(Taken {
+        frames: Vec::new(alloc),
+        read: 0,
+        fault,
+        version: fixed,
+    })
 }
 
 /// Reads what is held and a piece behind it, and holds what is left.
@@ -40,21 +144,16 @@ fn read_joined(
     held: &mut Vec<u8>,
     piece: &[u8],
 ) -> Result<Taken, NoMemory>
+    requires part { IsPart fixed held.old.items }
     ensures ok { IfOk result (λ taken. Splits fixed (held.old.items ++ piece.now) (sents taken.frames.items) held.new.items taken.fault taken.version) }
     ensures err { OnErr result (held.new.items ≡ held.old.items) }
 {
     let len = held.len();
-    held.extend_from_slice(piece)?;
-    let Ok(taken) = take_frames(alloc, fixed, held) else {
+    let read = read_filled(alloc, fixed, held, piece);
+    if read.is_err() {
         held.truncate(len);
-        return Err(NoMemory);
-    };
-    if taken.fault.is_some() {
-        held.clear();
-        return Ok(taken);
     }
-    drop_front(held, taken.read);
-    Ok(taken)
+    read
 }
 
 /// Takes the first bytes away.
@@ -74,6 +173,7 @@ fn read_piece(
     held: &mut Vec<u8>,
     piece: &[u8],
 ) -> Result<Taken, NoMemory>
+    requires part { IsPart fixed held.old.items }
     ensures ok { IfOk result (λ taken. Splits fixed (held.old.items ++ piece.now) (sents taken.frames.items) held.new.items taken.fault taken.version) }
     ensures part { IfOk result (λ taken. IsPart taken.version held.new.items) }
     ensures real { IfOk result (λ taken. IsFault taken.fault) }

@@ -64,7 +64,9 @@ pub(crate) fn read_content(
     let Some((front, rest)) = bytes.split_first_chunk::<PAGE_BYTES>() else {
         return Err(StreamFault::BadField);
     };
-    let content = Box::new(alloc, *front)?;
+    // (the bytes go straight into the box, and not by way of the stack)
+    let mut content = Box::new(alloc, [0; PAGE_BYTES])?;
+    content.copy_from_slice(front);
     Ok((content, rest))
 }
 

@@ -64,7 +64,7 @@ fn next_frame(alloc: Global, fixed: Option<Version>, bytes: &[u8]) -> Result<Nex
 }
 
 /// What stands at the front, in the fixed version where one is fixed.
-fn front(alloc: Global, fixed: Option<Version>, bytes: &[u8]) -> Result<Next, NoMemory>
+pub(crate) fn front(alloc: Global, fixed: Option<Version>, bytes: &[u8]) -> Result<Next, NoMemory>
     ensures { IfOk result (λ next. Stands fixed bytes.now (next_of next)) }
 {
     next_frame(alloc, fixed, bytes)

@@ -80,9 +80,10 @@ fn copy_of(alloc: Global, bytes: &[u8]) -> Result<Box<[u8; PAGE_BYTES]>, NoMemor
     requires { length bytes.now ≡ 4096 }
     ensures { IfOk result (λ copy. copy.value ≡ bytes.now) }
 {
-    let mut page = [0; PAGE_BYTES];
+    // (the bytes go straight into the box, and not by way of the stack)
+    let mut page = Box::new(alloc, [0; PAGE_BYTES])?;
     page.copy_from_slice(bytes);
-    Ok(Box::new(alloc, page)?)
+    Ok(page)
 }
 
 /// Puts zeros at the `count` pages from `first` on, not write-protected: how many, and why no more.

@@ -1,8 +1,10 @@
-use Rattle.std.proofs.Common.{sym, ◌∙◌}
+use Rattle.std.proofs.Common.{◌++◌, ap, ◌∙◌}
 use Rattle.frame_decoder.specs.Streams.{sents}
-use Rattle.frame_decoder.proofs.Whole.{holds_nothing}
+use Rattle.frame_decoder.proofs.Whole.{holds_left}
 use Rattle.frame_decoder.proofs.decoder.read_in_place.Goals as goal
 
-pub returns-then-is_some-clause-ok : goal.returns-then-is_some-clause-ok
-returns-then-is_some-clause-ok c =
-    holds_nothing c.args.fixed c.args.piece.now (sents c.in_ok-taken.taken.frames.items) c.in_ok-taken.taken.read c.in_ok-taken.taken.fault c.in_ok-taken.taken.version c.args.held.now.items c.in_ok-taken.ensures (sym c.is_some.ensures ∙ c.if-is_some.true) c.requires
+pub returns-clause-ok : goal.returns-clause-ok
+returns-clause-ok c =
+    let t = c.in_ok-taken.taken in
+    holds_left c.args.fixed c.args.piece.now (sents t.frames.items) t.read t.fault t.version c.extend_from_slice.new.self.items c.in_ok-taken.ensures
+    (c.in_ok-extend_from_slice.ensures.items ∙ ap (λ bytes. bytes ++ c.left_of.result.now) c.requires ∙ c.left_of.ensures)
