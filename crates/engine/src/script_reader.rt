@@ -90,8 +90,26 @@ impl ScriptReader {
         Ok(())
     }
 
-    /// Does the line that ends with these bytes and a line feed.
-    fn end_line(&mut self, bytes: &[u8]) -> Result<(), RunFault>
+    /// Does a line that is whole, without a copy of its bytes.
+    fn do_whole(&mut self, bytes: &[u8]) -> Result<(), RunFault>
+        requires none { self.old.line ≡ [] }
+        requires feed { HasNoFeed bytes.now }
+        requires number { self.old.number + 1 < 2 ^ 64 }
+        ensures ok { OnOk result (Fed self.old (bytes.now ++ 10 ∷ []) self.new) }
+        ensures number { OnOk result (self.new.number ≡ self.old.number + 1) }
+        ensures fault { IfErr result (λ fault. FedUntil self.old (bytes.now ++ 10 ∷ []) fault self.new.output) }
+    {
+        if bytes.len() > MAX_LINE {
+            return Err(RunFault::Line(self.number + 1));
+        }
+        self.runner
+            .run_line(self.number + 1, without_return(bytes))?;
+        self.number += 1;
+        Ok(())
+    }
+
+    /// Does the line that is held in part and ends with these bytes and a line feed.
+    fn end_held(&mut self, bytes: &[u8]) -> Result<(), RunFault>
         requires feed { HasNoFeed bytes.now }
         requires number { self.old.number + 1 < 2 ^ 64 }
         ensures ok { OnOk result (Fed self.old (bytes.now ++ 10 ∷ []) self.new) }
@@ -104,6 +122,20 @@ impl ScriptReader {
         self.line.clear();
         self.number += 1;
         Ok(())
+    }
+
+    /// Does the line that ends with these bytes and a line feed.
+    fn end_line(&mut self, bytes: &[u8]) -> Result<(), RunFault>
+        requires feed { HasNoFeed bytes.now }
+        requires number { self.old.number + 1 < 2 ^ 64 }
+        ensures ok { OnOk result (Fed self.old (bytes.now ++ 10 ∷ []) self.new) }
+        ensures number { OnOk result (self.new.number ≡ self.old.number + 1) }
+        ensures fault { IfErr result (λ fault. FedUntil self.old (bytes.now ++ 10 ∷ []) fault self.new.output) }
+    {
+        if self.line.is_empty() {
+            return self.do_whole(bytes);
+        }
+        self.end_held(bytes)
     }
 
     /// Takes the next bytes, does each line that ends in them, and gathers the output.

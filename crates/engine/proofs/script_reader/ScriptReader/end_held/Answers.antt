@@ -3,7 +3,7 @@ use Rattle.std.specs.Str.Lines.{strip_carriage_return}
 use Rattle.std.proofs.lemmas.Result.{err_from_is_err_and}
 use Rattle.engine.specs.Engine.{Place}
 use Rattle.engine.proofs.Runs.{fed_held, fed_line, fed_then, until_line, until_then, until_more}
-use Rattle.engine.proofs.script_reader.ScriptReader.end_line.Goals as goal
+use Rattle.engine.proofs.script_reader.ScriptReader.end_held.Goals as goal
 
 pub returns-in_err-hold-clause-fault : goal.returns-in_err-hold-clause-fault
 returns-in_err-hold-clause-fault c =
