@@ -199,8 +199,8 @@ fn wait_for_more(fixed: Option<Version>, held: &mut Vec<u8>, piece: &[u8]) -> Re
 
 /// Reads frames out of the pieces of a stream, all of the version that the first of them has.
 ///
-/// It holds less than one frame. Where it holds nothing, a piece is read in its place: the bytes of its whole frames are not copied but
-/// into the frames.
+/// It holds less than one frame. That is filled up from the next piece, and the rest of a piece is read in its place: the bytes of its
+/// whole frames are not copied but into the frames.
 #[derive(Drop)]
 pub struct Decoder {
     alloc: Global,

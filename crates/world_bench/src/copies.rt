@@ -18,6 +18,6 @@ pub fn boxes(alloc: Global, pages: u32, byte: u8) -> Result<Vec<Bytes>, NoMemory
 /// Copies each page to the page in its place.
 pub fn copy(sources: &[Bytes], targets: &mut [Bytes]) {
     for (source, target) in sources.iter().zip(targets) {
-        **target = **source;
+        target.copy_from_slice(&**source);
     }
 }
