@@ -18,7 +18,7 @@ from bench import LOW, PAGE, PROGRAM, stored
 
 STEPS = page.TOP / "crates" / "world_bench" / "out" / "world_bench"
 NUMBERS = (1024, 16_384, 262_144)
-RUNS = 5
+RUNS = 7
 
 
 def begun(pages):
@@ -65,24 +65,32 @@ WORK = {
 }
 
 
-def play(lines):
-    """The seconds of the program's run on a script, the best of some runs, and its greatest memory in bytes."""
-    best, memory = None, 0
+def play(script):
+    """The seconds of one run of the program on a script, and its greatest memory in bytes."""
+    with open(script) as source, open(os.devnull, "w") as sink:
+        start = time.perf_counter()
+        child = subprocess.Popen([PROGRAM, "run"], stdin=source, stdout=sink, env=page.environment())
+        _, status, usage = os.wait4(child.pid, 0)
+        seconds = time.perf_counter() - start
+    if status:
+        sys.exit(f"{PROGRAM}: status {os.waitstatus_to_exitcode(status)}")
+    return seconds, usage.ru_maxrss * 1024
+
+
+def play_all(pages):
+    """The least seconds of each script and its greatest memory. They take turns, so that a slow while is not one script's alone."""
+    scripts = {script for pair in WORK.values() for script in pair}
+    seconds, memory = {}, {}
     with tempfile.TemporaryDirectory() as folder:
-        script = pathlib.Path(folder) / "script"
-        with open(script, "w") as file:
-            file.writelines(line + "\n" for line in lines)
+        for script in scripts:
+            with open(pathlib.Path(folder) / script.__name__, "w") as file:
+                file.writelines(line + "\n" for line in script(pages))
         for _ in range(RUNS):
-            with open(script) as source, open(os.devnull, "w") as sink:
-                start = time.perf_counter()
-                child = subprocess.Popen([PROGRAM, "run"], stdin=source, stdout=sink, env=page.environment())
-                _, status, usage = os.wait4(child.pid, 0)
-                seconds = time.perf_counter() - start
-            if status:
-                sys.exit(f"{PROGRAM}: status {os.waitstatus_to_exitcode(status)}")
-            best = seconds if best is None else min(best, seconds)
-            memory = max(memory, usage.ru_maxrss * 1024)
-    return best, memory
+            for script in scripts:
+                took, most = play(pathlib.Path(folder) / script.__name__)
+                seconds[script] = min(took, seconds.get(script, took))
+                memory[script] = max(most, memory.get(script, 0))
+    return seconds, memory
 
 
 def steps(pages):
@@ -101,16 +109,13 @@ def table():
     for pages in NUMBERS:
         by_step = steps(pages)
         copy = max(by_step["copy"], 1)
-        before = {}
+        seconds, memory = play_all(pages)
         for name, (base, whole) in WORK.items():
-            if base not in before:
-                before[base] = play(base(pages))[0]
-            seconds, memory = play(whole(pages))
-            script = (seconds - before[base]) * 1e9 / pages
+            script = (seconds[whole] - seconds[base]) * 1e9 / pages
             yield f"| {name} | {pages:,} | {script:,.0f} | {by_step[name]:,} | {copy:,} | {script / copy:.1f} | {by_step[name] / copy:.1f} |"
             if name == "post-copy":
                 present = 2 * pages * PAGE
-                note = f"peak {memory / 2**20:,.0f} MiB, {memory / present:.2f} of the pages present on both hosts"
+                note = f"peak {memory[whole] / 2**20:,.0f} MiB, {memory[whole] / present:.2f} of the pages present on both hosts"
                 yield f"| {name}, whole run | {pages:,} | {note} | | | | |"
 
 
