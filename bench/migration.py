@@ -18,7 +18,7 @@ from bench import LOW, PAGE, PROGRAM, stored
 
 STEPS = page.TOP / "crates" / "world_bench" / "out" / "world_bench"
 NUMBERS = (1024, 16_384, 262_144)
-RUNS = 7
+RUNS = 14
 
 
 def begun(pages):
@@ -128,7 +128,7 @@ def main():
         print(row, flush=True)
         rows.append(row)
     if sys.argv[1:] == ["--write"]:
-        page.put("migration", f"Measured on {page.machine()}.\n\n" + "\n".join(rows))
+        page.put("migration", f"Measured on {page.machine()}, the least of {RUNS} runs of each script.\n\n" + "\n".join(rows))
 
 
 if __name__ == "__main__":
