@@ -2,8 +2,7 @@
 use Rattle.std.proofs.Common.{◌≡◌, ℕ, ◌+◌, ◌≤◌, ◌⊎◌, List, [], ◌∷◌, ◌++◌, length, take, drop, Option, Some, None, Result, Ok, Err, false, true, ltb, refl, sym, ap, subst, ◌∙◌, append_assoc, arith, inl, inr}
 use Rattle.std.specs.Prelude.{IfOk}
 use Rattle.std.proofs.lemmas.Bool.{le-ltb}
-use Rattle.std.proofs.lemmas.List.{append-nil, length-append, length-take-le, take-append-drop, take_at}
-use Rattle.std.proofs.lemmas.List.{nil_from_length}
+use Rattle.std.proofs.lemmas.List.{append-nil, length-append, length-take-le, nil_from_length, take-append-drop, take_at}
 use Rattle.mig_model.specs.Wire.{Frame, Sent}
 use Rattle.frame_texts.specs.Texts as machine
 use Rattle.frame_texts.specs.Texts.{text, body_text, header_text, has_frame, tag_code}
@@ -12,18 +11,13 @@ use Rattle.frame_decoder.specs.declared.fault.StreamFault.{StreamFault}
 use Rattle.frame_decoder.specs.declared.version.Version.{Version}
 use Rattle.frame_decoder.specs.Headers.{Header, header_at}
 use Rattle.frame_decoder.specs.Streams.{Breach, IsPart, IsTextOf, May, Spells, Splits, lacks}
-use Rattle.frame_decoder.specs.Taking.{FrontIs, IsFilled, IsFilledUp, IsOneFrame}
+use Rattle.frame_decoder.specs.Taking.{FillEnds, FrontIs, IsFilled, IsFilledUp, IsOneFrame}
 use Rattle.frame_decoder.specs.Versions.{version_of}
 use Rattle.frame_decoder.proofs.Cuts.{breach_more}
 use Rattle.frame_decoder.proofs.Fronts.{HeadIs, head_again}
-use Rattle.frame_decoder.proofs.Unique.{part_no_frame}
+use Rattle.frame_decoder.proofs.Unique.{header_or_fault, part_no_frame, same_header}
 use Rattle.frame_decoder.proofs.Whole.{spells_join, spells_none, spells_one}
 use Rattle.frame_decoder.proofs.Feeds.{header_front, lacks_body, lacks_header, wait_part}
-use Rattle.frame_decoder.proofs.FieldLemmas.{ok_is}
-
--- what stands behind a filling
-abbrev Stops : (fixed : Option Version) → (new rest : List ℕ) → Type 0
-Stops fixed new rest = ((rest ≡ []) × IsPart fixed new) ⊎ IsOneFrame fixed new
 
 -- a header, and its body as far as it is there
 record HasBegun (fixed : Option Version) (bytes : List ℕ) : Type 0 where
@@ -39,13 +33,10 @@ filled_joined fixed old piece new rest (inr f) =
 
 -- The first filling
 
-same_len : (a b : Header) (read : Result Header StreamFault) → read ≡ Ok a → read ≡ Ok b → a.len ≡ b.len
-same_len a b read e f = ap (λ (h : Header). h.len) (ok_is a b (sym e ∙ f))
-
 body_full : (fixed : Option Version) (old more : List ℕ) (h : Header) → 12 ≤ length old → header_at fixed old ≡ Ok h → length (old ++ more) ≡ 12 + h.len → IsOneFrame fixed (old ++ more)
 body_full fixed old more h long reads is = record {
   long = omega (arith, long, length-append old more);
-  is = λ header e. is ∙ ap (λ (n : ℕ). 12 + n) (same_len h header (header_at fixed old) reads (sym (header_front fixed old more long) ∙ e));
+  is = λ header e. is ∙ ap (λ (h : Header). 12 + h.len) (same_header h header (header_at fixed old) reads (sym (header_front fixed old more long) ∙ e));
 }
 
 taken_len : (n : ℕ) (old piece : List ℕ) → n ≤ length piece → length (old ++ take n piece) ≡ length old + n
@@ -72,18 +63,15 @@ lacks_none : (fixed : Option Version) (bytes : List ℕ) (fault : StreamFault) �
 unfolding lacks
 lacks_none fixed bytes fault le e = let t : ltb (length bytes) 12 ≡ false = le-ltb _ _ le in rw (t, e) refl
 
-no_header : (header : Header) (fault : StreamFault) (read : Result Header StreamFault) → read ≡ Err fault → read ≡ Ok header → ⊥
-no_header header fault read a b = cc
-
 fault_stays : (fixed : Option Version) (mid rest new after : List ℕ) (fault : StreamFault) → 12 ≤ length mid → header_at fixed mid ≡ Err fault → IsFilled fixed mid rest new after → IsOneFrame fixed new
 fault_stays fixed mid rest new after fault long e (inl f) = absurd (let less = f.0 in omega (arith, less, lacks_none fixed mid fault long e))
 fault_stays fixed mid rest new after fault long e (inr f) =
     subst (IsOneFrame fixed) (sym f.1) (record {
       long = omega (arith, long, length-append mid (take (lacks fixed mid) rest));
-      is = λ header reads. absurd (no_header header fault (header_at fixed mid) e (sym (header_front fixed mid (take (lacks fixed mid) rest) long) ∙ reads));
+      is = λ header reads. absurd (header_or_fault header fault (header_at fixed mid) (sym (header_front fixed mid (take (lacks fixed mid) rest) long) ∙ reads) e);
     })
 
-body_fills : (fixed : Option Version) (mid rest new after : List ℕ) (h : Header) → HasBegun fixed mid → header_at fixed mid ≡ Ok h → IsFilled fixed mid rest new after → Stops fixed new after
+body_fills : (fixed : Option Version) (mid rest new after : List ℕ) (h : Header) → HasBegun fixed mid → header_at fixed mid ≡ Ok h → IsFilled fixed mid rest new after → FillEnds fixed new after
 body_fills fixed mid rest new after h begun e (inl f) =
     let less = f.0 in
     let part : IsPart fixed mid = inr (record { header = h; long = begun.long; reads = e; short = omega (arith, less, lacks_body fixed mid h begun.long e) }) in
@@ -93,12 +81,12 @@ body_fills fixed mid rest new after h begun e (inr f) =
     let all : length (mid ++ take (lacks fixed mid) rest) ≡ 12 + h.len = taken_len (lacks fixed mid) mid rest f.0 ∙ omega (arith, within, lacks_body fixed mid h begun.long e) in
     inr (subst (IsOneFrame fixed) (sym f.1) (body_full fixed mid (take (lacks fixed mid) rest) h begun.long e all))
 
-second : (fixed : Option Version) (mid rest new after : List ℕ) (read : Result Header StreamFault) → HasBegun fixed mid → header_at fixed mid ≡ read → IsFilled fixed mid rest new after → Stops fixed new after
+second : (fixed : Option Version) (mid rest new after : List ℕ) (read : Result Header StreamFault) → HasBegun fixed mid → header_at fixed mid ≡ read → IsFilled fixed mid rest new after → FillEnds fixed new after
 second fixed mid rest new after (Ok h) begun e f = body_fills fixed mid rest new after h begun e f
 second fixed mid rest new after (Err fault) begun e f = inr (fault_stays fixed mid rest new after fault begun.long e f)
 
 -- nothing was left for it
-part_stays : (fixed : Option Version) (mid rest new after : List ℕ) → rest ≡ [] → IsPart fixed mid → IsFilled fixed mid rest new after → Stops fixed new after
+part_stays : (fixed : Option Version) (mid rest new after : List ℕ) → rest ≡ [] → IsPart fixed mid → IsFilled fixed mid rest new after → FillEnds fixed new after
 part_stays fixed mid rest new after none part (inl f) = inl (f.2, subst (IsPart fixed) (sym f.1) (wait_part fixed mid rest part f.0))
 part_stays fixed mid rest new after none part (inr f) =
     let less = f.0 in
@@ -128,7 +116,7 @@ length-text_of : (version : machine.Version) (epoch : ℕ) (frame : Frame) → h
 length-text_of version epoch frame has = ap length (text-is version epoch frame has) ∙ length-append (header_text version (tag_code frame) epoch (length (body_text frame))) (body_text frame)
 
 -- a frame that is at its end takes all bytes
-pub one_text : (fixed : Option Version) (bytes rest : List ℕ) (v : Version) (epoch : ℕ) (frame : Frame) (len : ℕ) → FrontIs fixed bytes v epoch frame len → Stops fixed bytes rest → IsTextOf v bytes (record { epoch = epoch; frame = frame })
+pub one_text : (fixed : Option Version) (bytes rest : List ℕ) (v : Version) (epoch : ℕ) (frame : Frame) (len : ℕ) → FrontIs fixed bytes v epoch frame len → FillEnds fixed bytes rest → IsTextOf v bytes (record { epoch = epoch; frame = frame })
 one_text fixed bytes rest v epoch frame len front stops =
     let sent : Sent = record { epoch = epoch; frame = frame } in
     let head : HeadIs fixed bytes v epoch frame = subst (λ (bytes : List ℕ). HeadIs fixed bytes v epoch frame) (sym front.whole) (head_again fixed v epoch frame (drop len bytes) front.may front.fits) in

@@ -28,10 +28,10 @@ read_back version sent h = let two = written_again version sent h in record { ha
 
 -- Where a reading ends
 
-header_or_fault : (header : Header) (fault : StreamFault) (read : Result Header StreamFault) → read ≡ Ok header → read ≡ Err fault → ⊥
+pub header_or_fault : (header : Header) (fault : StreamFault) (read : Result Header StreamFault) → read ≡ Ok header → read ≡ Err fault → ⊥
 header_or_fault header fault read a b = cc
 
-same_header : (a b : Header) (read : Result Header StreamFault) → read ≡ Ok a → read ≡ Ok b → a ≡ b
+pub same_header : (a b : Header) (read : Result Header StreamFault) → read ≡ Ok a → read ≡ Ok b → a ≡ b
 same_header a b read e f = ok_is a b (sym e ∙ f)
 
 same_error : (a b : StreamFault) (read : Result Header StreamFault) → read ≡ Err a → read ≡ Err b → a ≡ b

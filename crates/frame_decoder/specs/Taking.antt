@@ -46,12 +46,16 @@ abbrev pub IsFilled : (fixed : Option Version) → (old piece new rest : List �
 IsFilled fixed old piece new rest = ((length piece < lacks fixed old) × (new ≡ old ++ piece) × (rest ≡ []))
     ⊎ ((lacks fixed old ≤ length piece) × (new ≡ old ++ take (lacks fixed old) piece) × (rest ≡ drop (lacks fixed old) piece))
 
--- a header, and no more than its body
+-- 12 bytes or more, and where they begin with a header, its body and no more
 pub record IsOneFrame (fixed : Option Version) (bytes : List ℕ) : Type 0 where
   pub long : 12 ≤ length bytes
   pub is : (header : Header) → header_at fixed bytes ≡ Ok header → length bytes ≡ 12 + header.len
 
 -- less than a frame, and nothing is left of the piece; or one frame, if it is one
+abbrev pub FillEnds : (fixed : Option Version) → (new rest : List ℕ) → Type 0
+FillEnds fixed new rest = ((rest ≡ []) × IsPart fixed new) ⊎ IsOneFrame fixed new
+
+-- the same, and no byte is lost
 pub record IsFilledUp (fixed : Option Version) (old piece new rest : List ℕ) : Type 0 where
   pub joined : new ++ rest ≡ old ++ piece
-  pub ends : ((rest ≡ []) × IsPart fixed new) ⊎ IsOneFrame fixed new
+  pub ends : FillEnds fixed new rest
