@@ -16,11 +16,13 @@ PROGRAM = page.TOP / "crates" / "frame_bench" / "out" / "frame_bench"
 FRAME = 4112
 RUNS = 5
 
-# What a piece is, its bytes, the frames of a batch, and how many batches.
+# What a piece is, its bytes, the frames of a stream, and how many streams.
 PIECES = (
     ("one frame", FRAME, 1, 400_000),
-    ("64 KiB", 2**16, 64, 8000),
-    ("1 MiB", 2**20, 1024, 400),
+    ("one frame", FRAME, 256, 2000),
+    ("64 KiB", 2**16, 256, 2000),
+    ("1 MiB", 2**20, 256, 2000),
+    ("1 MiB", 2**20, 1024, 500),
 )
 
 # The streams that are fed byte by byte.
@@ -55,14 +57,15 @@ def memory(pid):
 
 
 def pages():
-    yield "| piece | huge pages asked for | codec, ns a page | two copies, ns a page | pages a second, of those of the copies |"
-    yield "|---|---|---|---|---|"
+    yield "| piece | frames of a stream | allocator | codec, ns a page | two copies, ns a page | pages a second, of those of the copies |"
+    yield "|---|---|---|---|---|---|"
     for name, piece, batch, rounds in PIECES:
         for tunables in (True, False):
             runs = [run("pages", piece, batch, rounds, tunables)[0] for _ in range(RUNS)]
             codec = min(numbers[0] for numbers in runs)
             copies = min(numbers[1] for numbers in runs)
-            yield f"| {name} | {'yes' if tunables else 'no'} | {codec} | {copies} | {copies / codec:.2f} |"
+            allocator = "as the launcher asks" if tunables else "as it is"
+            yield f"| {name} | {batch:,} | {allocator} | {codec} | {copies} | {copies / codec:.2f} |"
 
 
 def feeds():

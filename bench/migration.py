@@ -1,5 +1,5 @@
 #!/usr/bin/env python3
-"""Times what a migration does for each page, by script and by World::step, as ratios to a loop that copies pages.
+"""Times what a migration does for each page, by script and by World::step, as ratios to loops that copy pages.
 
 Run it from anywhere, once ./postmig prove has built the program, and `rt run` the crate world_bench: python3 bench/migration.py
 [--write]. With --write the table goes to docs/PERFORMANCE.md.
@@ -104,19 +104,19 @@ def steps(pages):
 
 
 def table():
-    yield "| for each page | pages | by script, ns | by step, ns | a copy, ns | by script, copies | by step, copies |"
-    yield "|---|---|---|---|---|---|---|"
+    yield "| for each page | pages | by script, ns | by step, ns | a copy, ns | by script, copies | by step, copies | a new copy, ns | by script, new copies |"
+    yield "|---|---|---|---|---|---|---|---|---|"
     for pages in NUMBERS:
         by_step = steps(pages)
-        copy = max(by_step["copy"], 1)
+        copy, new = max(by_step["copy"], 1), max(by_step["new-copy"], 1)
         seconds, memory = play_all(pages)
         for name, (base, whole) in WORK.items():
             script = (seconds[whole] - seconds[base]) * 1e9 / pages
-            yield f"| {name} | {pages:,} | {script:,.0f} | {by_step[name]:,} | {copy:,} | {script / copy:.1f} | {by_step[name] / copy:.1f} |"
+            yield f"| {name} | {pages:,} | {script:,.0f} | {by_step[name]:,} | {copy:,} | {script / copy:.1f} | {by_step[name] / copy:.1f} | {new:,} | {script / new:.1f} |"
             if name == "post-copy":
                 present = 2 * pages * PAGE
                 note = f"peak {memory[whole] / 2**20:,.0f} MiB, {memory[whole] / present:.2f} of the pages present on both hosts"
-                yield f"| {name}, whole run | {pages:,} | {note} | | | | |"
+                yield f"| {name}, whole run | {pages:,} | {note} | | | | | | |"
 
 
 def main():

@@ -5,10 +5,10 @@ use fault_handler::Destination;
 use guest::Tried;
 use mig_base::effect::Effect;
 use mig_base::{
-    Addr, Command, LOW_PAGE, MAX_PAGES, PAGE_BYTES, PAGE_SIZE, PageNo, PageSet, Prot, Reply,
-    page_address,
+    Addr, Command, LOW_PAGE, MAX_PAGES, PAGE_BYTES, PAGE_SIZE, PageBytes, PageNo, PageSet, Prot,
+    Reply, page_address,
 };
-use page_stream::{Frame, PageBytes, Waiting};
+use page_stream::{Frame, Waiting};
 use std::alloc::Global;
 
 /// The epoch of all frames.
@@ -99,12 +99,11 @@ pub fn start(alloc: Global, destination: &mut Destination, pages: u32) -> Result
     take(destination, package)
 }
 
-/// The copy of a page comes, in a box that is made for it.
+/// The copy of a page comes.
 fn arrive(alloc: Global, destination: &mut Destination, page: PageNo) -> Result<(), Failed> {
-    let Ok(bytes) = Box::new(alloc, [1; PAGE_BYTES]) else {
+    let Ok(bytes) = PageBytes::copy_of(alloc, &[1; PAGE_BYTES]) else {
         return Err(Failed);
     };
-    let bytes = PageBytes::new(bytes);
     take(destination, Frame::Page { page, bytes })
 }
 

@@ -108,10 +108,10 @@ fn time_calls(rt: &HostRuntime, pages: u32, kind: Call) -> io::Result<u128> {
 
 /// How long the copies from box to box take.
 fn time_copies(rt: &HostRuntime, pages: u32) -> io::Result<Duration> {
-    let boxes = copies::boxes(rt.alloc(), pages).map_err(lacking)?;
+    let filled = copies::filled(rt.alloc(), pages).map_err(lacking)?;
     let begun = Instant::now(rt)?;
     // They are there until the time is taken.
-    let _copies = copies::copy(rt.alloc(), boxes.as_slice()).map_err(lacking)?;
+    let _copies = copies::copy(rt.alloc(), filled.as_slice()).map_err(lacking)?;
     begun.elapsed(rt)
 }
 

@@ -3,8 +3,8 @@
 use crate::ranges::inside;
 use area_map::AreaMap;
 use mig_base::phase::Received;
-use mig_base::{Command, NoMemory, PAGE_BYTES, PageNo, PageSet, Prot};
-use page_stream::{Frame, PageBytes, Pages, Waiting};
+use mig_base::{Command, NoMemory, PAGE_BYTES, PageBytes, PageNo, PageSet, Prot};
+use page_stream::{Frame, Pages, Waiting};
 use std::alloc::Global;
 use std::process::Abort;
 
@@ -57,13 +57,13 @@ pub const NOWHERE: PageNo = 0x10_0000;
 pub const NONE: Range = (NOWHERE, 0);
 
 fn page_of(alloc: Global, byte: u8) -> Result<PageBytes, NoMemory> {
-    Ok(PageBytes::new(Box::new(alloc, [byte; PAGE_BYTES])?))
+    PageBytes::copy_of(alloc, &[byte; PAGE_BYTES])
 }
 
 fn pages_of(alloc: Global, count: u8, first: u8) -> Result<Pages, NoMemory> {
     let mut pages = Vec::new(alloc);
     for i in 0..count {
-        pages.push(Box::new(alloc, [first.wrapping_add(i); PAGE_BYTES])?)?;
+        pages.push(page_of(alloc, first.wrapping_add(i))?)?;
     }
     Ok(Pages::new(pages))
 }

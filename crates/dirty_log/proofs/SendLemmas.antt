@@ -4,14 +4,12 @@ use Rattle.std.specs.Ordering.{nat_cmp}
 use Rattle.std.specs.List.{list_all}
 use Rattle.std.specs.FinMap.{get}
 use Rattle.std.specs.FinSet.{FinSet, contains, insert}
-use Rattle.std.specs.declared.boxed.Box.{Box}
-use Rattle.std.specs.declared.alloc.Global.{Global}
 use Rattle.std.proofs.lemmas.Bool.{and_parts, not-false}
 use Rattle.std.proofs.lemmas.Bool.Decides.{nat_tests}
-use Rattle.std.proofs.lemmas.List.{map-append, take_more_set}
+use Rattle.std.proofs.lemmas.List.{take_more_set}
 use Rattle.mig_base.specs.declared.TheConstants.{HIGH_PAGE}
 use Rattle.mig_base.specs.declared.refusal.Refusal.{Refusal}
-use Rattle.mig_base.specs.Bytes.{boxed_bytes, contents, zero_page}
+use Rattle.mig_base.specs.Bytes.{contents, zero_page}
 use Rattle.mig_base.specs.Ranges.{in_range}
 use Rattle.mig_base.specs.Sets.{with_range}
 use Rattle.mig_base.specs.Tests.{first_holding, is_every}
@@ -134,9 +132,9 @@ run_more node first zero = ap (λ q. bytes_of node q ∷ []) (omega arith)
 run_more node first (suc n) = ap (λ pages. bytes_of node first ∷ pages) (run_more node (1 + first) n ∙ ap (λ q. run_of node (1 + first) n ++ bytes_of node q ∷ []) (omega arith))
 
 -- one more page of a run is read
-pub run_read : (pages : List (Box (List ℕ) Global)) (page : Box (List ℕ) Global) (node : Source) (first i : ℕ) → i < length pages → page.value ≡ bytes_of node (first + i) → boxed_bytes (take i pages) ≡ run_of node first i
-    → boxed_bytes (take (i + 1) (set pages i page)) ≡ run_of node first (i + 1)
+pub run_read : (pages : List (List ℕ)) (page : List ℕ) (node : Source) (first i : ℕ) → i < length pages → page ≡ bytes_of node (first + i) → take i pages ≡ run_of node first i
+    → take (i + 1) (set pages i page) ≡ run_of node first (i + 1)
 run_read pages page node first i low value before =
     let more : suc i ≡ i + 1 = omega arith in
-    ap boxed_bytes (take_more_set pages i page low) ∙ map-append (λ b. b.value) (take i pages) (page ∷ []) ∙ ap (λ xs. xs ++ page.value ∷ []) before ∙ ap (λ bytes. run_of node first i ++ bytes ∷ []) value
+    take_more_set pages i page low ∙ ap (λ xs. xs ++ page ∷ []) before ∙ ap (λ bytes. run_of node first i ++ bytes ∷ []) value
     ∙ sym (run_more node first i) ∙ ap (run_of node first) more

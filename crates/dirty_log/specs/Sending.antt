@@ -6,10 +6,10 @@ use Rattle.dirty_log.specs.declared.sent.Sent.{Sent}
 
 -- the frame in which it is sent
 abbrev pub frame_of : ℕ → Sent → Frame
-frame_of page (Sent.Page bytes) = Frame.Page page bytes.value
+frame_of page (Sent.Page bytes) = Frame.Page page bytes
 frame_of page Sent.Zero = Frame.Zero page
 
 -- the bytes of the page
 abbrev pub bytes_of : Sent → List ℕ
-bytes_of (Sent.Page bytes) = bytes.value
+bytes_of (Sent.Page bytes) = bytes
 bytes_of Sent.Zero = zero_page

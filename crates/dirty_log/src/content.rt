@@ -2,12 +2,12 @@
 
 ghost use Rattle.std.specs.Prelude.{◌≡◌, ℕ, ◌+◌, ◌<◌, ◌≤◌, ◌==◌, length, true, IfOk};
 ghost use Rattle.std.specs.List.{list_all};
-ghost use Rattle.mig_base.specs.Bytes.{boxed_bytes, contents};
+ghost use Rattle.mig_base.specs.Bytes.{contents};
 ghost use Rattle.mig_model.specs.Guest.{is_present};
 ghost use Rattle.mig_base.specs.declared.TheConstants.{HIGH_PAGE};
 ghost use Rattle.mig_model.specs.Source.{Source, run_of, space_of};
 
-use mig_base::{NoMemory, PAGE_BYTES, PageNo};
+use mig_base::{NoMemory, PAGE_BYTES, PageBytes, PageNo};
 use std::alloc::Global;
 use uffd_ioctl::Space;
 
@@ -18,40 +18,35 @@ pub fn are_zeros(bytes: &[u8]) -> bool
     bytes.iter().all(|byte| *byte == 0)
 }
 
-/// Room for the bytes of a page.
-pub fn blank_page(alloc: Global) -> Result<Box<[u8; PAGE_BYTES]>, NoMemory> {
-    Ok(Box::new(alloc, [0; PAGE_BYTES])?)
-}
-
-/// Room for the bytes of so many pages.
-pub fn blank_pages(alloc: Global, count: u32) -> Result<Vec<Box<[u8; PAGE_BYTES]>>, NoMemory>
+/// Pages of zeros, so many, whose bytes are to be read.
+pub fn blank_pages(alloc: Global, count: u32) -> Result<Vec<PageBytes>, NoMemory>
     ensures { IfOk result (λ pages. length pages.items ≡ count) }
 {
     let mut pages = Vec::with_capacity(alloc, count as usize)?;
     for _ in 0..count {
-        pages.push(blank_page(alloc)?)?;
+        pages.push(PageBytes::zeros(alloc)?)?;
     }
     Ok(pages)
 }
 
-/// Copies the bytes of a present page.
-pub fn read_page(space: &Space, page: PageNo, into: &mut [u8; PAGE_BYTES])
+/// The bytes of a present page.
+pub fn bytes_at(space: &Space, page: PageNo) -> &[u8; PAGE_BYTES]
     requires { is_present space.now page ≡ true }
-    ensures { into.new ≡ contents space.now.host.bytes page }
+    ensures { result.now ≡ contents space.now.host.bytes page }
 {
     match space.page(page) {
-        Some(bytes) => into.copy_from_slice(bytes),
+        Some(bytes) => bytes,
         None => unreachable!(),
     }
 }
 
 /// Copies the bytes of neighbouring present pages, from the first on.
-pub fn read_pages(space: &Space, first: PageNo, into: &mut Vec<Box<[u8; PAGE_BYTES]>>)
+pub fn read_pages(space: &Space, first: PageNo, into: &mut Vec<PageBytes>)
     requires inside { first + length into.old.items ≤ HIGH_PAGE }
     requires present { (i : ℕ) → i < length into.old.items → is_present space.now (first + i) ≡ true }
-    ensures { (node : Source) → (space_of node).host.bytes ≡ space.now.host.bytes → boxed_bytes into.new.items ≡ run_of node first (length into.old.items) }
+    ensures { (node : Source) → (space_of node).host.bytes ≡ space.now.host.bytes → into.new.items ≡ run_of node first (length into.old.items) }
 {
     for i in 0..into.len() {
-        read_page(space, first + i as PageNo, &mut into[i]);
+        into[i].copy_from(bytes_at(space, first + i as PageNo));
     }
 }

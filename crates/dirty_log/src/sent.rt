@@ -6,8 +6,8 @@ ghost use Rattle.mig_model.specs.Guest.{is_present};
 ghost use Rattle.mig_model.specs.Wire.{page_frame};
 ghost use Rattle.dirty_log.specs.Sending.{frame_of};
 
-use crate::content::{are_zeros, blank_page, read_page};
-use mig_base::{NoMemory, PAGE_BYTES, PageNo};
+use crate::content::{are_zeros, bytes_at};
+use mig_base::{NoMemory, PageBytes, PageNo};
 use std::alloc::Global;
 use uffd_ioctl::Space;
 
@@ -15,17 +15,17 @@ use uffd_ioctl::Space;
 #[derive(Drop)]
 pub enum Sent {
     /// Its bytes.
-    Page(Box<[u8; PAGE_BYTES]>),
+    Page(PageBytes),
     /// That they are all zero.
     Zero,
 }
 
 impl Sent {
     /// What is sent of a page with these bytes.
-    pub fn of(bytes: Box<[u8; PAGE_BYTES]>) -> Self
-        ensures { (page : ℕ) → frame_of page result ≡ page_frame page bytes.value }
+    pub fn of(bytes: PageBytes) -> Self
+        ensures { (page : ℕ) → frame_of page result ≡ page_frame page bytes }
     {
-        if are_zeros(&*bytes) {
+        if are_zeros(bytes.as_array()) {
             Sent::Zero
         } else {
             Sent::Page(bytes)
@@ -37,8 +37,7 @@ impl Sent {
         requires { is_present space.now page ≡ true }
         ensures { IfOk result (λ sent. frame_of page sent ≡ page_frame page (contents space.now.host.bytes page)) }
     {
-        let mut bytes = blank_page(alloc)?;
-        read_page(space, page, &mut bytes);
+        let bytes = PageBytes::copy_of(alloc, bytes_at(space, page))?;
         Ok(Sent::of(bytes))
     }
 }

@@ -8,10 +8,6 @@ use Rattle.std.specs.FinMap.{FinMap, get, contains_key, insert, get-empty, get-r
 use Rattle.std.specs.FinSet as set
 use Rattle.std.specs.FinSet.{FinSet, contains, contains-empty}
 use Rattle.std.proofs.lemmas.Bool.Decides.{nat_tests}
-use Rattle.std.proofs.lemmas.List.{length-map}
-use Rattle.std.specs.declared.boxed.Box.{Box}
-use Rattle.std.specs.declared.alloc.Global.{Global}
-use Rattle.mig_base.specs.Bytes.{boxed_bytes}
 use Rattle.mig_base.specs.declared.TheConstants.{HIGH_PAGE}
 use Rattle.mig_base.specs.Pages.{remove_range}
 use Rattle.mig_base.specs.Ranges.{in_range}
@@ -126,10 +122,8 @@ get-run_copies kept first (copy ∷ run) q =
     get-run_copies (insert kept first copy) (1 + first) run q ∙ ap (λ o. cond (in_range (1 + first) (length run) q) (Some (get_or run (q - (1 + first)) [])) o) (get-put kept first q (Some copy))
     ∙ one_first q first copy run (get kept q)
 
-pub run_kept : (old new : FinMap nat_cmp (List ℕ)) (first : ℕ) (run : List (Box (List ℕ) Global)) → HasRun old new first (length run) (boxed_bytes run) → new ≡ kept_with old (run_copies first (boxed_bytes run))
-run_kept old new first run bytes =
-    same_pages _ _
-    (λ q. bytes q ∙ ap (λ n. cond (in_range first n q) (Some (get_or (boxed_bytes run) (q - first) [])) (get old q)) (sym (length-map run (λ page. page.value))) ∙ sym (get-run_copies old first (boxed_bytes run) q))
+pub run_kept : (old new : FinMap nat_cmp (List ℕ)) (first : ℕ) (run : List (List ℕ)) → HasRun old new first (length run) run → new ≡ kept_with old (run_copies first run)
+run_kept old new first run bytes = same_pages _ _ (λ q. bytes q ∙ sym (get-run_copies old first run q))
 
 -- Pages that are given up run by run
 

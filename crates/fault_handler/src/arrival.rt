@@ -4,12 +4,12 @@ ghost use Rattle.std.specs.Prelude.{◌≡◌};
 ghost use Rattle.mig_base.specs.Bytes.{zero_page};
 ghost use Rattle.fault_handler.specs.Arrivals.{bytes_of};
 
-use mig_base::{PAGE_BYTES, PageNo};
+use mig_base::{PageBytes, PageNo};
 use std::marker::Model;
 use std::mem::replace;
 
-/// What a copy has: the box of bytes that came, or none where all are zeros.
-pub type Content = Option<Box<[u8; PAGE_BYTES]>>;
+/// What a copy has: the bytes that came, or none where all are zeros.
+pub type Content = Option<PageBytes>;
 
 /// A copy of a page of the source.
 #[derive(Drop)]

@@ -3,7 +3,7 @@
 ghost use Rattle.std.specs.Prelude.{◌≡◌, ℕ, ◌+◌, ◌==◌, ◌<◌, ◌≤◌, ◌&&◌, ◌||◌, false, true, not, None, IfOk, OnOk, OnErr, IfErr, length};
 ghost use Rattle.std.specs.FinMap as map;
 ghost use Rattle.std.specs.FinSet as set;
-ghost use Rattle.mig_base.specs.Bytes.{boxed_bytes, zero_page};
+ghost use Rattle.mig_base.specs.Bytes.{zero_page};
 ghost use Rattle.mig_base.specs.Pages.{remove_range};
 ghost use Rattle.mig_base.specs.Ranges.{in_range};
 ghost use Rattle.mig_base.specs.declared.TheConstants.{HIGH_PAGE};
@@ -13,7 +13,7 @@ ghost use Rattle.mig_model.specs.Wire.{kept_with, run_copies};
 
 use area_map::AreaMap;
 use mig_base::flags::REGISTER_MISSING_BIT;
-use mig_base::{HIGH_PAGE, NoMemory, PAGE_BYTES, PageNo, PageSet};
+use mig_base::{HIGH_PAGE, NoMemory, PageBytes, PageNo, PageSet};
 use page_table::PageTable;
 use std::alloc::Global;
 use std::marker::Model;
@@ -61,15 +61,11 @@ impl Kept {
         }
     }
 
-    /// Keeps the copy of a page, in place of an older one. Where memory is refused, which is never for a page that is kept, the box
-    /// comes back and nothing is changed.
-    pub fn keep(
-        &mut self,
-        page: PageNo,
-        bytes: Box<[u8; PAGE_BYTES]>,
-    ) -> Result<(), Box<[u8; PAGE_BYTES]>>
+    /// Keeps the copy of a page, in place of an older one. Where memory is refused, which is never for a page that is kept, its
+    /// bytes come back and nothing is changed.
+    pub fn keep(&mut self, page: PageNo, bytes: PageBytes) -> Result<(), PageBytes>
         requires { page < HIGH_PAGE }
-        ensures ok { OnOk result (self.new ≡ map.insert self.old page bytes.value) }
+        ensures ok { OnOk result (self.new ≡ map.insert self.old page bytes) }
         ensures err { IfErr result (λ back. (back ≡ bytes) × (self.new ≡ self.old)) }
     {
         if self.set.contains(page) {
@@ -94,22 +90,17 @@ impl Kept {
         ensures ok { OnOk result (self.new ≡ map.insert self.old page zero_page) }
         ensures err { OnErr result (self.new ≡ self.old) }
     {
-        let zeros = Box::new(self.alloc, [0; PAGE_BYTES])?;
+        let zeros = PageBytes::zeros(self.alloc)?;
         let Ok(()) = self.keep(page, zeros) else {
             return Err(NoMemory);
         };
         Ok(())
     }
 
-    /// Keeps the copies of neighbouring pages, in place of older ones: all of them, or where memory is refused none, and the boxes come
-    /// back.
-    pub fn keep_run(
-        &mut self,
-        first: PageNo,
-        run: Vec<Box<[u8; PAGE_BYTES]>>,
-    ) -> Result<(), Vec<Box<[u8; PAGE_BYTES]>>>
+    /// Keeps the copies of neighbouring pages, in place of older ones: all of them, or where memory is refused none, and they come back.
+    pub fn keep_run(&mut self, first: PageNo, run: Vec<PageBytes>) -> Result<(), Vec<PageBytes>>
         requires { first + length run.items ≤ HIGH_PAGE }
-        ensures ok { OnOk result (self.new ≡ kept_with self.old (run_copies first (boxed_bytes run.items))) }
+        ensures ok { OnOk result (self.new ≡ kept_with self.old (run_copies first run.items)) }
         ensures err { IfErr result (λ back. (back ≡ run) × (self.new ≡ self.old)) }
     {
         let count = run.len() as u32;

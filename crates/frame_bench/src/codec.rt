@@ -1,8 +1,8 @@
 //! Page frames that are written and read again.
 
 use frame_decoder::Decoder;
-use mig_base::{LOW_PAGE, PAGE_BYTES};
-use page_stream::{Frame, PageBytes, encode_into};
+use mig_base::{LOW_PAGE, PAGE_BYTES, PageBytes};
+use page_stream::{Frame, encode_into};
 use std::alloc::Global;
 
 /// The epoch of all frames.
@@ -14,12 +14,12 @@ pub struct Failed;
 
 /// The frame of a page with something on it.
 fn frame(alloc: Global, index: u32) -> Result<Frame, Failed> {
-    let Ok(bytes) = Box::new(alloc, [1; PAGE_BYTES]) else {
+    let Ok(bytes) = PageBytes::copy_of(alloc, &[1; PAGE_BYTES]) else {
         return Err(Failed);
     };
     Ok(Frame::Page {
         page: LOW_PAGE.wrapping_add(index),
-        bytes: PageBytes::new(bytes),
+        bytes,
     })
 }
 

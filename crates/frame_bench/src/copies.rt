@@ -1,29 +1,31 @@
 //! The loop beside which the codec is timed: pages that are copied twice.
 
-use mig_base::{NoMemory, PAGE_BYTES};
+use mig_base::{NoMemory, PAGE_BYTES, PageBytes};
 use std::alloc::Global;
 
-/// The bytes of a page.
-pub type Bytes = Box<[u8; PAGE_BYTES]>;
-
 /// So many pages, each with something on it.
-pub fn boxes(alloc: Global, pages: u32, byte: u8) -> Result<Vec<Bytes>, NoMemory> {
-    let mut boxes = Vec::new(alloc);
+pub fn filled(alloc: Global, pages: u32, byte: u8) -> Result<Vec<PageBytes>, NoMemory> {
+    let mut filled = Vec::new(alloc);
     for _ in 0..pages {
-        boxes.push(Box::new(alloc, [byte; PAGE_BYTES])?)?;
+        filled.push(PageBytes::copy_of(alloc, &[byte; PAGE_BYTES])?)?;
     }
-    Ok(boxes)
+    Ok(filled)
 }
 
 /// Copies each page to the page in its place.
-fn copy(sources: &[Bytes], targets: &mut [Bytes]) {
+fn copy(sources: &[PageBytes], targets: &mut [PageBytes]) {
     for (source, target) in sources.iter().zip(targets) {
-        target.copy_from_slice(&**source);
+        target.copy_from(source.as_array());
     }
 }
 
 /// Copies each page to the page in its place, and from there to the targets, as many at a time as these are; so many times.
-pub fn copy_twice(sources: &[Bytes], middles: &mut [Bytes], targets: &mut [Bytes], rounds: u32) {
+pub fn copy_twice(
+    sources: &[PageBytes],
+    middles: &mut [PageBytes],
+    targets: &mut [PageBytes],
+    rounds: u32,
+) {
     for _ in 0..rounds {
         copy(sources, middles);
         for piece in middles.chunks(targets.len().max(1)) {

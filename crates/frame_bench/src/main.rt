@@ -57,10 +57,10 @@ fn time_codec(
 
 /// How long it takes to copy the pages twice, once that has been done before.
 fn time_copies(rt: &HostRuntime, sizes: Sizes) -> io::Result<Duration> {
-    let sources = copies::boxes(rt.alloc(), sizes.batch, 1).map_err(lacking)?;
-    let mut middles = copies::boxes(rt.alloc(), sizes.batch, 2).map_err(lacking)?;
+    let sources = copies::filled(rt.alloc(), sizes.batch, 1).map_err(lacking)?;
+    let mut middles = copies::filled(rt.alloc(), sizes.batch, 2).map_err(lacking)?;
     let pages = (sizes.piece / PAGE_BYTES as u32).max(1);
-    let mut targets = copies::boxes(rt.alloc(), pages, 3).map_err(lacking)?;
+    let mut targets = copies::filled(rt.alloc(), pages, 3).map_err(lacking)?;
     copies::copy_twice(&sources, &mut middles, &mut targets, 1);
     let begun = Instant::now(rt)?;
     copies::copy_twice(&sources, &mut middles, &mut targets, sizes.rounds);

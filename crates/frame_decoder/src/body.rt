@@ -11,7 +11,7 @@ use crate::lists::{is_run, read_areas, read_contents, read_few_pages, read_pages
 use crate::tag::Tag;
 use crate::version::Version;
 use mig_base::{LOW_PAGE, MAX_RUN, PageNo};
-use page_stream::{Frame, PageBytes, Pages, Waiting};
+use page_stream::{Frame, Pages, Waiting};
 use std::alloc::Global;
 
 #[tactic(auto, unfolding(crate::specs::Reading::page_frame_at))]
@@ -19,8 +19,7 @@ fn read_page_frame(alloc: Global, bytes: &[u8]) -> Result<(Frame, &[u8]), Stream
     ensures { Gives (λ x. (frame_of x.0, x.1.now)) result (page_frame_at bytes.now) }
 {
     let (page, rest) = read_page(bytes)?;
-    let (content, rest) = read_content(alloc, rest)?;
-    let bytes = PageBytes::new(content);
+    let (bytes, rest) = read_content(alloc, rest)?;
     Ok((Frame::Page { page, bytes }, rest))
 }
 

@@ -5,7 +5,7 @@ ghost use Rattle.frame_decoder.specs.Reading.{Gives, byte_at, number_at, page_at
 
 use crate::fault::StreamFault;
 use mig_base::phase::Received;
-use mig_base::{HIGH_PAGE, LOW_PAGE, PAGE_BYTES, PageNo, Prot};
+use mig_base::{HIGH_PAGE, LOW_PAGE, PAGE_BYTES, PageBytes, PageNo, Prot};
 use std::alloc::Global;
 
 pub(crate) fn read_byte(bytes: &[u8]) -> Result<(u8, &[u8]), StreamFault>
@@ -55,19 +55,13 @@ pub(crate) fn read_page(bytes: &[u8]) -> Result<(PageNo, &[u8]), StreamFault>
 
 /// The bytes of a page.
 #[tactic(auto, unfolding(crate::specs::Reading::content_at))]
-pub(crate) fn read_content(
-    alloc: Global,
-    bytes: &[u8],
-) -> Result<(Box<[u8; PAGE_BYTES]>, &[u8]), StreamFault>
-    ensures { Gives (λ x. (x.0.value, x.1.now)) result (content_at bytes.now) }
+pub(crate) fn read_content(alloc: Global, bytes: &[u8]) -> Result<(PageBytes, &[u8]), StreamFault>
+    ensures { Gives (λ x. (x.0, x.1.now)) result (content_at bytes.now) }
 {
     let Some((front, rest)) = bytes.split_first_chunk::<PAGE_BYTES>() else {
         return Err(StreamFault::BadField);
     };
-    // (the bytes go straight into the box, and not by way of the stack)
-    let mut content = Box::new(alloc, [0; PAGE_BYTES])?;
-    content.copy_from_slice(front);
-    Ok((content, rest))
+    Ok((PageBytes::copy_of(alloc, front)?, rest))
 }
 
 #[tactic(auto, unfolding(crate::specs::Reading::prot_at))]

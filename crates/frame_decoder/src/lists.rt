@@ -1,7 +1,6 @@
 //! Reading sets of pages, mapped pages, and the bytes of neighbouring pages: a count, and then as many items.
 
 ghost use Rattle.std.specs.Prelude.{◌≡◌, ◌+◌, ◌≤◌, IfOk};
-ghost use Rattle.mig_base.specs.Bytes.{boxed_bytes};
 ghost use Rattle.mig_base.specs.declared.TheConstants.{HIGH_PAGE};
 ghost use Rattle.mig_model.specs.Ioctls.{same_prot};
 ghost use Rattle.frame_decoder.specs.Reading.{Gives, is_run, goes_on_with, content_at, contents_at, many_at, run_at, set_from, pages_at, few_pages_at, area_at, map_from, areas_at};
@@ -10,7 +9,7 @@ use crate::fault::StreamFault;
 use crate::fields::{read_content, read_prot, read_u32};
 use crate::version::Version;
 use area_map::AreaMap;
-use mig_base::{Area, HIGH_PAGE, LOW_PAGE, PAGE_BYTES, PageNo, PageSet, Prot, Run};
+use mig_base::{Area, HIGH_PAGE, LOW_PAGE, PageBytes, PageNo, PageSet, Prot, Run};
 use std::alloc::Global;
 
 /// The bytes of that many pages.
@@ -18,8 +17,8 @@ fn read_count_contents(
     alloc: Global,
     count: u32,
     bytes: &[u8],
-) -> Result<(Vec<Box<[u8; PAGE_BYTES]>>, &[u8]), StreamFault>
-    ensures { Gives (λ x. (boxed_bytes x.0.items, x.1.now)) result (many_at content_at count bytes.now) }
+) -> Result<(Vec<PageBytes>, &[u8]), StreamFault>
+    ensures { Gives (λ x. (x.0.items, x.1.now)) result (many_at content_at count bytes.now) }
 {
     let mut items = Vec::new(alloc);
     let mut rest = bytes;
@@ -36,8 +35,8 @@ fn read_count_contents(
 pub(crate) fn read_contents(
     alloc: Global,
     bytes: &[u8],
-) -> Result<(Vec<Box<[u8; PAGE_BYTES]>>, &[u8]), StreamFault>
-    ensures { Gives (λ x. (boxed_bytes x.0.items, x.1.now)) result (contents_at bytes.now) }
+) -> Result<(Vec<PageBytes>, &[u8]), StreamFault>
+    ensures { Gives (λ x. (x.0.items, x.1.now)) result (contents_at bytes.now) }
 {
     let (count, rest) = read_u32(bytes)?;
     let (items, rest) = read_count_contents(alloc, count, rest)?;

@@ -6,7 +6,7 @@ ghost use Rattle.mig_model.specs.Guest.{is_forgotten, is_present, zero_installed
 ghost use Rattle.mig_model.specs.Ioctls.{installed};
 ghost use Rattle.guest.specs.Lent.{IsLent};
 
-use mig_base::{NoMemory, PAGE_BYTES, PAGE_SIZE, PageNo, page_address};
+use mig_base::{NoMemory, PAGE_SIZE, PageBytes, PageNo, page_address};
 use uffd_ioctl::Space;
 
 /// Makes a missing page present, with zeros. Out of memory changes nothing.
@@ -25,18 +25,14 @@ pub fn make_zeros(space: &mut Space, page: PageNo) -> Result<(), NoMemory>
     }
 }
 
-/// Makes a missing page present, with the bytes of the box, which are not copied. On an error, which is want of memory, the box comes
-/// back, and nothing is changed.
-pub fn install(
-    space: &mut Space,
-    page: PageNo,
-    bytes: Box<[u8; PAGE_BYTES]>,
-) -> Result<(), Box<[u8; PAGE_BYTES]>>
+/// Makes a missing page present, with these bytes, which are not copied. On an error, which is want of memory, they come back, and
+/// nothing is changed.
+pub fn install(space: &mut Space, page: PageNo, bytes: PageBytes) -> Result<(), PageBytes>
     requires lent { IsLent space.old }
     requires quiet { object.changing space.old.object ≡ 0 }
     requires watched { is_forgotten space.old page ≡ false }
     requires missing { is_present space.old page ≡ false }
-    ensures ok { OnOk result (space.new ≡ installed space.old page 1 (λ i. bytes.value) false) }
+    ensures ok { OnOk result (space.new ≡ installed space.old page 1 (λ i. bytes) false) }
     ensures err { IfErr result (λ back. (back ≡ bytes) × (space.new ≡ space.old)) }
 {
     space.is_in_order();

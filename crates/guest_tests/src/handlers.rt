@@ -11,7 +11,7 @@ use mig_base::effect::Effect;
 use mig_base::flags::{ALL_FEATURES, API};
 use mig_base::refusal::Refusal;
 use mig_base::{
-    Addr, Command, HIGH, LOW, Message, NoMemory, PAGE_BYTES, PageNo, Place, Prot, Reply,
+    Addr, Command, HIGH, LOW, Message, NoMemory, PAGE_BYTES, PageBytes, PageNo, Place, Prot, Reply,
 };
 use std::alloc::Global;
 use std::process::Abort;
@@ -117,7 +117,7 @@ fn filled(
     if !is_wanted(space, page) {
         return Err(Refusal::PageNotSendable);
     }
-    let Ok(bytes) = Box::new(alloc, [byte; PAGE_BYTES]) else {
+    let Ok(bytes) = PageBytes::copy_of(alloc, &[byte; PAGE_BYTES]) else {
         return Err(Refusal::NoMemory);
     };
     match install(space, page, bytes) {
@@ -126,7 +126,7 @@ fn filled(
             Ok(Answer::Done)
         }
         Err(back) => {
-            assert_eq!(rt; back[0], byte);
+            assert_eq!(rt; back.as_array()[0], byte);
             Err(Refusal::NoMemory)
         }
     }

@@ -1,9 +1,7 @@
 -- The bytes of pages and of numbers.
-use Rattle.std.specs.Prelude.{ℕ, ◌+◌, ◌*◌, List, [], ◌∷◌, ◌++◌, map, replicate, length, take, drop, unwrap_or}
+use Rattle.std.specs.Prelude.{ℕ, ◌+◌, ◌*◌, List, [], ◌∷◌, ◌++◌, replicate, length, take, drop, unwrap_or}
 use Rattle.std.specs.Int.{bytes_low_first}
 use Rattle.std.specs.Ordering.{nat_cmp}
-use Rattle.std.specs.declared.boxed.Box.{Box}
-use Rattle.std.specs.declared.alloc.Global.{Global}
 use Rattle.std.specs.FinMap.{FinMap, get}
 use Rattle.mig_base.specs.declared.TheConstants.{PAGE_SIZE}
 
@@ -18,10 +16,6 @@ page_at pages page = unwrap_or (get pages page) []
 -- the bytes of a page, zeros where it is not present
 abbrev pub contents : FinMap nat_cmp (List ℕ) → ℕ → List ℕ
 contents pages page = unwrap_or (get pages page) zero_page
-
--- the bytes of pages that stand in boxes of their own
-abbrev pub boxed_bytes : List (Box (List ℕ) Global) → List (List ℕ)
-boxed_bytes pages = map (λ page. page.value) pages
 
 -- the bytes of a page after others were written from a place on
 unfoldable pub overwrite : List ℕ → ℕ → List ℕ → List ℕ

@@ -2,7 +2,8 @@
 //!
 //! Addresses, pages and protections; the commands of processors and the replies to them; the steps of a world and their
 //! outcomes, in [`schedule`], [`effect`], [`refusal`], [`fault`], [`phase`], [`cpu_state`] and [`counts`]; [`Message`], what a
-//! userfault object tells, [`Wake`], whom it wakes, and [`flags`], the numbers of its calls; [`PageSet`], a set of pages.
+//! userfault object tells, [`Wake`], whom it wakes, and [`flags`], the numbers of its calls; [`PageSet`], a set of pages, and
+//! [`PageBytes`], the bytes of one.
 //! What the commands do to one flat memory is a definition, `specs/Flat.antt`, after mmap(2), munmap(2), mremap(2) and
 //! madvise(2): this crate executes no command.
 #![tactic(auto)]
@@ -21,6 +22,7 @@ pub mod fault;
 pub mod flags;
 pub mod laws;
 pub mod message;
+pub mod page_bytes;
 pub mod page_set;
 pub mod phase;
 pub mod refusal;
@@ -31,6 +33,7 @@ mod words;
 
 pub use crate::command::{Access, Command, Entry, Errno, Place, Reply};
 pub use crate::message::Message;
+pub use crate::page_bytes::{PageBytes, PageRoom};
 pub use crate::page_set::PageSet;
 pub use crate::phase::WorldPhase;
 pub use crate::wake::Wake;

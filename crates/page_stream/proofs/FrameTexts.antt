@@ -1,13 +1,8 @@
 -- What stands of a frame's text once its parts are written.
-use Rattle.std.proofs.Common.{◌≡◌, ℕ, ◌+◌, ◌≤◌, List, [], ◌∷◌, ◌++◌, length, refl, sym, ap, ◌∙◌, arith, vec_len, vec_capacity}
+use Rattle.std.proofs.Common.{◌≡◌, ℕ, ◌+◌, ◌≤◌, List, [], ◌∷◌, ◌++◌, length, refl, ap, ◌∙◌, arith, vec_len, vec_capacity}
 use Rattle.std.specs.Global.{Vec}
-use Rattle.std.specs.List.{flat_map}
 use Rattle.std.specs.Int.{w32, to_be_bytes}
-use Rattle.std.specs.declared.alloc.Global.{Global}
-use Rattle.std.specs.declared.boxed.Box.{Box}
 use Rattle.std.proofs.lemmas.List.{length-append}
-use Rattle.std.proofs.lemmas.List.Folds.{flat_map-map}
-use Rattle.mig_base.specs.Bytes.{boxed_bytes}
 use Rattle.mig_model.specs.Bounds.{IsFrame}
 use Rattle.mig_model.specs.Lengths.{body_len}
 use Rattle.mig_model.specs.Wire.{Frame}
@@ -17,11 +12,6 @@ use Rattle.frame_texts.proofs.Encodable.{encodable}
 use Rattle.frame_texts.proofs.TextLemmas.{length-text}
 use Rattle.page_stream.specs.Writing.{Puts}
 use Rattle.page_stream.proofs.Puts.{puts_then}
-
--- The bytes of pages that stand in boxes of their own
-
-pub boxed_texts : (pages : List (Box (List ℕ) Global)) (values : List (List ℕ)) → boxed_bytes pages ≡ values → flat_map (λ bytes. bytes) values ≡ flat_map (λ (page : Box (List ℕ) Global). page.value) pages
-boxed_texts pages values is = ap (flat_map (λ (bytes : List ℕ). bytes)) (sym is) ∙ flat_map-map (λ (bytes : List ℕ). bytes) (λ (page : Box (List ℕ) Global). page.value) pages
 
 -- Three texts, one behind the other
 

@@ -2,8 +2,6 @@
 use Rattle.std.proofs.Common.{◌≡◌, ℕ, zero, suc, ◌+◌, ◌<◌, ◌≤◌, Bool, true, false, cond, Option, Some, None, is_some, List, [], ◌∷◌, length, get_or, sym, ap, ◌∙◌, arith, zero-add}
 use Rattle.std.proofs.lemmas.Bool.Decides.{nat_tests}
 use Rattle.std.specs.Ordering.{nat_cmp}
-use Rattle.std.specs.declared.alloc.Global.{Global}
-use Rattle.std.specs.declared.boxed.Box.{Box}
 use Rattle.std.specs.FinMap.{FinMap, contains_key, get, len}
 use Rattle.mig_base.specs.declared.Prot.{Prot}
 use Rattle.mig_base.specs.declared.TheConstants.{LOW_PAGE, HIGH_PAGE, MAX_PAGES}
@@ -11,10 +9,9 @@ use Rattle.mig_base.specs.declared.command.Command.{Command}
 use Rattle.mig_base.specs.Ranges.{count_below}
 use Rattle.mig_base.proofs.RangeLemmas.{count_below-constant}
 use Rattle.mig_model.specs.Bounds.{ArePageBytes, AreRightAccesses, IsMapping, IsPageBytes}
-use Rattle.mig_base.specs.Bytes.{boxed_bytes}
 use Rattle.page_stream.specs.Rules.{IsRight}
 
-pub page_bytes_each : (pages : List (Box (List ℕ) Global)) → ((k : ℕ) (d : Box (List ℕ) Global) → k < length pages → IsPageBytes (get_or pages k d).value) → ArePageBytes (boxed_bytes pages)
+pub page_bytes_each : (pages : List (List ℕ)) → ((k : ℕ) (d : List ℕ) → k < length pages → IsPageBytes (get_or pages k d)) → ArePageBytes pages
 page_bytes_each [] each = tt
 page_bytes_each (page ∷ pages) each = (each 0 page (omega arith), page_bytes_each pages (λ k d l. each (suc k) d (omega arith)))
 

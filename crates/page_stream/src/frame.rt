@@ -1,9 +1,9 @@
 //! The frames.
 
-use crate::lists::{PageBytes, Pages, Waiting};
+use crate::lists::{Pages, Waiting};
 use area_map::AreaMap;
 use mig_base::phase::Received;
-use mig_base::{PageNo, PageSet};
+use mig_base::{PageBytes, PageNo, PageSet};
 
 /// A message of one node to the other, after QEMU's postcopy document.
 #[derive(Drop)]

@@ -1,7 +1,7 @@
 //! What the two nodes of a migration tell each other: its frames.
 //!
 //! A [`Frame`] keeps its pages and lists in types that callers see as sets, maps and lists: [`mig_base::PageSet`],
-//! [`area_map::AreaMap`], [`PageBytes`], [`Pages`] and [`Waiting`].
+//! [`area_map::AreaMap`], [`mig_base::PageBytes`], [`Pages`] and [`Waiting`].
 //!
 //! [`Frame::is_well_formed`] tells which frames may be sent, [`Frame::text_len`] how long the text of one is, and [`encode_into`]
 //! writes it: its bytes on a wire.
@@ -20,5 +20,5 @@ mod rules;
 pub mod writing;
 
 pub use crate::frame::Frame;
-pub use crate::lists::{PageBytes, Pages, Waiting};
+pub use crate::lists::{Pages, Waiting};
 pub use crate::writing::{encode, encode_into};

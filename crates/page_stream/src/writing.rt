@@ -81,7 +81,7 @@ fn put_body(into: &mut Vec<u8>, frame: &Frame)
         Frame::Advise | Frame::Resume | Frame::Done => {}
         Frame::Page { page, bytes } => {
             put(into, &page.to_be_bytes());
-            put(into, bytes.as_slice());
+            put(into, bytes.as_array());
         }
         Frame::Zero { page } | Frame::Request { page } => put(into, &page.to_be_bytes()),
         Frame::Run { first, pages } => put_pages(into, *first, pages),
@@ -119,7 +119,7 @@ fn put_pages(into: &mut Vec<u8>, first: PageNo, pages: &Pages)
     put(into, &first.to_be_bytes());
     put(into, &(pages.len() as u32).to_be_bytes());
     for page in pages.as_slice() {
-        put(into, page.as_slice());
+        put(into, page.as_array());
     }
 }
 

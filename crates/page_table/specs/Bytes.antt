@@ -1,21 +1,14 @@
 -- The bytes of pages.
 use Rattle.std.specs.Prelude.{◌≡◌, ℕ, List, Option, Some, None, length, slice_index_or}
 use Rattle.mig_base.specs.declared.TheConstants.{PAGE_SIZE}
-use Rattle.std.specs.Option.{option_map}
-use Rattle.std.specs.declared.boxed.Box.{Box}
-use Rattle.std.specs.declared.alloc.Global.{Global}
 
--- a page as a table has it: its box, if it is present
+-- a page as a table has it: its bytes, if it is present
 abbrev pub Page : Type 0
-Page = Option (Box (List ℕ) Global)
-
--- a page's bytes, if it is present
-abbrev pub bytes_of : Page → Option (List ℕ)
-bytes_of page = option_map (λ b. b.value) page
+Page = Option (List ℕ)
 
 -- a page that is present has as many bytes as a page has
 abbrev pub IsWhole : Page → Type 0
-IsWhole page = (bytes : List ℕ) → bytes_of page ≡ Some bytes → length bytes ≡ PAGE_SIZE
+IsWhole page = (bytes : List ℕ) → page ≡ Some bytes → length bytes ≡ PAGE_SIZE
 
 -- and so has each of a list
 abbrev pub AreWhole : List Page → Type 0

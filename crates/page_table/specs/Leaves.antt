@@ -8,7 +8,6 @@ use Rattle.mig_base.specs.Ranges.{in_range}
 use Rattle.mig_base.specs.declared.chunk.TheConstants.{CHUNK}
 use Rattle.page_table.specs.declared.leaf.Leaf.{Leaf}
 use Rattle.mig_base.specs.Bytes.{overwrite}
-use Rattle.page_table.specs.Bytes.{bytes_of}
 pub use Rattle.mig_base.specs.Places.{is_place}
 unfoldable pub use Rattle.mig_base.specs.Places.{has_place}
 
@@ -22,7 +21,7 @@ Place = Option (Box Leaf Global)
 
 -- what a leaf says of its page of that number
 abbrev pub leaf_cell : Leaf → ℕ → Cell
-leaf_cell leaf i = (bytes_of (slice_index_or leaf.pages.items i None), contains leaf.protected i)
+leaf_cell leaf i = (slice_index_or leaf.pages.items i None, contains leaf.protected i)
 
 -- what a place says of its page of that number
 abbrev pub cell_in : Place → ℕ → Cell

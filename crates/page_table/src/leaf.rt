@@ -7,14 +7,14 @@ ghost use Rattle.mig_base.specs.Ranges.{in_range};
 ghost use Rattle.mig_base.specs.Bytes.{overwrite};
 ghost use Rattle.mig_base.specs.declared.TheConstants.{PAGE_SIZE};
 ghost use Rattle.mig_base.specs.declared.chunk.TheConstants.{CHUNK};
-ghost use Rattle.page_table.specs.Bytes.{AreWhole, bytes_of};
+ghost use Rattle.page_table.specs.Bytes.{AreWhole};
 
 use mig_base::chunk::{CHUNK, Chunk};
-use mig_base::{NoMemory, PAGE_BYTES};
+use mig_base::{NoMemory, PageBytes};
 use std::alloc::Global;
 
 /// A page: its bytes, or nothing where it is missing.
-pub type Page = Option<Box<[u8; PAGE_BYTES]>>;
+pub type Page = Option<PageBytes>;
 
 /// A place for a leaf: empty until one of its pages is put.
 pub type Place = Option<Box<Leaf>>;
@@ -60,7 +60,7 @@ pub fn put_page(pages: &mut Vec<Page>, i: usize, page: Page)
 pub fn write_page(pages: &mut Vec<Page>, i: usize, offset: usize, bytes: &[u8])
     requires place { i < length pages.old.items }
     requires inside { offset + length bytes.now ≤ PAGE_SIZE }
-    ensures here { bytes_of (slice_index_or pages.new.items i None) ≡ option_map (λ held. overwrite held offset bytes.now) (bytes_of (slice_index_or pages.old.items i None)) }
+    ensures here { slice_index_or pages.new.items i None ≡ option_map (λ held. overwrite held offset bytes.now) (slice_index_or pages.old.items i None) }
     ensures others { (j : ℕ) → j ≢ i → slice_index_or pages.new.items j None ≡ slice_index_or pages.old.items j None }
     ensures size { length pages.new.items ≡ length pages.old.items }
 {
@@ -70,10 +70,10 @@ pub fn write_page(pages: &mut Vec<Page>, i: usize, offset: usize, bytes: &[u8])
 /// Writes bytes into a page, where it is present.
 fn write_bytes(page: &mut Page, offset: usize, bytes: &[u8])
     requires { offset + length bytes.now ≤ PAGE_SIZE }
-    ensures { bytes_of page.new ≡ option_map (λ held. overwrite held offset bytes.now) (bytes_of page.old) }
+    ensures { page.new ≡ option_map (λ held. overwrite held offset bytes.now) page.old }
 {
     if let Some(held) = page {
-        held[offset..offset + bytes.len()].copy_from_slice(bytes);
+        held.write(offset, bytes);
     }
 }
 

@@ -14,13 +14,12 @@ ghost use Rattle.mig_base.specs.Bytes.{zero_page, page_at, overwrite};
 mod ranges;
 
 use crate::leaf::Place;
-use crate::place::has_page_size;
 use crate::table::{
     bytes_at, clear_range, is_present_at, is_protected_at, make_place, make_places, move_cells,
     present_of, protect_at, put_at, write_at,
 };
 use mig_base::page_set::PageSet;
-use mig_base::{NoMemory, PAGE_BYTES, PageNo};
+use mig_base::{NoMemory, PAGE_BYTES, PageBytes, PageNo};
 use std::alloc::Global;
 use std::marker::Model;
 use thiserror::Error;
@@ -95,17 +94,13 @@ impl PageTable {
         present_of(self.alloc, &self.places)
     }
 
-    /// Makes a missing page present, not protected, with the bytes of the box, which are not copied.
+    /// Makes a missing page present, not protected, with these bytes, which are not copied.
     ///
-    /// On an error the table is as it was, and the box comes back with the reason: `Present` exactly where the page is
+    /// On an error the table is as it was, and they come back with the reason: `Present` exactly where the page is
     /// present, and otherwise `NoMemory` for the room of its leaf.
-    pub fn put(
-        &mut self,
-        page: PageNo,
-        bytes: Box<[u8; PAGE_BYTES]>,
-    ) -> Result<(), (PutFault, Box<[u8; PAGE_BYTES]>)>
+    pub fn put(&mut self, page: PageNo, bytes: PageBytes) -> Result<(), (PutFault, PageBytes)>
         requires { page < HIGH_PAGE }
-        ensures ok { OnOk result (self.new.bytes ≡ map.insert self.old.bytes page bytes.value) }
+        ensures ok { OnOk result (self.new.bytes ≡ map.insert self.old.bytes page bytes) }
         ensures protected { self.new.protected ≡ self.old.protected }
         ensures fault { IfErr result (λ e. (e.1 ≡ bytes) × (self.new.bytes ≡ self.old.bytes) × ((e.0 ≡ PutFault.Present) ↔ IsTrue (map.contains_key self.old.bytes page))) }
         ensures missing { OnOk result (map.contains_key self.old.bytes page ≡ false) }
@@ -116,7 +111,7 @@ impl PageTable {
         let Ok(()) = make_place(self.alloc, &mut self.places, page) else {
             return Err((PutFault::NoMemory, bytes));
         };
-        has_page_size(&bytes);
+        bytes.are_whole();
         put_at(&mut self.places, page, Some(bytes), false);
         Ok(())
     }
@@ -135,7 +130,7 @@ impl PageTable {
         if is_present_at(&self.places, page) {
             return Err(PutFault::Present);
         }
-        let Ok(zeros) = Box::new(self.alloc, [0; PAGE_BYTES]) else {
+        let Ok(zeros) = PageBytes::zeros(self.alloc) else {
             return Err(PutFault::NoMemory);
         };
         let Ok(()) = make_place(self.alloc, &mut self.places, page) else {
@@ -145,15 +140,15 @@ impl PageTable {
         Ok(())
     }
 
-    /// Gives a present page the bytes of the box, which are not copied, in place of its own. It is not protected afterwards.
+    /// Gives a present page these bytes, which are not copied, in place of its own. It is not protected afterwards.
     ///
     /// It takes no memory.
-    pub fn replace(&mut self, page: PageNo, bytes: Box<[u8; PAGE_BYTES]>)
+    pub fn replace(&mut self, page: PageNo, bytes: PageBytes)
         requires present { IsTrue (map.contains_key self.old.bytes page) }
-        ensures bytes { self.new.bytes ≡ map.insert self.old.bytes page bytes.value }
+        ensures bytes { self.new.bytes ≡ map.insert self.old.bytes page bytes }
         ensures protected { self.new.protected ≡ set.remove self.old.protected page }
     {
-        has_page_size(&bytes);
+        bytes.are_whole();
         let bytes = Some(bytes);
         put_at(&mut self.places, page, bytes, false);
     }

@@ -6,7 +6,7 @@ ghost use Rattle.std.specs.FinSet.{contains};
 ghost use Rattle.mig_base.specs.Ranges.{in_range};
 ghost use Rattle.mig_base.specs.declared.TheConstants.{PAGE_SIZE};
 ghost use Rattle.mig_base.specs.declared.chunk.TheConstants.{CHUNK};
-ghost use Rattle.page_table.specs.Bytes.{IsWhole, bytes_of};
+ghost use Rattle.page_table.specs.Bytes.{IsWhole};
 ghost use Rattle.page_table.specs.Leaves.{Cell, cell_in, leaf_cell, is_place, no_cell, with_protection, written_cell};
 
 use crate::leaf::{
@@ -52,7 +52,7 @@ impl Leaf {
     /// Takes a page out, and tells whether it was protected.
     pub fn take(&mut self, i: u32) -> (Page, bool)
         requires { i < CHUNK }
-        ensures taken { (bytes_of result.0, result.1) ≡ leaf_cell self.old i }
+        ensures taken { result ≡ leaf_cell self.old i }
         ensures whole { IsWhole result.0 }
         ensures left { (j : ℕ) → leaf_cell self.new j ≡ (if nat_eq j i then no_cell else leaf_cell self.old j) }
     {
@@ -66,7 +66,7 @@ impl Leaf {
     pub fn put(&mut self, i: u32, page: Page, protected: bool)
         requires inside { i < CHUNK }
         requires whole { IsWhole page }
-        ensures { (j : ℕ) → leaf_cell self.new j ≡ (if nat_eq j i then (bytes_of page, protected) else leaf_cell self.old j) }
+        ensures { (j : ℕ) → leaf_cell self.new j ≡ (if nat_eq j i then (page, protected) else leaf_cell self.old j) }
     {
         put_page(&mut self.pages, i as usize, page);
         set_member(&mut self.protected, i, protected);
@@ -99,13 +99,6 @@ impl Leaf {
     }
 }
 
-/// A law of every array of that type: it has as many bytes as a page has. The call does nothing.
-pub fn has_page_size(bytes: &[u8; PAGE_BYTES])
-    ensures { length bytes.now ≡ PAGE_SIZE }
-{
-    let _first = bytes[0];
-}
-
 /// The bytes of a page, if it is present.
 pub fn place_get(place: &Place, i: u32) -> Option<&[u8; PAGE_BYTES]>
     requires { i < CHUNK }
@@ -113,7 +106,7 @@ pub fn place_get(place: &Place, i: u32) -> Option<&[u8; PAGE_BYTES]>
 {
     match place {
         Some(leaf) => match &leaf.pages[i as usize] {
-            Some(bytes) => Some(bytes),
+            Some(bytes) => Some(bytes.as_array()),
             None => None,
         },
         None => None,
@@ -160,7 +153,7 @@ pub fn place_gather(place: &Place, at: u32, pages: &mut PageSet) -> Result<(), N
 /// Takes a page out, and tells whether it was protected.
 pub fn place_take(place: &mut Place, i: u32) -> (Page, bool)
     requires { i < CHUNK }
-    ensures taken { (bytes_of result.0, result.1) ≡ cell_in place.old i }
+    ensures taken { result ≡ cell_in place.old i }
     ensures whole { IsWhole result.0 }
     ensures left { (j : ℕ) → cell_in place.new j ≡ (if nat_eq j i then no_cell else cell_in place.old j) }
     ensures stays { is_place place.new ≡ is_place place.old }
@@ -176,7 +169,7 @@ pub fn place_put(place: &mut Place, i: u32, page: Page, protected: bool)
     requires inside { i < CHUNK }
     requires whole { IsWhole page }
     requires there { is_place place.old ≡ true }
-    ensures put { (j : ℕ) → cell_in place.new j ≡ (if nat_eq j i then (bytes_of page, protected) else cell_in place.old j) }
+    ensures put { (j : ℕ) → cell_in place.new j ≡ (if nat_eq j i then (page, protected) else cell_in place.old j) }
     ensures stays { is_place place.new ≡ true }
 {
     if let Some(leaf) = place {

@@ -3,21 +3,20 @@
 ghost use Rattle.std.specs.Prelude.{◌≡◌, ℕ, ◌+◌, ◌-◌, ◌/◌, ◌%◌, ◌<◌, ◌≤◌, ◌⊎◌, Bool, true, false, nat_eq, if◌then◌else◌, None, OnOk, IfOk, is_some, length, slice_index_or};
 ghost use Rattle.std.specs.FinSet.{contains};
 ghost use Rattle.std.specs.Option.{option_copied};
-ghost use Rattle.mig_base.specs.Bytes.{boxed_bytes};
 ghost use Rattle.mig_base.specs.Ranges.{in_range};
 ghost use Rattle.mig_base.specs.declared.TheConstants.{HIGH_PAGE, PAGE_SIZE};
 ghost use Rattle.mig_base.specs.declared.chunk.TheConstants.{CHUNKS};
-ghost use Rattle.page_table.specs.Bytes.{IsWhole, bytes_of};
+ghost use Rattle.page_table.specs.Bytes.{IsWhole};
 ghost use Rattle.page_table.specs.Leaves.{Cell, cell_at, has_place, no_cell, with_protection, written_cell, moved_cell, put_cell};
 
 use crate::leaf::{Page, Place};
 use crate::place::{
-    has_page_size, place_clear, place_gather, place_get, place_is_protected, place_make,
-    place_protect, place_put, place_take, place_write,
+    place_clear, place_gather, place_get, place_is_protected, place_make, place_protect, place_put,
+    place_take, place_write,
 };
 use mig_base::chunk::CHUNK;
 use mig_base::page_set::PageSet;
-use mig_base::{NoMemory, PAGE_BYTES, PageNo};
+use mig_base::{NoMemory, PAGE_BYTES, PageBytes, PageNo};
 use std::alloc::Global;
 
 /// The bytes of a page, if it is present.
@@ -71,7 +70,7 @@ pub fn make_place(alloc: Global, places: &mut Vec<Place>, page: PageNo) -> Resul
 
 /// Takes a page out, and tells whether it was protected.
 pub fn take_at(places: &mut Vec<Place>, page: PageNo) -> (Page, bool)
-    ensures taken { (bytes_of result.0, result.1) ≡ cell_at places.old.items page }
+    ensures taken { result ≡ cell_at places.old.items page }
     ensures whole { IsWhole result.0 }
     ensures left { (q : ℕ) → cell_at places.new.items q ≡ (if nat_eq q page then no_cell else cell_at places.old.items q) }
     ensures stay { (q : ℕ) → has_place places.new.items q ≡ has_place places.old.items q }
@@ -89,7 +88,7 @@ pub fn take_at(places: &mut Vec<Place>, page: PageNo) -> (Page, bool)
 pub fn put_at(places: &mut Vec<Place>, page: PageNo, bytes: Page, protected: bool)
     requires whole { IsWhole bytes }
     requires there { has_place places.old.items page ≡ true }
-    ensures put { (q : ℕ) → cell_at places.new.items q ≡ (if nat_eq q page then (bytes_of bytes, protected) else cell_at places.old.items q) }
+    ensures put { (q : ℕ) → cell_at places.new.items q ≡ (if nat_eq q page then (bytes, protected) else cell_at places.old.items q) }
     ensures stay { (q : ℕ) → has_place places.new.items q ≡ has_place places.old.items q }
     ensures size { length places.new.items ≡ length places.old.items }
 {
@@ -177,15 +176,15 @@ pub fn move_cells(places: &mut Vec<Place>, from: PageNo, to: PageNo, count: u32)
     }
 }
 
-/// Gives the pages from `first` on, which have their leaves, the bytes of the boxes, the last page first. None is protected afterwards.
-pub fn put_cells(places: &mut Vec<Place>, first: PageNo, mut run: Vec<Box<[u8; PAGE_BYTES]>>)
+/// Gives the pages from `first` on, which have their leaves, these bytes, the last page first. None is protected afterwards.
+pub fn put_cells(places: &mut Vec<Place>, first: PageNo, mut run: Vec<PageBytes>)
     requires inside { first + length run.items ≤ HIGH_PAGE }
     requires there { (q : ℕ) → first ≤ q → q < first + length run.items → has_place places.old.items q ≡ true }
-    ensures put { (q : ℕ) → cell_at places.new.items q ≡ put_cell (cell_at places.old.items) first (boxed_bytes run.items) q }
+    ensures put { (q : ℕ) → cell_at places.new.items q ≡ put_cell (cell_at places.old.items) first run.items q }
     ensures size { length places.new.items ≡ length places.old.items }
 {
     while let Some(bytes) = run.pop() {
-        has_page_size(&bytes);
+        bytes.are_whole();
         let page = first + run.len() as u32;
         put_at(places, page, Some(bytes), false);
     }

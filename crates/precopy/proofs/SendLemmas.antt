@@ -63,7 +63,7 @@ not_zero : (page : ℕ) (bytes : List ℕ) → Frame.Page page bytes ≡ Frame.Z
 not_zero page bytes h = cc
 
 zero_names : (page : ℕ) (sent : Sent) (frame : Frame) → frame ≡ log.frame_of page sent → (frame ≡ Frame.Zero page) ↔ (sent ≡ Sent.Zero)
-zero_names page (Sent.Page bytes) frame is = (λ h. absurd (not_zero page bytes.value (sym is ∙ h)), λ h. absurd (cc))
+zero_names page (Sent.Page bytes) frame is = (λ h. absurd (not_zero page bytes (sym is ∙ h)), λ h. absurd (cc))
 zero_names page Sent.Zero frame is = (λ h. refl, λ h. is)
 
 pub zero_told : {A : Type 0} (page : ℕ) (sent : Sent) (frame : Frame) → frame ≡ log.frame_of page sent → (sent ≡ Sent.Zero) ↔ A → (frame ≡ Frame.Zero page) ↔ A

@@ -57,9 +57,9 @@ fn time_source(rt: &HostRuntime, pages: u32) -> io::Result<(Duration, Duration)>
 
 /// How long the copies take, and how many they were.
 fn time_copies(rt: &HostRuntime, pages: u32) -> io::Result<(Duration, u32)> {
-    let boxes = copies::boxes(rt.alloc(), pages).map_err(lacking)?;
+    let filled = copies::filled(rt.alloc(), pages).map_err(lacking)?;
     let begun = Instant::now(rt)?;
-    let count = copies::copy(rt.alloc(), boxes.as_slice()).map_err(lacking)?;
+    let count = copies::copy(rt.alloc(), filled.as_slice()).map_err(lacking)?;
     Ok((begun.elapsed(rt)?, count))
 }
 

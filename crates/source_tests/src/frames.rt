@@ -4,8 +4,8 @@ use crate::ranges::inside;
 use crate::same::same;
 use area_map::AreaMap;
 use mig_base::phase::Received;
-use mig_base::{Addr, Command, NoMemory, PAGE_BYTES, PageNo, PageSet, Prot};
-use page_stream::{Frame, PageBytes, Pages, Waiting};
+use mig_base::{Addr, Command, NoMemory, PageBytes, PageNo, PageSet, Prot};
+use page_stream::{Frame, Pages, Waiting};
 use std::alloc::Global;
 use std::process::Abort;
 use std::test::Fail;
@@ -46,13 +46,13 @@ use Sample::{
 };
 
 fn page(alloc: Global) -> Result<PageBytes, NoMemory> {
-    Ok(PageBytes::new(Box::new(alloc, [0; PAGE_BYTES])?))
+    PageBytes::zeros(alloc)
 }
 
 fn pages(alloc: Global, count: usize) -> Result<Pages, NoMemory> {
     let mut pages = Vec::new(alloc);
     for _ in 0..count {
-        pages.push(Box::new(alloc, [0; PAGE_BYTES])?)?;
+        pages.push(page(alloc)?)?;
     }
     Ok(Pages::new(pages))
 }

@@ -8,7 +8,7 @@ ghost use Rattle.mig_base.specs.Pages.{set_range};
 ghost use Rattle.mig_model.specs.Host.{IsSound};
 
 use area_map::AreaMap;
-use mig_base::{NoMemory, Prot};
+use mig_base::{NoMemory, PageBytes, Prot};
 use page_table::PageTable;
 use std::alloc::Global;
 use std::test::Fail;
@@ -28,7 +28,7 @@ fn first_present(alloc: Global) -> Result<PageTable, NoMemory>
     ensures open { IfOk result (λ pages. pages.protected ≡ set.empty) }
 {
     let mut pages = PageTable::new(alloc);
-    let Ok(bytes) = Box::new(alloc, [7; 4096]) else {
+    let Ok(bytes) = PageBytes::copy_of(alloc, &[7; 4096]) else {
         return Err(NoMemory);
     };
     match pages.put(0x10, bytes) {

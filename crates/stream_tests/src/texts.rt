@@ -3,8 +3,8 @@
 use crate::ranges::inside;
 use area_map::AreaMap;
 use mig_base::phase::Received;
-use mig_base::{Command, NoMemory, PAGE_BYTES, PageNo, PageSet, Prot};
-use page_stream::{Frame, PageBytes, Pages, Waiting, encode, encode_into};
+use mig_base::{Command, NoMemory, PAGE_BYTES, PageBytes, PageNo, PageSet, Prot};
+use page_stream::{Frame, Pages, Waiting, encode, encode_into};
 use std::alloc::Global;
 use std::process::Abort;
 use std::test::Fail;
@@ -253,8 +253,8 @@ fn packages(rt: HostRuntime) -> Result<(), Fail> {
 /// Two neighbouring pages, of one byte each.
 fn run(alloc: Global) -> Result<Frame, NoMemory> {
     let mut pages = Vec::new(alloc);
-    pages.push(Box::new(alloc, [7; PAGE_BYTES])?)?;
-    pages.push(Box::new(alloc, [9; PAGE_BYTES])?)?;
+    pages.push(PageBytes::copy_of(alloc, &[7; PAGE_BYTES])?)?;
+    pages.push(PageBytes::copy_of(alloc, &[9; PAGE_BYTES])?)?;
     Ok(Frame::Run {
         first: 0x10,
         pages: Pages::new(pages),
@@ -264,7 +264,7 @@ fn run(alloc: Global) -> Result<Frame, NoMemory> {
 fn page(alloc: Global) -> Result<Frame, NoMemory> {
     Ok(Frame::Page {
         page: 0x10,
-        bytes: PageBytes::new(Box::new(alloc, [7; PAGE_BYTES])?),
+        bytes: PageBytes::copy_of(alloc, &[7; PAGE_BYTES])?,
     })
 }
 

@@ -2,7 +2,7 @@
 
 use crate::ranges::{apart, inside};
 use crate::same::same;
-use mig_base::{NoMemory, PageNo};
+use mig_base::{NoMemory, PageBytes, PageNo};
 use page_table::{PageTable, PutFault};
 use std::alloc::Global;
 use std::process::Abort;
@@ -75,13 +75,19 @@ fn put(
     byte: u8,
 ) -> Result<Answer, PutFault> {
     inside(rt, page, 1);
-    let Ok(bytes) = Box::new(alloc, [byte; 4096]) else {
+    let Ok(bytes) = PageBytes::copy_of(alloc, &[byte; 4096]) else {
         return Err(PutFault::NoMemory);
     };
     match table.put(page, bytes) {
         Ok(()) => Ok(Done),
         Err((fault, back)) => {
-            same(rt, &*back, &[byte; 4096], "page that comes back", 0);
+            same(
+                rt,
+                back.as_array(),
+                &[byte; 4096],
+                "page that comes back",
+                0,
+            );
             Err(fault)
         }
     }
@@ -94,7 +100,7 @@ fn replace(
     page: PageNo,
     byte: u8,
 ) -> Result<Answer, PutFault> {
-    let Ok(bytes) = Box::new(alloc, [byte; 4096]) else {
+    let Ok(bytes) = PageBytes::copy_of(alloc, &[byte; 4096]) else {
         return Err(PutFault::NoMemory);
     };
     assert!(rt; table.get(page).is_some());
@@ -124,10 +130,10 @@ fn put_run(
 }
 
 /// Two pages, each filled with a byte.
-fn run_of(alloc: Global, bytes: [u8; 2]) -> Result<Vec<Box<[u8; 4096]>>, NoMemory> {
+fn run_of(alloc: Global, bytes: [u8; 2]) -> Result<Vec<PageBytes>, NoMemory> {
     let mut run = Vec::new(alloc);
     for byte in &bytes {
-        run.push(Box::new(alloc, [*byte; 4096])?)?;
+        run.push(PageBytes::copy_of(alloc, &[*byte; 4096])?)?;
     }
     Ok(run)
 }

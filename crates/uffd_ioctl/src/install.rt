@@ -9,7 +9,7 @@ ghost use Rattle.mig_base.specs.declared.TheConstants.{HIGH_PAGE};
 ghost use Rattle.mig_model.specs.Ioctls.{put_pages, handed};
 ghost use Rattle.uffd_ioctl.specs.Puts.{IsPut};
 
-use mig_base::{NoMemory, PAGE_BYTES, PageNo};
+use mig_base::{NoMemory, PAGE_BYTES, PageBytes, PageNo};
 use page_table::{PageTable, PutFault};
 use std::alloc::Global;
 
@@ -75,15 +75,15 @@ fn put_copy(
     Ok(())
 }
 
-/// A copy of the bytes of one page, in a box.
-fn copy_of(alloc: Global, bytes: &[u8]) -> Result<Box<[u8; PAGE_BYTES]>, NoMemory>
+/// A copy of the bytes of one page.
+fn copy_of(alloc: Global, bytes: &[u8]) -> Result<PageBytes, NoMemory>
     requires { length bytes.now ≡ 4096 }
-    ensures { IfOk result (λ copy. copy.value ≡ bytes.now) }
+    ensures { IfOk result (λ copy. copy ≡ bytes.now) }
 {
-    // (the bytes go straight into the box, and not by way of the stack)
-    let mut page = Box::new(alloc, [0; PAGE_BYTES])?;
-    page.copy_from_slice(bytes);
-    Ok(page)
+    match bytes.as_array::<PAGE_BYTES>() {
+        Some(bytes) => PageBytes::copy_of(alloc, bytes),
+        None => unreachable!(),
+    }
 }
 
 /// Puts zeros at the `count` pages from `first` on, not write-protected: how many, and why no more.

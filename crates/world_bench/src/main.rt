@@ -2,7 +2,7 @@
 //! sent, what post-copy does for it, and a fault at the destination.
 //!
 //! With no argument it does so for a few pages, and says so. Each argument is a number of pages, for which it prints how many
-//! nanoseconds a page took, and beside them those of a loop that copies as many pages from one to another.
+//! nanoseconds a page took, and beside them those of two loops that copy as many pages, to others that are there and to new ones.
 #![tactic(auto)]
 
 mod copies;
@@ -43,12 +43,20 @@ fn time_work(rt: &HostRuntime, work: Work, pages: u32) -> io::Result<Duration> {
     }
 }
 
-/// How long it takes to copy so many pages to others.
+/// How long it takes to copy so many pages to others that are there.
 fn time_copies(rt: &HostRuntime, pages: u32) -> io::Result<Duration> {
-    let sources = copies::boxes(rt.alloc(), pages, 1).map_err(lacking)?;
-    let mut targets = copies::boxes(rt.alloc(), pages, 2).map_err(lacking)?;
+    let sources = copies::filled(rt.alloc(), pages, 1).map_err(lacking)?;
+    let mut targets = copies::filled(rt.alloc(), pages, 2).map_err(lacking)?;
     let begun = Instant::now(rt)?;
     copies::copy(&sources, &mut targets);
+    begun.elapsed(rt)
+}
+
+/// How long it takes to copy so many pages to new ones.
+fn time_new_copies(rt: &HostRuntime, pages: u32) -> io::Result<Duration> {
+    let sources = copies::filled(rt.alloc(), pages, 1).map_err(lacking)?;
+    let begun = Instant::now(rt)?;
+    let _copies = copies::copy_to_new(rt.alloc(), &sources).map_err(lacking)?;
     begun.elapsed(rt)
 }
 
@@ -64,8 +72,9 @@ fn measure(rt: &HostRuntime, pages: u32) -> io::Result<()> {
     let postcopy = nanoseconds(time_work(rt, Work::PostCopy, pages)?, pages);
     let fault = nanoseconds(time_work(rt, Work::Fault, pages)?, pages);
     let copy = nanoseconds(time_copies(rt, pages)?, pages);
+    let new_copy = nanoseconds(time_new_copies(rt, pages)?, pages);
     println!(rt;
-        "{pages} pages: pre-copy {precopy}, store {store}, post-copy {postcopy}, fault {fault}, copy {copy} ns a page"
+        "{pages} pages: pre-copy {precopy}, store {store}, post-copy {postcopy}, fault {fault}, copy {copy}, new-copy {new_copy} ns a page"
     )
 }
 

@@ -4,7 +4,7 @@ ghost use Rattle.std.specs.Prelude.{◌≡◌, ◌+◌, ◌<◌, ◌≤◌, ◌�
 ghost use Rattle.std.specs.Option.{IfSome};
 ghost use Rattle.std.specs.FinMap.{get};
 ghost use Rattle.std.specs.FinSet.{contains};
-ghost use Rattle.mig_base.specs.Bytes.{boxed_bytes, contents, zero_page};
+ghost use Rattle.mig_base.specs.Bytes.{contents, zero_page};
 ghost use Rattle.mig_base.specs.Sets.{run_length};
 ghost use Rattle.mig_base.specs.declared.TheConstants.{HIGH_PAGE};
 ghost use Rattle.mig_model.specs.Ioctls.{protected_in};
@@ -16,12 +16,12 @@ ghost use Rattle.dirty_log.specs.Answers.{IsRefusedFor, send_refusal};
 ghost use Rattle.dirty_log.specs.Sending.{frame_of, bytes_of};
 
 use super::DirtyLog;
-use crate::content::{blank_page, blank_pages, read_page, read_pages};
+use crate::content::{blank_pages, bytes_at, read_pages};
 use crate::sent::Sent;
 use crate::sets::subtract;
 use crate::spaces::{are_sendable, protect, register_mapped};
 use mig_base::refusal::Refusal;
-use mig_base::{HIGH_PAGE, NoMemory, PAGE_BYTES, PageNo, PageSet};
+use mig_base::{HIGH_PAGE, NoMemory, PageBytes, PageNo, PageRoom, PageSet};
 use uffd_ioctl::Space;
 
 impl DirtyLog {
@@ -94,12 +94,11 @@ impl DirtyLog {
     {
         space.is_in_order();
         ensure_sendable(space, page, 1)?;
-        let Ok(mut bytes) = blank_page(self.alloc) else {
+        let Ok(room) = PageRoom::new(self.alloc) else {
             return Err(Refusal::NoMemory);
         };
         self.mark_sent(space, page, 1)?;
-        read_page(space, page, &mut bytes);
-        Ok(Sent::of(bytes))
+        Ok(Sent::of(room.fill(bytes_at(space, page))))
     }
 
     /// Write-protects the `count` pages from `first` on, then reads their bytes, in order; those of a page of zeros are read as well. The
@@ -109,7 +108,7 @@ impl DirtyLog {
         space: &mut Space,
         first: PageNo,
         count: u32,
-    ) -> Result<Vec<Box<[u8; PAGE_BYTES]>>, Refusal>
+    ) -> Result<Vec<PageBytes>, Refusal>
         requires lent { IsLent space.old }
         requires some { 0 < count }
         requires inside { first + count ≤ HIGH_PAGE }
@@ -117,7 +116,7 @@ impl DirtyLog {
         ensures refused { IfErr result (λ refusal. IsRefusedFor (send_refusal space.old first count) refusal) }
         ensures log { OnOk result (self.new ≡ machine.log_run_sent self.old first count) }
         ensures space { OnOk result (space.new ≡ protected_in space.old first count true) }
-        ensures bytes { IfOk result (λ pages. (node : Source) → space_of node ≡ space.old → boxed_bytes pages.items ≡ run_of node first count) }
+        ensures bytes { IfOk result (λ pages. (node : Source) → space_of node ≡ space.old → pages.items ≡ run_of node first count) }
         ensures err { OnErr result ((self.new ≡ self.old) × (space.new ≡ space.old)) }
         ensures lent { IsLent space.new }
     {

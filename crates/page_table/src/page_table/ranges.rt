@@ -2,7 +2,6 @@
 
 ghost use Rattle.std.specs.Prelude.{◌≡◌, ℕ, ◌+◌, ◌-◌, ◌≤◌, if◌then◌else◌, Some, [], OnOk, IfErr, length, slice_index_or};
 ghost use Rattle.std.specs.FinMap as map;
-ghost use Rattle.mig_base.specs.Bytes.{boxed_bytes};
 ghost use Rattle.mig_base.specs.Ranges.{in_range};
 ghost use Rattle.mig_base.specs.Sets.{without};
 ghost use Rattle.mig_base.specs.declared.TheConstants.{HIGH_PAGE};
@@ -10,20 +9,16 @@ ghost use Rattle.mig_base.specs.declared.TheConstants.{HIGH_PAGE};
 use super::PageTable;
 use crate::table::{make_places, put_cells};
 use crate::unprotect::unprotect_cells;
-use mig_base::{PAGE_BYTES, PageNo};
+use mig_base::{PageBytes, PageNo};
 
 impl PageTable {
-    /// Gives the pages from `first` on the bytes of the boxes, which are not copied: a missing page becomes present, and a present one
+    /// Gives the pages from `first` on these bytes, which are not copied: a missing page becomes present, and a present one
     /// has them in place of its own. None of these pages is protected afterwards.
     ///
-    /// It gives all or none: where the room of their leaves is refused the boxes come back, and the table is as it was.
-    pub fn put_run(
-        &mut self,
-        first: PageNo,
-        run: Vec<Box<[u8; PAGE_BYTES]>>,
-    ) -> Result<(), Vec<Box<[u8; PAGE_BYTES]>>>
+    /// It gives all or none: where the room of their leaves is refused they come back, and the table is as it was.
+    pub fn put_run(&mut self, first: PageNo, run: Vec<PageBytes>) -> Result<(), Vec<PageBytes>>
         requires { first + length run.items ≤ HIGH_PAGE }
-        ensures bytes { OnOk result ((q : ℕ) → map.get self.new.bytes q ≡ (if in_range first (length run.items) q then Some (slice_index_or (boxed_bytes run.items) (q - first) []) else map.get self.old.bytes q)) }
+        ensures bytes { OnOk result ((q : ℕ) → map.get self.new.bytes q ≡ (if in_range first (length run.items) q then Some (slice_index_or run.items (q - first) []) else map.get self.old.bytes q)) }
         ensures protected { OnOk result (self.new.protected ≡ without self.old.protected first (length run.items)) }
         ensures err { IfErr result (λ back. (back ≡ run) × (self.new ≡ self.old)) }
     {

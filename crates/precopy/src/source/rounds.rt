@@ -19,7 +19,7 @@ use mig_base::effect::Effect;
 use mig_base::phase::SourcePhase;
 use mig_base::refusal::Refusal;
 use mig_base::{PageNo, page_address};
-use page_stream::{Frame, PageBytes};
+use page_stream::Frame;
 
 impl Source {
     /// Begins a migration, in the next epoch: every mapped page is registered for missing faults and for write-protect faults, by areas,
@@ -139,13 +139,7 @@ pub(super) fn told_page(page: PageNo, sent: Sent) -> (Effect, Frame)
 {
     let addr = page_address(page);
     match sent {
-        Sent::Page(bytes) => (
-            Effect::SentPage { addr },
-            Frame::Page {
-                page,
-                bytes: PageBytes::new(bytes),
-            },
-        ),
+        Sent::Page(bytes) => (Effect::SentPage { addr }, Frame::Page { page, bytes }),
         Sent::Zero => (Effect::SentZero { addr }, Frame::Zero { page }),
     }
 }

@@ -6,14 +6,13 @@ ghost use Rattle.mig_base.specs.declared.effect.Effect.{Effect};
 ghost use Rattle.mig_base.specs.declared.schedule.Step.{Step};
 ghost use Rattle.mig_model.specs.Migration.{run_bound};
 ghost use Rattle.mig_model.specs.Wire as wire;
-ghost use Rattle.mig_base.specs.Bytes.{boxed_bytes};
 ghost use Rattle.page_stream.specs.Frames.{frame_of};
 ghost use Rattle.precopy.specs.Steps.{IsMade, IsRefused};
 
 use super::Source;
 use mig_base::effect::Effect;
 use mig_base::refusal::Refusal;
-use mig_base::{MAX_RUN, PAGE_BYTES, PageNo, page_address};
+use mig_base::{MAX_RUN, PageBytes, PageNo, page_address};
 use page_stream::{Frame, Pages};
 
 impl Source {
@@ -42,9 +41,9 @@ fn most_of(count: u8) -> u32
 }
 
 /// What is told of a run that was sent, and its frame.
-fn told_run(first: PageNo, count: u32, sent: Vec<Box<[u8; PAGE_BYTES]>>) -> (Effect, Frame)
+fn told_run(first: PageNo, count: u32, sent: Vec<PageBytes>) -> (Effect, Frame)
     ensures effect { result.0 ≡ Effect.SentRun (PAGE_SIZE * first) count }
-    ensures frame { frame_of result.1 ≡ wire.Frame.Run first (boxed_bytes sent.items) }
+    ensures frame { frame_of result.1 ≡ wire.Frame.Run first sent.items }
 {
     let addr = page_address(first);
     (

@@ -22,7 +22,7 @@ use crate::register::registered;
 use mig_base::flags::{
     ALL_FEATURES, API, COPY_WP_BIT, INSTALL_DONTWAKE_BIT, WRITEPROTECT_WP_BIT, has_bit,
 };
-use mig_base::{Addr, Errno, HIGH_PAGE, Message, PAGE_BYTES, PageNo, Wake};
+use mig_base::{Addr, Errno, HIGH_PAGE, Message, PageBytes, PageNo, Wake};
 use userfault::Mode;
 
 impl Space {
@@ -146,21 +146,17 @@ impl Space {
         outcome(start, done, has_bit(mode, INSTALL_DONTWAKE_BIT), stop)
     }
 
-    /// UFFDIO_COPY of one missing page that can be copied, with no mode: makes it present with the bytes of the box, and copies none of
-    /// them. It wakes nobody. On an error, which is want of memory, the box comes back, and nothing is changed.
-    pub fn install(
-        &mut self,
-        page: PageNo,
-        bytes: Box<[u8; PAGE_BYTES]>,
-    ) -> Result<(), Box<[u8; PAGE_BYTES]>>
+    /// UFFDIO_COPY of one missing page that can be copied, with no mode: makes it present with these bytes, and copies none of them. It
+    /// wakes nobody. On an error, which is want of memory, they come back, and nothing is changed.
+    pub fn install(&mut self, page: PageNo, bytes: PageBytes) -> Result<(), PageBytes>
         requires page { page < HIGH_PAGE }
         requires accepted { table.copy_error self.old (4096 * page) 4096 0 ≡ None }
         requires missing { contains_key self.old.host.bytes page ≡ false }
-        ensures ok { OnOk result (self.new ≡ table.copied self.old (4096 * page) bytes.value 0) }
+        ensures ok { OnOk result (self.new ≡ table.copied self.old (4096 * page) bytes 0) }
         ensures err { IfErr result (λ back. (back ≡ bytes) × (self.new ≡ self.old)) }
 
         // The same in the words of a page.
-        ensures page { OnOk result (self.new ≡ table.installed self.old page 1 (λ i. bytes.value) false) }
+        ensures page { OnOk result (self.new ≡ table.installed self.old page 1 (λ i. bytes) false) }
     {
         if let Err((_, bytes)) = self.pages.put(page, bytes) {
             return Err(bytes);

@@ -15,9 +15,9 @@ use crate::destination::Destination;
 use crate::kept::Kept;
 use area_map::AreaMap;
 use mig_base::phase::{DestPhase, Received};
-use mig_base::{NoMemory, PageNo, PageSet};
+use mig_base::{NoMemory, PageBytes, PageNo, PageSet};
 use owed_pages::Owed;
-use page_stream::{Frame, PageBytes, Pages, Waiting};
+use page_stream::{Frame, Pages, Waiting};
 
 /// What is to be sent back at once, or the frame for which memory is refused.
 pub(super) type Taken = Result<Option<Frame>, Frame>;
@@ -43,12 +43,9 @@ impl Destination {
             self.page_waits(page, bytes)?;
             return Ok(None);
         }
-        match self.kept.keep(page, bytes.into_box()) {
+        match self.kept.keep(page, bytes) {
             Ok(()) => Ok(None),
-            Err(bytes) => Err(Frame::Page {
-                page,
-                bytes: PageBytes::new(bytes),
-            }),
+            Err(bytes) => Err(Frame::Page { page, bytes }),
         }
     }
 
@@ -78,10 +75,7 @@ impl Destination {
             return Err(Frame::Page { page, bytes });
         };
         // There is room, so that no copy is lost.
-        match self
-            .arrivals
-            .push_back(Arrival::new(page, Some(bytes.into_box())))
-        {
+        match self.arrivals.push_back(Arrival::new(page, Some(bytes))) {
             Ok(()) => Ok(()),
             Err(_) => unreachable!(),
         }

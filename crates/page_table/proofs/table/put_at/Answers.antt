@@ -1,5 +1,4 @@
 use Rattle.std.proofs.Common.{◌∙◌, sym, ap, cond, eqb, ◌/◌, ◌%◌, arith}
-use Rattle.page_table.specs.Bytes.{bytes_of}
 use Rattle.page_table.specs.Leaves.{Cell, cell_in, is_place}
 use Rattle.page_table.proofs.TableLemmas.{one_cell}
 use Rattle.page_table.proofs.table.put_at.Goals as goal
@@ -14,7 +13,7 @@ place_put-requires-clause-there c = own_place c.args.places.now.items c.index_mu
 pub returns-clause-put : goal.returns-clause-put
 returns-clause-put c =
     let inside = place_inside c.args.places.now.items c.args.page c.requires.there in
-    let cell : Cell = (bytes_of c.args.bytes, c.args.protected) in
+    let cell : Cell = (c.args.bytes, c.args.protected) in
     one_cell c.args.places.now.items c.args.page c.place_put.new.place cell inside
     (λ i. c.place_put.ensures.put i ∙ ap (λ o. cond (eqb i (c.args.page % 1024)) cell (cell_in o i)) (read_place c.args.places.now.items (c.args.page / 1024) c.index_mut.result.now inside c.index_mut.ensures.value))
 

@@ -5,7 +5,7 @@ use Rattle.uffd_ioctl.proofs.InstallLemmas.{protected_one}
 use Rattle.uffd_ioctl.proofs.install.put_copy.Goals as goal
 
 pub protect-requires : goal.protect-requires
-protect-requires c = ap (λ b. map.contains_key b c.args.page) c.in_default-put.ensures.ok ∙ has_put c.args.pages.now.bytes c.args.page c.in-Ok.copy.value
+protect-requires c = ap (λ b. map.contains_key b c.args.page) c.in_default-put.ensures.ok ∙ has_put c.args.pages.now.bytes c.args.page c.in-Ok.copy
 
 pub returns-then-protect-clause-protected : goal.returns-then-protect-clause-protected
 returns-then-protect-clause-protected c =

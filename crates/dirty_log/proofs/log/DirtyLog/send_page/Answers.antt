@@ -4,8 +4,8 @@ use Rattle.mig_model.specs.Wire.{page_frame}
 use Rattle.dirty_log.proofs.SendLemmas.{IsSent, here_there, one_sent, protected_shown, sent_shown, zero_shown}
 use Rattle.dirty_log.proofs.log.DirtyLog.send_page.Goals as goal
 
-pub read_page-requires : goal.read_page-requires
-read_page-requires c = rw c.in_ok-mark_sent.ensures.space (here_there c.args.space.now c.args.page c.in_ok-ensure_sendable.ensures.ok)
+pub bytes_at-requires : goal.bytes_at-requires
+bytes_at-requires c = rw c.in_ok-mark_sent.ensures.space (here_there c.args.space.now c.args.page c.in_ok-ensure_sendable.ensures.ok)
 
 pub returns-clause-log : goal.returns-clause-log
 returns-clause-log c = c.in_ok-mark_sent.ensures.log ∙ one_sent c.args.self.now c.args.page
@@ -15,7 +15,7 @@ sent c = record {
   sound = c.is_in_order.ensures;
   accepted = c.in_ok-ensure_sendable.ensures.ok;
   protects = c.in_ok-mark_sent.ensures.space;
-  frame = c.of.ensures c.args.page ∙ ap (page_frame c.args.page) (c.read_page.ensures ∙ ap (λ s. contents s.host.bytes c.args.page) c.in_ok-mark_sent.ensures.space);
+  frame = c.of.ensures c.args.page ∙ ap (page_frame c.args.page) (c.fill.ensures ∙ c.bytes_at.ensures ∙ ap (λ s. contents s.host.bytes c.args.page) c.in_ok-mark_sent.ensures.space);
 }
 
 pub returns-clause-bytes : goal.returns-clause-bytes

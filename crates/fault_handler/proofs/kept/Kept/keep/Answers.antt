@@ -4,10 +4,10 @@ use Rattle.fault_handler.proofs.kept.Kept.keep.Goals as goal
 
 pub invariant_of-self : goal.invariant_of-self
 invariant_of-self c =
-    kept_replaced c.self.inside.pages c.replace.new.self c.self.inside.set c.args.page c.args.bytes.value c.self.invariant (sym c.contains.ensures ∙ c.if-contains.true) c.replace.ensures.bytes c.replace.ensures.protected
+    kept_replaced c.self.inside.pages c.replace.new.self c.self.inside.set c.args.page c.args.bytes c.self.invariant (sym c.contains.ensures ∙ c.if-contains.true) c.replace.ensures.bytes c.replace.ensures.protected
 
 pub invariant_of-self-in-Ok-put : goal.invariant_of-self-in-Ok-put
-invariant_of-self-in-Ok-put c = kept_put c.self.inside.pages c.put.new.self c.self.inside.set c.insert.new.self c.args.page c.args.bytes.value c.self.invariant c.in-Ok.ensures.ok c.in-Ok-put.ensures.ok c.in-Ok-put.ensures.protected
+invariant_of-self-in-Ok-put c = kept_put c.self.inside.pages c.put.new.self c.self.inside.set c.insert.new.self c.args.page c.args.bytes c.self.invariant c.in-Ok.ensures.ok c.in-Ok-put.ensures.ok c.in-Ok-put.ensures.protected
 
 pub invariant_of-self-in-Err : goal.invariant_of-self-in-Err
 invariant_of-self-in-Err c =

@@ -1,7 +1,6 @@
 use Rattle.std.proofs.Common.{◌≤◌, ◌∙◌, ap, arith, length, refl}
-use Rattle.mig_base.specs.Bytes.{boxed_bytes}
 use Rattle.page_table.specs.Leaves.{put_cell}
-use Rattle.page_table.proofs.PutRunLemmas.{boxes_bytes, boxes_flags}
+use Rattle.page_table.proofs.PutRunLemmas.{run_bytes, run_flags}
 use Rattle.page_table.proofs.ViewLemmas.{same_cells_shown}
 use Rattle.page_table.proofs.page_table.PageTable.put_run.Goals as goal
 
@@ -11,11 +10,11 @@ returns-in_default-clause-err c = (refl, same_cells_shown c.self.inside.places.i
 pub returns-clause-bytes : goal.returns-clause-bytes
 returns-clause-bytes c =
     let still : length c.put_cells.new.places.items ≤ 1024 = omega (arith, c.put_cells.ensures.size, c.make_places.ensures.few) in
-    boxes_bytes c.self.inside.places.items c.put_cells.new.places.items c.args.self.now c.args.first c.args.run.items c.self.invariant.few still c.self.view_is
-    (λ q. c.put_cells.ensures.put q ∙ ap (λ cells. put_cell cells c.args.first (boxed_bytes c.args.run.items) q) (λ i p. c.make_places.ensures.same p i))
+    run_bytes c.self.inside.places.items c.put_cells.new.places.items c.args.self.now c.args.first c.args.run.items c.self.invariant.few still c.self.view_is
+    (λ q. c.put_cells.ensures.put q ∙ ap (λ cells. put_cell cells c.args.first c.args.run.items q) (λ i p. c.make_places.ensures.same p i))
 
 pub returns-clause-protected : goal.returns-clause-protected
 returns-clause-protected c =
     let still : length c.put_cells.new.places.items ≤ 1024 = omega (arith, c.put_cells.ensures.size, c.make_places.ensures.few) in
-    boxes_flags c.self.inside.places.items c.put_cells.new.places.items c.args.self.now c.args.first c.args.run.items c.self.invariant.few still c.self.view_is
-    (λ q. c.put_cells.ensures.put q ∙ ap (λ cells. put_cell cells c.args.first (boxed_bytes c.args.run.items) q) (λ i p. c.make_places.ensures.same p i))
+    run_flags c.self.inside.places.items c.put_cells.new.places.items c.args.self.now c.args.first c.args.run.items c.self.invariant.few still c.self.view_is
+    (λ q. c.put_cells.ensures.put q ∙ ap (λ cells. put_cell cells c.args.first c.args.run.items q) (λ i p. c.make_places.ensures.same p i))

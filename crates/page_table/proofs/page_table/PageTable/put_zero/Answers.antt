@@ -27,16 +27,16 @@ pub returns-clause-ok : goal.returns-clause-ok
 unfolding zero_page
 returns-clause-ok c =
     let still : length c.put_at.new.places.items ≤ 1024 = omega (arith, c.put_at.ensures.size, c.make_place.ensures.few) in
-    put_bytes c.self.inside.places.items c.put_at.new.places.items c.args.self.now c.args.page c.in-Ok.zeros.value false c.self.invariant.few still c.self.view_is
-    (λ q. c.put_at.ensures.put q ∙ ap (λ x. cond (eqb q c.args.page) (Some c.in-Ok.zeros.value, false) x) (c.make_place.ensures.same q))
-    ∙ ap (λ xs. map.insert c.args.self.now.bytes c.args.page xs) c.in-Ok.ensures.ok
+    put_bytes c.self.inside.places.items c.put_at.new.places.items c.args.self.now c.args.page c.in-Ok.zeros false c.self.invariant.few still c.self.view_is
+    (λ q. c.put_at.ensures.put q ∙ ap (λ x. cond (eqb q c.args.page) (Some c.in-Ok.zeros, false) x) (c.make_place.ensures.same q))
+    ∙ ap (λ xs. map.insert c.args.self.now.bytes c.args.page xs) c.in-Ok.ensures
 
 pub returns-clause-protected : goal.returns-clause-protected
 returns-clause-protected c =
     let still : length c.put_at.new.places.items ≤ 1024 = omega (arith, c.put_at.ensures.size, c.make_place.ensures.few) in
     let none : is_some (cell_at c.self.inside.places.items c.args.page).0 ≡ false = sym c.is_present_at.ensures ∙ c.if-is_present_at.false in
-    put_flags c.self.inside.places.items c.put_at.new.places.items c.args.self.now c.args.page (Some c.in-Ok.zeros.value) c.self.invariant.few still c.self.view_is (not_protected c.self.inside.places.items c.args.page c.self.invariant none)
-    (λ q. c.put_at.ensures.put q ∙ ap (λ x. cond (eqb q c.args.page) (Some c.in-Ok.zeros.value, false) x) (c.make_place.ensures.same q))
+    put_flags c.self.inside.places.items c.put_at.new.places.items c.args.self.now c.args.page (Some c.in-Ok.zeros) c.self.invariant.few still c.self.view_is (not_protected c.self.inside.places.items c.args.page c.self.invariant none)
+    (λ q. c.put_at.ensures.put q ∙ ap (λ x. cond (eqb q c.args.page) (Some c.in-Ok.zeros, false) x) (c.make_place.ensures.same q))
 
 pub returns-clause-missing : goal.returns-clause-missing
 returns-clause-missing c = let absent : map.contains_key c.args.self.now.bytes c.args.page ≡ false = sym (present_seen c.self.inside.places.items c.args.self.now c.args.page c.self.invariant.few c.self.view_is) ∙ sym c.is_present_at.ensures ∙ c.if-is_present_at.false in absent

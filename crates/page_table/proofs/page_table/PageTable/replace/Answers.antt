@@ -7,17 +7,17 @@ pub put_at-requires-clause-there : goal.put_at-requires-clause-there
 put_at-requires-clause-there c = place_of_cell c.self.inside.places.items c.args.page (present_seen c.self.inside.places.items c.args.self.now c.args.page c.self.invariant.few c.self.view_is ∙ c.requires.present)
 
 pub invariant_of-self : goal.invariant_of-self
-invariant_of-self c = changed_table c.self.inside.places.items c.put_at.new.places.items c.args.page false (Some c.args.bytes.value) c.self.invariant c.put_at.ensures.size refl c.put_at.ensures.put
+invariant_of-self c = changed_table c.self.inside.places.items c.put_at.new.places.items c.args.page false (Some c.args.bytes) c.self.invariant c.put_at.ensures.size refl c.put_at.ensures.put
 
 pub returns-clause-bytes : goal.returns-clause-bytes
 returns-clause-bytes c =
     let still : length c.put_at.new.places.items ≤ 1024 = omega (arith, c.put_at.ensures.size, c.self.invariant.few) in
-    put_bytes c.self.inside.places.items c.put_at.new.places.items c.args.self.now c.args.page c.args.bytes.value false c.self.invariant.few still c.self.view_is c.put_at.ensures.put
+    put_bytes c.self.inside.places.items c.put_at.new.places.items c.args.self.now c.args.page c.args.bytes false c.self.invariant.few still c.self.view_is c.put_at.ensures.put
 
 pub returns-clause-protected : goal.returns-clause-protected
 returns-clause-protected c =
     let still : length c.put_at.new.places.items ≤ 1024 = omega (arith, c.put_at.ensures.size, c.self.invariant.few) in
-    removed_flags c.self.inside.places.items c.put_at.new.places.items c.args.self.now c.args.page (Some c.args.bytes.value) c.self.invariant.few still c.self.view_is c.put_at.ensures.put
+    removed_flags c.self.inside.places.items c.put_at.new.places.items c.args.self.now c.args.page (Some c.args.bytes) c.self.invariant.few still c.self.view_is c.put_at.ensures.put
 
 pub put_at-requires-clause-whole : goal.put_at-requires-clause-whole
-put_at-requires-clause-whole c = λ bytes e. sym (ap length (same_Some c.args.bytes.value bytes e)) ∙ sym (ap length c.deref.ensures) ∙ c.has_page_size.ensures
+put_at-requires-clause-whole c = λ bytes e. sym (ap length (same_Some c.args.bytes bytes e)) ∙ c.are_whole.ensures.size

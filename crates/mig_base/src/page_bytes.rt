@@ -1,0 +1,124 @@
+//! The bytes of one page, in memory of their own.
+
+ghost use Rattle.std.specs.Prelude.{◌≡◌, ◌+◌, ◌<◌, ◌≤◌, [], length, IfOk, vec_capacity};
+ghost use Rattle.std.specs.List.{All};
+ghost use Rattle.mig_base.specs.Bytes.{overwrite, zero_page};
+ghost use Rattle.mig_base.specs.declared.TheConstants.{PAGE_SIZE};
+
+use crate::{NoMemory, PAGE_BYTES};
+use std::alloc::Global;
+use std::marker::Model;
+
+/// The bytes of a page.
+///
+/// They stand in a vector, which has them by one copy. A box of an array would be filled with zeros before, or have them by way of the
+/// stack.
+#[derive(Drop)]
+pub struct PageBytes {
+    bytes: Vec<u8>,
+}
+
+impl Model for PageBytes {
+    ghost use Rattle.std.specs.Prelude.{◌≡◌, ℕ, List, length};
+    ghost use Rattle.mig_base.specs.declared.TheConstants.{PAGE_SIZE};
+
+    ghost Value = { List ℕ };
+
+    ghost view = { λ page. page.bytes.items };
+
+    ghost invariant = { λ page. length page.bytes.items ≡ PAGE_SIZE };
+}
+
+impl PageBytes {
+    /// A page of zeros. `NoMemory` is for its room.
+    pub fn zeros(alloc: Global) -> Result<Self, NoMemory>
+        ensures { IfOk result (λ page. page ≡ zero_page) }
+    {
+        let mut bytes = Vec::new(alloc);
+        bytes.resize(PAGE_BYTES, 0)?;
+        Ok(PageBytes { bytes })
+    }
+
+    /// A copy of the bytes of a page. `NoMemory` is for its room.
+    pub fn copy_of(alloc: Global, bytes: &[u8; PAGE_BYTES]) -> Result<Self, NoMemory>
+        ensures { IfOk result (λ page. page ≡ bytes.now) }
+    {
+        Ok(PageBytes {
+            bytes: Vec::from_slice(alloc, bytes)?,
+        })
+    }
+
+    /// The 4096 bytes, in order.
+    pub fn as_array(&self) -> &[u8; PAGE_BYTES]
+        ensures { result.now ≡ self.now }
+    {
+        match self.bytes.as_slice().as_array::<PAGE_BYTES>() {
+            Some(bytes) => bytes,
+            None => unreachable!(),
+        }
+    }
+
+    /// Copies the bytes of another page over these. It takes no memory.
+    pub fn copy_from(&mut self, bytes: &[u8; PAGE_BYTES])
+        ensures { self.new ≡ bytes.now }
+    {
+        self.bytes.copy_from_slice(bytes);
+    }
+
+    /// Writes bytes over those from the offset on, which counts in bytes. It takes no memory and touches only the bytes written.
+    pub fn write(&mut self, offset: usize, bytes: &[u8])
+        requires { offset + length bytes.now ≤ PAGE_SIZE }
+        ensures { self.new ≡ overwrite self.old offset bytes.now }
+    {
+        write_over(&mut self.bytes, offset, bytes);
+    }
+
+    /// A law of every page: its bytes are as many as a page has, each below 256. The call does nothing.
+    pub fn are_whole(&self)
+        ensures size { length self.now ≡ PAGE_SIZE }
+        ensures bytes { All (λ byte. byte < 256) self.now }
+    {
+        are_bytes(&self.bytes);
+    }
+}
+
+/// Writes bytes over those that stand from the offset on.
+fn write_over(held: &mut [u8], offset: usize, bytes: &[u8])
+    requires { offset + length bytes.now ≤ length held.old }
+    ensures { held.new ≡ overwrite held.old offset bytes.now }
+{
+    held[offset..offset + bytes.len()].copy_from_slice(bytes);
+}
+
+/// A law of every slice of that type. The call does nothing.
+fn are_bytes(bytes: &[u8])
+    ensures { All (λ byte. byte < 256) bytes.now }
+{}
+
+/// Room for the bytes of a page, for one who has to know that there is memory before the bytes may be read.
+#[derive(Drop)]
+pub struct PageRoom {
+    bytes: Vec<u8>,
+    ghost empty: { bytes.items ≡ [] },
+    ghost wide: { PAGE_SIZE ≤ vec_capacity bytes },
+}
+
+impl PageRoom {
+    /// Room that has no bytes yet. `NoMemory` comes where it is refused.
+    pub fn new(alloc: Global) -> Result<Self, NoMemory> {
+        Ok(PageRoom {
+            bytes: Vec::with_capacity(alloc, PAGE_BYTES)?,
+        })
+    }
+
+    /// A copy of the bytes of a page, in this room. It takes no memory.
+    pub fn fill(self, bytes: &[u8; PAGE_BYTES]) -> PageBytes
+        ensures { result ≡ bytes.now }
+    {
+        let PageRoom { bytes: mut room } = self;
+        match room.extend_from_slice(bytes) {
+            Ok(()) => PageBytes { bytes: room },
+            Err(_) => unreachable!(),
+        }
+    }
+}

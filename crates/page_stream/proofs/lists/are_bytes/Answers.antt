@@ -1,6 +1,0 @@
-use Rattle.std.proofs.Common.{◌<◌}
-use Rattle.std.proofs.lemmas.List.Elements.{All-from_get_or}
-use Rattle.page_stream.proofs.lists.are_bytes.Goals as goal
-
-pub returns : goal.returns
-returns c = All-from_get_or (λ byte. byte < 256) c.args.bytes.now 0 (λ k l. (c.type_inv.bytes k).fits)
