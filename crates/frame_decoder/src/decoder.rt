@@ -7,12 +7,16 @@ ghost use Rattle.frame_decoder.specs.Feeding.{Fed, answer_of, answered, fresh};
 ghost use Rattle.frame_decoder.specs.Taking.{IsFilled, IsFilledUp, left_of};
 
 use crate::fault::StreamFault;
+use crate::header::HEADER_LEN;
 use crate::stream::{Next, Taken, front, lacking, take_frames};
 use crate::version::Version;
-use mig_base::NoMemory;
+use mig_base::{NoMemory, PAGE_BYTES};
 use page_stream::Frame;
 use std::alloc::Global;
 use std::marker::Model;
+
+/// The length of the frame of a page.
+const PAGE_FRAME_LEN: usize = HEADER_LEN + 4 + PAGE_BYTES;
 
 /// What is left to be held of bytes from which frames were taken: nothing behind a fault.
 fn left_of<'a>(taken: &Taken, bytes: &'a [u8]) -> &'a [u8]
@@ -25,7 +29,7 @@ fn left_of<'a>(taken: &Taken, bytes: &'a [u8]) -> &'a [u8]
     }
 }
 
-/// Reads a piece in its place, where nothing is held, and holds what is left of it.
+/// Reads a piece in its place, where nothing is held, and holds what is left of it, with room for the frame of a page.
 fn read_in_place(
     alloc: Global,
     fixed: Option<Version>,
@@ -37,6 +41,9 @@ fn read_in_place(
     ensures err { OnErr result (held.new.items ≡ held.old.items) }
 {
     let taken = take_frames(alloc, fixed, piece)?;
+    // Its room lies behind the frames, which are not the last of the heap then: else glibc gives the memory of the frames of a long
+    // piece back to the kernel each time that they are dropped.
+    held.try_reserve(PAGE_FRAME_LEN)?;
     held.extend_from_slice(left_of(&taken, piece))?;
     Ok(taken)
 }
