@@ -77,7 +77,7 @@ fn make_step(world: &mut World, mode: Mode, step: Step, text: &mut String) -> Re
         return Err(RunFault::NoMemory);
     }
     match mode {
-        Mode::Lines => print_line(text, outcome)?,
+        Mode::Lines => print_line(text, &outcome)?,
         Mode::Transcript => print_entries(text, &world.transcript()[count..])?,
     }
     Ok(())

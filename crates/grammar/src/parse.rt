@@ -8,16 +8,16 @@ ghost use Rattle.grammar.specs.Spelling.{IsNothing, Spells};
 use crate::line::{Language, Line};
 use crate::parse_entry::entry_in;
 use crate::parse_order::order_in;
-use crate::token::{Token, next_word};
+use crate::token::{Token, skip_spaces};
 use mig_base::NoMemory;
 
 /// Whether there is nothing to do: no word, or a comment.
 fn is_nothing(text: &[u8]) -> bool
     ensures { IsTrue result ↔ IsNothing (words_of text.now) }
 {
-    match next_word(text) {
-        None => true,
-        Some((word, _)) => word.first() == Some(&b'#'),
+    match skip_spaces(text) {
+        [] => true,
+        [first, ..] => *first == b'#',
     }
 }
 

@@ -1,14 +1,15 @@
 //! How the outcome of a step is printed.
 
 ghost use Rattle.std.specs.Prelude.{◌≡◌, ◌++◌, OnOk, OnErr, Some, string_bytes};
-ghost use Rattle.grammar.specs.Printed.{outcome_line, outcome_text, effect_text, refusal_name, event_text, fault_text, state_text, side_text};
+ghost use Rattle.grammar.specs.Printed.{outcome_line, effect_text, refusal_name, event_text, fault_text, state_text, side_text};
 
 use mig_base::effect::Effect;
 use mig_base::phase::Received;
 use mig_base::refusal::Refusal;
 use mig_base::schedule::Side;
-use mig_base::{Message, NoMemory};
+use mig_base::{Message, NoMemory, Reply};
 use report::ReplyText;
+use std::alloc::AllocError;
 use std::fmt;
 
 /// The room that is made for a line, in bytes: more than any has.
@@ -184,43 +185,49 @@ impl fmt::Display for EffectText {
     }
 }
 
-/// The outcome of a step.
-#[derive(Clone, Copy)]
-struct OutcomeText(Result<Effect, Refusal>);
-
-impl fmt::Display for OutcomeText {
-    ghost output = { λ x. Some (outcome_text x.0) };
-
-    fn fmt<W: fmt::Write>(&self, f: &mut fmt::Formatter<W>) -> fmt::Result {
-        match self.0 {
-            Ok(effect) => {
-                let effect = EffectText(effect);
-                write!(f, "{effect}")
-            }
-            Err(refusal) => {
-                let name = RefusalName(refusal);
-                write!(f, "refused {name}")
-            }
+/// Writes the line of an outcome behind a text. The answers that nearly all commands have are written at once: part by part is slower.
+#[tactic(auto, unfolding(crate::specs::Printed::outcome_line))]
+fn write_line(text: &mut String, outcome: &Result<Effect, Refusal>) -> Result<(), AllocError>
+    ensures { OnOk result (string_bytes text.new ≡ string_bytes text.old ++ outcome_line outcome.now) }
+{
+    match outcome {
+        Ok(
+            Effect::Answered {
+                cpu,
+                reply: Reply::Value(value),
+            },
+        ) => write!(text, "cpu {cpu} value 0x{value:x}\n"),
+        Ok(
+            Effect::Answered {
+                cpu,
+                reply: Reply::Done,
+            },
+        ) => write!(text, "cpu {cpu} done\n"),
+        Ok(effect) => {
+            let effect = EffectText(*effect);
+            write!(text, "{effect}\n")
+        }
+        Err(refusal) => {
+            let name = RefusalName(*refusal);
+            write!(text, "refused {name}\n")
         }
     }
 }
 
 /// Prints the line of an outcome, with its line feed, behind a text. Out of memory leaves the text as it was.
-#[tactic(auto, unfolding(crate::specs::Printed::outcome_line))]
-pub fn print_line(text: &mut String, outcome: Result<Effect, Refusal>) -> Result<(), NoMemory>
-    ensures ok { OnOk result (string_bytes text.new ≡ string_bytes text.old ++ outcome_line outcome) }
+pub fn print_line(text: &mut String, outcome: &Result<Effect, Refusal>) -> Result<(), NoMemory>
+    ensures ok { OnOk result (string_bytes text.new ≡ string_bytes text.old ++ outcome_line outcome.now) }
     ensures err { OnErr result (string_bytes text.new ≡ string_bytes text.old) }
 {
-    let outcome = OutcomeText(outcome);
     if text.is_empty() {
-        if write!(text, "{outcome}\n").is_err() {
+        if write_line(text, outcome).is_err() {
             text.clear();
             return Err(NoMemory);
         }
         return Ok(());
     }
     let mut line = String::with_capacity(*text.allocator(), LINE)?;
-    write!(line, "{outcome}\n")?;
+    write_line(&mut line, outcome)?;
     text.push_str(&line)?;
     Ok(())
 }

@@ -39,14 +39,12 @@ fn number(word: &[u8]) -> Option<u64>
     ensures found { IfSome result (λ n. IsNumber word.now n) }
     ensures none { IfNone result ((n : ℕ) → IsNumber word.now n → ⊥) }
 {
-    let (text, radix, most) = match word {
-        [b'0', b'x', text @ ..] => (text, 16, 16),
-        _ => (word, 10, 20),
-    };
-    if text.is_empty() || text.len() > most {
-        return None;
+    match word {
+        [b'0', b'x', text @ ..] if !text.is_empty() && text.len() <= 16 => digits(text, 16),
+        [b'0', b'x', ..] => None,
+        _ if word.is_empty() || word.len() > 20 => None,
+        _ => digits(word, 10),
     }
-    digits(text, radix)
 }
 
 fn token_of(word: &[u8]) -> Option<Token>
@@ -60,7 +58,7 @@ fn token_of(word: &[u8]) -> Option<Token>
 }
 
 /// The text from its first byte on that is no space.
-fn skip_spaces(text: &[u8]) -> &[u8]
+pub fn skip_spaces(text: &[u8]) -> &[u8]
     ensures words { words_of result.now ≡ words_of text.now }
     ensures front { slice_get result.now 0 ≢ Some 32 }
     ensures shorter { length result.now ≤ length text.now }

@@ -278,9 +278,9 @@ fn lines_of_outcomes(rt: HostRuntime) -> Result<(), Fail> {
     let mut text = String::new(rt.alloc());
     for (i, (outcome, wanted)) in OUTCOMES.iter().enumerate() {
         text.clear();
-        if print_line(&mut text, *outcome).is_err() {
+        if print_line(&mut text, outcome).is_err() {
             assert!(&rt; text.is_empty());
-            print_line(&mut text, *outcome)?;
+            print_line(&mut text, outcome)?;
         }
         assert_eq!(&rt; text.as_bytes(), *wanted, "outcome {i}");
     }

@@ -115,7 +115,7 @@ fn send(
 {
     assert!(rt; page < HIGH_PAGE);
     match log.send_page(space, page)? {
-        Sent::Page(bytes) => Ok(Answer::Sent(page, Some(bytes[0]))),
+        Sent::Page(bytes) => Ok(Answer::Sent(page, Some(bytes.as_array()[0]))),
         Sent::Zero => Ok(Answer::Sent(page, None)),
     }
 }
@@ -136,7 +136,7 @@ fn send_run(
     assert!(rt; count > 0);
     let pages = log.send_run(space, first, count)?;
     match pages.last() {
-        Some(last) => Ok(Answer::Run(first, pages.len(), last[0])),
+        Some(last) => Ok(Answer::Run(first, pages.len(), last.as_array()[0])),
         None => Ok(Answer::Nothing),
     }
 }
