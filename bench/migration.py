@@ -17,8 +17,9 @@ import page
 from bench import LOW, PAGE, PROGRAM, stored
 
 STEPS = page.TOP / "crates" / "world_bench" / "out" / "world_bench"
-NUMBERS = (1024, 16_384, 262_144)
-RUNS = 14
+
+# How many pages, and how many runs of each script: a short run is disturbed more.
+NUMBERS = ((1024, 140), (16_384, 28), (262_144, 14))
 
 
 def begun(pages):
@@ -77,7 +78,7 @@ def play(script):
     return seconds, usage.ru_maxrss * 1024
 
 
-def play_all(pages):
+def play_all(pages, runs):
     """The least seconds of each script and its greatest memory. They take turns, so that a slow while is not one script's alone."""
     scripts = {script for pair in WORK.values() for script in pair}
     seconds, memory = {}, {}
@@ -85,7 +86,7 @@ def play_all(pages):
         for script in scripts:
             with open(pathlib.Path(folder) / script.__name__, "w") as file:
                 file.writelines(line + "\n" for line in script(pages))
-        for _ in range(RUNS):
+        for _ in range(runs):
             for script in scripts:
                 took, most = play(pathlib.Path(folder) / script.__name__)
                 seconds[script] = min(took, seconds.get(script, took))
@@ -93,10 +94,10 @@ def play_all(pages):
     return seconds, memory
 
 
-def steps(pages):
+def steps(pages, runs):
     """Nanoseconds a page by World::step, the least of some runs, and those of the copies."""
     least = {}
-    for _ in range(RUNS):
+    for _ in range(runs):
         line = subprocess.run([STEPS, str(pages)], check=True, capture_output=True, text=True, env=page.environment()).stdout
         for name, nanoseconds in re.findall(r"([a-z-]+) (\d+)[, ]", line.split(": ")[1]):
             least[name] = min(least.get(name, 10**12), int(nanoseconds))
@@ -106,10 +107,10 @@ def steps(pages):
 def table():
     yield "| for each page | pages | by script, ns | by step, ns | a copy, ns | by script, copies | by step, copies | a new copy, ns | by script, new copies |"
     yield "|---|---|---|---|---|---|---|---|---|"
-    for pages in NUMBERS:
-        by_step = steps(pages)
+    for pages, runs in NUMBERS:
+        by_step = steps(pages, runs)
         copy, new = max(by_step["copy"], 1), max(by_step["new-copy"], 1)
-        seconds, memory = play_all(pages)
+        seconds, memory = play_all(pages, runs)
         for name, (base, whole) in WORK.items():
             script = (seconds[whole] - seconds[base]) * 1e9 / pages
             yield f"| {name} | {pages:,} | {script:,.0f} | {by_step[name]:,} | {copy:,} | {script / copy:.1f} | {by_step[name] / copy:.1f} | {new:,} | {script / new:.1f} |"
@@ -128,7 +129,7 @@ def main():
         print(row, flush=True)
         rows.append(row)
     if sys.argv[1:] == ["--write"]:
-        page.put("migration", f"Measured on {page.machine()}, the least of {RUNS} runs of each script.\n\n" + "\n".join(rows))
+        page.put("migration", f"Measured on {page.machine()}, the least of {', '.join(str(runs) for _, runs in NUMBERS)} runs of each script.\n\n" + "\n".join(rows))
 
 
 if __name__ == "__main__":
