@@ -2,7 +2,7 @@
 //! pages that are still owed.
 //!
 //! With no argument it does so with a few pages, and says so. Each argument is a number of pages, `MAX_PAGES` at the most, for which it
-//! prints how many nanoseconds a page took: to come, to be installed, and in a loop that copies as many pages from box to box; and how many a map call
+//! prints how many nanoseconds a page took: to come, to be installed, and in a loop that copies as many pages to new ones; and how many a map call
 //! over one page took, to the end of the reading of its messages.
 #![tactic(auto)]
 
@@ -106,7 +106,7 @@ fn time_calls(rt: &HostRuntime, pages: u32, kind: Call) -> io::Result<u128> {
     Ok(nanoseconds(least, calls_over(pages)))
 }
 
-/// How long the copies from box to box take.
+/// How long the copies to new pages take.
 fn time_copies(rt: &HostRuntime, pages: u32) -> io::Result<Duration> {
     let filled = copies::filled(rt.alloc(), pages).map_err(lacking)?;
     let begun = Instant::now(rt)?;

@@ -102,7 +102,7 @@ fn zeros(space: &mut Space, cpus: &mut Cpus, page: PageNo) -> Result<Answer, Ref
     }
 }
 
-/// Where memory is refused the box comes back with its bytes.
+/// Where memory is refused the bytes come back.
 fn filled(
     rt: &impl Abort,
     alloc: Global,

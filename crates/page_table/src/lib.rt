@@ -13,8 +13,8 @@
 //! bytes (`zero_page`, `page_at`, `overwrite`) are `mig_base`'s.
 //!
 //! A table has two levels, so that a look-up is one index and another: up to 1024 places, each for 1024 pages. A place is
-//! empty until one of its pages is put; then it has a [`leaf::Leaf`], a list of 1024 boxes that may be empty and a set of
-//! flags. `specs/Leaves.antt` says what a place and a list of places hold of one page. The modules follow: `leaf` (the lists
+//! empty until one of its pages is put; then it has a [`leaf::Leaf`], a list of 1024 pages that may be missing and a set
+//! of flags. `specs/Leaves.antt` says what a place and a list of places hold of one page. The modules follow: `leaf` (the lists
 //! of 1024), `place` (one place), `table` (all places), and `page_table` (the type that callers see).
 #![tactic(auto)]
 

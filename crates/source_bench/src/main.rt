@@ -1,7 +1,7 @@
 //! Times the source of a migration: a round, and then the sending of its pages one by one.
 //!
 //! With no argument it sends a few pages, and says so. Each argument is a number of pages, for which it prints how many nanoseconds
-//! a page took: in the round, in the sending, and in a loop that copies as many pages from box to box.
+//! a page took: in the round, in the sending, and in a loop that copies as many pages to new ones.
 #![tactic(auto)]
 
 mod copies;

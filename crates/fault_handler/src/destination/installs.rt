@@ -23,7 +23,7 @@ use std::collections::VecDeque;
 use uffd_ioctl::Space;
 
 impl Destination {
-    /// Puts the first copy that has arrived where its page belongs now, by moving its box: UFFDIO_COPY for that page, or UFFDIO_ZEROPAGE
+    /// Puts the first copy that has arrived where its page belongs now, by moving its bytes: UFFDIO_COPY for that page, or UFFDIO_ZEROPAGE
     /// for a page of zeros. The page is owed no longer, its request ends, and those that sleep on it are woken. A copy of a page that is not
     /// owed is given up. Refused as `Phase` before it has run, as `NothingThere` where no copy waits, and as `Changing` while an event
     /// is unread.
