@@ -147,7 +147,7 @@ impl Brief {
     pub fn of(frame: &Frame) -> Self {
         match frame {
             Frame::Advise => Brief::Advise,
-            Frame::Page { page, bytes } => Brief::Page(*page, bytes.as_slice().first().copied()),
+            Frame::Page { page, bytes } => Brief::Page(*page, bytes.as_array().first().copied()),
             Frame::Zero { page } => Brief::Zero(*page),
             Frame::Run { first, pages } => Brief::Run(*first, pages.len()),
             Frame::Discard { pages } => Brief::Discard(range_of(pages)),

@@ -129,13 +129,10 @@ impl Brief {
     fn of(frame: &Frame) -> Self {
         match frame {
             Frame::Advise => Brief::Advise,
-            Frame::Page { page, bytes } => match bytes.as_slice().first() {
-                Some(byte) => Brief::Page(*page, *byte),
-                None => Brief::Unfit,
-            },
+            Frame::Page { page, bytes } => Brief::Page(*page, bytes.as_array()[0]),
             Frame::Zero { page } => Brief::Zero(*page),
             Frame::Run { first, pages } => match pages.as_slice().last() {
-                Some(last) => Brief::Run(*first, pages.len(), last[0]),
+                Some(last) => Brief::Run(*first, pages.len(), last.as_array()[0]),
                 None => Brief::Unfit,
             },
             Frame::Discard { pages } => Brief::Discard(pages.next(0, true), pages.len()),
