@@ -1,5 +1,5 @@
 -- The tokens of a list of words.
-use Rattle.std.proofs.Common.{◌≡◌, ℕ, ◌<◌, List, [], ◌∷◌, ◌++◌, arith, refl, ap, ◌∙◌, sym, subst, ◌≤◌, lit≤, cond, inl, inr, append_assoc, Some}
+use Rattle.std.proofs.Common.{◌≡◌, ℕ, ◌<◌, slice_index_or, List, [], ◌∷◌, ◌++◌, arith, refl, ap, ◌∙◌, sym, subst, ◌≤◌, lit≤, cond, inl, inr, append_assoc, Some}
 use Rattle.std.specs.Prelude.{slice_get}
 use Rattle.std.proofs.lemmas.Bool.Decides.{nat_tests}
 use Rattle.std.specs.Char.{digit_value}
@@ -125,6 +125,15 @@ keyword_no_number : (k : Keyword) (w : List ℕ) (n : ℕ) → w ≡ keyword_tex
 keyword_no_number k w n e h =
     let l = first_no_digit k in
     no_number l.0 l.1 n l.3 (subst (λ (t : List ℕ). IsNumber t n) (e ∙ l.2) h)
+
+above_digits : (b : ℕ) (bs : List ℕ) → 58 ≤ b → slice_index_or (b ∷ bs) 0 0 < 58 → ⊥
+above_digits b bs le lt = absurd (omega (arith, le, lt))
+
+-- no keyword begins with a digit
+pub digit_no_keyword : (k : Keyword) (w : List ℕ) → w ≡ keyword_text k → slice_index_or w 0 0 < 58 → ⊥
+digit_no_keyword k w e lt =
+    let l = first_no_digit k in
+    above_digits l.0 l.1 l.3 (subst (λ (t : List ℕ). slice_index_or t 0 0 < 58) (e ∙ l.2) lt)
 
 no_mark : (b : ℕ) → b ≡ 48 → b ≡ 35 → ⊥
 no_mark b e f = absurd (omega arith)

@@ -52,6 +52,7 @@ fn target_of(tokens: &[Token]) -> Option<(bool, Option<Addr>)>
 
 /// The load or store that tokens stand for.
 #[tactic(auto, unfolding(crate::specs::Parsing::access_from))]
+#[inline(always)]
 fn access_of(tokens: &[Token]) -> Option<Command>
     ensures { result ≡ access_from tokens.now }
 {
@@ -81,6 +82,7 @@ fn access_of(tokens: &[Token]) -> Option<Command>
     }
 }
 
+#[inline(always)]
 fn mmap_of(len: u64, prot: Keyword, place: &[Token]) -> Option<Command>
     ensures { result ≡ mmap_from len prot place.now }
 {
@@ -93,6 +95,7 @@ fn mmap_of(len: u64, prot: Keyword, place: &[Token]) -> Option<Command>
     })
 }
 
+#[inline(always)]
 fn mremap_of(addr: Addr, old_len: u64, new_len: u64, target: &[Token]) -> Option<Command>
     ensures { result ≡ mremap_from addr old_len new_len target.now }
 {
@@ -108,6 +111,7 @@ fn mremap_of(addr: Addr, old_len: u64, new_len: u64, target: &[Token]) -> Option
 
 /// The map call that tokens stand for.
 #[tactic(auto, unfolding(crate::specs::Parsing::map_call_from))]
+#[inline(always)]
 fn map_call_of(tokens: &[Token]) -> Option<Command>
     ensures { result ≡ map_call_from tokens.now }
 {
@@ -150,6 +154,7 @@ fn map_call_of(tokens: &[Token]) -> Option<Command>
 }
 
 /// The command that tokens stand for, without a processor.
+#[inline(always)]
 pub fn command_of(tokens: &[Token]) -> Option<Command>
     ensures { result ≡ command_from tokens.now }
 {

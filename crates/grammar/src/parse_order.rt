@@ -55,6 +55,7 @@ fn bytes_of(tokens: &[Token]) -> Option<u64>
 }
 
 #[tactic(auto, unfolding(crate::specs::Parsing::issue_from))]
+#[inline(always)]
 fn issue_of(tokens: &[Token]) -> Option<Order>
     ensures { result ≡ issue_from tokens.now }
 {
@@ -109,6 +110,7 @@ fn notice_of(tokens: &[Token]) -> Option<Order>
 }
 
 #[tactic(auto, unfolding(crate::specs::Parsing::push_from))]
+#[inline(always)]
 fn push_of(urgent: bool, tokens: &[Token]) -> Option<Order>
     ensures { result ≡ push_from urgent tokens.now }
 {

@@ -1,7 +1,9 @@
 //! How the outcome of a step is printed.
 
-ghost use Rattle.std.specs.Prelude.{◌≡◌, ◌++◌, OnOk, OnErr, Some, string_bytes};
-ghost use Rattle.grammar.specs.Printed.{outcome_line, effect_text, refusal_name, event_text, fault_text, state_text, side_text};
+ghost use Rattle.std.specs.Prelude.{◌≡◌, ◌++◌, ◌∷◌, [], Ok, OnOk, OnErr, Some, string_bytes};
+ghost use Rattle.mig_base.specs.declared.command.Reply.TheVariants as reply;
+ghost use Rattle.mig_base.specs.declared.effect.Effect.TheVariants as effect;
+ghost use Rattle.grammar.specs.Printed.{outcome_line, outcome_text, effect_text, refusal_name, event_text, fault_text, state_text, side_text};
 
 use mig_base::effect::Effect;
 use mig_base::phase::Received;
@@ -185,30 +187,46 @@ impl fmt::Display for EffectText {
     }
 }
 
+/// Writes the line of a value that was loaded.
+fn write_value(text: &mut String, cpu: u8, value: u64) -> Result<(), AllocError>
+    ensures { OnOk result (string_bytes text.new ≡ string_bytes text.old ++ outcome_text (Ok (effect.Answered cpu (reply.Value value))) ++ 10 ∷ []) }
+{
+    write!(text, "cpu {cpu} value 0x{value:x}\n")
+}
+
+/// Writes the line of a command that is done.
+fn write_done(text: &mut String, cpu: u8) -> Result<(), AllocError>
+    ensures { OnOk result (string_bytes text.new ≡ string_bytes text.old ++ outcome_text (Ok (effect.Answered cpu reply.Done)) ++ 10 ∷ []) }
+{
+    write!(text, "cpu {cpu} done\n")
+}
+
 /// Writes the line of an outcome behind a text. The answers that nearly all commands have are written at once: part by part is slower.
+/// It is made where it is called, so that an outcome is not copied once more.
+#[inline(always)]
 #[tactic(auto, unfolding(crate::specs::Printed::outcome_line))]
 fn write_line(text: &mut String, outcome: &Result<Effect, Refusal>) -> Result<(), AllocError>
     ensures { OnOk result (string_bytes text.new ≡ string_bytes text.old ++ outcome_line outcome.now) }
 {
-    match outcome {
+    match *outcome {
         Ok(
             Effect::Answered {
                 cpu,
                 reply: Reply::Value(value),
             },
-        ) => write!(text, "cpu {cpu} value 0x{value:x}\n"),
+        ) => write_value(text, cpu, value),
         Ok(
             Effect::Answered {
                 cpu,
                 reply: Reply::Done,
             },
-        ) => write!(text, "cpu {cpu} done\n"),
+        ) => write_done(text, cpu),
         Ok(effect) => {
-            let effect = EffectText(*effect);
+            let effect = EffectText(effect);
             write!(text, "{effect}\n")
         }
         Err(refusal) => {
-            let name = RefusalName(*refusal);
+            let name = RefusalName(refusal);
             write!(text, "refused {name}\n")
         }
     }

@@ -51,9 +51,9 @@ fn token_of(word: &[u8]) -> Option<Token>
     ensures found { IfSome result (λ token. IsToken token word.now) }
     ensures none { IfNone result ((token : TokenOf) → IsToken token word.now → ⊥) }
 {
-    match number(word) {
-        Some(value) => Some(Token::Number(value)),
-        None => Some(Token::Key(Keyword::from_text(word)?)),
+    match word {
+        [b'0'..=b'9', ..] => Some(Token::Number(number(word)?)),
+        _ => Some(Token::Key(Keyword::from_text(word)?)),
     }
 }
 

@@ -16,6 +16,7 @@ use vcpu::Cpus;
 
 /// A processor makes a command; `runs` says whether this node runs the processors. `NoCpu` where there is no such processor, `Busy`
 /// unless it is idle, `Phase` unless the node runs the processors, and then `NoMemory`. A refusal changes nothing.
+#[inline(always)]
 pub fn issue(
     space: &mut Space,
     cpus: &mut Cpus,
@@ -43,6 +44,7 @@ pub fn issue(
 /// A processor that was woken tries its load or store again; `runs` says whether this node runs the processors. `NoCpu` where there is
 /// no such processor, `NotAsleep` where it is idle or in a call, `NotWoken` where it still sleeps, `Phase` unless the node runs the
 /// processors, and then `NoMemory`. A refusal changes nothing.
+#[inline(always)]
 pub fn retry(space: &mut Space, cpus: &mut Cpus, cpu: u8, runs: bool) -> Result<Tried, Refusal>
     ensures accepted { OnOk result (retry_refusal cpus.old cpu runs ≡ None) }
     ensures refused { IfErr result (λ refusal. refusal ≡ unwrap_or (retry_refusal cpus.old cpu runs) Refusal.NoMemory) }

@@ -48,6 +48,8 @@ impl Took {
     }
 
     /// The processor, which is idle, then does what the command came to.
+    // What it answers is large, and is not to be copied on its way to the transcript.
+    #[inline(always)]
     pub fn begin(self, cpus: &mut Cpus, cpu: u8, command: Command) -> Tried
         requires cpu { cpu < length cpus.old }
         requires idle { processor_at cpus.old cpu ≡ CpuState.Idle }
