@@ -3,6 +3,8 @@
 //! Each word is a [`Keyword`] or a number, so a line is a list of [`Token`]s. The first word says what is asked for, and each kind
 //! has a function over the tokens behind it. They stand again in `specs/Parsing.antt`, and `specs/Spelling.antt` says from the
 //! order what its tokens are; `proofs/Orders.antt` has one case for each kind in both directions.
+//!
+//! An order has many words, and each call would copy it, so those that make one of tokens are inlined.
 
 ghost use Rattle.std.specs.Prelude.{◌≡◌, IfOk, IfSome, IfNone};
 ghost use Rattle.grammar.specs.declared.order.Order.{Order as OrderOf};

@@ -1,6 +1,6 @@
 //! The bytes in flight.
 
-ghost use Rattle.std.specs.Prelude.{◌≡◌, ◌+◌, ◌≤◌, ◌<◌, ◌++◌, ◌∷◌, [], OnOk};
+ghost use Rattle.std.specs.Prelude.{◌≡◌, ◌+◌, ◌-◌, ◌≤◌, ◌<◌, ◌++◌, ◌∷◌, [], OnOk, vec_capacity, vec_len};
 ghost use Rattle.mig_base.specs.Tests.{is_empty as is_none_of};
 ghost use Rattle.mig_model.specs.Bounds.{IsFrame};
 ghost use Rattle.page_stream.specs.Frames.{frame_of};
@@ -68,6 +68,37 @@ impl Chunks {
         let Some(wanted) = count.checked_mul(LONGEST_TEXT) else {
             return Err(NoMemory);
         };
+        if wanted > self.writing.capacity() - self.writing.len() {
+            self.reuse();
+        }
+        self.make_room(alloc, wanted)
+    }
+
+    /// Where all bytes of the chunk that is read were taken, and none are written, it becomes the one that is written: the kernel has
+    /// given its memory.
+    fn reuse(&mut self)
+        requires { AreChunks self.old }
+        ensures chunks { AreChunks self.new }
+        ensures stays { in_flight self.new ≡ in_flight self.old }
+    {
+        if self.taken < self.reading.len() {
+            return;
+        }
+        if !self.writing.is_empty() {
+            return;
+        }
+        self.taken = 0;
+        self.reading.clear();
+        std::mem::swap(&mut self.reading, &mut self.writing);
+    }
+
+    /// Makes room for so many bytes.
+    fn make_room(&mut self, alloc: Global, wanted: usize) -> Result<(), NoMemory>
+        requires { AreChunks self.old }
+        ensures chunks { AreChunks self.new }
+        ensures stays { in_flight self.new ≡ in_flight self.old }
+        ensures room { OnOk result (wanted ≤ vec_capacity self.new.writing - vec_len self.new.writing) }
+    {
         if wanted <= self.writing.capacity() - self.writing.len() {
             return Ok(());
         }

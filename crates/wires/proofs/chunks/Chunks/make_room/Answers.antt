@@ -1,7 +1,7 @@
 use Rattle.std.proofs.Common.{◌≡◌, ◌++◌, ◌∷◌, [], ap, arith, length, refl, sym, ◌∙◌}
 use Rattle.std.proofs.lemmas.Bool.{eqb-false}
 use Rattle.wires.proofs.ChunkLemmas.{set_aside}
-use Rattle.wires.proofs.chunks.Chunks.reserve.Goals as goal
+use Rattle.wires.proofs.chunks.Chunks.make_room.Goals as goal
 
 pub returns-clause-chunks : goal.returns-clause-chunks
 returns-clause-chunks c =
