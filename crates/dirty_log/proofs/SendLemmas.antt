@@ -22,12 +22,12 @@ use Rattle.mig_model.specs.Guest.{is_present}
 use Rattle.mig_model.specs.Ioctls.{protected_in}
 use Rattle.mig_model.specs.Log.{Log, log_run_sent, log_sent}
 use Rattle.mig_model.specs.Source.{Source, bytes_of, run_of}
-use Rattle.mig_model.specs.Wire.{Copy, Frame, copies_in, is_zeros, page_frame}
+use Rattle.mig_model.specs.Wire.{is_zeros}
+use Rattle.mig_model.proofs.Facts.{zero_bytes}
 use Rattle.mig_model.proofs.IoctlLemmas.{every_page}
 use Rattle.mig_model.proofs.SourceSending.{present_bytes, protected_now, whole_bytes}
-use Rattle.mig_model.proofs.WireLemmas.{copies_in-page}
 use Rattle.dirty_log.specs.Answers.{send_refusal}
-use Rattle.dirty_log.specs.Sending.{frame_of, bytes_of as sent_bytes}
+use Rattle.dirty_log.specs.Sending.{sent_of}
 use Rattle.dirty_log.specs.Spaces.{is_sendable}
 use Rattle.dirty_log.specs.declared.sent.Sent.{Sent}
 
@@ -64,20 +64,7 @@ one_in s page = ap (insert s) (omega arith)
 pub one_sent : (log : Log) (page : ℕ) → log_run_sent log page 1 ≡ log_sent log page
 one_sent log page = λ i. record { todo = without_one log.todo page i; clean = one_in log.clean page i; sent = one_in log.sent page i; held = log.held }
 
--- Frames
-
-frame_copies : (sent : Sent) (page : ℕ) → copies_in (frame_of page sent) ≡ record { page = page; bytes = sent_bytes sent } ∷ []
-frame_copies (Sent.Page bytes) page = refl
-frame_copies Sent.Zero page = refl
-
-first_bytes : List Copy → List ℕ
-first_bytes [] = []
-first_bytes (copy ∷ copies) = copy.bytes
-
--- what is sent are the bytes of the page
-sent_is : (sent : Sent) (page : ℕ) (bytes : List ℕ) → length bytes ≡ 4096 → frame_of page sent ≡ page_frame page bytes → sent_bytes sent ≡ bytes
-unfolding first_bytes
-sent_is sent page bytes whole e = ap first_bytes (sym (frame_copies sent page) ∙ ap copies_in e ∙ copies_in-page page bytes whole)
+-- What is sent
 
 zeros_pass : (n : ℕ) → list_all (λ byte. eqb byte 0) (replicate n 0) ≡ true
 zeros_pass zero = refl
@@ -87,36 +74,33 @@ all_zeros : is_zeros zero_page ≡ true
 unfolding zero_page
 all_zeros = zeros_pass 4096
 
-only_zero : (sent : Sent) (page : ℕ) → frame_of page sent ≡ Frame.Zero page → sent ≡ Sent.Zero
-only_zero (Sent.Page bytes) page h = absurd (cc)
-only_zero Sent.Zero page h = refl
+zero_is : (zeros : Bool) → cond zeros Sent.Zero Sent.Page ≡ Sent.Zero → zeros ≡ true
+zero_is true h = refl
+zero_is false h = absurd (cc)
 
--- zeros are sent as such
-zero_is : (sent : Sent) (page : ℕ) (bytes : List ℕ) → frame_of page sent ≡ page_frame page bytes → bytes ≡ zero_page → sent ≡ Sent.Zero
-zero_is sent page bytes e h = only_zero sent page (e ∙ ap (page_frame page) h ∙ ap (λ zeros. cond zeros (Frame.Zero page) (Frame.Page page zero_page)) all_zeros)
+-- zeros alone are sent as such
+zeros_sent : (bytes : List ℕ) → length bytes ≡ 4096 → (sent_of bytes ≡ Sent.Zero) ↔ (bytes ≡ zero_page)
+zeros_sent bytes whole = (λ h. zero_bytes bytes whole (zero_is (is_zeros bytes) h), λ h. ap sent_of h ∙ ap (λ zeros. cond zeros Sent.Zero Sent.Page) all_zeros)
 
--- a page that was protected and read, and what was sent of it
+-- a page that was protected and read, and what is sent of it
 pub record IsSent (space new : Space) (page : ℕ) (sent : Sent) : Type 0 where
   pub sound : IsSoundSpace space
   pub accepted : send_refusal space page 1 ≡ None
   pub protects : new ≡ protected_in space page 1 true
-  pub frame : frame_of page sent ≡ page_frame page (contents space.host.bytes page)
+  pub sent_is : sent ≡ sent_of (contents space.host.bytes page)
 
-pub sent_shown : (space new : Space) (page : ℕ) (sent : Sent) → IsSent space new page sent → get new.host.bytes page ≡ Some (sent_bytes sent)
-sent_shown space new page sent is =
-    let there = here_there space page is.accepted in
-    ap (λ s. get s.host.bytes page) is.protects ∙ sym (present_bytes (get space.host.bytes page) zero_page there)
-    ∙ ap (λ bytes. Some bytes) (sym (sent_is sent page (contents space.host.bytes page) (whole_bytes space page (get space.host.bytes page) is.sound refl there) is.frame))
+pub bytes_shown : (space new : Space) (page : ℕ) (sent : Sent) → IsSent space new page sent → get new.host.bytes page ≡ Some (contents space.host.bytes page)
+bytes_shown space new page sent is = ap (λ s. get s.host.bytes page) is.protects ∙ sym (present_bytes (get space.host.bytes page) zero_page (here_there space page is.accepted))
 
 same_bytes : {A : Type 0} {a b : A} → Some a ≡ Some b → a ≡ b
 same_bytes h = cc
 
 pub zero_shown : (space new : Space) (page : ℕ) (sent : Sent) → IsSent space new page sent → (sent ≡ Sent.Zero) ↔ (get new.host.bytes page ≡ Some zero_page)
 zero_shown space new page sent is =
-    let shown = sent_shown space new page sent is in
-    let there = here_there space page is.accepted in (
-      λ h. shown ∙ ap (λ s. Some (sent_bytes s)) h,
-      λ h. zero_is sent page (contents space.host.bytes page) is.frame (same_bytes (present_bytes (get space.host.bytes page) zero_page there ∙ sym (ap (λ s. get s.host.bytes page) is.protects) ∙ h)),
+    let shown = bytes_shown space new page sent is in
+    let zeros = zeros_sent (contents space.host.bytes page) (whole_bytes space page (get space.host.bytes page) is.sound refl (here_there space page is.accepted)) in (
+      λ h. shown ∙ ap (λ bytes. Some bytes) (zeros.0 (sym is.sent_is ∙ h)),
+      λ h. is.sent_is ∙ zeros.1 (same_bytes (sym shown ∙ h)),
     )
 
 pub protected_shown : (space new : Space) (page : ℕ) (sent : Sent) → page < HIGH_PAGE → IsSent space new page sent → contains new.protected page ≡ true

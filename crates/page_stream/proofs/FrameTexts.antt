@@ -33,11 +33,20 @@ length-body_text frame is =
     let all = length-text Two 0 frame refl whole in
     omega (arith, all, length-append (header_text Two (tag_code frame) 0 (length (body_text frame))) (body_text frame))
 
-pub encoded : (old room a b c d : Vec ℕ) (tag epoch len : ℕ) (frame : Frame) → room.items ≡ old.items → tag ≡ tag_code frame → len ≡ length (body_text frame)
-    → Puts room a (2 ∷ tag ∷ 0 ∷ 0 ∷ []) → Puts a b (to_be_bytes w32 epoch) → Puts b c (to_be_bytes w32 len) → Puts c d (body_text frame) → d.items ≡ old.items ++ text Two epoch frame
+-- the three parts of a header
+pub header_put : (old a b new : Vec ℕ) (tag epoch len : ℕ) → Puts old a (2 ∷ tag ∷ 0 ∷ 0 ∷ []) → Puts a b (to_be_bytes w32 epoch) → Puts b new (to_be_bytes w32 len) → Puts old new (header_text Two tag epoch len)
+header_put old a b new tag epoch len p q r =
+    puts_then old b new ((2 ∷ tag ∷ 0 ∷ 0 ∷ []) ++ to_be_bytes w32 epoch) (to_be_bytes w32 len) (puts_then old a b (2 ∷ tag ∷ 0 ∷ 0 ∷ []) (to_be_bytes w32 epoch) p q) r
+
+pub encoded : (old room a new : Vec ℕ) (tag epoch len : ℕ) (frame : Frame) → room.items ≡ old.items → tag ≡ tag_code frame → len ≡ length (body_text frame) → Puts room a (header_text Two tag epoch len) → Puts a new (body_text frame)
+    → new.items ≡ old.items ++ text Two epoch frame
 unfolding text
-encoded old room a b c d tag epoch len frame same is_tag is_len p q r s =
-    let made : ℕ → ℕ → List ℕ = λ k n. (2 ∷ k ∷ 0 ∷ 0 ∷ to_be_bytes w32 epoch ++ to_be_bytes w32 n) ++ body_text frame in
-    let head = puts_then room b c ((2 ∷ tag ∷ 0 ∷ 0 ∷ []) ++ to_be_bytes w32 epoch) (to_be_bytes w32 len) (puts_then room a b (2 ∷ tag ∷ 0 ∷ 0 ∷ []) (to_be_bytes w32 epoch) p q) r in
-    let whole = puts_then room c d (((2 ∷ tag ∷ 0 ∷ 0 ∷ []) ++ to_be_bytes w32 epoch) ++ to_be_bytes w32 len) (body_text frame) head s in
+encoded old room a new tag epoch len frame same is_tag is_len p q =
+    let made : ℕ → ℕ → List ℕ = λ k n. header_text Two k epoch n ++ body_text frame in
+    let whole = puts_then room a new (header_text Two tag epoch len) (body_text frame) p q in
     whole.items ∙ ap (λ (x : List ℕ). x ++ made tag len) same ∙ ap (λ (k : ℕ). old.items ++ made k len) is_tag ∙ ap (λ (n : ℕ). old.items ++ made (tag_code frame) n) is_len
+
+-- A page and its bytes
+
+pub page_long : (page : ℕ) (bytes : List ℕ) → length bytes ≡ 4096 → length (to_be_bytes w32 page ++ bytes) ≡ 4100
+page_long page bytes whole = omega (arith, whole, length-append (to_be_bytes w32 page) bytes)

@@ -4,7 +4,7 @@
 //! [`area_map::AreaMap`], [`mig_base::PageBytes`], [`Pages`] and [`Waiting`].
 //!
 //! [`Frame::is_well_formed`] tells which frames may be sent, [`Frame::text_len`] how long the text of one is, and [`encode_into`]
-//! writes it: its bytes on a wire.
+//! writes it: its bytes on a wire. [`encode_page_into`] writes a page from where its bytes stand, so that none are copied before.
 //!
 //! The crate decides nothing about a migration: which node sends a frame, when, and what is made of it, is for the nodes.
 //!
@@ -21,4 +21,4 @@ pub mod writing;
 
 pub use crate::frame::Frame;
 pub use crate::lists::{Pages, Waiting};
-pub use crate::writing::{encode, encode_into};
+pub use crate::writing::{encode, encode_into, encode_page_into};

@@ -3,11 +3,12 @@
 ghost use Rattle.std.specs.Prelude.{◌≡◌, ◌+◌, ◌≤◌, ◌<◌, ◌^◌, ◌++◌, length, IfOk, OnOk, OnErr, IsOk, vec_len, vec_capacity};
 ghost use Rattle.std.specs.List.{flat_map};
 ghost use Rattle.std.specs.Int.{w32, to_be_bytes};
-ghost use Rattle.frame_texts.specs.Texts.{areas_of, areas_text, area_text, body_text, command_text, commands_text, run_text, runs_of, runs_text, state_code, tag_code, text};
+ghost use Rattle.frame_texts.specs.Texts.{areas_of, areas_text, area_text, body_text, command_text, commands_text, header_text, run_text, runs_of, runs_text, state_code, tag_code, text};
 ghost use Rattle.frame_texts.specs.Texts.Version.{Two};
 ghost use Rattle.mig_base.specs.Codes.{prot_number};
 ghost use Rattle.mig_model.specs.Bounds.{IsFrame};
 ghost use Rattle.mig_model.specs.Lengths as texts;
+ghost use Rattle.mig_model.specs.Wire as machine;
 ghost use Rattle.page_stream.specs.Frames.{frame_of};
 ghost use Rattle.page_stream.specs.Writing.{Puts};
 
@@ -16,11 +17,19 @@ use crate::lengths::{HEADER_LEN, run_count};
 use crate::lists::Pages;
 use area_map::AreaMap;
 use mig_base::phase::Received;
-use mig_base::{Addr, Area, Command, HIGH_PAGE, NoMemory, PageNo, PageSet, Prot, Run};
+use mig_base::{
+    Addr, Area, Command, HIGH_PAGE, NoMemory, PAGE_BYTES, PageNo, PageSet, Prot, Run,
+};
 use std::alloc::Global;
 
 /// The version that is written.
 const VERSION: u8 = 2;
+
+/// What tells a frame of one page from the others.
+const PAGE_TAG: u8 = 0x02;
+
+/// The bytes behind the header of a frame of one page: its number, and what it has.
+const PAGE_BODY_LEN: u32 = 4 + PAGE_BYTES as u32;
 
 /// Appends the text of a frame that is sent in an epoch, in version 2 of the texts: [`Frame::text_len`] bytes.
 ///
@@ -35,10 +44,30 @@ pub fn encode_into(frame: &Frame, epoch: u32, into: &mut Vec<u8>) -> Result<(), 
 {
     let len = frame.body_len();
     into.try_reserve((HEADER_LEN + len) as usize)?;
-    put(into, &[VERSION, tag(frame), 0, 0]);
-    put(into, &epoch.to_be_bytes());
-    put(into, &(len as u32).to_be_bytes());
+    put_header(into, tag(frame), epoch, len as u32);
     put_body(into, frame);
+    Ok(())
+}
+
+/// Appends the text of a frame of one page, from bytes that stay where they are: 4,112 bytes, as [`encode_into`] would for
+/// [`Frame::Page`].
+///
+/// All room is made before the first byte is written, and none is asked for where the vector has it. `NoMemory` is for that room,
+/// and leaves the bytes as they were.
+pub fn encode_page_into(
+    page: PageNo,
+    bytes: &[u8; PAGE_BYTES],
+    epoch: u32,
+    into: &mut Vec<u8>,
+) -> Result<(), NoMemory>
+    ensures ok { OnOk result (into.new.items ≡ into.old.items ++ text Two epoch (machine.Frame.Page page bytes.now)) }
+    ensures err { OnErr result (into.new.items ≡ into.old.items) }
+    ensures room { vec_len into.old + texts.text_len (machine.Frame.Page page bytes.now) ≤ vec_capacity into.old → IsOk result }
+    ensures capacity { vec_capacity into.old ≤ vec_capacity into.new }
+{
+    into.try_reserve(HEADER_LEN as usize + PAGE_BODY_LEN as usize)?;
+    put_header(into, PAGE_TAG, epoch, PAGE_BODY_LEN);
+    put_page(into, page, bytes);
     Ok(())
 }
 
@@ -58,7 +87,7 @@ fn tag(frame: &Frame) -> u8
 {
     match frame {
         Frame::Advise => 0x01,
-        Frame::Page { .. } => 0x02,
+        Frame::Page { .. } => PAGE_TAG,
         Frame::Zero { .. } => 0x03,
         Frame::Discard { .. } => 0x04,
         Frame::Package { .. } => 0x05,
@@ -71,6 +100,16 @@ fn tag(frame: &Frame) -> u8
     }
 }
 
+/// The header: the version, what frame it is, the epoch in which it is sent, and how many bytes stand behind it.
+fn put_header(into: &mut Vec<u8>, tag: u8, epoch: u32, len: u32)
+    requires { vec_len into.old + 12 ≤ vec_capacity into.old }
+    ensures { Puts into.old into.new (header_text Two tag epoch len) }
+{
+    put(into, &[VERSION, tag, 0, 0]);
+    put(into, &epoch.to_be_bytes());
+    put(into, &len.to_be_bytes());
+}
+
 /// What stands behind the header.
 fn put_body(into: &mut Vec<u8>, frame: &Frame)
     requires room { vec_len into.old + length (body_text (frame_of frame.now)) ≤ vec_capacity into.old }
@@ -79,10 +118,7 @@ fn put_body(into: &mut Vec<u8>, frame: &Frame)
 {
     match frame {
         Frame::Advise | Frame::Resume | Frame::Done => {}
-        Frame::Page { page, bytes } => {
-            put(into, &page.to_be_bytes());
-            put(into, bytes.as_array());
-        }
+        Frame::Page { page, bytes } => put_page(into, *page, bytes.as_array()),
         Frame::Zero { page } | Frame::Request { page } => put(into, &page.to_be_bytes()),
         Frame::Run { first, pages } => put_pages(into, *first, pages),
         Frame::Discard { pages } => put_runs(into, pages),
@@ -108,6 +144,15 @@ fn put_package(into: &mut Vec<u8>, areas: &AreaMap, owed: &PageSet, commands: &[
     put_areas(into, areas.areas());
     put_runs(into, owed);
     put_commands(into, commands);
+}
+
+/// A page, and its bytes.
+fn put_page(into: &mut Vec<u8>, page: PageNo, bytes: &[u8; PAGE_BYTES])
+    requires { vec_len into.old + length (to_be_bytes w32 page ++ bytes.now) ≤ vec_capacity into.old }
+    ensures { Puts into.old into.new (to_be_bytes w32 page ++ bytes.now) }
+{
+    put(into, &page.to_be_bytes());
+    put(into, bytes);
 }
 
 /// The first page, a count, and the bytes of each page.

@@ -10,7 +10,7 @@ use Rattle.mig_model.specs.Log.{less}
 use Rattle.mig_model.specs.Migration.{is_used, outcome, page_effect, unless}
 use Rattle.mig_model.specs.Source.{Source, bytes_of, not_clean, page_pushed, request_served, switch_frames, switch_made, urgent_pushed}
 use Rattle.mig_model.specs.Wire.{Frame, page_frame}
-use Rattle.dirty_log.specs.Sending as log
+use Rattle.dirty_log.specs.Sending.{sent_of}
 use Rattle.dirty_log.specs.declared.sent.Sent.{Sent}
 use Rattle.precopy.specs.Answers.{end_answer, next_count, push_answer, stop_answer, switch_answer}
 use Rattle.precopy.specs.Sending.{sent_effect}
@@ -23,17 +23,13 @@ pushed_by : (node : Source) (ticket : Ticket) → push_answer node ticket ≡ Ok
 unfolding unless
 pushed_by node ticket is = grind arith
 
-pub push_done : (node new : Source) (ticket : Ticket) (sent : Sent) (effect : Effect) (frame : Frame) → push_answer node ticket ≡ Ok tt → log.frame_of ticket.page sent ≡ page_frame ticket.page (bytes_of node ticket.page) →
-    effect ≡ sent_effect ticket.page sent → frame ≡ log.frame_of ticket.page sent → new ≡ page_pushed node ticket.page → IsMade node (Step.Push ticket) effect (frame ∷ []) new
-push_done node new ticket sent effect frame is same told carried new_is = rw (new_is, told, carried, same, effect_is ticket.page (bytes_of node ticket.page) sent same) (pushed_by node ticket is)
+pub push_done : (node new : Source) (ticket : Ticket) (sent : Sent) (effect : Effect) → push_answer node ticket ≡ Ok tt → sent ≡ sent_of (bytes_of node ticket.page) → effect ≡ sent_effect ticket.page sent → new ≡ page_pushed node ticket.page →
+    IsMade node (Step.Push ticket) effect (page_frame ticket.page (bytes_of new ticket.page) ∷ []) new
+push_done node new ticket sent effect is same told new_is = rw (new_is, told, effect_is ticket.page (bytes_of node ticket.page) sent same) (pushed_by node ticket is)
 
-pub push_refused : (node : Source) (ticket : Ticket) (refusal : Refusal) → push_answer node ticket ≡ Err refusal → IsRefused node (Step.Push ticket) refusal
+pub push_refused : (node : Source) (ticket : Ticket) (refusal : Refusal) → push_answer node ticket ≡ Err refusal → IsRefusedAs node (Step.Push ticket) refusal
 unfolding unless outcome
-push_refused node ticket refusal is = inl (grind arith)
-
-pub push_lacks : (node : Source) (ticket : Ticket) → push_answer node ticket ≡ Ok tt → IsRefused node (Step.Push ticket) Refusal.NoMemory
-unfolding unless outcome
-push_lacks node ticket is = inr (refl, grind arith)
+push_refused node ticket refusal is = grind arith
 
 -- PushUrgent
 
@@ -41,17 +37,13 @@ hurried_by : (node : Source) (ticket : Ticket) → push_answer node ticket ≡ O
 unfolding unless
 hurried_by node ticket is = grind arith
 
-pub urgent_done : (node new : Source) (ticket : Ticket) (sent : Sent) (effect : Effect) (frame : Frame) → push_answer node ticket ≡ Ok tt → log.frame_of ticket.page sent ≡ page_frame ticket.page (bytes_of node ticket.page) →
-    effect ≡ sent_effect ticket.page sent → frame ≡ log.frame_of ticket.page sent → new ≡ urgent_pushed node ticket.page → IsMadeUrgently node (Step.PushUrgent ticket) effect frame new
-urgent_done node new ticket sent effect frame is same told carried new_is = rw (new_is, told, carried, same, effect_is ticket.page (bytes_of node ticket.page) sent same) (hurried_by node ticket is)
+pub urgent_done : (node new : Source) (ticket : Ticket) (sent : Sent) (effect : Effect) → push_answer node ticket ≡ Ok tt → sent ≡ sent_of (bytes_of node ticket.page) → effect ≡ sent_effect ticket.page sent → new ≡ urgent_pushed node ticket.page →
+    IsMadeUrgently node (Step.PushUrgent ticket) effect (page_frame ticket.page (bytes_of new ticket.page)) new
+urgent_done node new ticket sent effect is same told new_is = rw (new_is, told, effect_is ticket.page (bytes_of node ticket.page) sent same) (hurried_by node ticket is)
 
-pub urgent_refused : (node : Source) (ticket : Ticket) (refusal : Refusal) → push_answer node ticket ≡ Err refusal → IsRefused node (Step.PushUrgent ticket) refusal
+pub urgent_refused : (node : Source) (ticket : Ticket) (refusal : Refusal) → push_answer node ticket ≡ Err refusal → IsRefusedAs node (Step.PushUrgent ticket) refusal
 unfolding unless outcome
-urgent_refused node ticket refusal is = inl (grind arith)
-
-pub urgent_lacks : (node : Source) (ticket : Ticket) → push_answer node ticket ≡ Ok tt → IsRefused node (Step.PushUrgent ticket) Refusal.NoMemory
-unfolding unless outcome
-urgent_lacks node ticket is = inr (refl, grind arith)
+urgent_refused node ticket refusal is = grind arith
 
 -- what a count that is not counted on is
 pub used_is : (count next : ℕ) → next_count count ≡ Ok next → next ≡ count + 1

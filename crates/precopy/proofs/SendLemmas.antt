@@ -1,5 +1,5 @@
 -- A page that the round sends next can be sent.
-use Rattle.std.proofs.Common.{◌≡◌, ℕ, true, false, ltb, Some, None, List, [], ◌∷◌, length, refl, sym, ◌∙◌, inl, inr, subst, ◌↔◌, arith}
+use Rattle.std.proofs.Common.{◌≡◌, ℕ, true, false, ltb, Some, None, List, [], ◌∷◌, length, refl, sym, ◌∙◌, inl, inr, arith}
 use Rattle.std.specs.Prelude.{Ok, Option}
 use Rattle.std.specs.FinSet.{contains}
 use Rattle.mig_base.specs.declared.refusal.Refusal.{Refusal}
@@ -14,13 +14,9 @@ use Rattle.mig_model.specs.Migration.{is_changing}
 use Rattle.mig_model.specs.Space.{Space}
 use Rattle.mig_model.specs.Source.{Source, space_of}
 use Rattle.dirty_log.specs.Answers.{IsRefusedFor, send_refusal}
-use Rattle.mig_model.specs.Wire.{Frame}
-use Rattle.dirty_log.specs.Sending as log
 use Rattle.dirty_log.specs.Spaces.{is_sendable}
-use Rattle.dirty_log.specs.declared.sent.Sent.{Sent}
 use Rattle.precopy.specs.Answers.{send_answer}
 use Rattle.precopy.specs.Order.{AreSendable}
-use Rattle.precopy.specs.Sending.{SendsPage}
 use Rattle.precopy.specs.Steps.{IsRefused}
 use Rattle.precopy.proofs.StepLemmas.{send_lacks}
 
@@ -52,19 +48,3 @@ only_memory refusal reason none (inr is) = is.1
 
 pub send_stopped : (node : Source) (page : ℕ) (refusal : Refusal) → send_answer node ≡ Ok page → AreSendable node.log (space_of node) → IsRefusedFor (send_refusal (space_of node) page 1) refusal → IsRefused node Step.Send refusal
 send_stopped node page refusal is kept why = rw (only_memory refusal _ (send_accepted node page is kept) why) (send_lacks node page is)
-
--- what is sent of a page names it
-
-pub sends : (page : ℕ) (sent : Sent) (frame : Frame) (holds : ℕ → List ℕ → Type 0) → frame ≡ log.frame_of page sent → holds page (log.bytes_of sent) → SendsPage frame holds
-sends page (Sent.Page bytes) frame holds is h = subst (λ f. SendsPage f holds) (sym is) h
-sends page Sent.Zero frame holds is h = subst (λ f. SendsPage f holds) (sym is) h
-
-not_zero : (page : ℕ) (bytes : List ℕ) → Frame.Page page bytes ≡ Frame.Zero page → ⊥
-not_zero page bytes h = cc
-
-zero_names : (page : ℕ) (sent : Sent) (frame : Frame) → frame ≡ log.frame_of page sent → (frame ≡ Frame.Zero page) ↔ (sent ≡ Sent.Zero)
-zero_names page (Sent.Page bytes) frame is = (λ h. absurd (not_zero page bytes (sym is ∙ h)), λ h. absurd (cc))
-zero_names page Sent.Zero frame is = (λ h. refl, λ h. is)
-
-pub zero_told : {A : Type 0} (page : ℕ) (sent : Sent) (frame : Frame) → frame ≡ log.frame_of page sent → (sent ≡ Sent.Zero) ↔ A → (frame ≡ Frame.Zero page) ↔ A
-zero_told page sent frame is zero = let names = zero_names page sent frame is in (λ h. zero.0 (names.0 h), λ a. names.1 (zero.1 a))

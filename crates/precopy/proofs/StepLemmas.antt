@@ -1,15 +1,15 @@
 -- What the machine's steps make of a source, and why they are refused.
-use Rattle.std.proofs.Common.{◌≡◌, ℕ, List, [], ◌∷◌, refl, inl, inr, arith}
+use Rattle.std.proofs.Common.{◌≡◌, ℕ, ◌*◌, Bool, true, false, cond, List, [], ◌∷◌, refl, ap, ◌∙◌, inl, inr, arith}
 use Rattle.std.specs.Prelude.{Ok, Err}
 use Rattle.mig_base.specs.declared.effect.Effect.{Effect}
 use Rattle.mig_base.specs.declared.refusal.Refusal.{Refusal}
 use Rattle.mig_base.specs.declared.schedule.Step.{Step}
 use Rattle.mig_model.specs.Migration.{page_effect, unless, outcome}
 use Rattle.mig_model.specs.Source.{Source, bytes_of, not_clean, page_sent, round_made, source_started}
-use Rattle.mig_model.specs.Wire.{Frame, page_frame}
+use Rattle.mig_model.specs.Wire.{Frame, is_zeros, page_frame}
 use Rattle.precopy.specs.Answers.{round_answer, send_answer, start_answer}
 use Rattle.precopy.specs.Sending.{sent_effect}
-use Rattle.dirty_log.specs.Sending as log
+use Rattle.dirty_log.specs.Sending.{sent_of}
 use Rattle.dirty_log.specs.declared.sent.Sent.{Sent}
 use Rattle.std.specs.FinSet as finset
 use Rattle.precopy.specs.Steps.{IsMade, IsRefused}
@@ -54,13 +54,17 @@ sent_by : (node : Source) (page : ℕ) → send_answer node ≡ Ok page → IsMa
 unfolding unless
 sent_by node page is = grind arith
 
-pub effect_is : (page : ℕ) (bytes : List ℕ) (sent : Sent) → log.frame_of page sent ≡ page_frame page bytes → sent_effect page sent ≡ page_effect page bytes
-effect_is page bytes (Sent.Page box) is = grind arith
-effect_is page bytes Sent.Zero is = grind arith
+effect_by : (zeros : Bool) (page : ℕ) → sent_effect page (cond zeros Sent.Zero Sent.Page) ≡ cond zeros (Effect.SentZero (4096 * page)) (Effect.SentPage (4096 * page))
+effect_by true page = refl
+effect_by false page = refl
 
-pub send_done : (node new : Source) (page : ℕ) (sent : Sent) (effect : Effect) (frame : Frame) → send_answer node ≡ Ok page → log.frame_of page sent ≡ page_frame page (bytes_of node page) → effect ≡ sent_effect page sent →
-    frame ≡ log.frame_of page sent → new ≡ page_sent node page → IsMade node Step.Send effect (frame ∷ []) new
-send_done node new page sent effect frame is same told carried new_is = rw (new_is, told, carried, same, effect_is page (bytes_of node page) sent same) (sent_by node page is)
+-- what is told of a page goes by its bytes
+pub effect_is : (page : ℕ) (bytes : List ℕ) (sent : Sent) → sent ≡ sent_of bytes → sent_effect page sent ≡ page_effect page bytes
+effect_is page bytes sent is = ap (sent_effect page) is ∙ effect_by (is_zeros bytes) page
+
+pub send_done : (node new : Source) (page : ℕ) (sent : Sent) (effect : Effect) → send_answer node ≡ Ok page → sent ≡ sent_of (bytes_of node page) → effect ≡ sent_effect page sent → new ≡ page_sent node page →
+    IsMade node Step.Send effect (page_frame page (bytes_of new page) ∷ []) new
+send_done node new page sent effect is same told new_is = rw (new_is, told, effect_is page (bytes_of node page) sent same) (sent_by node page is)
 
 pub send_refused : (node : Source) (refusal : Refusal) → send_answer node ≡ Err refusal → IsRefused node Step.Send refusal
 unfolding unless outcome

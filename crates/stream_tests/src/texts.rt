@@ -4,7 +4,7 @@ use crate::ranges::inside;
 use area_map::AreaMap;
 use mig_base::phase::Received;
 use mig_base::{Command, NoMemory, PAGE_BYTES, PageBytes, PageNo, PageSet, Prot};
-use page_stream::{Frame, Pages, Waiting, encode, encode_into};
+use page_stream::{Frame, Pages, Waiting, encode, encode_into, encode_page_into};
 use std::alloc::Global;
 use std::process::Abort;
 use std::test::Fail;
@@ -299,6 +299,28 @@ fn pages(rt: HostRuntime) -> Result<(), Fail> {
         true,
     ))?;
     look(&rt, rt.alloc(), &two, 1, &wanted)
+}
+
+/// A page that is written from where its bytes stand is written as its frame is.
+#[test]
+fn a_page_from_its_place(rt: HostRuntime) -> Result<(), Fail> {
+    let page = [7; PAGE_BYTES];
+    let wanted = text_of_pages(rt.alloc(), PAGE_FRONT, false).or_else(|_| text_of_pages(
+        rt.alloc(),
+        PAGE_FRONT,
+        false,
+    ))?;
+    let mut bytes = Vec::from_slice(rt.alloc(), &[0xee]).or_else(|_| Vec::from_slice(
+        rt.alloc(),
+        &[0xee],
+    ))?;
+    if encode_page_into(0x10, &page, 1, &mut bytes).is_err() {
+        assert_eq!(&rt; bytes.as_slice(), [0xee].as_slice());
+        encode_page_into(0x10, &page, 1, &mut bytes)?;
+    }
+    assert_eq!(&rt; bytes.get(0), Some(&0xee));
+    assert_eq!(&rt; bytes.get(1..), Some(wanted.as_slice()));
+    Ok(())
 }
 
 /// Where there is room no memory is taken.

@@ -121,6 +121,24 @@ fn each_kind_of_frame(rt: HostRuntime) -> Result<(), Fail> {
     Ok(())
 }
 
+/// A page that is sent from where its bytes stand comes as any other.
+#[test]
+fn a_page_from_its_place(rt: HostRuntime) -> Result<(), Fail> {
+    let mut wire = Wire::new(rt.alloc());
+    let page = [7; PAGE_BYTES];
+    let (front, sevens) = TEXTS[1];
+    let bytes = text(rt.alloc(), front, sevens).or_else(|_| text(rt.alloc(), front, sevens))?;
+    if wire.reserve(1).is_err() {
+        wire.reserve(1)?;
+    }
+    wire.push_page(1, 0x10, &page);
+    send(&rt, &mut wire, 1, Frame::End { urgent: 0 })?;
+    by_bytes(&rt, rt.alloc(), &mut wire, &bytes)?;
+    take(&rt, &mut wire, 1)?;
+    assert!(&rt; wire.is_empty());
+    Ok(())
+}
+
 /// The front of a run of 64 pages.
 static LONG_RUN: &[u8] =
     b"\x02\x08\x00\x00\x00\x00\x00\x01\x00\x04\x00\x08\x00\x00\x00\x10\x00\x00\x00\x40";

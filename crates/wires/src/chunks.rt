@@ -3,11 +3,12 @@
 ghost use Rattle.std.specs.Prelude.{◌≡◌, ◌+◌, ◌-◌, ◌≤◌, ◌<◌, ◌++◌, ◌∷◌, [], OnOk, vec_capacity, vec_len};
 ghost use Rattle.mig_base.specs.Tests.{is_empty as is_none_of};
 ghost use Rattle.mig_model.specs.Bounds.{IsFrame};
+ghost use Rattle.mig_model.specs.Wire as machine;
 ghost use Rattle.page_stream.specs.Frames.{frame_of};
 ghost use Rattle.wires.specs.Chunks.{AreChunks, in_flight, left, room};
 
-use mig_base::{MAX_CPUS, MAX_PAGES, NoMemory};
-use page_stream::{Frame, encode_into};
+use mig_base::{MAX_CPUS, MAX_PAGES, NoMemory, PAGE_BYTES, PageNo};
+use page_stream::{Frame, encode_into, encode_page_into};
 use std::alloc::Global;
 use std::collections::VecDeque;
 
@@ -125,6 +126,20 @@ impl Chunks {
         ensures room { room self.old ≤ room self.new + 1 }
     {
         let Ok(()) = encode_into(frame, epoch, &mut self.writing) else {
+            unreachable!();
+        };
+    }
+
+    /// Writes the text of a frame of one page, for which there is room, from where its bytes stand.
+    pub(crate) fn write_page(&mut self, epoch: u32, page: PageNo, bytes: &[u8; PAGE_BYTES])
+        requires chunks { AreChunks self.old }
+        requires well_formed { IsFrame (machine.Frame.Page page bytes.now) }
+        requires room { 0 < room self.old }
+        ensures chunks { AreChunks self.new }
+        ensures written { in_flight self.new ≡ in_flight self.old ++ record { epoch = epoch; frame = machine.Frame.Page page bytes.now } ∷ [] }
+        ensures room { room self.old ≤ room self.new + 1 }
+    {
+        let Ok(()) = encode_page_into(page, bytes, epoch, &mut self.writing) else {
             unreachable!();
         };
     }

@@ -11,7 +11,7 @@ ghost use Rattle.wires.specs.Lanes.{Arrives};
 use crate::chunks::Chunks;
 use crate::sent::Sent;
 use frame_decoder::{front_len, read_text};
-use mig_base::NoMemory;
+use mig_base::{NoMemory, PAGE_BYTES, PageNo};
 use page_stream::Frame;
 use std::alloc::Global;
 use std::marker::Model;
@@ -77,6 +77,16 @@ impl Wire {
         ensures room { self.old.room ≤ self.new.room + 1 }
     {
         self.chunks.write(epoch, &frame);
+    }
+
+    /// The same of a frame of one page, whose bytes are written from where they stand.
+    pub fn push_page(&mut self, epoch: u32, page: PageNo, bytes: &[u8; PAGE_BYTES])
+        requires well_formed { IsFrame (machine.Frame.Page page bytes.now) }
+        requires room { 0 < self.old.room }
+        ensures wire { self.new.wire ≡ machine.wire_with self.old.wire epoch (machine.Frame.Page page bytes.now ∷ []) }
+        ensures room { self.old.room ≤ self.new.room + 1 }
+    {
+        self.chunks.write_page(epoch, page, bytes);
     }
 
     /// `n` more bytes of the first frame come. Unless they complete it, the decoder has them, and the answer is `None`. Else it is the

@@ -1,5 +1,5 @@
 -- The count of urgent frames is never at its greatest value, so that no push on the urgent wire is refused for it.
-use Rattle.std.proofs.Common.{◌≡◌, ℕ, ◌+◌, ◌≤◌, ◌⊎◌, refl, true, false, IsOk, Err, sym, ◌∙◌, arith, ⊎_elim}
+use Rattle.std.proofs.Common.{◌≡◌, ℕ, ◌+◌, ◌≤◌, ◌⊎◌, refl, true, false, IsOk, Err, sym, ◌∙◌, arith, inl, ⊎_elim}
 use Rattle.std.proofs.lemmas.Bool.{false≢true}
 use Rattle.std.proofs.lemmas.Bool.Decides.{nat_tests}
 use Rattle.std.specs.FinSet.{len}
@@ -16,7 +16,7 @@ use Rattle.mig_model.proofs.UrgentFew.{few-reached}
 use Rattle.mig_model.proofs.WokenSteps.{stopped_switched}
 use Rattle.frame_texts.proofs.FrameBounds.{member_present, present_pages}
 use Rattle.frame_texts.proofs.FrameSteps.{stopped_unreleased}
-use Rattle.precopy.specs.Steps.{IsRefused, world_of}
+use Rattle.precopy.specs.Steps.{IsRefusedAs, world_of}
 use Rattle.world.specs.Worlds.{IsWorld}
 use Rattle.world.proofs.StepLemmas.{IsOfSource, source_refused}
 
@@ -37,9 +37,9 @@ unfolding unless outcome
 stopped_by node ticket ok = grind (arith, nat_tests)
 
 pub urgent_refused : (world : World) (ticket : Ticket) (refusal : Refusal) → IsWorld world → IsOfSource world (Step.PushUrgent ticket) → IsOk (outcome (world_of world.source) (Step.PushUrgent ticket)) →
-    IsRefused world.source (Step.PushUrgent ticket) refusal ⊎ ((refusal ≡ Refusal.CountUsed) × (is_used world.source.urgent_sent ≡ true)) → Happens world (Step.PushUrgent ticket) (Err refusal) world
+    IsRefusedAs world.source (Step.PushUrgent ticket) refusal ⊎ ((refusal ≡ Refusal.CountUsed) × (is_used world.source.urgent_sent ≡ true)) → Happens world (Step.PushUrgent ticket) (Err refusal) world
 urgent_refused world ticket refusal is of ok refused =
     ⊎_elim
-    (λ (h : IsRefused world.source (Step.PushUrgent ticket) refusal). source_refused world (Step.PushUrgent ticket) refusal of refl h)
+    (λ (h : IsRefusedAs world.source (Step.PushUrgent ticket) refusal). source_refused world (Step.PushUrgent ticket) refusal of refl (inl h))
     (λ (h : (refusal ≡ Refusal.CountUsed) × (is_used world.source.urgent_sent ≡ true)). absurd (false≢true (sym (urgent_unused world is (stopped_by world.source ticket ok)) ∙ h.1)))
     refused

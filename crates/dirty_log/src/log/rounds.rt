@@ -10,18 +10,17 @@ ghost use Rattle.mig_base.specs.declared.TheConstants.{HIGH_PAGE};
 ghost use Rattle.mig_model.specs.Ioctls.{protected_in};
 ghost use Rattle.mig_model.specs.Log as machine;
 ghost use Rattle.mig_model.specs.Source.{Source, all_registered, run_of, space_of};
-ghost use Rattle.mig_model.specs.Wire.{page_frame};
 ghost use Rattle.guest.specs.Lent.{IsLent};
 ghost use Rattle.dirty_log.specs.Answers.{IsRefusedFor, send_refusal};
-ghost use Rattle.dirty_log.specs.Sending.{frame_of, bytes_of};
+ghost use Rattle.dirty_log.specs.Sending.{sent_of};
 
 use super::DirtyLog;
-use crate::content::{blank_pages, bytes_at, read_pages};
+use crate::content::{blank_pages, read_pages};
 use crate::sent::Sent;
 use crate::sets::subtract;
 use crate::spaces::{are_sendable, protect, register_mapped};
 use mig_base::refusal::Refusal;
-use mig_base::{HIGH_PAGE, NoMemory, PageBytes, PageNo, PageRoom, PageSet};
+use mig_base::{HIGH_PAGE, NoMemory, PageBytes, PageNo, PageSet};
 use uffd_ioctl::Space;
 
 impl DirtyLog {
@@ -74,8 +73,9 @@ impl DirtyLog {
         (end - first).min(most)
     }
 
-    /// Write-protects a page, then reads what is to be sent of it. The page is clean from then on. Refused as `Changing` while an event is
-    /// unread, and as `PageNotSendable` where the page is missing or not registered for write-protect faults.
+    /// Write-protects a page, then reads what is to be sent of it; its bytes stay in the space, and are to be sent before it changes. The
+    /// page is clean from then on. Refused as `Changing` while an event is unread, and as `PageNotSendable` where the page is missing or
+    /// not registered for write-protect faults.
     pub fn send_page(&mut self, space: &mut Space, page: PageNo) -> Result<Sent, Refusal>
         requires lent { IsLent space.old }
         requires page { page < HIGH_PAGE }
@@ -83,22 +83,19 @@ impl DirtyLog {
         ensures refused { IfErr result (λ refusal. IsRefusedFor (send_refusal space.old page 1) refusal) }
         ensures log { OnOk result (self.new ≡ machine.log_sent self.old page) }
         ensures space { OnOk result (space.new ≡ protected_in space.old page 1 true) }
-        ensures frame { IfOk result (λ sent. frame_of page sent ≡ page_frame page (contents space.old.host.bytes page)) }
+        ensures sent { IfOk result (λ sent. sent ≡ sent_of (contents space.old.host.bytes page)) }
         ensures err { OnErr result ((self.new ≡ self.old) × (space.new ≡ space.old)) }
         ensures lent { IsLent space.new }
 
-        // The same in the words of a reader: what is sent is what the page has when it is protected.
-        ensures bytes { IfOk result (λ sent. get space.new.host.bytes page ≡ Some (bytes_of sent)) }
+        // The same in the words of a reader: the page is protected, has what it had, and is a page of zeros where it has nothing else.
         ensures protected { OnOk result (contains space.new.protected page ≡ true) }
+        ensures bytes { OnOk result (get space.new.host.bytes page ≡ Some (contents space.old.host.bytes page)) }
         ensures zero { IfOk result (λ sent. (sent ≡ Sent.Zero) ↔ (get space.new.host.bytes page ≡ Some zero_page)) }
     {
         space.is_in_order();
         ensure_sendable(space, page, 1)?;
-        let Ok(room) = PageRoom::new(self.alloc) else {
-            return Err(Refusal::NoMemory);
-        };
         self.mark_sent(space, page, 1)?;
-        Ok(Sent::of(room.fill(bytes_at(space, page))))
+        Ok(Sent::read(space, page))
     }
 
     /// Write-protects the `count` pages from `first` on, then reads their bytes, in order; those of a page of zeros are read as well. The

@@ -1,14 +1,15 @@
 //! Post-copy: the switch, and the owed pages that a stopped source sends.
 
 ghost use Rattle.std.specs.Prelude.{◌≡◌, ◌⊎◌, [], ◌∷◌, true, IfOk, IfErr, OnOk, OnErr};
-ghost use Rattle.dirty_log.specs.Sending as log;
-ghost use Rattle.mig_base.specs.Bytes.{contents};
+ghost use Rattle.dirty_log.specs.Sending.{sent_of};
 ghost use Rattle.mig_base.specs.declared.TheConstants.{HIGH_PAGE};
 ghost use Rattle.mig_base.specs.declared.schedule.Step.{Step};
 ghost use Rattle.mig_model.specs.Guest.{is_present};
 ghost use Rattle.mig_model.specs.Log.{least_of};
 ghost use Rattle.mig_base.specs.declared.refusal.Refusal.{Refusal};
 ghost use Rattle.mig_model.specs.Migration.{is_used};
+ghost use Rattle.mig_model.specs.Source.{bytes_of, page_pushed};
+ghost use Rattle.mig_model.specs.Wire.{page_frame};
 ghost use Rattle.page_stream.specs.Frames.{frame_of};
 ghost use Rattle.precopy.specs.Answers.{end_answer, push_answer, stop_answer};
 ghost use Rattle.precopy.specs.Handing.{IsHandedOver};
@@ -74,42 +75,48 @@ impl Source {
         })
     }
 
-    /// Sends an owed page, which does not remain then. Refused as `Phase` unless the source is stopped, as `StaleEpoch` where the ticket
-    /// is of another epoch, as `PageNotSendable` where the page is not present here, and as `NotRemaining` where it is not owed or was
-    /// sent in this epoch.
-    pub fn push(&mut self, ticket: Ticket) -> Result<(Effect, Frame), Refusal>
-        ensures made { IfOk result (λ told. IsMade self.old (Step.Push ticket) told.0 (frame_of told.1 ∷ []) self.new) }
-        ensures refused { IfErr result (λ refusal. IsRefused self.old (Step.Push ticket) refusal) }
+    /// Sends an owed page, which does not remain then. What goes on the wire are the bytes that the space has, before the call as after
+    /// it. Refused as `Phase` unless the source is stopped, as `StaleEpoch` where the ticket is of another epoch, as `PageNotSendable`
+    /// where the page is not present here, and as `NotRemaining` where it is not owed or was sent in this epoch. It takes no memory.
+    pub fn push(&mut self, ticket: Ticket) -> Result<(Effect, Sent), Refusal>
+        ensures made { IfOk result (λ told. IsMade self.old (Step.Push ticket) told.0 (page_frame ticket.page (bytes_of self.new ticket.page) ∷ []) self.new) }
+        ensures sent { IfOk result (λ told. told.1 ≡ sent_of (bytes_of self.new ticket.page)) }
+        ensures present { OnOk result (is_present self.new.guest.space ticket.page ≡ true) }
+        ensures refused { IfErr result (λ refusal. IsRefusedAs self.old (Step.Push ticket) refusal) }
         ensures err { OnErr result (self.new ≡ self.old) }
     {
         self.ensure_owed(ticket)?;
-        self.space.is_in_order();
-        let Ok(sent) = Sent::read(self.alloc, &self.space, ticket.page) else {
-            return Err(Refusal::NoMemory);
-        };
-        self.remaining.remove(ticket.page);
-        self.pages_sent = self.pages_sent.saturating_add(1);
-        Ok(told_page(ticket.page, sent))
+        let sent = self.send_owed(ticket.page);
+        Ok((told_page(ticket.page, sent), sent))
     }
 
-    /// The same as [`Source::push`], for the urgent wire: the frame goes there, and is counted. Refused as that call is, and before want
-    /// of memory as `CountUsed` where the count of the epoch is at its greatest value; no source in a world gets there, since it sends a
-    /// page once in an epoch.
-    pub fn push_urgent(&mut self, ticket: Ticket) -> Result<(Effect, Frame), Refusal>
-        ensures made { IfOk result (λ told. IsMadeUrgently self.old (Step.PushUrgent ticket) told.0 (frame_of told.1) self.new) }
-        ensures refused { IfErr result (λ refusal. IsRefused self.old (Step.PushUrgent ticket) refusal ⊎ ((refusal ≡ Refusal.CountUsed) × (is_used self.old.urgent_sent ≡ true))) }
+    /// The same as [`Source::push`], for the urgent wire: the page goes there, and is counted. Refused as that call is, and behind that as
+    /// `CountUsed` where the count of the epoch is at its greatest value; no source in a world gets there, since it sends a page once in an
+    /// epoch.
+    pub fn push_urgent(&mut self, ticket: Ticket) -> Result<(Effect, Sent), Refusal>
+        ensures made { IfOk result (λ told. IsMadeUrgently self.old (Step.PushUrgent ticket) told.0 (page_frame ticket.page (bytes_of self.new ticket.page)) self.new) }
+        ensures sent { IfOk result (λ told. told.1 ≡ sent_of (bytes_of self.new ticket.page)) }
+        ensures present { OnOk result (is_present self.new.guest.space ticket.page ≡ true) }
+        ensures refused { IfErr result (λ refusal. IsRefusedAs self.old (Step.PushUrgent ticket) refusal ⊎ ((refusal ≡ Refusal.CountUsed) × (is_used self.old.urgent_sent ≡ true))) }
         ensures err { OnErr result (self.new ≡ self.old) }
     {
         self.ensure_owed(ticket)?;
         let urgent = next_count(self.urgent_sent)?;
-        self.space.is_in_order();
-        let Ok(sent) = Sent::read(self.alloc, &self.space, ticket.page) else {
-            return Err(Refusal::NoMemory);
-        };
-        self.remaining.remove(ticket.page);
-        self.pages_sent = self.pages_sent.saturating_add(1);
+        let sent = self.send_owed(ticket.page);
         self.urgent_sent = urgent;
-        Ok(told_page(ticket.page, sent))
+        Ok((told_page(ticket.page, sent), sent))
+    }
+
+    /// What is sent of an owed page, which does not remain then.
+    fn send_owed(&mut self, page: PageNo) -> Sent
+        requires { is_present self.old.guest.space page ≡ true }
+        ensures node { self.new ≡ page_pushed self.old page }
+        ensures sent { result ≡ sent_of (bytes_of self.old page) }
+    {
+        self.space.is_in_order();
+        self.remaining.remove(page);
+        self.pages_sent = self.pages_sent.saturating_add(1);
+        Sent::read(&self.space, page)
     }
 
     /// Takes the first request of the destination: the address of the page that is asked for. Refused as `Phase` unless the source is

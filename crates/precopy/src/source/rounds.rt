@@ -4,13 +4,15 @@ ghost use Rattle.std.specs.Prelude.{◌≡◌, ◌↔◌, ◌<◌, [], ◌∷◌
 ghost use Rattle.std.specs.FinMap.{get};
 ghost use Rattle.std.specs.FinSet.{contains};
 ghost use Rattle.mig_base.specs.Bytes.{zero_page};
-ghost use Rattle.mig_model.specs.Wire as wire;
+ghost use Rattle.mig_model.specs.Source.{bytes_of};
+ghost use Rattle.mig_model.specs.Wire.{page_frame};
 ghost use Rattle.mig_base.specs.declared.schedule.Step.{Step};
-ghost use Rattle.dirty_log.specs.Sending as log;
+ghost use Rattle.dirty_log.specs.Sending.{sent_of};
+ghost use Rattle.dirty_log.specs.declared.sent.Sent.{Sent};
 ghost use Rattle.mig_base.specs.declared.TheConstants.{HIGH_PAGE};
 ghost use Rattle.page_stream.specs.Frames.{frame_of};
 ghost use Rattle.precopy.specs.Answers.{next_count as counted_on, round_answer, send_answer, start_answer, switch_answer};
-ghost use Rattle.precopy.specs.Sending.{SendsPage, sent_effect};
+ghost use Rattle.precopy.specs.Sending.{sent_effect};
 ghost use Rattle.precopy.specs.Steps.{IsMade, IsRefused};
 
 use super::Source;
@@ -62,23 +64,24 @@ impl Source {
     }
 
     /// Sends the least page of the round: it is write-protected, then read, and is clean from then on. A page whose bytes are all zero
-    /// is sent as a page of zeros. Refused as `Phase` outside pre-copy, as `NothingThere` where the round has sent all its pages, and as
-    /// `Changing` while an event is unread.
-    pub fn send_next(&mut self) -> Result<(Effect, Frame), Refusal>
-        ensures made { IfOk result (λ told. IsMade self.old Step.Send told.0 (frame_of told.1 ∷ []) self.new) }
+    /// is sent as a page of zeros. What goes on the wire are the bytes that the space has after the call. Refused as `Phase` outside
+    /// pre-copy, as `NothingThere` where the round has sent all its pages, and as `Changing` while an event is unread.
+    pub fn send_next(&mut self) -> Result<(Effect, PageNo, Sent), Refusal>
+        ensures made { IfOk result (λ told. IsMade self.old Step.Send told.0 (page_frame told.1 (bytes_of self.new told.1) ∷ []) self.new) }
+        ensures sent { IfOk result (λ told. told.2 ≡ sent_of (bytes_of self.new told.1)) }
         ensures refused { IfErr result (λ refusal. IsRefused self.old Step.Send refusal) }
         ensures err { OnErr result (self.new ≡ self.old) }
 
-        // The same in the words of a reader: what is sent is what the page has when it is protected.
-        ensures bytes { IfOk result (λ told. SendsPage (frame_of told.1) (λ page bytes. get self.new.guest.space.host.bytes page ≡ Some bytes)) }
-        ensures protected { IfOk result (λ told. SendsPage (frame_of told.1) (λ page bytes. contains self.new.guest.space.protected page ≡ true)) }
-        ensures zero { IfOk result (λ told. SendsPage (frame_of told.1) (λ page bytes. (frame_of told.1 ≡ wire.Frame.Zero page) ↔ (get self.new.guest.space.host.bytes page ≡ Some zero_page))) }
+        // The same in the words of a reader: the page is protected, has what it had, and is a page of zeros where it has nothing else.
+        ensures protected { IfOk result (λ told. contains self.new.guest.space.protected told.1 ≡ true) }
+        ensures bytes { IfOk result (λ told. get self.new.guest.space.host.bytes told.1 ≡ Some (bytes_of self.old told.1)) }
+        ensures zero { IfOk result (λ told. (told.2 ≡ Sent.Zero) ↔ (get self.new.guest.space.host.bytes told.1 ≡ Some zero_page)) }
     {
         let page = self.next_to_send()?;
         self.space.is_in_order();
         let sent = self.log.send_page(&mut self.space, page)?;
         self.pages_sent = self.pages_sent.saturating_add(1);
-        Ok(told_page(page, sent))
+        Ok((told_page(page, sent), page, sent))
     }
 
     /// The epoch that a migration would begin with.
@@ -132,15 +135,14 @@ impl Source {
     }
 }
 
-/// What is told of a page that was sent, and its frame.
-pub(super) fn told_page(page: PageNo, sent: Sent) -> (Effect, Frame)
-    ensures effect { result.0 ≡ sent_effect page sent }
-    ensures frame { frame_of result.1 ≡ log.frame_of page sent }
+/// What is told of a page that was sent.
+pub(super) fn told_page(page: PageNo, sent: Sent) -> Effect
+    ensures { result ≡ sent_effect page sent }
 {
     let addr = page_address(page);
     match sent {
-        Sent::Page(bytes) => (Effect::SentPage { addr }, Frame::Page { page, bytes }),
-        Sent::Zero => (Effect::SentZero { addr }, Frame::Zero { page }),
+        Sent::Page => Effect::SentPage { addr },
+        Sent::Zero => Effect::SentZero { addr },
     }
 }
 

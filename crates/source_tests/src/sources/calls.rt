@@ -4,6 +4,7 @@ ghost use Rattle.std.specs.Prelude.{◌≡◌, false};
 ghost use Rattle.mig_model.specs.Source.{is_released};
 
 use crate::ranges::inside;
+use dirty_log::Sent;
 use guest::Tried;
 use mig_base::cpu_state::CpuState;
 use mig_base::effect::Effect;
@@ -76,7 +77,7 @@ pub(super) enum Heard {
 /// A pair, and no array: tables are statics, which cannot be borrowed where they hold arrays of these.
 pub(super) type Two<T> = (T, T);
 
-/// A frame to the destination, as far as a table says it.
+/// A frame to the destination, or a page that is sent from the space, as far as a table says it.
 #[derive(Clone, Copy, Debug, PartialEq, Eq)]
 pub(super) enum Brief {
     Advise,
@@ -129,8 +130,6 @@ impl Brief {
     fn of(frame: &Frame) -> Self {
         match frame {
             Frame::Advise => Brief::Advise,
-            Frame::Page { page, bytes } => Brief::Page(*page, bytes.as_array()[0]),
-            Frame::Zero { page } => Brief::Zero(*page),
             Frame::Run { first, pages } => match pages.as_slice().last() {
                 Some(last) => Brief::Run(*first, pages.len(), last.as_array()[0]),
                 None => Brief::Unfit,
@@ -168,6 +167,30 @@ fn sent(answer: Result<(Effect, Frame), Refusal>) -> Result<Answer, Refusal> {
         Ok((effect, frame)) => Ok(Sends(effect, Brief::of(&frame))),
         Err(refusal) => Err(refusal),
     }
+}
+
+/// What goes on the wire of a page.
+fn page_sent(source: &Source, page: PageNo, sent: Sent) -> Brief {
+    match (sent, source.space().page(page)) {
+        (Sent::Page, Some(bytes)) => Brief::Page(page, bytes[0]),
+        (Sent::Zero, Some(_)) => Brief::Zero(page),
+        (_, None) => Brief::Unfit,
+    }
+}
+
+fn send(source: &mut Source) -> Result<Answer, Refusal> {
+    let (effect, page, sent) = source.send_next()?;
+    Ok(Sends(effect, page_sent(source, page, sent)))
+}
+
+fn push(source: &mut Source, ticket: Ticket) -> Result<Answer, Refusal> {
+    let (effect, sent) = source.push(ticket)?;
+    Ok(Sends(effect, page_sent(source, ticket.page, sent)))
+}
+
+fn push_urgent(source: &mut Source, ticket: Ticket) -> Result<Answer, Refusal> {
+    let (effect, sent) = source.push_urgent(ticket)?;
+    Ok(Sends(effect, page_sent(source, ticket.page, sent)))
 }
 
 fn handed(answer: Result<(Effect, Frame, Frame), Refusal>) -> Result<Answer, Refusal> {
@@ -333,13 +356,13 @@ pub(super) fn make(
         Retry(cpu) => tried(source.retry(cpu)),
         Start => sent(source.start()),
         Round => source.round().map(Told),
-        Send => sent(source.send_next()),
+        Send => send(source),
         SendRun(count) => sent(source.send_run(count)),
         Read => source.read().map(Told),
         Act => source.act().map(Told),
         Switch => handed(source.switch()),
-        Push(epoch, page) => sent(source.push(Ticket { epoch, page })),
-        PushUrgent(epoch, page) => sent(source.push_urgent(Ticket { epoch, page })),
+        Push(epoch, page) => push(source, Ticket { epoch, page }),
+        PushUrgent(epoch, page) => push_urgent(source, Ticket { epoch, page }),
         Serve => source.serve().map(Told),
         End => sent(source.end()),
         _ => recovered(rt, alloc, source, call),

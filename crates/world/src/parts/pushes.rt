@@ -1,16 +1,26 @@
 //! Post-copy at the source: what is owed is sent, in the background or because it was asked for.
 
-ghost use Rattle.std.specs.Prelude.{◌≡◌};
+ghost use Rattle.std.specs.Prelude.{◌≡◌, ◌<◌, ◌∷◌, [], true};
+ghost use Rattle.mig_base.specs.Bytes.{contents};
 ghost use Rattle.mig_base.specs.declared.schedule.Step.{Step};
+ghost use Rattle.mig_model.specs.Bounds.{IsFrame};
+ghost use Rattle.mig_model.specs.Guest.{is_present};
 ghost use Rattle.mig_model.specs.Runs.{Happens};
+ghost use Rattle.mig_model.specs.Wire.{page_frame, wire_with};
+ghost use Rattle.dirty_log.specs.Sending.{sent_of};
 ghost use Rattle.world.specs.Answers.{stopped_answer};
 ghost use Rattle.world.specs.Worlds.{IsWorld, world_of};
 
 use super::Parts;
+use dirty_log::Sent;
+use mig_base::PageNo;
 use mig_base::effect::Effect;
 use mig_base::phase::SourcePhase;
 use mig_base::refusal::Refusal;
 use mig_base::schedule::Ticket;
+use page_stream::Frame;
+use uffd_ioctl::Space;
+use wires::Wire;
 
 impl Parts {
     /// The source sends an owed page.
@@ -22,8 +32,9 @@ impl Parts {
         let Ok(()) = self.forward.reserve(1) else {
             return Err(Refusal::NoMemory);
         };
-        let (effect, frame) = self.source.push(ticket)?;
-        self.forward.push(self.source.epoch(), frame);
+        let (effect, sent) = self.source.push(ticket)?;
+        let (epoch, space) = (self.source.epoch(), self.source.space());
+        send_page(&mut self.forward, epoch, space, ticket.page, sent);
         Ok(effect)
     }
 
@@ -37,8 +48,9 @@ impl Parts {
             return Err(Refusal::NoMemory);
         };
         let epoch = self.source.epoch();
-        let (effect, frame) = self.source.push_urgent(ticket)?;
-        self.urgent.push(epoch, frame);
+        let (effect, sent) = self.source.push_urgent(ticket)?;
+        let space = self.source.space();
+        send_page(&mut self.urgent, epoch, space, ticket.page, sent);
         Ok(effect)
     }
 
@@ -76,5 +88,22 @@ impl Parts {
             return Err(Refusal::Broken);
         }
         Ok(())
+    }
+}
+
+/// Puts a page that the source sends on a wire that has room for it. Its bytes go there from where they stand.
+pub(super) fn send_page(wire: &mut Wire, epoch: u32, space: &Space, page: PageNo, sent: Sent)
+    requires present { is_present space.now page ≡ true }
+    requires sent { sent ≡ sent_of (contents space.now.host.bytes page) }
+    requires well_formed { IsFrame (page_frame page (contents space.now.host.bytes page)) }
+    requires room { 0 < wire.old.room }
+    ensures { wire.new.wire ≡ wire_with wire.old.wire epoch (page_frame page (contents space.now.host.bytes page) ∷ []) }
+{
+    match sent {
+        Sent::Zero => wire.push(epoch, Frame::Zero { page }),
+        Sent::Page => match space.page(page) {
+            Some(bytes) => wire.push_page(epoch, page, bytes),
+            None => unreachable!(),
+        },
     }
 }

@@ -7,6 +7,7 @@ ghost use Rattle.world.specs.Answers.{unless_down};
 ghost use Rattle.world.specs.Worlds.{IsWorld, world_of};
 
 use super::Parts;
+use super::pushes::send_page;
 use mig_base::effect::Effect;
 use mig_base::refusal::Refusal;
 
@@ -42,8 +43,9 @@ impl Parts {
         let Ok(()) = self.forward.reserve(1) else {
             return Err(Refusal::NoMemory);
         };
-        let (effect, frame) = self.source.send_next()?;
-        self.forward.push(self.source.epoch(), frame);
+        let (effect, page, sent) = self.source.send_next()?;
+        let (epoch, space) = (self.source.epoch(), self.source.space());
+        send_page(&mut self.forward, epoch, space, page, sent);
         Ok(effect)
     }
 

@@ -1,7 +1,6 @@
-use Rattle.std.proofs.Common.{ℕ, List, sym, ap, subst, ◌∙◌, length, arith}
+use Rattle.std.proofs.Common.{sym, ◌∙◌, arith}
 use Rattle.frame_texts.proofs.LengthBounds.{text_short}
 use Rattle.page_stream.specs.Frames.{frame_of}
-use Rattle.page_stream.specs.Writing.{Puts}
 use Rattle.page_stream.proofs.FrameTexts.{encoded, length-body_text}
 use Rattle.page_stream.proofs.writing.encode_into.Goals as goal
 
@@ -18,12 +17,9 @@ pub put_body-requires-clause-room : goal.put_body-requires-clause-room
 put_body-requires-clause-room c =
     let is = c.body_len-len.ensures in
     let body = length-body_text (frame_of c.args.frame.now) c.requires in
-    omega (arith, is, body, c.in_ok-try_reserve.ensures.ok, ap length c.to_be_bytes.ensures, ap length c.to_be_bytes-2.ensures)
+    omega (arith, is, body, c.in_ok-try_reserve.ensures.ok)
 
 pub returns-clause-ok : goal.returns-clause-ok
 returns-clause-ok c =
-    encoded c.args.into.now c.try_reserve.new.self c.put.new.into c.put-2.new.into c.put-3.new.into c.put_body.new.into c.tag.result c.args.epoch c.body_len-len.result (frame_of c.args.frame.now)
-    c.try_reserve.ensures.items c.tag.ensures (c.body_len-len.ensures ∙ sym (length-body_text (frame_of c.args.frame.now) c.requires)) c.put.ensures
-    (subst (λ (b : List ℕ). Puts c.put.new.into c.put-2.new.into b) c.to_be_bytes.ensures c.put-2.ensures)
-    (subst (λ (b : List ℕ). Puts c.put-2.new.into c.put-3.new.into b) c.to_be_bytes-2.ensures c.put-3.ensures)
-    c.put_body.ensures
+    encoded c.args.into.now c.try_reserve.new.self c.put_header.new.into c.put_body.new.into c.tag.result c.args.epoch c.body_len-len.result (frame_of c.args.frame.now)
+    c.try_reserve.ensures.items c.tag.ensures (c.body_len-len.ensures ∙ sym (length-body_text (frame_of c.args.frame.now) c.requires)) c.put_header.ensures c.put_body.ensures

@@ -4,7 +4,7 @@ use Rattle.mig_base.specs.declared.refusal.Refusal.{Refusal}
 use Rattle.dirty_log.specs.Answers.{IsRefusedFor, send_refusal}
 use Rattle.dirty_log.proofs.SendLemmas.{one_sent}
 use Rattle.precopy.proofs.OrderLemmas.{sent_order}
-use Rattle.precopy.proofs.SendLemmas.{send_stopped, sends, zero_told}
+use Rattle.precopy.proofs.SendLemmas.{send_stopped}
 use Rattle.mig_model.proofs.Facts.{counted_is}
 use Rattle.precopy.proofs.StepLemmas.{send_done, send_refused}
 use Rattle.precopy.proofs.source.Source.send_next.Goals as goal
@@ -26,16 +26,11 @@ invariant_of-self-2 c =
 
 pub returns-clause-made : goal.returns-clause-made
 returns-clause-made c =
-    send_done c.args.self.now _ c.in_ok-page.page c.in_ok-sent.sent _ _ (sym c.next_to_send.ensures.answer ∙ c.in_ok-page.was) (rw (← c.self.view_is) c.in_ok-sent.ensures.frame) c.told_page.ensures.effect c.told_page.ensures.frame
+    send_done c.args.self.now _ c.in_ok-page.page c.in_ok-sent.sent _ (sym c.next_to_send.ensures.answer ∙ c.in_ok-page.was) (rw (← c.self.view_is) c.in_ok-sent.ensures.sent) c.told_page.ensures
     (rw (c.in_ok-sent.ensures.log, c.in_ok-sent.ensures.space, c.saturating_add-self-inside.ensures, counted_is, ← c.self.view_is) refl)
 
--- the same of the page that the frame names
+pub returns-clause-sent : goal.returns-clause-sent
+returns-clause-sent c = rw c.in_ok-sent.ensures.space c.in_ok-sent.ensures.sent
 
 pub returns-clause-bytes : goal.returns-clause-bytes
-returns-clause-bytes c = sends c.in_ok-page.page c.in_ok-sent.sent _ _ c.told_page.ensures.frame c.in_ok-sent.ensures.bytes
-
-pub returns-clause-protected : goal.returns-clause-protected
-returns-clause-protected c = sends c.in_ok-page.page c.in_ok-sent.sent _ _ c.told_page.ensures.frame c.in_ok-sent.ensures.protected
-
-pub returns-clause-zero : goal.returns-clause-zero
-returns-clause-zero c = sends c.in_ok-page.page c.in_ok-sent.sent _ _ c.told_page.ensures.frame (zero_told c.in_ok-page.page c.in_ok-sent.sent _ c.told_page.ensures.frame c.in_ok-sent.ensures.zero)
+returns-clause-bytes c = rw (← c.self.view_is) c.in_ok-sent.ensures.bytes

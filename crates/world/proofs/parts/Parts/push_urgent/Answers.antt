@@ -1,8 +1,9 @@
 use Rattle.std.proofs.Common.{[], ◌∷◌, refl, ◌∙◌}
 use Rattle.std.proofs.lemmas.Result.{err_from_is_err_and}
 use Rattle.mig_base.specs.declared.schedule.Step.{Step}
-use Rattle.mig_model.specs.Wire.{wire_with}
-use Rattle.page_stream.specs.Frames.{frame_of}
+use Rattle.mig_base.specs.Bytes.{contents}
+use Rattle.mig_model.specs.Source.{bytes_of}
+use Rattle.mig_model.specs.Wire.{page_frame, wire_with}
 use Rattle.world.specs.Worlds.{world_of}
 use Rattle.world.proofs.FlightLemmas.{urgent_good}
 use Rattle.world.proofs.SendingLemmas.{sends_urgent, sends_answered, sends_asked, sends_up}
@@ -25,13 +26,14 @@ returns-in_err-effect c =
     let p = err_from_is_err_and c.from_residual-in_err-effect.result c.from_residual-in_err-effect.ensures.1 in
     rw (p.1, p.2, c.reserve.ensures.stays, c.in_err-effect.ensures.err) (urgent_refused (world_of c.args.self.now) c.args.ticket _ c.requires ((sends_urgent (world_of c.args.self.now) c.args.ticket).with_link up) (sends_asked (world_of c.args.self.now) (Step.PushUrgent c.args.ticket) c.check_push.result _ c.check_push.ensures.urgent c.in_ok-unless_down.ensures) c.in_err-effect.ensures.refused)
 
-pub push-requires-clause-well_formed : goal.push-requires-clause-well_formed
-push-requires-clause-well_formed c =
+pub send_page-requires-clause-well_formed : goal.send_page-requires-clause-well_formed
+send_page-requires-clause-well_formed c =
     let up = sends_up (world_of c.args.self.now) c.check_push.result _ c.in_ok-unless_down.ensures in
-    (urgent_good (world_of c.args.self.now) (Step.PushUrgent c.args.ticket) _ (frame_of c.in_ok-effect.frame) _ c.requires ((sends_urgent (world_of c.args.self.now) c.args.ticket).with_link up) c.in_ok-effect.ensures.made).0
+    rw c.space-space.ensures (urgent_good (world_of c.args.self.now) (Step.PushUrgent c.args.ticket) _ (page_frame c.args.ticket.page (bytes_of c.push_urgent.new.self c.args.ticket.page)) _ c.requires ((sends_urgent (world_of c.args.self.now) c.args.ticket).with_link up) c.in_ok-effect.ensures.made).0
 
 pub returns : goal.returns
 returns c =
     let up = sends_up (world_of c.args.self.now) c.check_push.result _ c.in_ok-unless_down.ensures in
-    source_urgent (world_of c.args.self.now) (Step.PushUrgent c.args.ticket) _ (frame_of c.in_ok-effect.frame) _ _ ((sends_urgent (world_of c.args.self.now) c.args.ticket).with_link up) c.in_ok-effect.ensures.made
-    (c.push.ensures.wire ∙ (λ i. wire_with (c.reserve.ensures.stays i) (c.epoch-epoch.ensures i) (frame_of c.in_ok-effect.frame ∷ [])))
+    let page = c.args.ticket.page in
+    source_urgent (world_of c.args.self.now) (Step.PushUrgent c.args.ticket) _ (page_frame page (bytes_of c.push_urgent.new.self page)) _ _ ((sends_urgent (world_of c.args.self.now) c.args.ticket).with_link up) c.in_ok-effect.ensures.made
+    (c.send_page.ensures ∙ (λ i. wire_with (c.reserve.ensures.stays i) (c.epoch-epoch.ensures i) (page_frame page (contents (c.space-space.ensures i).host.bytes page) ∷ [])))

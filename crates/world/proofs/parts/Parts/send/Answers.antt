@@ -1,8 +1,9 @@
-use Rattle.std.proofs.Common.{[], ◌∷◌, refl, ◌∙◌}
+use Rattle.std.proofs.Common.{[], ◌∷◌, ap, is_some, refl, ◌∙◌}
 use Rattle.std.proofs.lemmas.Result.{err_from_is_err_and}
 use Rattle.mig_base.specs.declared.schedule.Step.{Step}
-use Rattle.mig_model.specs.Wire.{wire_with}
-use Rattle.page_stream.specs.Frames.{frame_of}
+use Rattle.mig_base.specs.Bytes.{contents}
+use Rattle.mig_model.specs.Source.{bytes_of}
+use Rattle.mig_model.specs.Wire.{page_frame, wire_with}
 use Rattle.world.specs.Worlds.{world_of}
 use Rattle.world.proofs.FlightLemmas.{source_good}
 use Rattle.world.proofs.SendingLemmas.{sends_send, sends_answered, sends_up}
@@ -24,13 +25,17 @@ returns-in_err-effect c =
     let p = err_from_is_err_and c.from_residual-in_err-effect.result c.from_residual-in_err-effect.ensures.1 in
     rw (p.1, p.2, c.reserve.ensures.stays, c.in_err-effect.ensures.err) (source_refused (world_of c.args.self.now) Step.Send _ ((sends_send (world_of c.args.self.now)).with_link up) refl c.in_err-effect.ensures.refused)
 
-pub push-requires-clause-well_formed : goal.push-requires-clause-well_formed
-push-requires-clause-well_formed c =
+pub send_page-requires-clause-present : goal.send_page-requires-clause-present
+send_page-requires-clause-present c = rw c.space-space.ensures (ap is_some c.in_ok-effect.ensures.bytes)
+
+pub send_page-requires-clause-well_formed : goal.send_page-requires-clause-well_formed
+send_page-requires-clause-well_formed c =
     let up = sends_up (world_of c.args.self.now) c.check_send.result _ c.in_ok-unless_down.ensures in
-    (source_good (world_of c.args.self.now) Step.Send _ (frame_of c.in_ok-effect.frame ∷ []) _ c.requires ((sends_send (world_of c.args.self.now)).with_link up) c.in_ok-effect.ensures.made).0
+    rw c.space-space.ensures (source_good (world_of c.args.self.now) Step.Send _ (page_frame c.in_ok-effect.page (bytes_of c.send_next.new.self c.in_ok-effect.page) ∷ []) _ c.requires ((sends_send (world_of c.args.self.now)).with_link up) c.in_ok-effect.ensures.made).0
 
 pub returns : goal.returns
 returns c =
     let up = sends_up (world_of c.args.self.now) c.check_send.result _ c.in_ok-unless_down.ensures in
-    source_made (world_of c.args.self.now) Step.Send _ (frame_of c.in_ok-effect.frame ∷ []) _ _ ((sends_send (world_of c.args.self.now)).with_link up) c.in_ok-effect.ensures.made
-    (c.push.ensures.wire ∙ (λ i. wire_with (c.reserve.ensures.stays i) (c.epoch.ensures i) (frame_of c.in_ok-effect.frame ∷ [])))
+    let page = c.in_ok-effect.page in
+    source_made (world_of c.args.self.now) Step.Send _ (page_frame page (bytes_of c.send_next.new.self page) ∷ []) _ _ ((sends_send (world_of c.args.self.now)).with_link up) c.in_ok-effect.ensures.made
+    (c.send_page.ensures ∙ (λ i. wire_with (c.reserve.ensures.stays i) (c.epoch-epoch.ensures i) (page_frame page (contents (c.space-space.ensures i).host.bytes page) ∷ [])))
