@@ -33,7 +33,7 @@ mod words;
 
 pub use crate::command::{Access, Command, Entry, Errno, Place, Reply};
 pub use crate::message::Message;
-pub use crate::page_bytes::{PageBytes, PageRoom};
+pub use crate::page_bytes::PageBytes;
 pub use crate::page_set::PageSet;
 pub use crate::phase::WorldPhase;
 pub use crate::wake::Wake;

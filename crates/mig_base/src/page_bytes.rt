@@ -1,6 +1,6 @@
 //! The bytes of one page, in memory of their own.
 
-ghost use Rattle.std.specs.Prelude.{◌≡◌, ◌+◌, ◌<◌, ◌≤◌, [], length, IfOk, vec_capacity};
+ghost use Rattle.std.specs.Prelude.{◌≡◌, ◌+◌, ◌<◌, ◌≤◌, length, IfOk};
 ghost use Rattle.std.specs.List.{All};
 ghost use Rattle.mig_base.specs.Bytes.{overwrite, zero_page};
 ghost use Rattle.mig_base.specs.declared.TheConstants.{PAGE_SIZE};
@@ -94,31 +94,3 @@ fn write_over(held: &mut [u8], offset: usize, bytes: &[u8])
 fn are_bytes(bytes: &[u8])
     ensures { All (λ byte. byte < 256) bytes.now }
 {}
-
-/// Room for the bytes of a page, for one who has to know that there is memory before the bytes may be read.
-#[derive(Drop)]
-pub struct PageRoom {
-    bytes: Vec<u8>,
-    ghost empty: { bytes.items ≡ [] },
-    ghost wide: { PAGE_SIZE ≤ vec_capacity bytes },
-}
-
-impl PageRoom {
-    /// Room that has no bytes yet. `NoMemory` comes where it is refused.
-    pub fn new(alloc: Global) -> Result<Self, NoMemory> {
-        Ok(PageRoom {
-            bytes: Vec::with_capacity(alloc, PAGE_BYTES)?,
-        })
-    }
-
-    /// A copy of the bytes of a page, in this room. It takes no memory.
-    pub fn fill(self, bytes: &[u8; PAGE_BYTES]) -> PageBytes
-        ensures { result ≡ bytes.now }
-    {
-        let PageRoom { bytes: mut room } = self;
-        match room.extend_from_slice(bytes) {
-            Ok(()) => PageBytes { bytes: room },
-            Err(_) => unreachable!(),
-        }
-    }
-}

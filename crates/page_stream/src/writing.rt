@@ -17,9 +17,7 @@ use crate::lengths::{HEADER_LEN, run_count};
 use crate::lists::Pages;
 use area_map::AreaMap;
 use mig_base::phase::Received;
-use mig_base::{
-    Addr, Area, Command, HIGH_PAGE, NoMemory, PAGE_BYTES, PageNo, PageSet, Prot, Run,
-};
+use mig_base::{Addr, Area, Command, HIGH_PAGE, NoMemory, PAGE_BYTES, PageNo, PageSet, Prot, Run};
 use std::alloc::Global;
 
 /// The version that is written.
