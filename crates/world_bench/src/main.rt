@@ -2,7 +2,8 @@
 //! sent, what post-copy does for it, and a fault at the destination.
 //!
 //! With no argument it does so for a few pages, and says so. Each argument is a number of pages, for which it prints how many
-//! nanoseconds a page took, and beside them those of two loops that copy as many pages, to others that are there and to new ones.
+//! nanoseconds a page took, and beside them those of two loops that copy as many pages, to others that are there and to new ones. Behind
+//! the word `new-copies` it does nothing but the loop over new ones, which has no memory from the work before then.
 #![tactic(auto)]
 
 mod copies;
@@ -17,6 +18,9 @@ use world::World;
 
 /// The pages of a run without an argument.
 const FEW: u32 = 16;
+
+/// The word before numbers of pages for which only new copies are timed.
+const NEW_COPIES: &str = "new-copies";
 
 /// What is told of a refusal: no other is to be expected than want of memory.
 fn refused(_: Refusal) -> io::Error {
@@ -78,12 +82,16 @@ fn measure(rt: &HostRuntime, pages: u32) -> io::Result<()> {
     )
 }
 
-/// Prints what the number of pages takes that a word says.
-fn measure_word(rt: &HostRuntime, word: &str) -> io::Result<()> {
-    match word.parse::<u32>() {
-        Ok(pages) => measure(rt, pages),
-        Err(_) => Err(io::Error::from(io::ErrorKind::InvalidInput)),
-    }
+/// Prints what so many new copies take.
+fn measure_new_copies(rt: &HostRuntime, pages: u32) -> io::Result<()> {
+    let new_copy = nanoseconds(time_new_copies(rt, pages)?, pages);
+    println!(rt; "{pages} pages: new-copy {new_copy} ns a page")
+}
+
+/// The number of pages that a word says.
+fn pages_of(word: &str) -> io::Result<u32> {
+    word.parse::<u32>()
+        .map_err(|_| io::Error::from(io::ErrorKind::InvalidInput))
 }
 
 /// Does the work for a few pages, and says so.
@@ -98,8 +106,14 @@ fn main(rt: HostRuntime) -> io::Result<()> {
     if words.is_empty() {
         return try_few(&rt);
     }
+    if words[0].as_str() == NEW_COPIES {
+        for word in &words[1..] {
+            measure_new_copies(&rt, pages_of(word)?)?;
+        }
+        return Ok(());
+    }
     for word in &words {
-        measure_word(&rt, word)?;
+        measure(&rt, pages_of(word)?)?;
     }
     Ok(())
 }
