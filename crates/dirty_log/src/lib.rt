@@ -5,8 +5,8 @@
 //! event of the address space is read that changed it: the next round of pre-copy skips it. The address space and the processors are lent
 //! to its calls, and belong to the source.
 //!
-//! The crate deliberately knows no frames, no wire and no epoch: a call answers the bytes that are to be sent, and the source puts
-//! them into a frame. It decides no order among its own calls.
+//! The crate deliberately knows no frames, no wire and no epoch: a call answers whether a page is to be sent as its bytes, which stay in
+//! the space, or as zeros, or the bytes of a run. It decides no order among its own calls.
 //!
 //! Contracts see a log as the machine's (`mig_model`, `specs/Log.antt`), and each call as what the machine does with log, space and
 //! processors, or as a refusal that changes nothing; `specs/Answers.antt` says when each is refused. The modules follow: `log` (the

@@ -1,5 +1,5 @@
 -- What stands of a frame's text once its parts are written.
-use Rattle.std.proofs.Common.{◌≡◌, ℕ, ◌+◌, ◌≤◌, List, [], ◌∷◌, ◌++◌, length, refl, ap, ◌∙◌, arith, vec_len, vec_capacity}
+use Rattle.std.proofs.Common.{◌≡◌, ℕ, ◌+◌, ◌≤◌, List, ◌++◌, length, refl, ap, ◌∙◌, arith, vec_len, vec_capacity}
 use Rattle.std.specs.Global.{Vec}
 use Rattle.std.specs.Int.{w32, to_be_bytes}
 use Rattle.std.proofs.lemmas.List.{length-append}
@@ -32,11 +32,6 @@ length-body_text frame is =
     let whole = (encodable 0 frame (omega arith) is).whole in
     let all = length-text Two 0 frame refl whole in
     omega (arith, all, length-append (header_text Two (tag_code frame) 0 (length (body_text frame))) (body_text frame))
-
--- the three parts of a header
-pub header_put : (old a b new : Vec ℕ) (tag epoch len : ℕ) → Puts old a (2 ∷ tag ∷ 0 ∷ 0 ∷ []) → Puts a b (to_be_bytes w32 epoch) → Puts b new (to_be_bytes w32 len) → Puts old new (header_text Two tag epoch len)
-header_put old a b new tag epoch len p q r =
-    puts_then old b new ((2 ∷ tag ∷ 0 ∷ 0 ∷ []) ++ to_be_bytes w32 epoch) (to_be_bytes w32 len) (puts_then old a b (2 ∷ tag ∷ 0 ∷ 0 ∷ []) (to_be_bytes w32 epoch) p q) r
 
 pub encoded : (old room a new : Vec ℕ) (tag epoch len : ℕ) (frame : Frame) → room.items ≡ old.items → tag ≡ tag_code frame → len ≡ length (body_text frame) → Puts room a (header_text Two tag epoch len) → Puts a new (body_text frame)
     → new.items ≡ old.items ++ text Two epoch frame
