@@ -16,7 +16,7 @@ use Rattle.mig_model.specs.Userfault.{Noted, Object, first_noted, next_of, next_
 use Rattle.mig_model.specs.Space.{Space, IsSoundSpace, accessed_by, all_queued, call_messages, called, modes_after}
 use Rattle.mig_model.specs.Guest as machine
 use Rattle.mig_model.specs.Guest.{Fault, Guest, is_changed_by, is_present, read_guest}
-use Rattle.mig_model.specs.Invariant.{is_unread}
+use Rattle.mig_model.specs.Whereabouts.{is_unread}
 use Rattle.mig_model.specs.Ioctls.{protected_in}
 use Rattle.mig_model.specs.Log.{Log, log_read, log_run_sent, no_pages}
 use Rattle.mig_model.specs.Source.{Source, all_registered, source_acted_by, space_of}

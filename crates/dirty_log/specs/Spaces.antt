@@ -4,7 +4,7 @@ use Rattle.std.specs.FinSet.{contains}
 use Rattle.mig_model.specs.Space.{Space}
 use Rattle.mig_model.specs.Cpus.{Cpus}
 use Rattle.mig_model.specs.Guest.{is_present}
-use Rattle.mig_model.specs.Invariant.{is_unread}
+use Rattle.mig_model.specs.Whereabouts.{is_unread}
 use Rattle.mig_model.specs.Log.{Log}
 use Rattle.mig_model.specs.Source.{Source, first_source}
 

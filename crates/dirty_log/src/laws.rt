@@ -8,7 +8,7 @@ ghost use Rattle.mig_base.specs.declared.command.Command.{Command};
 ghost use Rattle.mig_model.specs.Userfault.{Noted, next_message};
 ghost use Rattle.mig_model.specs.Space.{Space, IsSoundSpace, accessed, called};
 ghost use Rattle.mig_model.specs.Guest.{Fault, Guest, is_present, read_guest};
-ghost use Rattle.mig_model.specs.Invariant.{is_unread};
+ghost use Rattle.mig_model.specs.Whereabouts.{is_unread};
 ghost use Rattle.mig_model.specs.Ioctls.{protected_in};
 ghost use Rattle.mig_model.specs.Log.{Log, empty_log, forgotten, log_read, log_run_sent};
 ghost use Rattle.mig_model.specs.Source.{Source, all_registered, source_acted, space_of};

@@ -16,7 +16,7 @@ use Rattle.mig_base.specs.declared.message.Message.{Message}
 use Rattle.mig_base.specs.declared.message.Message.TheVariants.{PageFault, Remap, Remove, Unmap}
 use Rattle.mig_model.specs.Guest.{Guest, is_present, read_guest, space_by, zero_installed}
 use Rattle.mig_model.specs.Host.{memory}
-use Rattle.mig_model.specs.Invariant.{AreFaults, IsFault}
+use Rattle.mig_model.specs.Promises.{AreFaults, IsFault}
 use Rattle.mig_model.specs.Ioctls.{installed}
 use Rattle.mig_model.specs.Owed.{Owed, owed_table_after, settled_by}
 use Rattle.mig_model.specs.Space.{IsSoundSpace, Space, access_of, accessed_by, call_messages, modes_after}

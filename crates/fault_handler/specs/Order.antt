@@ -6,7 +6,8 @@ use Rattle.mig_base.specs.declared.TheConstants.{PAGE_SIZE, HIGH_PAGE}
 use Rattle.mig_base.specs.declared.message.Message.{Message}
 use Rattle.mig_base.specs.declared.message.Message.TheVariants.{PageFault, Remap, Remove, Unmap}
 use Rattle.mig_model.specs.Guest.{is_present}
-use Rattle.mig_model.specs.Invariant.{AreFaults, AreRight}
+use Rattle.mig_model.specs.Promises.{AreFaults}
+use Rattle.mig_model.specs.Invariant.{AreRight}
 use Rattle.mig_model.specs.Owed.{Owed, settled_by}
 use Rattle.mig_model.specs.Space.{Space}
 use Rattle.mig_model.specs.Userfault.{Noted}

@@ -12,7 +12,8 @@ use Rattle.frame_texts.specs.Flight.{AreCounted}
 use Rattle.frame_texts.specs.Texts.Version.{Two}
 use Rattle.mig_model.specs.Wire.{Frame, Sent, Copy, copies_in, run_copies}
 use Rattle.mig_model.specs.Migration.{World}
-use Rattle.mig_model.specs.Invariant.{AreWhole, AreFaithful, IsSoundWorld, copies_of, is_request, is_done, are_requests, are_requests_and_done}
+use Rattle.mig_model.specs.Whereabouts.{AreFaithful, copies_of, is_request, are_requests}
+use Rattle.mig_model.specs.Invariant.{AreWhole, IsSoundWorld, is_done, are_requests_and_done}
 use Rattle.mig_model.specs.Promises.{IsReached}
 use Rattle.mig_model.proofs.Delivery.{whole_parts}
 use Rattle.mig_model.proofs.EveryStep.{kept-reached, urgent-reached}

@@ -23,7 +23,8 @@ use Rattle.mig_model.specs.Guest.{Guest, is_left_by, read_guest, took_by}
 use Rattle.mig_model.specs.Wire.{Frame, Sent}
 use Rattle.mig_model.specs.Wire.Frame.{Package}
 use Rattle.mig_model.specs.Migration.{Made, World, after_command, after_deliver, answer, event_effect, guest_by, guest_of, next, outcome, read_effect, try_effect}
-use Rattle.mig_model.specs.Invariant.{AreSoundCalls, IsSoundWorld}
+use Rattle.mig_model.specs.Promises.{AreSoundCalls}
+use Rattle.mig_model.specs.Invariant.{IsSoundWorld}
 use Rattle.mig_model.specs.Promises.{IsReached}
 use Rattle.mig_model.specs.Replies.{HandsOver, call_reply, last_reply}
 use Rattle.mig_model.proofs.Calls.{are_sound_calls, calls-first, calls_next}

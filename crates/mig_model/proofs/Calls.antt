@@ -17,7 +17,8 @@ use Rattle.mig_model.specs.Userfault.{Noted, next_message}
 use Rattle.mig_model.specs.Space.{access_of, call_messages, modes_after}
 use Rattle.mig_model.specs.Wire.{Frame}
 use Rattle.mig_model.specs.Wire.Frame.{Package}
-use Rattle.mig_model.specs.Invariant.{IsSoundWorld, AreRight, unread_of, CallFits, HasSoundCalls, AreSoundCalls}
+use Rattle.mig_model.specs.Promises.{unread_of, CallFits, HasSoundCalls, AreSoundCalls}
+use Rattle.mig_model.specs.Invariant.{IsSoundWorld, AreRight}
 use Rattle.mig_model.proofs.SourceMessages.{noted_all, events_queued}
 use Rattle.mig_model.proofs.SettledPromises.{accessed_events}
 use Rattle.mig_model.proofs.FaultLemmas.{AreFaults-tried}

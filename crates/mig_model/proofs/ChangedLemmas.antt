@@ -14,7 +14,7 @@ use Rattle.mig_base.proofs.PageLemmas.{same_pages, get-remove_range, get-moved_r
 use Rattle.mig_model.specs.Host.{Host, host_changed, IsSound}
 use Rattle.mig_base.specs.Commands.{is_access, page_of}
 use Rattle.mig_model.specs.Space.{is_made}
-use Rattle.mig_model.specs.Invariant.{seen_host}
+use Rattle.mig_model.specs.Whereabouts.{seen_host}
 use Rattle.mig_model.proofs.HostLemmas.{get-put}
 use Rattle.mig_model.proofs.SeenLemmas.{PageMap, AreMapped, overlay, get-seen}
 use Rattle.mig_model.specs.Promises.{gone, moved_owed, owed_changed}

@@ -20,7 +20,8 @@ use Rattle.mig_model.specs.Ioctls.{put_pages, installed as pages_installed}
 use Rattle.mig_model.specs.Guest.{Guest, counted, is_present, Fault, is_forgotten, zero_installed, resolved}
 use Rattle.mig_model.specs.Wire.{Copy, Sent, wire_if}
 use Rattle.mig_model.specs.Migration.{World, outcome, next, after_install, install_effect, is_changing, runs, destination_sends, after_dest_act}
-use Rattle.mig_model.specs.Invariant.{IsSoundWorld, AreFaithful, has_copy, seen_host, seen_bytes, Wires, are_requests, is_request}
+use Rattle.mig_model.specs.Whereabouts.{AreFaithful, has_copy, seen_host, seen_bytes, are_requests, is_request}
+use Rattle.mig_model.specs.Invariant.{IsSoundWorld, Wires}
 use Rattle.mig_model.specs.Promises.{IsPut}
 use Rattle.mig_model.proofs.IoctlLemmas.{IsSoundSpace-installed, get-put_pages}
 use Rattle.mig_model.proofs.SettledLemmas.{home_tells, home-none}

@@ -22,7 +22,9 @@ use Rattle.mig_model.specs.Space.{IsSoundSpace, fresh_space}
 use Rattle.mig_model.specs.Guest.{Guest, Fault, is_present, took_by, tried}
 use Rattle.mig_model.specs.Wire.{Sent, Copy}
 use Rattle.mig_model.specs.Migration.{World, after_dest_read, runs, guest_by, with_guest_by, after_command}
-use Rattle.mig_model.specs.Invariant.{IsSoundWorld, Wires, IsReceiving, IsFlowing, AreRight, AreFaults, AreFaithful, has_copy, seen_host, current_host, current_by}
+use Rattle.mig_model.specs.Whereabouts.{IsReceiving, AreFaithful, has_copy, seen_host, current_host, current_by}
+use Rattle.mig_model.specs.Promises.{AreFaults}
+use Rattle.mig_model.specs.Invariant.{IsSoundWorld, Wires, IsFlowing, AreRight}
 use Rattle.mig_model.proofs.IoctlLemmas.{IsSoundSpace-read}
 use Rattle.mig_model.proofs.SettledLemmas.{get-owed_table_after, settled_by-applied, values-after, IsOneToOne-after, owed_below-after}
 use Rattle.mig_model.specs.Cpus.{Took, entries_of}

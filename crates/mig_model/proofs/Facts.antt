@@ -30,7 +30,8 @@ use Rattle.mig_model.specs.Wire.{Copy, Frame, Sent, Wire, copies_in, kept_after}
 use Rattle.mig_model.specs.Log.{no_pages, present}
 use Rattle.mig_model.specs.Owed.{owed_after, settled_by}
 use Rattle.mig_model.specs.Source.{Source, not_clean, space_of}
-use Rattle.mig_model.specs.Invariant.{AreFaithful, AreOf, AreWhole, copies_of}
+use Rattle.mig_model.specs.Whereabouts.{AreFaithful, copies_of}
+use Rattle.mig_model.specs.Invariant.{AreOf, AreWhole}
 use Rattle.mig_model.specs.Parts.{Grows}
 
 pub none_absurd : {A : Type 0} → false ≡ true → A

@@ -6,7 +6,7 @@ use Rattle.mig_base.specs.declared.command.Command.{Command}
 use Rattle.mig_model.specs.Userfault.{Noted}
 use Rattle.mig_model.specs.Space.{Space, accessed_by}
 use Rattle.mig_model.specs.Guest.{space_by}
-use Rattle.mig_model.specs.Invariant.{IsFault, AreFaults}
+use Rattle.mig_model.specs.Promises.{IsFault, AreFaults}
 
 pub AreFaults-push : (faults : List Noted) (noted : Noted) → IsFault noted.message → AreFaults faults → AreFaults (faults ++ noted ∷ [])
 AreFaults-push [] noted is are = (is, tt)

@@ -14,7 +14,8 @@ use Rattle.mig_model.specs.Wire.{Frame, Sent, wire_with}
 use Rattle.mig_model.specs.Guest.{is_present}
 use Rattle.mig_model.specs.Source.{not_clean, space_of, switch_frames}
 use Rattle.mig_model.specs.Migration.{World, outcome, next}
-use Rattle.mig_model.specs.Invariant.{IsSoundWorld, IsSwitching, IsReceiving, Flow, flow_next, flow_after, package_in, is_package, is_request, is_done, are_requests, are_requests_and_done}
+use Rattle.mig_model.specs.Whereabouts.{IsSwitching, IsReceiving, package_in, is_package, is_request, are_requests}
+use Rattle.mig_model.specs.Invariant.{IsSoundWorld, Flow, flow_next, flow_after, is_done, are_requests_and_done}
 use Rattle.mig_model.specs.Invariant.Flow.{BeforeAdvise, Copies, Pushed, AfterEnd}
 use Rattle.mig_model.specs.Promises.{has_recv, is_running_recv}
 use Rattle.mig_model.proofs.FirstFrame.{stays_late}

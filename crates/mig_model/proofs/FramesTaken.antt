@@ -20,7 +20,8 @@ use Rattle.mig_model.specs.Space.{Space}
 use Rattle.mig_model.specs.Wire.{Frame, Sent}
 use Rattle.mig_model.specs.Wire.Frame.{Advise, Page, Zero, Run, Discard, Package, End, Resume, Request, Recv, Done}
 use Rattle.mig_model.specs.Migration.{World}
-use Rattle.mig_model.specs.Invariant.{IsSoundWorld, IsSwitching, IsFlowing, AreOf, flow_of, AreSoundUrgent}
+use Rattle.mig_model.specs.Whereabouts.{IsSwitching}
+use Rattle.mig_model.specs.Invariant.{IsSoundWorld, IsFlowing, AreOf, flow_of, AreSoundUrgent}
 use Rattle.mig_model.proofs.Taken.{IsGood, IsTaken, IsInPlaceBack}
 use Rattle.mig_model.proofs.FirstFrame.{comes, nothing_behind}
 use Rattle.mig_model.specs.Cpus.{outstanding}

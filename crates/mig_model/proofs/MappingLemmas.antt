@@ -16,7 +16,8 @@ use Rattle.mig_model.specs.Host.{Host, IsSound, host_after, memory}
 use Rattle.mig_model.specs.Space.{Space, access_of, accessed_by}
 use Rattle.mig_model.specs.Guest.{Guest, space_by}
 use Rattle.mig_model.specs.Migration.{World, guest_by, guest_of}
-use Rattle.mig_model.specs.Invariant.{IsSoundWorld, current_by, seen_host}
+use Rattle.mig_model.specs.Whereabouts.{current_by, seen_host}
+use Rattle.mig_model.specs.Invariant.{IsSoundWorld}
 use Rattle.mig_model.specs.Destination.{settled}
 use Rattle.mig_model.specs.Bounds.{IsMapping, IsPage, IsWithinBounds}
 use Rattle.mig_model.proofs.FlatLimits.{memory_of_few}

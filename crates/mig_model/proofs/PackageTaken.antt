@@ -23,7 +23,8 @@ use Rattle.mig_model.specs.Guest.{is_present}
 use Rattle.mig_model.specs.Wire.{Sent}
 use Rattle.mig_model.specs.Wire.Frame.{Package}
 use Rattle.mig_model.specs.Migration.{World}
-use Rattle.mig_model.specs.Invariant.{IsSoundWorld, IsFlowing, IsSwitching, AreOf, AreFaithful, copies_of, has_copy, are_requests, seen_host, seen_bytes, current_host, is_urgent_or_left}
+use Rattle.mig_model.specs.Whereabouts.{IsSwitching, AreFaithful, copies_of, has_copy, are_requests, seen_host, seen_bytes, current_host, is_urgent_or_left}
+use Rattle.mig_model.specs.Invariant.{IsSoundWorld, IsFlowing, AreOf}
 use Rattle.mig_model.proofs.FirstFrame.{at_state, delivered}
 use Rattle.mig_model.specs.Log.{no_pages}
 use Rattle.mig_model.specs.Owed.{own_places}

@@ -16,7 +16,8 @@ use Rattle.mig_model.specs.Host.{Host, memory, IsSound}
 use Rattle.mig_model.specs.Guest.{Fault, is_present}
 use Rattle.mig_model.specs.Guest.Act.{Zeroed}
 use Rattle.mig_model.specs.Migration.{World, runs}
-use Rattle.mig_model.specs.Invariant.{IsSoundWorld, IsPrecopying, IsSwitching, IsReceiving, seen_bytes, seen_host, current_by, copies_of, has_copy, is_urgent_or_left, AreSoundUrgent}
+use Rattle.mig_model.specs.Whereabouts.{IsPrecopying, IsSwitching, IsReceiving, seen_bytes, seen_host, current_by, copies_of, has_copy, is_urgent_or_left}
+use Rattle.mig_model.specs.Invariant.{IsSoundWorld, AreSoundUrgent}
 use Rattle.mig_model.specs.Promises.{IsComplete, IsAlone, ArePaired, AreUnderWay}
 use Rattle.mig_model.proofs.Stopping.{in_phases}
 use Rattle.mig_model.proofs.SettledLemmas.{IsOneToOne-settled, values-settled, none-settled}

@@ -15,7 +15,7 @@ use Rattle.mig_base.proofs.PageLemmas.{get-map_below}
 use Rattle.mig_model.specs.Host.{Host, memory, IsSound}
 use Rattle.mig_base.specs.Commands.{is_access, page_of, is_store}
 use Rattle.mig_model.specs.Space.{Space, IsSoundSpace, is_made, access_of}
-use Rattle.mig_model.specs.Invariant.{seen_bytes, seen_host}
+use Rattle.mig_model.specs.Whereabouts.{seen_bytes, seen_host}
 use Rattle.mig_model.proofs.HostLemmas.{memory-at}
 use Rattle.mig_model.proofs.ReplyOfLemmas.{prots, reply_of-prots, reply_of-page, reply_of-unmade}
 use Rattle.mig_model.specs.Log.{present}

@@ -18,7 +18,8 @@ use Rattle.mig_model.specs.Userfault.{Object, fault_queued}
 use Rattle.mig_model.specs.Space.{Space, IsSoundSpace, access_of, accessed_by, called, queued_by, call_messages, modes_after}
 use Rattle.mig_model.specs.Guest.{took_by, tried}
 use Rattle.mig_model.specs.Migration.{World, after_command}
-use Rattle.mig_model.specs.Invariant.{IsSoundWorld, AreRight, is_unread}
+use Rattle.mig_model.specs.Whereabouts.{is_unread}
+use Rattle.mig_model.specs.Invariant.{IsSoundWorld, AreRight}
 use Rattle.mig_model.proofs.HostLemmas.{get-put}
 use Rattle.mig_model.proofs.SpaceLemmas.{IsSoundSpace-accessed, IsSoundSpace-called, access_reply}
 use Rattle.mig_model.proofs.SourceKept.{source_holds, IsChanged, changed}

@@ -10,7 +10,8 @@ use Rattle.mig_base.proofs.RangeLemmas.{none_below_tells}
 use Rattle.mig_model.specs.Userfault.{Noted, Object, is_registered, event_queued, is_watched}
 use Rattle.mig_model.specs.Guest.{is_changed_by, in_bytes}
 use Rattle.mig_model.specs.Space.{told, all_queued}
-use Rattle.mig_model.specs.Invariant.{is_unread, IsRight, AreRight}
+use Rattle.mig_model.specs.Whereabouts.{is_unread}
+use Rattle.mig_model.specs.Invariant.{IsRight, AreRight}
 use Rattle.mig_model.specs.Migration.{start}
 use Rattle.mig_model.proofs.Facts.{in_range_first, or_assoc}
 

@@ -16,7 +16,8 @@ use Rattle.mig_model.specs.Guest.{is_present}
 use Rattle.mig_model.specs.Wire.{Sent}
 use Rattle.mig_model.specs.Wire.Frame.{Advise}
 use Rattle.mig_model.specs.Migration.{World, after_round, after_start}
-use Rattle.mig_model.specs.Invariant.{IsSoundWorld, AreSoundEpochs, is_unread, Wires, PrecopyWires, SwitchedAt, EpochAt, AreOf, AreWhole, flow_after, copies_of, kept_by}
+use Rattle.mig_model.specs.Whereabouts.{is_unread, copies_of, kept_by}
+use Rattle.mig_model.specs.Invariant.{IsSoundWorld, AreSoundEpochs, Wires, PrecopyWires, SwitchedAt, EpochAt, AreOf, AreWhole, flow_after}
 use Rattle.mig_model.specs.Invariant.Flow.{BeforeAdvise}
 use Rattle.mig_model.proofs.IoctlLemmas.{IsSoundSpace-registered}
 use Rattle.mig_model.proofs.SourceKept.{no_page_absurd, source_holds, IsNext, renewed, IsChanged, CopiesStay, never_idle, has_not_run}

@@ -7,7 +7,8 @@ use Rattle.std.specs.Ordering.{nat_cmp}
 use Rattle.std.specs.FinMap.{FinMap, get, insert}
 use Rattle.mig_model.specs.Wire.{Frame, Sent, page_frame, copies_in, kept_after, kept_with, run_copies}
 use Rattle.mig_model.specs.Wire.Frame.{Run}
-use Rattle.mig_model.specs.Invariant.{Flow, flow_next, flow_after, copies_of, AreWhole, kept_by, IsSoundWorld, IsPrecopying, Wires, is_unread}
+use Rattle.mig_model.specs.Whereabouts.{copies_of, kept_by, IsPrecopying, is_unread}
+use Rattle.mig_model.specs.Invariant.{Flow, flow_next, flow_after, AreWhole, IsSoundWorld, Wires}
 use Rattle.mig_model.specs.Invariant.Flow.{BeforeAdvise, Copies}
 use Rattle.mig_model.specs.Source.{Source, bytes_of, run_of, in_space, is_precopy, space_of}
 use Rattle.mig_model.proofs.HostLemmas.{get-put}

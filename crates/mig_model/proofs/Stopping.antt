@@ -17,7 +17,8 @@ use Rattle.mig_model.specs.Wire.{Sent, Copy, page_frame, kept_after}
 use Rattle.mig_model.specs.Wire.Frame.{End, Discard, Package}
 use Rattle.mig_model.specs.Guest.{is_present}
 use Rattle.mig_model.specs.Migration.{World, after_end, after_push, after_serve, after_switch, is_changing}
-use Rattle.mig_model.specs.Invariant.{IsSoundWorld, IsSoundLog, IsSoundPushing, StoppedWires, IsSwitching, Flow, flow_after, flow_of, copies_of, has_copy, AreFaithful, AreWhole, behind, is_urgent_or_left, AreSoundPhases, PrecopyWires, IsPrecopying, is_unread, kept_by, package_in}
+use Rattle.mig_model.specs.Whereabouts.{IsSwitching, copies_of, has_copy, AreFaithful, behind, is_urgent_or_left, IsPrecopying, is_unread, kept_by, package_in}
+use Rattle.mig_model.specs.Invariant.{IsSoundWorld, IsSoundLog, IsSoundPushing, StoppedWires, Flow, flow_after, flow_of, AreWhole, AreSoundPhases, PrecopyWires}
 use Rattle.mig_model.specs.Invariant.Flow.{BeforeAdvise, Copies, BeforePackage, Pushed, AfterEnd}
 use Rattle.mig_model.proofs.WireLemmas.{flow_sent, has_package, copies_of-page, page_flow, fits-more, has_copy-append, flight_up, has_no_package}
 use Rattle.mig_model.specs.Log.{least_of, no_pages, present, less}

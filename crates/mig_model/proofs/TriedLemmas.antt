@@ -16,7 +16,8 @@ use Rattle.mig_model.specs.Userfault.{Noted, waits_fault}
 use Rattle.mig_model.specs.Space.{Space, IsSoundSpace, is_made, access_of, accessed_by, called, modes_after, call_messages, queued_by}
 use Rattle.mig_model.specs.Guest.{took_by, space_by}
 use Rattle.mig_model.specs.Cpus.Took.{Answer, Sleep}
-use Rattle.mig_model.specs.Invariant.{AreRight, seen_host}
+use Rattle.mig_model.specs.Whereabouts.{seen_host}
+use Rattle.mig_model.specs.Invariant.{AreRight}
 use Rattle.mig_model.proofs.HostLemmas.{get-put}
 use Rattle.mig_model.proofs.SpaceLemmas.{IsSoundSpace-accessed, IsSoundSpace-called}
 use Rattle.mig_model.proofs.SeenLemmas.{answered_seen, owed_none, watched_mapped, seen_own, reply_of-seen_call}

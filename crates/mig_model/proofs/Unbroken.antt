@@ -16,7 +16,8 @@ use Rattle.mig_model.specs.Wire.{Frame, Sent}
 use Rattle.mig_model.specs.Wire.Frame.{Package}
 use Rattle.mig_model.specs.Source.{Source, commands_of, is_precopy, is_stopped, not_clean, space_of}
 use Rattle.mig_model.specs.Migration.{World, after_command, after_deliver, after_steps, frame_effect, is_changing, next, outcome, runs}
-use Rattle.mig_model.specs.Invariant.{IsSoundWorld, is_package, package_in}
+use Rattle.mig_model.specs.Whereabouts.{is_package, package_in}
+use Rattle.mig_model.specs.Invariant.{IsSoundWorld}
 use Rattle.mig_model.specs.Promises.{IsReached}
 use Rattle.mig_model.specs.Unbroken.{StaysUp, KeepsClean}
 use Rattle.mig_model.proofs.EveryStep.{kept-reached}

@@ -15,7 +15,8 @@ use Rattle.mig_model.specs.Wire.{Frame, Sent, Copy, page_frame, wire_behind}
 use Rattle.mig_model.specs.Wire.Frame.{Page, Zero}
 use Rattle.mig_model.specs.Migration.{World, after_deliver_urgent, after_push_urgent}
 use Rattle.mig_model.specs.Source.{Source, is_stopped, bytes_of, space_of, urgent_pushed}
-use Rattle.mig_model.specs.Invariant.{AreFaithful, Wires, AreSoundUrgent, IsSoundWorld, IsSwitching, StoppedWires, are_copies, behind, copies_of, has_copy, is_urgent_or_left}
+use Rattle.mig_model.specs.Whereabouts.{AreFaithful, IsSwitching, behind, copies_of, has_copy, is_urgent_or_left}
+use Rattle.mig_model.specs.Invariant.{Wires, AreSoundUrgent, IsSoundWorld, StoppedWires, are_copies}
 use Rattle.mig_model.specs.Destination.{urgent_came}
 use Rattle.mig_model.specs.Log.{present, no_pages}
 use Rattle.mig_model.specs.Guest.{is_present}

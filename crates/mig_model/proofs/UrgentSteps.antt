@@ -16,7 +16,8 @@ use Rattle.mig_model.specs.Migration.{World, after_break, after_command, after_d
 use Rattle.mig_model.specs.Guest.{Act, is_present}
 use Rattle.mig_model.specs.Source.{Source, is_stopped, bytes_of, is_precopy, is_source_idle, source_acted_by, space_of, switch_frames, run_of}
 use Rattle.mig_model.specs.Destination.{Destination, destination_act, destination_acted_by, install_by, is_dest_paused}
-use Rattle.mig_model.specs.Invariant.{AreFaithful, AreSoundUrgent, AreTold, IsSoundWorld, Wires, copies_of}
+use Rattle.mig_model.specs.Whereabouts.{AreFaithful, copies_of}
+use Rattle.mig_model.specs.Invariant.{AreSoundUrgent, AreTold, IsSoundWorld, Wires}
 use Rattle.mig_model.proofs.Taken.{IsInPlaceBack}
 use Rattle.mig_model.specs.Log.{present}
 use Rattle.mig_model.specs.Owed.{home}

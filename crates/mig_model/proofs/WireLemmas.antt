@@ -5,7 +5,8 @@ use Rattle.std.specs.Ordering.{nat_cmp}
 use Rattle.std.specs.FinMap.{FinMap}
 use Rattle.mig_model.specs.Wire.{Frame, Sent, Copy, kept_after, sending, Wire, page_frame, copies_in}
 use Rattle.mig_model.specs.Wire.Frame.{Request}
-use Rattle.mig_model.specs.Invariant.{Flow, flow_next, flow_after, has_copy, is_package, kept_by, behind, package_in, copies_of, AreOf, AreFaithful, Wires, IsSoundFlight, is_request, is_done, are_requests, are_requests_and_done, HeldFits}
+use Rattle.mig_model.specs.Whereabouts.{has_copy, is_package, kept_by, behind, package_in, copies_of, AreFaithful, is_request, are_requests}
+use Rattle.mig_model.specs.Invariant.{Flow, flow_next, flow_after, AreOf, Wires, IsSoundFlight, is_done, are_requests_and_done, HeldFits}
 use Rattle.mig_model.specs.Migration.{World, is_short, next}
 use Rattle.mig_model.specs.Source.{space_of}
 use Rattle.mig_model.proofs.Facts.{or_assoc, up_not_down, zero_bytes}

@@ -1,12 +1,11 @@
--- What every world keeps, clause by clause: a theorem is one clause or a few, and the others are there so that
--- each step keeps all of them.
+-- The induction: what every world keeps, clause by clause, so that each step keeps all of them. No promise needs to be read here; the
+-- words of the promises stand in Promises.antt and Whereabouts.antt.
 use Rattle.std.specs.Prelude.{◌≡◌, ◌≢◌, ℕ, ◌+◌, ◌/◌, ◌%◌, ◌<◌, ◌≤◌, ◌==◌, ◌&&◌, ◌||◌, ◌⊎◌, Bool, true, false, if◌then◌else◌, Option, Some, None, List, [], ◌∷◌, ◌++◌, length}
 use Rattle.std.specs.Option.{option_and_then}
 use Rattle.std.specs.Ordering.{nat_cmp}
 use Rattle.std.specs.FinMap as finmap
 use Rattle.std.specs.FinMap.{FinMap, get, contains_key}
 use Rattle.std.specs.FinSet.{FinSet, contains}
-use Rattle.mig_base.specs.declared.cpu_state.CpuState.{CpuState}
 use Rattle.mig_base.specs.declared.phase.DestPhase.{DestPhase}
 use Rattle.mig_base.specs.declared.phase.Received.{Received}
 use Rattle.mig_base.specs.declared.phase.SourcePhase.{SourcePhase}
@@ -15,46 +14,23 @@ use Rattle.mig_base.specs.declared.TheConstants.{PAGE_SIZE, HIGH_PAGE}
 use Rattle.mig_base.specs.declared.message.Message.{Message}
 use Rattle.mig_base.specs.declared.message.Message.TheVariants.{PageFault, Remap, Remove, Unmap}
 use Rattle.mig_base.specs.Tests.{is_empty}
-use Rattle.mig_base.specs.Pages.{map_below}
 use Rattle.mig_base.specs.Flat.{IsFlatRun, memory_of}
 use Rattle.mig_model.specs.Host.{Host, memory}
 use Rattle.mig_model.specs.Userfault.{Noted}
 use Rattle.mig_model.specs.Space.{Space, fresh_space, IsSoundSpace}
 use Rattle.mig_model.specs.Lengths.{text_len}
-use Rattle.mig_model.specs.Wire.{Wire, Frame, Sent, Copy, copies_in, is_copy, kept_after}
-use Rattle.mig_model.specs.Wire.Frame.{Advise, Page, Zero, Run, Discard, Package, End, Resume, Request, Recv, Done}
+use Rattle.mig_model.specs.Wire.{Wire, Frame, Sent, Copy, is_copy}
+use Rattle.mig_model.specs.Wire.Frame.{Advise, Page, Zero, Run, Discard, Package, End, Resume, Recv, Done}
 use Rattle.mig_model.specs.Migration.{World}
-use Rattle.mig_model.specs.Cpus.{processor_at}
-use Rattle.mig_model.specs.Guest.{Guest, is_changed_by, is_present}
+use Rattle.mig_model.specs.Guest.{is_present}
 use Rattle.mig_model.specs.Log.{no_pages}
 use Rattle.mig_model.specs.Owed.{Owed, settled_by}
-use Rattle.mig_model.specs.Source.{Source, commands_of, is_stopped, space_of}
+use Rattle.mig_model.specs.Source.{Source, is_stopped, space_of}
+use Rattle.mig_model.specs.Promises.{AreFaults}
+use Rattle.mig_model.specs.Whereabouts.{AreFaithful, IsPrecopying, IsReceiving, IsSwitching, are_requests, copies_of, current_by, has_copy, is_request, is_unread, is_urgent_or_left}
 use Rattle.mig_model.specs.Destination.{Destination, settled}
 
--- The memory that the guest sees
-
--- the bytes of a page of the destination: its own where it is present, else those of the page at the source from which it is owed
-abbrev pub seen_bytes : Host → Host → (ℕ → Option ℕ) → ℕ → Option (List ℕ)
-seen_bytes here there owed page = elim (get here.bytes page) [ Some bytes ↦ Some bytes | None ↦ option_and_then (get there.bytes) (owed page) ]
-
--- the destination's host as the guest sees it
-abbrev pub seen_host : Host → Host → (ℕ → Option ℕ) → Host
-seen_host here there owed = record { areas = here.areas; bytes = map_below (seen_bytes here there owed) HIGH_PAGE }
-
--- the host of the source until the destination has run, and from then on the destination's as the guest sees it
-abbrev pub current_by : Bool → Host → Host → (ℕ → Option ℕ) → Host
-current_by false here there owed = there
-current_by true here there owed = seen_host here there owed
-
-abbrev pub current_host : World → Host
-current_host world = current_by world.destination.has_run world.destination.guest.space.host world.source.guest.space.host (settled world.destination)
-
 -- Unread events
-
--- whether an unread event has changed a page
-abbrev pub is_unread : List Noted → ℕ → Bool
-is_unread [] page = false
-is_unread (noted ∷ events) page = is_changed_by noted.message page || is_unread events page
 
 -- whether an event is of whole pages, and a move between ranges that lie apart, to one that lies in the address space
 abbrev pub IsRight : Message → Type 0
@@ -68,17 +44,6 @@ IsRight (PageFault addr write wp tid) = ⊥
 abbrev pub AreRight : List Noted → Type 0
 AreRight [] = Unit {0}
 AreRight (noted ∷ events) = IsRight noted.message × AreRight events
-
--- whether a message is of a page fault
-abbrev pub IsFault : Message → Type 0
-IsFault (PageFault addr write wp tid) = Unit {0}
-IsFault (Remap from to len) = ⊥
-IsFault (Remove start end) = ⊥
-IsFault (Unmap start end) = ⊥
-
-abbrev pub AreFaults : List Noted → Type 0
-AreFaults [] = Unit {0}
-AreFaults (noted ∷ rest) = IsFault noted.message × AreFaults rest
 
 -- What is in flight
 
@@ -108,63 +73,19 @@ abbrev pub flow_after : Flow → List Sent → Option Flow
 flow_after flow [] = Some flow
 flow_after flow (sent ∷ rest) = option_and_then (λ next. flow_after next rest) (flow_next flow sent.frame)
 
--- the copies that frames carry
-abbrev pub copies_of : List Sent → List Copy
-copies_of [] = []
-copies_of (sent ∷ rest) = copies_in sent.frame ++ copies_of rest
-
--- whether there is a copy of a page
-abbrev pub has_copy : List Copy → ℕ → Bool
-has_copy [] page = false
-has_copy (copy ∷ copies) page = copy.page == page || has_copy copies page
-
--- each copy has the bytes that the page has
-abbrev pub AreFaithful : FinMap nat_cmp (List ℕ) → List Copy → Type 0
-AreFaithful bytes [] = Unit {0}
-AreFaithful bytes (copy ∷ copies) = (get bytes copy.page ≡ Some copy.bytes) × AreFaithful bytes copies
-
 -- each copy is a whole page
 abbrev pub AreWhole : List Copy → Type 0
 AreWhole [] = Unit {0}
 AreWhole (copy ∷ copies) = (length copy.bytes ≡ PAGE_SIZE) × AreWhole copies
-
--- whether a frame is a Package
-abbrev pub is_package : Frame → Bool
-is_package (Package areas owed commands) = true
-is_package frame = false
-
--- what is kept once the frames before the Package are taken
-abbrev pub kept_by : FinMap nat_cmp (List ℕ) → List Sent → FinMap nat_cmp (List ℕ)
-kept_by kept [] = kept
-kept_by kept (sent ∷ rest) = if is_package sent.frame then kept else kept_by (kept_after kept sent.frame) rest
-
--- the frames behind the Package
-abbrev pub behind : List Sent → List Sent
-behind [] = []
-behind (sent ∷ rest) = if is_package sent.frame then rest else behind rest
-
--- the Package
-abbrev pub package_in : List Sent → Option Frame
-package_in [] = None
-package_in (sent ∷ rest) = if is_package sent.frame then Some sent.frame else package_in rest
 
 -- each frame was sent in the epoch
 abbrev pub AreOf : ℕ → List Sent → Type 0
 AreOf epoch [] = Unit {0}
 AreOf epoch (sent ∷ rest) = (sent.epoch ≡ epoch) × AreOf epoch rest
 
-abbrev pub is_request : Frame → Bool
-is_request (Request page) = true
-is_request frame = false
-
 abbrev pub is_done : Frame → Bool
 is_done Done = true
 is_done frame = false
-
--- requests alone, and requests with Done behind them
-abbrev pub are_requests : List Sent → Bool
-are_requests [] = true
-are_requests (sent ∷ rest) = is_request sent.frame && are_requests rest
 
 abbrev pub are_requests_and_done : List Sent → Bool
 are_requests_and_done [] = false
@@ -175,27 +96,6 @@ are_requests_and_done (sent ∷ rest) = is_request sent.frame && are_requests_an
 -- how far the wire gets, once Switch was made: End is the last frame on it, or was taken, if it was sent in this epoch
 abbrev pub flow_of : Source → Flow
 flow_of source = if source.end_epoch == source.epoch then AfterEnd else Pushed
-
--- whether a page is still to be pushed, or is on the urgent wire
-abbrev pub is_urgent_or_left : FinSet nat_cmp → List Sent → ℕ → Bool
-is_urgent_or_left remaining urgent page = contains remaining page || has_copy (copies_of urgent) page
-
-pub record IsSwitching (source : Source) (kept : FinMap nat_cmp (List ℕ)) (forward urgent : List Sent) : Type 0 where
-  pub owed : FinSet nat_cmp
-  -- the Package tells the source's state
-  pub plan : package_in forward ≡ Some (Package (space_of source).host.areas owed (commands_of source.guest.cpus))
-  pub owed_present : (page : ℕ) → contains owed page ≡ true → is_present (space_of source) page ≡ true
-  -- when it is taken the kept table is what it does not owe
-  pub kept_rest : (page : ℕ) → get (kept_by kept forward) page ≡ (if contains owed page then None else get (space_of source).host.bytes page)
-  -- what it owes is still to be pushed, on the urgent wire, or behind it
-  pub whereabouts : (page : ℕ) → contains owed page ≡ true → (is_urgent_or_left source.remaining urgent page || has_copy (copies_of (behind forward)) page) ≡ true
-  pub faithful : AreFaithful (space_of source).host.bytes (copies_of (behind forward))
-
-pub record IsPrecopying (source : Source) (kept : FinMap nat_cmp (List ℕ)) (forward : List Sent) : Type 0 where
-  -- the newest copy of a clean page is right, unless an unread event has changed the page
-  pub clean_copy : (page : ℕ) → contains source.log.clean page ≡ true → is_unread (space_of source).object.events page ≡ false → get (kept_by kept forward) page ≡ get (space_of source).host.bytes page
-  -- each page that has a copy was sent in this epoch
-  pub copies_sent : (page : ℕ) → contains_key (kept_by kept forward) page ≡ true → contains source.log.sent page ≡ true
 
 -- while the destination runs and the source is stopped
 pub record IsFlowing (source : Source) (destination : Destination) (forward urgent : List Sent) : Type 0 where
@@ -212,20 +112,6 @@ StoppedWires source destination forward back urgent = elim destination.phase [
   | DestPhase.Paused ↦ ⊥
   | DestPhase.Ended ↦ (forward ≡ []) × (are_requests_and_done back ≡ true) × (source.end_epoch ≡ source.epoch)
 ]
-
--- the first frame of a wire back is a Recv of this state, whose pages are those that the destination still needs at least, all of
--- them present at the source; requests come behind it
-pub record IsReceiving (source : Source) (destination : Destination) (state : Received) (back : List Sent) : Type 0 where
-  pub owed : FinSet nat_cmp
-  pub epoch : ℕ
-  pub rest : List Sent
-  pub first : back ≡ record { epoch = epoch; frame = Recv state owed } ∷ rest
-  pub requests : are_requests rest ≡ true
-  -- where the destination does not run none come behind it, and it lists no page
-  pub alone : state ≢ Received.Running → rest ≡ []
-  pub none_listed : state ≢ Received.Running → owed ≡ no_pages
-  pub needed : (page origin : ℕ) → get destination.owed page ≡ Some origin → contains owed origin ≡ true
-  pub owed_present : (page : ℕ) → contains owed page ≡ true → is_present (space_of source) page ≡ true
 
 -- the wires of a paused source
 abbrev pub PausedWires : Source → Destination → List Sent → List Sent → Type 0
@@ -424,28 +310,6 @@ abbrev pub AreSoundUrgent : World → Type 0
 AreSoundUrgent world =
     IsSoundUrgent world.source.phase world.source.epoch world.source.end_epoch world.source.urgent_sent (space_of world.source).host.bytes world.destination.phase world.destination.has_run
     world.destination.urgent_taken world.forward.frames world.urgent world.up
-
--- Calls
-
--- how many of the unread events a processor has caused
-abbrev pub unread_of : List Noted → ℕ → ℕ
-unread_of [] k = 0
-unread_of (noted ∷ events) k = (if noted.cpu == k then 1 else 0) + unread_of events k
-
--- a processor is in a call exactly as long as it has unread events, and counts them
-abbrev pub CallFits : CpuState → ℕ → Type 0
-CallFits (CpuState.InCall reply left) unread = (left ≡ unread) × (0 < left)
-CallFits state unread = unread ≡ 0
-
--- so does each processor of a guest, and the queue of its page faults holds page faults alone
-pub record HasSoundCalls (guest : Guest) : Type 0 where
-  pub fits : (k : ℕ) → CallFits (processor_at guest.cpus k) (unread_of guest.space.object.events k)
-  pub faults : AreFaults guest.space.object.faults
-
--- so on both nodes
-pub record AreSoundCalls (world : World) : Type 0 where
-  pub source : HasSoundCalls world.source.guest
-  pub destination : HasSoundCalls world.destination.guest
 
 -- what every world keeps
 pub record IsSoundWorld (world : World) : Type 0 where

@@ -12,6 +12,7 @@ pub mod Source
 pub mod Destination
 pub mod Migration
 pub mod Views
+pub mod Whereabouts
 pub mod Invariant
 pub mod Faults
 pub mod Bounds

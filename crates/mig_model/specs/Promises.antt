@@ -1,9 +1,11 @@
 -- The promises, as words for the laws of a migration.
-use Rattle.std.specs.Prelude.{◌≡◌, ℕ, ◌+◌, ◌-◌, ◌/◌, ◌||◌, nat_lt, ◌==◌, if◌then◌else◌, Bool, true, false, Some, None, List, [], Option, ◌∷◌, IsOk}
+use Rattle.std.specs.Prelude.{◌≡◌, ℕ, ◌+◌, ◌-◌, ◌/◌, ◌<◌, ◌||◌, nat_lt, ◌==◌, if◌then◌else◌, Bool, true, false, Some, None, List, [], Option, ◌∷◌, IsOk}
 use Rattle.std.specs.FinMap as finmap
 use Rattle.std.specs.FinMap.{get, contains_key}
 use Rattle.std.specs.FinSet.{contains}
 use Rattle.mig_base.specs.declared.cpu_state.CpuState.{CpuState}
+use Rattle.mig_base.specs.declared.message.Message.{Message}
+use Rattle.mig_base.specs.declared.message.Message.TheVariants.{PageFault, Remap, Remove, Unmap}
 use Rattle.mig_base.specs.declared.phase.Received.{Received}
 use Rattle.mig_base.specs.declared.schedule.Step.{Step}
 use Rattle.mig_base.specs.declared.TheConstants.{PAGE_SIZE}
@@ -18,13 +20,14 @@ use Rattle.mig_base.specs.Flat.{memory_of}
 use Rattle.mig_model.specs.Host.{memory}
 use Rattle.mig_base.specs.Commands.{is_access}
 use Rattle.mig_model.specs.Space.{Space, fresh_space}
+use Rattle.mig_model.specs.Userfault.{Noted}
 use Rattle.mig_model.specs.Wire.{Frame, Sent, wire_behind, wire_with}
 use Rattle.mig_model.specs.Wire.Frame.{Recv, Done}
 use Rattle.mig_model.specs.Migration.{World, guest_of, first_world_with, after_steps, outcome, next, is_short}
-use Rattle.mig_model.specs.Invariant.{copies_of, has_copy, AreFaithful, is_urgent_or_left}
+use Rattle.mig_model.specs.Whereabouts.{copies_of, has_copy, AreFaithful, is_urgent_or_left}
 use Rattle.mig_model.specs.Cpus.{outstanding, processor_at}
 use Rattle.mig_model.specs.Cpus.Took.{Sleep}
-use Rattle.mig_model.specs.Guest.{is_present, took_by}
+use Rattle.mig_model.specs.Guest.{Guest, is_present, took_by}
 use Rattle.mig_model.specs.Source.{is_released, is_stopped, source_answers, source_took, space_of}
 use Rattle.mig_model.specs.Destination.{destination_answers, destination_took, settled, urgent_took}
 
@@ -138,6 +141,39 @@ AllAccess processors = (k : ℕ) (command : Command) → outstanding (processor_
 pub record AreAccesses (world : World) : Type 0 where
   pub source : AllAccess world.source.guest.cpus
   pub destination : AllAccess world.destination.guest.cpus
+
+-- Calls
+
+-- whether a message is of a page fault
+abbrev pub IsFault : Message → Type 0
+IsFault (PageFault addr write wp tid) = Unit {0}
+IsFault (Remap from to len) = ⊥
+IsFault (Remove start end) = ⊥
+IsFault (Unmap start end) = ⊥
+
+abbrev pub AreFaults : List Noted → Type 0
+AreFaults [] = Unit {0}
+AreFaults (noted ∷ rest) = IsFault noted.message × AreFaults rest
+
+-- how many of the unread events a processor has caused
+abbrev pub unread_of : List Noted → ℕ → ℕ
+unread_of [] k = 0
+unread_of (noted ∷ events) k = (if noted.cpu == k then 1 else 0) + unread_of events k
+
+-- a processor is in a call exactly as long as it has unread events, and counts them
+abbrev pub CallFits : CpuState → ℕ → Type 0
+CallFits (CpuState.InCall reply left) unread = (left ≡ unread) × (0 < left)
+CallFits state unread = unread ≡ 0
+
+-- so does each processor of a guest, and the queue of its page faults holds page faults alone
+pub record HasSoundCalls (guest : Guest) : Type 0 where
+  pub fits : (k : ℕ) → CallFits (processor_at guest.cpus k) (unread_of guest.space.object.events k)
+  pub faults : AreFaults guest.space.object.faults
+
+-- so on both nodes
+pub record AreSoundCalls (world : World) : Type 0 where
+  pub source : HasSoundCalls world.source.guest
+  pub destination : HasSoundCalls world.destination.guest
 
 -- Deliveries
 

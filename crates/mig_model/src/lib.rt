@@ -6,10 +6,11 @@
 //! - A migration, which the crate `world` makes on real tables: `specs/Cpus.antt` and `specs/Guest.antt` for the processors and their
 //!   memory, `specs/Log.antt` and `specs/Source.antt`, `specs/Owed.antt` and `specs/Destination.antt` for the two nodes,
 //!   `specs/Wire.antt` for what they tell each other, `specs/Lengths.antt` for how many bytes that has, `specs/Migration.antt` for the
-//!   world and its steps, `specs/Faults.antt` for the frames that a node does not take, `specs/Invariant.antt`, `specs/Parts.antt`,
-//!   `specs/Promises.antt`, `specs/Replies.antt` and `specs/Unbroken.antt` for what holds of it, with bounds in `specs/Bounds.antt`,
+//!   world and its steps, `specs/Faults.antt` for the frames that a node does not take, `specs/Whereabouts.antt`, `specs/Promises.antt`,
+//!   `specs/Parts.antt`, `specs/Replies.antt` and `specs/Unbroken.antt` for what holds of it, with bounds in `specs/Bounds.antt`,
 //!   `specs/Handlers.antt` for the calls of the userfault objects that its steps stand for, `specs/Views.antt` for what a world tells,
-//!   and `specs/Runs.antt` for runs that are short of memory.
+//!   and `specs/Runs.antt` for runs that are short of memory. `specs/Invariant.antt` has the induction, which no promise needs but
+//!   [`migration::the_invariant`].
 //!
 //! [`laws`] has what is proved of the first, and [`migration`], [`bounds`] and [`handlers`] what is proved of the second.
 #![tactic(auto)]

@@ -8,7 +8,7 @@ use Rattle.mig_base.proofs.RangeLemmas.{least_below_tells}
 use Rattle.mig_base.specs.declared.schedule.Step.{Step}
 use Rattle.mig_base.specs.Ranges.{none_below}
 use Rattle.mig_model.specs.Userfault.{Noted}
-use Rattle.mig_model.specs.Invariant.{is_unread}
+use Rattle.mig_model.specs.Whereabouts.{is_unread}
 use Rattle.mig_model.specs.Log.{least_of}
 use Rattle.mig_model.specs.Migration.{is_changing}
 use Rattle.mig_model.specs.Space.{Space}

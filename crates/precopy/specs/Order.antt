@@ -3,7 +3,7 @@ use Rattle.std.specs.Prelude.{◌≡◌, ℕ, Bool, true, false}
 use Rattle.std.specs.FinSet.{contains}
 use Rattle.mig_base.specs.declared.phase.SourcePhase.{SourcePhase}
 use Rattle.mig_model.specs.Space.{Space}
-use Rattle.mig_model.specs.Invariant.{is_unread}
+use Rattle.mig_model.specs.Whereabouts.{is_unread}
 use Rattle.mig_model.specs.Log.{Log}
 use Rattle.mig_model.specs.Source.{Source, is_released, is_stopped, space_of}
 use Rattle.guest.specs.Lent.{IsLent}

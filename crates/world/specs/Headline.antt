@@ -12,7 +12,7 @@ use Rattle.mig_base.specs.declared.schedule.Step.{Step}
 use Rattle.mig_base.specs.declared.phase.WorldPhase.{WorldPhase}
 use Rattle.mig_model.specs.Destination.{is_running, settled}
 use Rattle.mig_model.specs.Host.{memory}
-use Rattle.mig_model.specs.Invariant.{IsPrecopying, IsReceiving, IsSwitching, current_host}
+use Rattle.mig_model.specs.Whereabouts.{IsPrecopying, IsReceiving, IsSwitching, current_host}
 use Rattle.mig_model.specs.Migration.{World, after_steps, next, outcome}
 use Rattle.mig_model.specs.Promises.{AreUnderWay, ArePaired, IsAlone, IsComplete, IsPut, IsReached, IsZeroed, leaves_settled, owed_changed}
 use Rattle.mig_model.specs.Source.{is_precopy, is_source_paused, is_stopped, space_of}
