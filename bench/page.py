@@ -1,4 +1,4 @@
-"""Puts what a script has measured into its part of docs/PERFORMANCE.md, between two comments that name the part."""
+"""Puts what a script has measured or found into its part of a page of docs/, between two comments that name the part."""
 
 import os
 import pathlib
@@ -21,11 +21,11 @@ def environment():
     return {"GLIBC_TUNABLES": "glibc.malloc.hugetlb=1", **os.environ}
 
 
-def put(part, text):
-    page = PAGE.read_text()
+def put(part, text, file=PAGE):
+    page = file.read_text()
     begin, end = f"<!-- {part} -->\n", f"<!-- end of {part} -->\n"
     head, _, rest = page.partition(begin)
     _, found, tail = rest.partition(end)
     if not found:
-        raise SystemExit(f"{PAGE}: no part {part}")
-    PAGE.write_text(head + begin + text.rstrip("\n") + "\n" + end + tail)
+        raise SystemExit(f"{file}: no part {part}")
+    file.write_text(head + begin + text.rstrip("\n") + "\n" + end + tail)

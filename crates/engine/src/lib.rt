@@ -2,7 +2,7 @@
 //!
 //! [`run_script`] reads a script and writes one line for each order, or one for each command that took effect, as its [`Mode`]
 //! says; [`check_script`] reads such a transcript, and says whether it is that of one flat memory. Both read and write in pieces.
-//! A [`RunFault`] says what ended a run early. [`ScriptReader`] finds the lines in what is read, and [`LineRunner`] does each.
+//! A [`RunFault`] says what ended a run early. [`progress`] says how far a world's migration has come. [`ScriptReader`] finds the lines in what is read, and [`LineRunner`] does each.
 //! What a run writes is `specs/Script.antt`, with what is promised of the world in which it ends, what a check writes
 //! `specs/Checking.antt`, and [`laws`] says that there is no other output. `docs/SCRIPT.md` says what a script is.
 //!
@@ -18,6 +18,6 @@ pub mod script_reader;
 
 pub use crate::check::check_script;
 pub use crate::fault::RunFault;
-pub use crate::line_runner::{LineRunner, Mode};
+pub use crate::line_runner::{LineRunner, Mode, progress};
 pub use crate::run::run_script;
 pub use crate::script_reader::ScriptReader;

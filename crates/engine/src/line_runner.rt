@@ -83,8 +83,9 @@ fn make_step(world: &mut World, mode: Mode, step: Step, text: &mut String) -> Re
     Ok(())
 }
 
-/// How far the migration of a world has come.
-fn progress_of(world: &World) -> Progress
+/// How far the migration of a world has come: its phase, the rounds begun, the pages sent, the pages still owed (`left`), the pages
+/// installed and dropped at the destination, and its page faults. It takes no memory.
+pub fn progress(world: &World) -> Progress
     ensures { result ≡ progress_in world.now }
 {
     let counts = world.counts();
@@ -106,7 +107,7 @@ fn tell_progress(world: &World, mode: Mode, text: &mut String) -> Result<(), Run
 {
     text.clear();
     match mode {
-        Mode::Lines => print_progress(text, progress_of(world))?,
+        Mode::Lines => print_progress(text, progress(world))?,
         Mode::Transcript => {}
     }
     Ok(())

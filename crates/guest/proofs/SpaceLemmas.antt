@@ -6,15 +6,14 @@ use Rattle.std.proofs.lemmas.Bool.{and_from, cases_lt, or_parts, false_from_ne_t
 use Rattle.std.proofs.lemmas.Bool.Decides.{nat_tests}
 use Rattle.mig_base.specs.declared.TheConstants.{HIGH_PAGE, LOW_PAGE}
 use Rattle.mig_base.specs.declared.command.Errno.TheVariants.{Eagain, Eexist, Einval, Enoent}
-use Rattle.mig_base.specs.Bits.{is_one}
 use Rattle.mig_base.specs.Bytes.{zero_page}
 use Rattle.mig_base.specs.Tests.{first_holding, same_bool}
-use Rattle.mig_base.proofs.BitLemmas.{zero_is_no_one}
 use Rattle.mig_base.proofs.RangeLemmas.{least_below-none}
+use Rattle.mig_model.specs.Bounds.{IsPage}
 use Rattle.mig_model.specs.Space.{Space, IsSoundSpace}
 use Rattle.mig_model.specs.Userfault.{changing, is_registered}
 use Rattle.mig_model.specs.Guest.{is_forgotten, is_present}
-use Rattle.mig_model.specs.Ioctls.{copy_error, is_bad_range, is_one_area, installed, missing_run, put_pages, same_area, same_prot, put_answer, zeropage_answer, zeropage_error, zeropaged}
+use Rattle.mig_model.specs.Ioctls.{is_bad_range, is_one_area, installed, missing_run, put_pages, same_area, same_prot, put_answer, zeropage_answer, zeropage_error, zeropaged}
 use Rattle.mig_model.proofs.Facts.{none_absurd}
 use Rattle.userfault.proofs.ModeLemmas.{is_pages_where}
 use Rattle.uffd_ioctl.specs.Puts.{IsShort, pages_put, result_of}
@@ -76,26 +75,16 @@ pub record CanInstall (space : Space) (page : ℕ) : Type 0 where
   pub watched : is_forgotten space page ≡ false
   pub missing : is_present space page ≡ false
 
-pub can_below : (space : Space) (page : ℕ) → CanInstall space page → page < HIGH_PAGE
-can_below space page can =
-    below_high space page can.sound (not-false (contains_key space.host.areas page) (or_parts (not (contains_key space.host.areas page)) (not (is_registered space.object page)) can.watched).0)
+watched_mapped : (space : Space) (page : ℕ) → is_forgotten space page ≡ false → contains_key space.host.areas page ≡ true
+watched_mapped space page h = not-false (contains_key space.host.areas page) (or_parts (not (contains_key space.host.areas page)) (not (is_registered space.object page)) h).0
 
--- UFFDIO_COPY
+pub watched_registered : (space : Space) (page : ℕ) → is_forgotten space page ≡ false → is_registered space.object page ≡ true
+watched_registered space page h = not-false (is_registered space.object page) (or_parts (not (contains_key space.host.areas page)) (not (is_registered space.object page)) h).1
 
-six_none : {A : Type 0} (a b c d e f : Bool) (u v w x y z : A) → a ≡ false → b ≡ false → c ≡ false → d ≡ false → e ≡ false → f ≡ false → first_holding ((a, u) ∷ (b, v) ∷ (c, w) ∷ (d, x) ∷ (e, y) ∷ (f, z) ∷ []) ≡ None
-six_none a b c d e f u v w x y z h k l m n o = rw (h, k, l, m, n, o) refl
-
-no_mode : (other : Bool) → (is_one 0 1 && other) ≡ false
-no_mode other = rw (zero_is_no_one 1) refl
-
-pub copy_accepted : (space : Space) (page : ℕ) → CanInstall space page → copy_error space (4096 * page) 4096 0 ≡ None
-copy_accepted space page can =
-    let page_is : 4096 * page / 4096 ≡ page = omega arith in
-    let mapped = not-false (contains_key space.host.areas page) (or_parts (not (contains_key space.host.areas page)) (not (is_registered space.object page)) can.watched).0 in
-    let high = can_below space page can in
-    six_none (not space.object.enabled) false (is_bad_range (4096 * page) 4096) (ltb 0 (changing space.object)) _ _ Einval Einval Einval Eagain Enoent Einval
-    (not_from_true space.object.enabled can.lent.enabled) refl (right_range page 1 (from_low space page can.lent mapped) (omega arith) (omega (arith, high))) (none_unread (changing space.object) can.quiet)
-    (rw page_is (not_from_true _ (one_area space page can.watched))) (no_mode _)
+pub watched_page : (space : Space) (page : ℕ) → IsSoundSpace space → IsLent space → is_forgotten space page ≡ false → IsPage page
+watched_page space page sound lent h =
+    let mapped = watched_mapped space page h in
+    (from_low space page lent mapped, below_high space page sound mapped)
 
 -- UFFDIO_ZEROPAGE
 

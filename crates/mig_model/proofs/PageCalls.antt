@@ -89,7 +89,7 @@ zero_page_made guest page is mapped registered gone =
 
 -- UFFDIO_COPY
 
-copy_accepted : (space : Space) (page : ℕ) → IsCalled space page → contains_key space.host.areas page ≡ true → is_registered space.object page ≡ true → copy_error space (4096 * page) 4096 0 ≡ None
+pub copy_accepted : (space : Space) (page : ℕ) → IsCalled space page → contains_key space.host.areas page ≡ true → is_registered space.object page ≡ true → copy_error space (4096 * page) 4096 0 ≡ None
 copy_accepted space page is mapped registered = grind (arith, nat_tests, not_from_true, page_range, pages_again, one_area, zero_is_no_one)
 
 put_one : (pages : FinMap nat_cmp (List ℕ)) (page : ℕ) (one other : ℕ → List ℕ) → one 0 ≡ other 0 → put_pages pages page 1 one ≡ put_pages pages page 1 other

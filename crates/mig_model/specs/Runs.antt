@@ -1,5 +1,5 @@
 -- Runs that may be short of memory: a step that needs some and gets none answers NoMemory, and changes nothing.
-use Rattle.std.specs.Prelude.{◌≡◌, ◌⊎◌, Bool, true, false, if◌then◌else◌, Result, Ok, Err, List, [], ◌∷◌}
+use Rattle.std.specs.Prelude.{◌≡◌, ◌⊎◌, ◌&&◌, not, Bool, true, false, if◌then◌else◌, Result, Ok, Err, List, [], ◌∷◌}
 use Rattle.mig_base.specs.declared.effect.Effect.{Effect}
 use Rattle.mig_base.specs.declared.refusal.Refusal.{Refusal}
 use Rattle.mig_base.specs.declared.schedule.Step.{Step}
@@ -22,9 +22,20 @@ comes_later (Step.Deliver n) Refusal.InstallFirst = true
 comes_later (Step.Deliver n) Refusal.UrgentFirst = true
 comes_later step refusal = false
 
--- whether a step may answer NoMemory in the place of this answer
+-- a delivery that completes no frame moves bytes alone, and needs none
+abbrev pub is_delivery : Step → Bool
+is_delivery (Step.Deliver n) = true
+is_delivery (Step.DeliverBack n) = true
+is_delivery (Step.DeliverUrgent n) = true
+is_delivery step = false
+
+abbrev pub is_move : Effect → Bool
+is_move (Effect.Moved n) = true
+is_move effect = false
+
+-- whether a step may answer NoMemory where memory enough would give this answer
 abbrev pub may_lack : Step → Outcome → Bool
-may_lack step (Ok effect) = needs_memory step
+may_lack step (Ok effect) = needs_memory step && not (is_delivery step && is_move effect)
 may_lack step (Err refusal) = comes_later step refusal
 
 -- whether a step may answer so and leave the new world

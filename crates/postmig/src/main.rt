@@ -13,11 +13,15 @@ use clap::error::ErrorKind;
 use clap::{Arg, ArgAction, ArgMatches, Command, value_parser};
 use engine::{Mode, RunFault, check_script, run_script};
 use std::alloc::{AllocError, Global};
+use std::env::{Env, FillError};
 use std::process::ExitCode;
 use std::{env, io};
 
 /// What `--version` prints behind the program's name.
 const VERSION: &str = "0.1.0";
+
+/// The bytes of an argument that a message shows at most.
+const LONGEST_SHOWN: usize = 4096;
 
 const ALL_DONE: u8 = 0;
 
@@ -117,9 +121,34 @@ fn do_command(rt: &HostRuntime, matches: &ArgMatches) -> u8 {
     }
 }
 
+/// Says on standard error which argument is not UTF-8: its number, and its bytes as far as they are text. One of more than 4,096 bytes is
+/// passed over.
+fn name_bad_argument(rt: &HostRuntime) -> io::Result<()> {
+    let mut room = [0; LONGEST_SHOWN];
+    for number in 1..usize::MAX {
+        let shown = match rt.arg(number, &mut room) {
+            Ok(len) => &room[..len],
+            Err(FillError::TooLong) => continue,
+            Err(FillError::NotPresent) => break,
+        };
+        if str::from_utf8(shown).is_err() {
+            let text = String::from_utf8_lossy(rt.alloc(), shown)?;
+            eprintln!(rt; "error: argument {number} is not UTF-8: '{text}'")?;
+        }
+    }
+    eprintln!(rt; "\nFor more information, try '--help'.")
+}
+
 /// Reads the command line, does what it asks for, and gives the exit status.
 fn dispatch(rt: &HostRuntime) -> io::Result<u8> {
-    let words: Vec<String> = env::args(rt)?.collect(rt.alloc())?;
+    let words: Vec<String> = match env::args(rt) {
+        Ok(words) => words.collect(rt.alloc())?,
+        Err(error) if error.kind() == io::ErrorKind::InvalidData => {
+            name_bad_argument(rt)?;
+            return Ok(BAD_COMMAND_OR_SCRIPT);
+        }
+        Err(error) => return Err(error),
+    };
     let command = command_line(rt.alloc())?;
     let matches = match command.try_get_matches_from(words.as_slice()) {
         Ok(matches) => matches,

@@ -1,5 +1,5 @@
 -- Pages that are put over a range.
-use Rattle.std.proofs.Common.{◌≡◌, ℕ, zero, suc, ◌+◌, ◌-◌, ◌*◌, ◌/◌, ◌<◌, ◌≤◌, ◌&&◌, ◌||◌, ◌↔◌, ◌⊎◌, inl, inr, ⊎_elim, Bool, true, false, cond, not, eqb, Option, Some, None, IfSome, IfNone, Result, List, [], length, refl, sym, ap, subst, ◌∙◌, arith, is_some, unwrap_or, take, drop, below_more, add-one}
+use Rattle.std.proofs.Common.{◌≡◌, ℕ, zero, suc, ◌+◌, ◌-◌, ◌*◌, ◌/◌, ◌<◌, ◌≤◌, ◌&&◌, ◌||◌, ◌↔◌, ◌⊎◌, inl, inr, ⊎_elim, Bool, true, false, cond, not, eqb, ltb, Option, Some, None, IfSome, IfNone, Result, List, [], length, refl, sym, ap, subst, ◌∙◌, arith, is_some, unwrap_or, take, drop, below_more, add-one}
 use Rattle.std.specs.Ordering.{nat_cmp}
 use Rattle.std.specs.FinMap.{FinMap, get, insert, contains_key}
 use Rattle.std.specs.FinSet as set
@@ -17,13 +17,14 @@ use Rattle.mig_base.specs.Ranges.{in_range, least_below}
 use Rattle.mig_base.proofs.ByteLemmas.{length-zero_page}
 use Rattle.mig_base.proofs.SetLemmas.{member_inserted}
 use Rattle.mig_base.proofs.RangeLemmas.{none_below-from, none_below-not, least_below-is, least_below-none, least_below_tells, in_range-end}
-use Rattle.mig_model.specs.Userfault.{Object, is_registered}
+use Rattle.mig_model.specs.Bounds.{IsPage}
+use Rattle.mig_model.specs.Userfault.{Object, changing, is_registered}
 use Rattle.mig_model.specs.Space.{Space, IsSoundSpace}
 use Rattle.mig_model.specs.Ioctls.{put_pages, handed, installed, is_bad_range, is_one_area, same_area, same_prot, missing_run, copied, copy_errors, copy_error, zeropage_errors, zeropage_error, stop_error, wakes, put_answer, put_by, left_by}
 use Rattle.mig_base.specs.Tests.{same_bool, is_every}
 use Rattle.mig_base.proofs.TestLemmas.{eqb-self}
 use Rattle.mig_model.proofs.IoctlLemmas.{CanPut, IsSoundSpace-installed, IsSoundSpace-copied, get-put_pages, every_page, none_holds, protect_told, can_put, length-handed}
-use Rattle.mig_model.proofs.PageCalls.{IsCalled, copy_made}
+use Rattle.mig_model.proofs.PageCalls.{IsCalled, copy_accepted, copy_made}
 use Rattle.mig_model.proofs.Registering.{pages_again}
 use Rattle.page_table.specs.Views.{Pages}
 use Rattle.page_table.specs.declared.page_table.PutFault.{PutFault}
@@ -407,10 +408,15 @@ pub record IsMovedIn (old new : Space) (page : ℕ) (bytes : List ℕ) : Type 0 
   pub copied : new ≡ copied old (4096 * page) bytes 0
   pub installed : new ≡ installed old page 1 (λ i. bytes) false
 
-pub moved_in : (areas : FinMap nat_cmp Prot) (old new : Pages) (object : Object) (now : Space) (page : ℕ) (bytes : List ℕ) → space_of areas old object ≡ now → IsSoundSpace (space_of areas old object) → page < HIGH_PAGE
-    → copy_error now (4096 * page) 4096 0 ≡ None → contains_key now.host.bytes page ≡ false → new.bytes ≡ insert old.bytes page bytes → new.protected ≡ old.protected
+quiet_tested : (count : ℕ) → count ≡ 0 → ltb 0 count ≡ false
+quiet_tested count h = rw h refl
+
+pub moved_in : (areas : FinMap nat_cmp Prot) (old new : Pages) (object : Object) (now : Space) (page : ℕ) (bytes : List ℕ) → space_of areas old object ≡ now → IsSoundSpace (space_of areas old object) → IsPage page
+    → now.object.enabled ≡ true → changing now.object ≡ 0 → is_registered now.object page ≡ true → contains_key now.host.bytes page ≡ false → new.bytes ≡ insert old.bytes page bytes → new.protected ≡ old.protected
     → ((q : ℕ) (held : List ℕ) → get new.bytes q ≡ Some held → length held ≡ 4096) → IsMovedIn now (space_of areas new object) page bytes
-moved_in areas old new object now page bytes view sound high none missing put same all =
+moved_in areas old new object now page bytes view sound inside enabled quiet registered missing put same all =
+    let high = inside.1 in
+    let none = copy_accepted now page (record { enabled = enabled; quiet = quiet_tested (changing now.object) quiet; inside = inside }) ((subst IsSoundSpace view sound).mapped page registered) registered in
     let space = space_of areas old object in
     let whole = all page bytes (ap (λ m. get m page) put ∙ get-put_same old.bytes page bytes) in
     let after : space_of areas new object ≡ installed space page 1 (λ i. bytes) false =

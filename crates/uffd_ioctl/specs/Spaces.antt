@@ -1,19 +1,21 @@
 -- The space of the code as that of the machine.
-use Rattle.std.specs.Prelude.{ℕ, ◌==◌, if◌then◌else◌, Result, Ok, Err, refl}
+use Rattle.std.specs.Prelude.{ℕ, ◌*◌, ◌==◌, ◌&&◌, not, Bool, if◌then◌else◌, Result, Ok, Err, refl}
 use Rattle.std.specs.Ordering.{nat_cmp}
 use Rattle.std.specs.FinMap.{FinMap, contains_key}
 use Rattle.std.specs.FinSet as set
 use Rattle.std.specs.FinSet.{FinSet}
 use Rattle.std.specs.Coded.{Coded, code_by, coded×, coded_ℕ}
 use Rattle.mig_base.specs.declared.Prot.{Prot}
+use Rattle.mig_base.specs.declared.TheConstants.{PAGE_SIZE}
 use Rattle.mig_base.specs.declared.command.Errno.{Errno}
 use Rattle.mig_base.specs.declared.command.Command.{Command}
 use Rattle.mig_base.specs.declared.command.Access.{Access}
 use Rattle.mig_base.specs.declared.command.Access.TheVariants.{Answered, Missing, Protected}
+use Rattle.mig_base.specs.Commands.{is_store, page_of}
 use Rattle.mig_base.specs.Flat.{Memory, after}
 use Rattle.mig_model.specs.Host.{Host, coded_host}
-use Rattle.mig_model.specs.Userfault.{Object, fresh_object, enabled_with, registered_where}
-use Rattle.mig_model.specs.Space.{Space}
+use Rattle.mig_model.specs.Userfault.{Object, fresh_object, enabled_with, registered_where, waits_fault}
+use Rattle.mig_model.specs.Space.{Space, access_of, is_made}
 use Rattle.mig_model.specs.Ioctls.{event_features, mode_of}
 use Rattle.page_table.specs.Views.{Pages}
 use Rattle.userfault.specs.Codes.{coded_object}
@@ -41,6 +43,15 @@ ioctl_result (Err errno) = Err (fault.Errno errno)
 abbrev pub assembled_object : FinMap nat_cmp Prot → ℕ → Object
 assembled_object areas bits =
     if bits == 0 then fresh_object else registered_where (enabled_with fresh_object event_features) (λ page. contains_key areas page) (mode_of bits)
+
+-- whether an access with this outcome needs memory: a page fault that does not wait yet is queued, or a store makes a page present
+abbrev pub needs_room_by : Access → Space → Command → Bool
+needs_room_by (Answered reply) space command = is_made reply && is_store command && not (contains_key space.host.bytes (page_of command))
+needs_room_by Missing space command = not (waits_fault space.object.faults (PAGE_SIZE * page_of command) false)
+needs_room_by Protected space command = not (waits_fault space.object.faults (PAGE_SIZE * page_of command) true)
+
+abbrev pub needs_room : Space → Command → Bool
+needs_room space command = needs_room_by (access_of space command) space command
 
 -- the flat memory after an access that comes to this: one that is answered is made, and a page fault changes nothing
 abbrev pub memory_after : Access → Memory → Command → Memory

@@ -1,6 +1,6 @@
 //! The type that callers see: one userfault object.
 
-ghost use Rattle.std.specs.Prelude.{◌≡◌, ℕ, ◌+◌, ◌-◌, ◌≤◌, if◌then◌else◌, Some, None, [], take, OnOk, OnErr, IfOk};
+ghost use Rattle.std.specs.Prelude.{◌≡◌, false, ℕ, ◌+◌, ◌-◌, ◌≤◌, if◌then◌else◌, Some, None, [], take, OnOk, OnErr, IfOk};
 ghost use Rattle.std.specs.Option.{option_map};
 ghost use Rattle.mig_base.specs.Ranges.{in_range};
 ghost use Rattle.mig_base.specs.declared.TheConstants.{HIGH_PAGE};
@@ -164,7 +164,8 @@ impl Userfault {
 
     /// Notes that a processor sleeps on the page at an address: by a store where `write`, on a page that is write-protected
     /// where `wp` and else on one that is missing. An unread fault of this kind at this address stays the only one, whoever
-    /// caused it, and keeps its thread; to find it all unread faults are looked through. `NoMemory` changes nothing.
+    /// caused it, and keeps its thread; to find it all unread faults are looked through. `NoMemory` comes only where no such fault
+    /// is unread, and changes nothing.
     pub fn queue_fault(
         &mut self,
         addr: Addr,
@@ -173,6 +174,7 @@ impl Userfault {
         cpu: u8,
     ) -> Result<(), NoMemory>
         ensures ok { OnOk result (self.new ≡ machine.fault_queued self.old addr write wp cpu) }
+        ensures memory { OnErr result (machine.waits_fault self.old.faults addr wp ≡ false) }
         ensures err { OnErr result (self.new ≡ self.old) }
     {
         if waits(&self.faults, addr, wp) {

@@ -37,8 +37,16 @@ pub record IsWhole (old : machine.Wire) (n : ℕ) (sent : Sent) : Type 0 where
   pub first : old.frames ≡ sent_of sent ∷ rest
   pub whole : is_short old (frame_of sent.frame) n ≡ false
 
--- what comes of so many more bytes of the first frame: they are with the decoder, or complete it, or want for memory
+-- they complete the first frame, whichever it is
+pub record Completes (old : machine.Wire) (n : ℕ) : Type 0 where
+  pub sent : machine.Sent
+  pub rest : List machine.Sent
+  pub first : old.frames ≡ sent ∷ rest
+  pub whole : is_short old sent.frame n ≡ false
+
+-- what comes of so many more bytes of the first frame: they are with the decoder, or complete it, or there is no memory for the frame
+-- that they complete
 abbrev pub Arrives : machine.Wire → ℕ → Result (Option Sent) NoMemory → machine.Wire → Type 0
 Arrives old n (Ok None) new = ((old.frames ≡ []) × (new ≡ old)) ⊎ IsMoved old n new
 Arrives old n (Ok (Some sent)) new = IsWhole old n sent × (new ≡ old)
-Arrives old n (Err error) new = new ≡ old
+Arrives old n (Err error) new = Completes old n × (new ≡ old)

@@ -93,7 +93,7 @@ impl Wire {
     /// frame, read from its bytes, and the wire is as before until [`drop_first`](Wire::drop_first): whoever cannot take the frame lets
     /// it come again. Where nothing is in flight the answer is `None`.
     ///
-    /// `NoMemory` is for the frame that is read, and leaves the wire as it was.
+    /// `NoMemory` is for the frame that is read, so it comes only where the bytes complete one, and leaves the wire as it was.
     pub fn arrive(&mut self, n: u64) -> Result<Option<Sent>, NoMemory>
         ensures arrived { Arrives self.old.wire n result self.new.wire }
         ensures frame { IfOk result (λ read. IfSome read (λ sent. IsFrame (frame_of sent.frame))) }

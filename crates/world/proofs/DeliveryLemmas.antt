@@ -1,5 +1,5 @@
 -- Deliveries: what is refused, what moves bytes alone, and what a node takes.
-use Rattle.std.proofs.Common.{◌≡◌, ℕ, ◌≤◌, Bool, true, false, not, ◌&&◌, Option, Some, None, Ok, Err, List, [], ◌∷◌, length, refl, sym, ap, ◌∙◌, subst, inr, ⊎_elim, arith}
+use Rattle.std.proofs.Common.{◌≡◌, ℕ, ◌≤◌, Bool, true, false, not, ◌&&◌, Option, Some, None, Ok, Err, List, [], ◌∷◌, length, refl, sym, ap, ◌∙◌, subst, inl, inr, ⊎_elim, arith, is_some, unwrap_or}
 use Rattle.std.proofs.lemmas.Bool.{false≢true, not-false}
 use Rattle.std.proofs.lemmas.Bool.Decides.{nat_tests}
 use Rattle.std.specs.Ordering.{nat_cmp}
@@ -11,9 +11,9 @@ use Rattle.mig_base.specs.declared.phase.Received.{Received}
 use Rattle.mig_base.specs.declared.refusal.Refusal.{Refusal}
 use Rattle.mig_base.specs.declared.schedule.Step.{Step}
 use Rattle.mig_model.specs.Destination.{Destination, destination_answers, destination_took, urgent_took}
-use Rattle.mig_model.specs.Faults.{back_fault, frame_fault, rebuild_fault, take_fault, urgent_fault}
+use Rattle.mig_model.specs.Faults.{back_fault, frame_fault, rebuild_fault, take_fault, urgent_fault, wait_fault}
 use Rattle.mig_model.specs.Migration.{Answer, World, after_deliver, after_deliver_back, after_deliver_urgent, after_move, after_move_back, after_move_urgent, answer, deliver_back_first, deliver_first, deliver_urgent_first, frame_effect, is_early, is_end, is_short, made, outcome, outcome_by, unless}
-use Rattle.mig_model.specs.Runs.{Happens, may_lack}
+use Rattle.mig_model.specs.Runs.{Happens, is_move, may_lack}
 use Rattle.mig_model.specs.Source.{Source, rebuild_frames, source_answers, source_took}
 use Rattle.mig_model.specs.Wire.{Frame, Sent, Wire, wire_behind, wire_if, wire_with}
 use Rattle.mig_model.specs.Wire.Frame.{Recv}
@@ -32,7 +32,7 @@ use Rattle.recovery.specs.Breaks.{frames_of}
 use Rattle.wires.specs.Lanes.{Arrives, IsMoved, IsWhole, sent_of}
 use Rattle.wires.specs.declared.sent.Sent.{Sent as CodeSent}
 use Rattle.world.specs.Answers.{moving_answer}
-use Rattle.world.specs.Deliveries.{AreFrames, IsRefused, IsReceived, refusal_by}
+use Rattle.world.specs.Deliveries.{AreFrames, IsRefused, IsReceived, waiting_refusal}
 use Rattle.world.specs.Worlds.{IsWorld}
 use Rattle.world.proofs.FlightLemmas.{all_good, good, world_happens}
 use Rattle.world.proofs.StepLemmas.{happens_made, happens_refused}
@@ -126,36 +126,64 @@ deliver_took world n sent left back effect node h first held full received answe
 
 -- A frame that is refused
 
-wait_refused : (world : World) (sent : Sent) (rest : List Sent) (fault : TakeFault) → frame_fault world.destination sent.epoch sent.frame ≡ None → take_fault world.destination sent.epoch sent.frame ≡ Some fault → complete_answer world sent rest ≡ Err (refusal_by fault)
+some_told : {refusal : Refusal} (told : Option Refusal) → is_some told ≡ true → refusal ≡ unwrap_or told Refusal.NoMemory → told ≡ Some refusal
+some_told {refusal} (Some other) some is = ap Some (sym is)
+some_told {refusal} None some is = absurd (false≢true some)
+
+take_is : (node : Destination) (sent : Sent) → frame_fault node sent.epoch sent.frame ≡ None → take_fault node sent.epoch sent.frame ≡ wait_fault node sent.frame
+take_is node sent right = ap (λ o. elim o [ None ↦ wait_fault node sent.frame | Some other ↦ Some other ]) right
+
+waits_alone : (node : Destination) (frame : Frame) (fault : TakeFault) → wait_fault node frame ≡ Some fault → is_some (waiting_refusal fault) ≡ true
+waits_alone node frame fault h = grind (arith, nat_tests)
+
+refused_by : (node : Destination) (sent : Sent) (fault : TakeFault) (refusal : Refusal) (waits : Option TakeFault) → take_fault node sent.epoch sent.frame ≡ waits → wait_fault node sent.frame ≡ waits → fault ≡ unwrap_or waits TakeFault.NoMemory →
+    refusal ≡ unwrap_or (waiting_refusal fault) Refusal.NoMemory → IsRefused node sent refusal
+refused_by node sent fault refusal None take wait is told = inl (told ∙ ap (λ f. unwrap_or (waiting_refusal f) Refusal.NoMemory) is)
+refused_by node sent fault refusal (Some other) take wait is told =
+    inr (other, take, some_told (waiting_refusal other) (waits_alone node sent.frame other wait) (told ∙ ap (λ f. unwrap_or (waiting_refusal f) Refusal.NoMemory) is))
+
+wait_refused : (world : World) (sent : Sent) (rest : List Sent) (fault : TakeFault) (refusal : Refusal) → frame_fault world.destination sent.epoch sent.frame ≡ None → take_fault world.destination sent.epoch sent.frame ≡ Some fault → waiting_refusal fault ≡ Some refusal →
+    complete_answer world sent rest ≡ Err refusal
 unfolding unless
-wait_refused world sent rest fault right waits = grind (arith, nat_tests)
+wait_refused world sent rest fault refusal right waits is = grind (arith, nat_tests)
+
+-- a frame that has no fault of its own is refused for one of the two for which it has to wait, or there is no memory for it
+pub refused_waits : (node : Destination) (sent : Sent) (fault : TakeFault) (refusal : Refusal) → frame_fault node sent.epoch sent.frame ≡ None → fault ≡ unwrap_or (take_fault node sent.epoch sent.frame) TakeFault.NoMemory →
+    refusal ≡ unwrap_or (waiting_refusal fault) Refusal.NoMemory → IsRefused node sent refusal
+refused_waits node sent fault refusal right is told = refused_by node sent fault refusal (wait_fault node sent.frame) (take_is node sent right) refl (is ∙ ap (λ o. unwrap_or o TakeFault.NoMemory) (take_is node sent right)) told
+
+no_move : {b : Bool} → b ≡ false → (true && not (true && b)) ≡ true
+no_move {b} h = rw h refl
+
+-- the taking of a frame moves no bytes alone
+frame_no_move : (frame : Frame) → is_move (frame_effect frame) ≡ false
+frame_no_move frame = grind (arith, nat_tests)
 
 lacks_at_all : (world : World) (n : ℕ) (sent : Sent) (rest : List Sent) → may_lack (Step.Deliver n) (outcome_by (complete_answer world sent rest)) ≡ true
 unfolding unless
-lacks_at_all world n sent rest = grind (arith, nat_tests)
+lacks_at_all world n sent rest = grind (arith, nat_tests, frame_no_move)
 
-lacks_first : (world : World) (n : ℕ) (sent : Sent) (rest : List Sent) (short : Bool) → is_short world.forward sent.frame n ≡ short → may_lack (Step.Deliver n) (outcome_by (deliver_first world n (sent ∷ rest))) ≡ true
-lacks_first world n sent rest true short = rw short refl
-lacks_first world n sent rest false full = rw full (lacks_at_all world n sent rest)
+lacks_first : (world : World) (n : ℕ) (sent : Sent) (rest : List Sent) → is_short world.forward sent.frame n ≡ false → may_lack (Step.Deliver n) (outcome_by (deliver_first world n (sent ∷ rest))) ≡ true
+lacks_first world n sent rest full = rw full (lacks_at_all world n sent rest)
 
--- memory may be wanted for the bytes, for the frame and for what is made of it
-pub deliver_lacking : (world : World) (n : ℕ) (sent : Sent) (rest : List Sent) → moving_answer world ≡ Ok tt → world.forward.frames ≡ sent ∷ rest → Happens world (Step.Deliver n) (Err Refusal.NoMemory) world
+-- memory may be refused for a frame that is complete, and for its answer
+pub deliver_lacking : (world : World) (n : ℕ) (sent : Sent) (rest : List Sent) → moving_answer world ≡ Ok tt → world.forward.frames ≡ sent ∷ rest → is_short world.forward sent.frame n ≡ false → Happens world (Step.Deliver n) (Err Refusal.NoMemory) world
 unfolding outcome
-deliver_lacking world n sent rest h first =
-    inr (refl, ap (λ a. may_lack (Step.Deliver n) (outcome_by a)) (deliver_moving world n h ∙ ap (deliver_first world n) first) ∙ lacks_first world n sent rest (is_short world.forward sent.frame n) refl, refl)
+deliver_lacking world n sent rest h first full =
+    inr (refl, ap (λ a. may_lack (Step.Deliver n) (outcome_by a)) (deliver_moving world n h ∙ ap (deliver_first world n) first) ∙ lacks_first world n sent rest full, refl)
 
-deliver_waits : (world : World) (n : ℕ) (sent : Sent) (rest : List Sent) (fault : TakeFault) → moving_answer world ≡ Ok tt → world.forward.frames ≡ sent ∷ rest → is_short world.forward sent.frame n ≡ false → frame_fault world.destination sent.epoch sent.frame ≡ None →
-    take_fault world.destination sent.epoch sent.frame ≡ Some fault → outcome world (Step.Deliver n) ≡ Err (refusal_by fault)
+deliver_waits : (world : World) (n : ℕ) (sent : Sent) (rest : List Sent) (fault : TakeFault) (refusal : Refusal) → moving_answer world ≡ Ok tt → world.forward.frames ≡ sent ∷ rest → is_short world.forward sent.frame n ≡ false → frame_fault world.destination sent.epoch sent.frame ≡ None →
+    take_fault world.destination sent.epoch sent.frame ≡ Some fault → waiting_refusal fault ≡ Some refusal → outcome world (Step.Deliver n) ≡ Err refusal
 unfolding outcome
-deliver_waits world n sent rest fault h first full right waits = ap outcome_by (deliver_complete world n sent rest h first full ∙ wait_refused world sent rest fault right waits)
+deliver_waits world n sent rest fault refusal h first full right waits is = ap outcome_by (deliver_complete world n sent rest h first full ∙ wait_refused world sent rest fault refusal right waits is)
 
 pub deliver_refused : (world : World) (n : ℕ) (sent : Sent) (rest : List Sent) (refusal : Refusal) → moving_answer world ≡ Ok tt → world.forward.frames ≡ sent ∷ rest → is_short world.forward sent.frame n ≡ false → frame_fault world.destination sent.epoch sent.frame ≡ None →
     IsRefused world.destination sent refusal → Happens world (Step.Deliver n) (Err refusal) world
 deliver_refused world n sent rest refusal h first full right back =
     ⊎_elim
-    (λ (short : refusal ≡ Refusal.NoMemory). subst (λ r. Happens world (Step.Deliver n) (Err r) world) (sym short) (deliver_lacking world n sent rest h first))
-    (λ (waits : (fault : TakeFault) × (take_fault world.destination sent.epoch sent.frame ≡ Some fault) × (refusal ≡ refusal_by fault)).
-    subst (λ r. Happens world (Step.Deliver n) (Err r) world) (sym waits.2) (happens_refused world (Step.Deliver n) (refusal_by waits.0) (deliver_waits world n sent rest waits.0 h first full right waits.1)))
+    (λ (short : refusal ≡ Refusal.NoMemory). subst (λ r. Happens world (Step.Deliver n) (Err r) world) (sym short) (deliver_lacking world n sent rest h first full))
+    (λ (waits : (fault : TakeFault) × (take_fault world.destination sent.epoch sent.frame ≡ Some fault) × (waiting_refusal fault ≡ Some refusal)).
+    happens_refused world (Step.Deliver n) refusal (deliver_waits world n sent rest waits.0 refusal h first full right waits.1 waits.2))
     back
 
 -- no frame is refused but for having to wait
@@ -206,14 +234,13 @@ back_took world n sent left forward node h first held full took answered =
     }))
     ∙ (λ i. made (frame_effect sent.frame) (record world { source = node; back = left; forward = sym answered i })))
 
-back_lacks_first : (world : World) (n : ℕ) (sent : Sent) (rest : List Sent) (short : Bool) → is_short world.back sent.frame n ≡ short → may_lack (Step.DeliverBack n) (outcome_by (deliver_back_first world n (sent ∷ rest))) ≡ true
-back_lacks_first world n sent rest true short = rw short refl
-back_lacks_first world n sent rest false full = rw full refl
+back_lacks_first : (world : World) (n : ℕ) (sent : Sent) (rest : List Sent) → is_short world.back sent.frame n ≡ false → may_lack (Step.DeliverBack n) (outcome_by (deliver_back_first world n (sent ∷ rest))) ≡ true
+back_lacks_first world n sent rest full = rw full (no_move (frame_no_move sent.frame))
 
-pub back_lacking : (world : World) (n : ℕ) (sent : Sent) (rest : List Sent) → moving_answer world ≡ Ok tt → world.back.frames ≡ sent ∷ rest → Happens world (Step.DeliverBack n) (Err Refusal.NoMemory) world
+pub back_lacking : (world : World) (n : ℕ) (sent : Sent) (rest : List Sent) → moving_answer world ≡ Ok tt → world.back.frames ≡ sent ∷ rest → is_short world.back sent.frame n ≡ false → Happens world (Step.DeliverBack n) (Err Refusal.NoMemory) world
 unfolding outcome
-back_lacking world n sent rest h first =
-    inr (refl, ap (λ a. may_lack (Step.DeliverBack n) (outcome_by a)) (back_moving world n h ∙ ap (deliver_back_first world n) first) ∙ back_lacks_first world n sent rest (is_short world.back sent.frame n) refl, refl)
+back_lacking world n sent rest h first full =
+    inr (refl, ap (λ a. may_lack (Step.DeliverBack n) (outcome_by a)) (back_moving world n h ∙ ap (deliver_back_first world n) first) ∙ back_lacks_first world n sent rest full, refl)
 
 pub back_right : (world : World) (sent : Sent) (rest : List Sent) → IsReached world → moving_answer world ≡ Ok tt → world.back.frames ≡ sent ∷ rest → back_fault world.source sent.epoch sent.frame ≡ None
 back_right world sent rest reached h first =
@@ -279,14 +306,13 @@ urgent_did world n sent left node ran up first held full took =
     happens_made world (record world { destination = node; urgent = left }) (Step.DeliverUrgent n) (frame_effect sent.frame)
     (urgent_takes world n sent left.frames ran up first full ∙ (λ i. made (frame_effect sent.frame) (record world { destination = sym took i; urgent = sym (left_is left held) i })))
 
-urgent_lacks_first : (world : World) (n : ℕ) (sent : Sent) (rest : List Sent) (short : Bool) → is_short world.urgent sent.frame n ≡ short → may_lack (Step.DeliverUrgent n) (outcome_by (deliver_urgent_first world n (sent ∷ rest))) ≡ true
-urgent_lacks_first world n sent rest true short = rw short refl
-urgent_lacks_first world n sent rest false full = rw full refl
+urgent_lacks_first : (world : World) (n : ℕ) (sent : Sent) (rest : List Sent) → is_short world.urgent sent.frame n ≡ false → may_lack (Step.DeliverUrgent n) (outcome_by (deliver_urgent_first world n (sent ∷ rest))) ≡ true
+urgent_lacks_first world n sent rest full = rw full (no_move (frame_no_move sent.frame))
 
-pub urgent_lacking : (world : World) (n : ℕ) (sent : Sent) (rest : List Sent) → not world.destination.has_run ≡ false → not world.up ≡ false → world.urgent.frames ≡ sent ∷ rest → Happens world (Step.DeliverUrgent n) (Err Refusal.NoMemory) world
+pub urgent_lacking : (world : World) (n : ℕ) (sent : Sent) (rest : List Sent) → not world.destination.has_run ≡ false → not world.up ≡ false → world.urgent.frames ≡ sent ∷ rest → is_short world.urgent sent.frame n ≡ false → Happens world (Step.DeliverUrgent n) (Err Refusal.NoMemory) world
 unfolding outcome
-urgent_lacking world n sent rest ran up first =
-    inr (refl, ap (λ a. may_lack (Step.DeliverUrgent n) (outcome_by a)) (urgent_moving world n ran up ∙ ap (deliver_urgent_first world n) first) ∙ urgent_lacks_first world n sent rest (is_short world.urgent sent.frame n) refl, refl)
+urgent_lacking world n sent rest ran up first full =
+    inr (refl, ap (λ a. may_lack (Step.DeliverUrgent n) (outcome_by a)) (urgent_moving world n ran up ∙ ap (deliver_urgent_first world n) first) ∙ urgent_lacks_first world n sent rest full, refl)
 
 pub urgent_right : (world : World) (sent : Sent) (rest : List Sent) → IsReached world → not world.destination.has_run ≡ false → not world.up ≡ false → world.urgent.frames ≡ sent ∷ rest → urgent_fault world.destination sent.epoch sent.frame ≡ None
 urgent_right world sent rest reached ran up first = no_urgent_fault world.destination sent (is_taken_urgent world sent rest (kept-reached world reached) (urgent-reached world reached) (not-false _ ran) (not-false _ up) first)

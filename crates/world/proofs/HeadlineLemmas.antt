@@ -52,6 +52,7 @@ headline_reached world reached =
       current = kept.memory.holds;
       settles = settles world reached;
       under_way = λ ran. are_under_way world kept (urgent-reached world reached) ran;
+      urgent = (urgent-reached world reached).faithful;
       packaged = λ up stopped ran. is_switching world kept up stopped ran;
       received = λ up paused runs. is_receiving world kept up paused runs;
       clean = λ up precopy. is_precopying world kept up precopy;

@@ -6,17 +6,17 @@ use Rattle.mig_base.specs.declared.schedule.Step.{Step}
 use Rattle.mig_base.specs.declared.schedule.Ticket.{Ticket}
 use Rattle.mig_model.specs.Migration.{World, outcome, unless}
 use Rattle.mig_model.specs.Source.{Source}
-use Rattle.mig_model.specs.Runs.{Outcome, needs_memory}
+use Rattle.mig_model.specs.Runs.{Outcome}
 use Rattle.precopy.proofs.WorldLemmas.{end_in, push_in, push_urgent_in, send_in, send_run_in, switch_in}
 use Rattle.precopy.specs.Steps.{IsChecked, world_of}
 use Rattle.world.specs.Answers.{IsAnswered, is_phase, stopped_answer, unless_down}
-use Rattle.world.proofs.StepLemmas.{IsOfSource, source_outcome}
+use Rattle.world.proofs.StepLemmas.{IsOfSource, needs_always, source_outcome}
 
 -- a step that sends is its source's while the link is up, and else a wrong phase comes before the broken link
 pub record Sends (world : World) (step : Step) : Type 0 where
   pub with_link : world.up ≡ true → IsOfSource world step
   pub without : world.up ≡ false → outcome world step ≡ unless_down false (outcome (world_of world.source) step)
-  pub needs : needs_memory step ≡ true
+  pub needs : needs_always step ≡ true
 
 down_send : (world : World) → world.up ≡ false → outcome world Step.Send ≡ unless_down false (outcome (world_of world.source) Step.Send)
 unfolding unless outcome

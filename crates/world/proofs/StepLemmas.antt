@@ -1,6 +1,7 @@
 -- What happens where a node makes a step, or refuses it.
-use Rattle.std.proofs.Common.{◌≡◌, ℕ, Bool, true, false, Ok, Err, IsOk, IfOk, IfErr, OnErr, Result, List, [], ◌∷◌, ◌++◌, refl, sym, ap, ◌∙◌, subst, inl, inr, ⊎_elim}
+use Rattle.std.proofs.Common.{◌≡◌, ℕ, ◌&&◌, not, Bool, true, false, Ok, Err, IsOk, IfOk, IfErr, OnErr, Result, List, [], ◌∷◌, ◌++◌, refl, sym, ap, ◌∙◌, subst, inl, inr, ⊎_elim, arith}
 use Rattle.std.proofs.lemmas.Bool.{false≢true}
+use Rattle.std.proofs.lemmas.Bool.Decides.{nat_tests}
 use Rattle.std.proofs.lemmas.List.{append-nil}
 use Rattle.mig_base.specs.declared.command.Entry.{Entry}
 use Rattle.mig_base.specs.declared.effect.Effect.{Effect}
@@ -8,7 +9,7 @@ use Rattle.mig_base.specs.declared.refusal.Refusal.{Refusal}
 use Rattle.mig_base.specs.declared.schedule.Step.{Step}
 use Rattle.mig_model.specs.Destination.{Destination}
 use Rattle.mig_model.specs.Migration.{Answer, World, answer, made, next, next_by, outcome, outcome_by}
-use Rattle.mig_model.specs.Runs.{Happens, Outcome, may_lack, needs_memory}
+use Rattle.mig_model.specs.Runs.{Happens, Outcome, is_delivery, may_lack, needs_memory}
 use Rattle.mig_model.specs.Source.{Source}
 use Rattle.mig_model.specs.Wire.{Frame, Sent, Wire, sending, wire_if, wire_with}
 use Rattle.mig_model.proofs.WireLemmas.{sending-behind}
@@ -29,12 +30,16 @@ pub happens_refused : (world : World) (step : Step) (refusal : Refusal) → outc
 unfolding outcome next
 happens_refused world step refusal h = inl (sym h, sym (stays_by world (answer world step) refusal h))
 
-lacks_by : (step : Step) (result : Outcome) → IsOk result → needs_memory step ≡ true → may_lack step result ≡ true
-lacks_by step (Ok effect) ok needs = needs
+-- the steps that may need memory whatever effect they have
+abbrev pub needs_always : Step → Bool
+needs_always step = needs_memory step && not (is_delivery step)
+
+lacks_by : (step : Step) (result : Outcome) → IsOk result → needs_always step ≡ true → may_lack step result ≡ true
+lacks_by step (Ok effect) ok needs = grind (arith, nat_tests)
 lacks_by step (Err refusal) ok needs = absurd (false≢true ok)
 
 -- want of memory
-pub happens_lacking : (world : World) (step : Step) → IsOk (outcome world step) → needs_memory step ≡ true → Happens world step (Err Refusal.NoMemory) world
+pub happens_lacking : (world : World) (step : Step) → IsOk (outcome world step) → needs_always step ≡ true → Happens world step (Err Refusal.NoMemory) world
 happens_lacking world step ok needs = inr (refl, lacks_by step (outcome world step) ok needs, refl)
 
 -- Frames behind others
@@ -60,7 +65,7 @@ pub source_outcome : (world : World) (step : Step) → IsOfSource world step →
 unfolding outcome
 source_outcome world step is = ap outcome_by is ∙ in_outcome world (answer (from.world_of world.source) step)
 
-pub source_refused : (world : World) (step : Step) (refusal : Refusal) → IsOfSource world step → needs_memory step ≡ true → from.IsRefused world.source step refusal → Happens world step (Err refusal) world
+pub source_refused : (world : World) (step : Step) (refusal : Refusal) → IsOfSource world step → needs_always step ≡ true → from.IsRefused world.source step refusal → Happens world step (Err refusal) world
 source_refused world step refusal is needs refused =
     ⊎_elim
     (λ (h : from.IsRefusedAs world.source step refusal). happens_refused world step refusal (source_outcome world step is ∙ h))
@@ -124,7 +129,7 @@ pub destination_outcome : (world : World) (step : Step) → IsOfDestination worl
 unfolding outcome
 destination_outcome world step is = ap outcome_by is ∙ to_outcome world (answer (to.world_of world.destination) step)
 
-pub destination_refused : (world : World) (step : Step) (refusal : Refusal) → IsOfDestination world step → needs_memory step ≡ true → to.IsRefused world.destination step refusal → Happens world step (Err refusal) world
+pub destination_refused : (world : World) (step : Step) (refusal : Refusal) → IsOfDestination world step → needs_always step ≡ true → to.IsRefused world.destination step refusal → Happens world step (Err refusal) world
 destination_refused world step refusal is needs refused =
     ⊎_elim
     (λ (h : to.IsRefusedAs world.destination step refusal). happens_refused world step refusal (destination_outcome world step is ∙ h))
@@ -168,7 +173,7 @@ destination_tried world step effect entries transcript new is tried entered =
 
 -- Steps that send nothing, whatever they answer
 
-pub source_step : (world : World) (step : Step) (result : Result Effect Refusal) (new : Source) → IsOfSource world step → needs_memory step ≡ true → IfOk result (λ effect. from.IsMade world.source step effect [] new) → IfErr result (from.IsRefused world.source step) → OnErr result (new ≡ world.source) →
+pub source_step : (world : World) (step : Step) (result : Result Effect Refusal) (new : Source) → IsOfSource world step → needs_always step ≡ true → IfOk result (λ effect. from.IsMade world.source step effect [] new) → IfErr result (from.IsRefused world.source step) → OnErr result (new ≡ world.source) →
     Happens world step result (record world { source = new })
 source_step world step (Ok effect) new is needs made_ refused same = source_alone world step effect new is made_
 source_step world step (Err refusal) new is needs made_ refused same = rw same (source_refused world step refusal is needs refused)
@@ -178,7 +183,7 @@ pub source_step_without : (world : World) (step : Step) (result : Result Effect 
 source_step_without world step (Ok effect) new is made_ refused same = source_alone world step effect new is made_
 source_step_without world step (Err refusal) new is made_ refused same = rw same (happens_refused world step refusal (source_outcome world step is ∙ refused))
 
-pub destination_step : (world : World) (step : Step) (result : Result Effect Refusal) (new : Destination) → IsOfDestination world step → needs_memory step ≡ true → IfOk result (λ effect. to.IsMade world.destination step effect [] new) → IfErr result (to.IsRefused world.destination step) → OnErr result (new ≡ world.destination) →
+pub destination_step : (world : World) (step : Step) (result : Result Effect Refusal) (new : Destination) → IsOfDestination world step → needs_always step ≡ true → IfOk result (λ effect. to.IsMade world.destination step effect [] new) → IfErr result (to.IsRefused world.destination step) → OnErr result (new ≡ world.destination) →
     Happens world step result (record world { destination = new })
 destination_step world step (Ok effect) new is needs made_ refused same = destination_alone world step effect new is made_
 destination_step world step (Err refusal) new is needs made_ refused same = rw same (destination_refused world step refusal is needs refused)

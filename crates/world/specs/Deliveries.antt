@@ -1,5 +1,5 @@
 -- What a destination makes of a frame that it is handed in a world.
-use Rattle.std.specs.Prelude.{◌≡◌, ◌⊎◌, None, Some, List, [], ◌∷◌}
+use Rattle.std.specs.Prelude.{◌≡◌, ◌⊎◌, Option, None, Some, List, [], ◌∷◌}
 use Rattle.mig_base.specs.declared.effect.Effect.{Effect}
 use Rattle.mig_base.specs.declared.fault.TakeFault.{TakeFault}
 use Rattle.mig_base.specs.declared.refusal.Refusal.{Refusal}
@@ -14,11 +14,11 @@ abbrev pub AreFrames : List Frame → Type 0
 AreFrames [] = Unit {0}
 AreFrames (frame ∷ frames) = IsFrame frame × AreFrames frames
 
--- how a delivery is refused for a fault. But for those that have it wait, no frame in a world has one
-abbrev pub refusal_by : TakeFault → Refusal
-refusal_by TakeFault.InstallFirst = Refusal.InstallFirst
-refusal_by TakeFault.UrgentFirst = Refusal.UrgentFirst
-refusal_by fault = Refusal.NoMemory
+-- how a delivery is refused whose frame has to wait
+abbrev pub waiting_refusal : TakeFault → Option Refusal
+waiting_refusal TakeFault.InstallFirst = Some Refusal.InstallFirst
+waiting_refusal TakeFault.UrgentFirst = Some Refusal.UrgentFirst
+waiting_refusal fault = None
 
 -- the destination has taken it
 pub record IsReceived (old : Destination) (sent : Sent) (effect : Effect) (new : Destination) : Type 0 where
@@ -26,7 +26,7 @@ pub record IsReceived (old : Destination) (sent : Sent) (effect : Effect) (new :
   pub told : effect ≡ frame_effect sent.frame
   pub node : new ≡ destination_took old sent.epoch sent.frame
 
--- it was not taken, for want of memory, or since it has to wait
+-- it was not taken: there was no memory, or it has to wait
 abbrev pub IsRefused : Destination → Sent → Refusal → Type 0
 IsRefused old sent refusal =
-    (refusal ≡ Refusal.NoMemory) ⊎ ((fault : TakeFault) × (take_fault old sent.epoch sent.frame ≡ Some fault) × (refusal ≡ refusal_by fault))
+    (refusal ≡ Refusal.NoMemory) ⊎ ((fault : TakeFault) × (take_fault old sent.epoch sent.frame ≡ Some fault) × (waiting_refusal fault ≡ Some refusal))

@@ -1,6 +1,12 @@
 -- What is promised of every world, whatever list of steps has led to it: by processors, handlers, pushers and deliveries, lost channels and
 -- resumptions. The transcript is the run of one flat memory on the same commands, in the order in which they took effect; no page is
 -- installed over one that is present; and when the migration is complete, the destination alone holds that flat memory, and no page is owed.
+--
+-- `reached` carries what the laws of mig_model/src/migration.rt say of every such world, and what stands in them alone: no frame is
+-- refused (no_frame_is_refused); a page that is pushed does not come to remain again in its epoch (pages_that_remain); how a command comes
+-- to wait and ends (a_waiting_command), what is entered (what_is_entered) and which reply a map call gets (replies_of_map_calls); each step
+-- changes only its own parts (each_step_changes_its_parts, a_delivery_is_a_function); the wires keep their order (the_wires); completion
+-- comes exactly by Done, or by a Recv of a destination that has ended (completion), and can be brought about (a_migration_can_complete).
 use Rattle.std.specs.Prelude.{◌≡◌, ℕ, ◌/◌, ◌==◌, true, false, if◌then◌else◌, None, Ok, IsOk, List}
 use Rattle.mig_base.specs.Commands.{is_access}
 use Rattle.mig_base.specs.Flat.{IsFlatRun, memory_of, reply_of}
@@ -12,7 +18,7 @@ use Rattle.mig_base.specs.declared.schedule.Step.{Step}
 use Rattle.mig_base.specs.declared.phase.WorldPhase.{WorldPhase}
 use Rattle.mig_model.specs.Destination.{is_running, settled}
 use Rattle.mig_model.specs.Host.{memory}
-use Rattle.mig_model.specs.Whereabouts.{IsPrecopying, IsReceiving, IsSwitching, current_host}
+use Rattle.mig_model.specs.Whereabouts.{AreFaithful, IsPrecopying, IsReceiving, IsSwitching, copies_of, current_host}
 use Rattle.mig_model.specs.Migration.{World, after_steps, next, outcome}
 use Rattle.mig_model.specs.Promises.{AreUnderWay, ArePaired, IsAlone, IsComplete, IsPut, IsReached, IsZeroed, leaves_settled, owed_changed}
 use Rattle.mig_model.specs.Source.{is_precopy, is_source_paused, is_stopped, space_of}
@@ -53,6 +59,8 @@ pub record Headline (world : World) : Type 0 where
   pub settles : SettlesRight world
   -- from the run on, each owed page is still to be pushed, in flight or arrived, with the source's bytes
   pub under_way : world.destination.has_run ≡ true → AreUnderWay world
+  -- before the run as well, each copy on the urgent wire has the source's bytes
+  pub urgent : AreFaithful (space_of world.source).host.bytes (copies_of world.urgent.frames)
   -- between Switch and the run, what will be kept is what the source has and does not owe
   pub packaged : world.up ≡ true → is_stopped world.source.phase ≡ true → world.destination.has_run ≡ false →
       IsSwitching world.source world.destination.kept world.forward.frames world.urgent.frames

@@ -1,6 +1,6 @@
 //! What is told of a frame that a node takes, what it answers, and frames that are put on a wire.
 
-ghost use Rattle.std.specs.Prelude.{◌≡◌, ◌≤◌, ◌<◌, ◌+◌, ◌++◌, true, None, length, map, option_to_list, IfOk, IfErr, OnOk, OnErr};
+ghost use Rattle.std.specs.Prelude.{◌≡◌, ◌≤◌, ◌<◌, ◌+◌, ◌++◌, true, None, length, map, option_to_list, unwrap_or, IfOk, IfErr, OnOk, OnErr};
 ghost use Rattle.std.specs.FinSet.{FinSet};
 ghost use Rattle.std.specs.Ordering.{nat_cmp};
 ghost use Rattle.mig_base.specs.declared.phase.Received.{Received};
@@ -14,7 +14,7 @@ ghost use Rattle.fault_handler.specs.Taking.{answered_at_once};
 ghost use Rattle.page_stream.specs.Frames.{frame_of};
 ghost use Rattle.recovery.specs.Breaks.{frames_of};
 ghost use Rattle.wires.specs.Lanes.{sent_of};
-ghost use Rattle.world.specs.Deliveries.{AreFrames, IsRefused, IsReceived, refusal_by};
+ghost use Rattle.world.specs.Deliveries.{AreFrames, IsRefused, IsReceived, waiting_refusal};
 
 use fault_handler::Destination;
 use mig_base::effect::Effect;
@@ -180,14 +180,14 @@ pub(crate) fn told(frame: &Frame) -> Effect
     }
 }
 
-/// How a delivery is refused whose frame the destination does not take now.
+/// How a delivery is refused whose frame the destination does not take now. No frame in a world has another fault than the two for
+/// which it waits, so what is left is that memory was refused.
 fn refusal_of(fault: TakeFault) -> Refusal
-    ensures { result ≡ refusal_by fault }
+    ensures { result ≡ unwrap_or (waiting_refusal fault) Refusal.NoMemory }
 {
     match fault {
         TakeFault::InstallFirst => Refusal::InstallFirst,
         TakeFault::UrgentFirst => Refusal::UrgentFirst,
-        // The others are of no frame in a world.
         TakeFault::NoMemory | TakeFault::OutOfPlace | TakeFault::StaleEpoch | TakeFault::BadFrame =>
             Refusal::NoMemory,
     }

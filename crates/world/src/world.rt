@@ -1,9 +1,10 @@
 //! The type that callers see.
 
-ghost use Rattle.std.specs.Prelude.{◌≡◌, ◌↔◌, ◌==◌, ◌||◌, nat_lt, true, Ok, Err, ◌⊎◌, IfOk, IfErr, OnErr};
+ghost use Rattle.std.specs.Prelude.{◌≡◌, ◌↔◌, ◌==◌, ◌||◌, nat_lt, true, false, Ok, Err, ◌⊎◌, IfOk, IfErr, OnErr};
 ghost use Rattle.mig_base.specs.Flat.{IsFlatRun};
 ghost use Rattle.mig_model.specs.Runs.{Happens, IsRun};
 ghost use Rattle.mig_model.specs.Views.{new_world_with};
+ghost use Rattle.vcpu.specs.Answers.{is_count};
 ghost use Rattle.world.specs.Answers.{new_refusal};
 ghost use Rattle.world.specs.Headline.{Headline};
 
@@ -47,10 +48,12 @@ impl Model for World {
 }
 
 impl World {
-    /// A world in which nothing has happened, of `cpus` idle processors. `NoCpu` unless there are 1 to 16.
+    /// A world in which nothing has happened, of `cpus` idle processors. `NoCpu` exactly where `cpus` is not 1 to 16; else the only
+    /// refusal is `NoMemory`.
     pub fn new(alloc: Global, cpus: u8) -> Result<World, Refusal>
         ensures ok { IfOk result (λ world. new_world_with cpus 0 0 ≡ Ok world) }
         ensures refused { IfErr result (λ refusal. (refusal ≡ Refusal.NoMemory) ⊎ (new_world_with cpus 0 0 ≡ Err refusal)) }
+        ensures no_cpu { (result ≡ Err Refusal.NoCpu) ↔ (is_count cpus ≡ false) }
         ensures headline { IfOk result Headline }
     {
         World::with_counts(alloc, cpus, 0, 0)
@@ -60,6 +63,7 @@ impl World {
     pub fn with_counts(alloc: Global, cpus: u8, epoch: u32, rounds: u32) -> Result<World, Refusal>
         ensures ok { IfOk result (λ world. new_world_with cpus epoch rounds ≡ Ok world) }
         ensures refused { IfErr result (λ refusal. (refusal ≡ Refusal.NoMemory) ⊎ (new_world_with cpus epoch rounds ≡ Err refusal)) }
+        ensures no_cpu { (result ≡ Err Refusal.NoCpu) ↔ (is_count cpus ≡ false) }
         ensures headline { IfOk result Headline }
     {
         let source = match Source::new(alloc, cpus, epoch, rounds) {

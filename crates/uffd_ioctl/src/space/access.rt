@@ -1,6 +1,6 @@
 //! Loads and stores of processors.
 
-ghost use Rattle.std.specs.Prelude.{◌≡◌, ◌/◌, ◌<◌, IfOk, IfSome, OnOk, OnErr, IsTrue, true};
+ghost use Rattle.std.specs.Prelude.{◌≡◌, ◌/◌, ◌<◌, IfOk, IfSome, OnOk, OnErr, IsTrue, true, false};
 ghost use Rattle.std.specs.FinMap as map;
 ghost use Rattle.mig_base.specs.Bytes.{contents};
 ghost use Rattle.mig_base.specs.Flat.{reply_of, number_at, is_aligned as is_form};
@@ -8,7 +8,7 @@ ghost use Rattle.mig_base.specs.declared.TheConstants.{HIGH, HIGH_PAGE};
 ghost use Rattle.mig_model.specs.Host.{memory, host_changed};
 ghost use Rattle.mig_base.specs.Commands.{is_access};
 ghost use Rattle.mig_model.specs.Space as machine;
-ghost use Rattle.uffd_ioctl.specs.Spaces.{memory_after};
+ghost use Rattle.uffd_ioctl.specs.Spaces.{memory_after, needs_room};
 
 use super::Space;
 use crate::access::{is_made, number};
@@ -23,11 +23,14 @@ impl Space {
     /// a missing page that is registered for that, or a store to a protected page that is registered for that, is a page fault:
     /// the processor sleeps, and a message waits, unless one of the same kind for the page is unread. Any other is answered as one
     /// flat memory answers it. A load leaves a missing page missing.
+    ///
+    /// `NoMemory` comes only where the access needs memory, to queue a page fault or to make a page present, and changes nothing.
     pub fn access(&mut self, cpu: u8, command: Command) -> Result<Access, NoMemory>
         requires { is_access command ≡ true }
         ensures access { IfOk result (λ access. access ≡ machine.access_of self.old command) }
         ensures space { OnOk result (self.new ≡ machine.accessed self.old cpu command) }
         ensures memory { IfOk result (λ access. memory self.new.host ≡ memory_after access (memory self.old.host) command) }
+        ensures needs { OnErr result (needs_room self.old command ≡ true) }
         ensures err { OnErr result (self.new ≡ self.old) }
     {
         // The clauses on memory rest on the invariant, which is known where a field is read.
@@ -125,6 +128,7 @@ impl Space {
         requires mapped { IsTrue (map.contains_key self.old.host.areas page) }
         ensures present { OnOk result (IsTrue (map.contains_key self.new.host.bytes page)) }
         ensures ok { OnOk result (self.new ≡ record self.old { host = record self.old.host { bytes = map.insert self.old.host.bytes page (contents self.old.host.bytes page) } }) }
+        ensures missing { OnErr result (map.contains_key self.old.host.bytes page ≡ false) }
         ensures err { OnErr result (self.new ≡ self.old) }
     {
         match self.pages.put_zero(page) {
@@ -140,6 +144,7 @@ impl Space {
         requires aligned { is_form addr width ≡ true }
         requires mapped { IsTrue (map.contains_key self.old.host.areas (addr / 4096)) }
         ensures ok { OnOk result (self.new ≡ record self.old { host = host_changed self.old.host (Command.Store addr width value) Reply.Done }) }
+        ensures missing { OnErr result (map.contains_key self.old.host.bytes (addr / 4096) ≡ false) }
         ensures err { OnErr result (self.new ≡ self.old) }
     {
         let page = (addr / PAGE_SIZE) as PageNo;

@@ -6,6 +6,7 @@ ghost use Rattle.std.specs.Option.{option_map};
 ghost use Rattle.mig_base.specs.Bits.{is_one};
 ghost use Rattle.mig_base.specs.Bytes.{zero_page};
 ghost use Rattle.mig_base.specs.declared.TheConstants.{HIGH_PAGE};
+ghost use Rattle.mig_model.specs.Bounds.{IsPage};
 ghost use Rattle.mig_model.specs.Userfault as object;
 ghost use Rattle.mig_model.specs.Ioctls as table;
 ghost use Rattle.uffd_ioctl.specs.Puts.{IsShort, result_of};
@@ -40,7 +41,8 @@ impl Space {
         Ok(ALL_FEATURES)
     }
 
-    fn is_enabled(&self) -> bool
+    /// Whether the object is enabled: a handshake was accepted.
+    pub fn is_enabled(&self) -> bool
         ensures { result ≡ self.now.object.enabled }
     {
         self.object.features().is_some()
@@ -146,11 +148,14 @@ impl Space {
         outcome(start, done, has_bit(mode, INSTALL_DONTWAKE_BIT), stop)
     }
 
-    /// UFFDIO_COPY of one missing page that can be copied, with no mode: makes it present with these bytes, and copies none of them. It
-    /// wakes nobody. On an error, which is want of memory, they come back, and nothing is changed.
+    /// UFFDIO_COPY of one missing page that is registered, with no mode, while the object is enabled and no event is unread: makes the
+    /// page present with these bytes, which are moved there. It wakes nobody. The only error is that memory is refused; the bytes come
+    /// back then, and nothing is changed.
     pub fn install(&mut self, page: PageNo, bytes: PageBytes) -> Result<(), PageBytes>
-        requires page { page < HIGH_PAGE }
-        requires accepted { table.copy_error self.old (4096 * page) 4096 0 ≡ None }
+        requires enabled { self.old.object.enabled ≡ true }
+        requires quiet { object.changing self.old.object ≡ 0 }
+        requires page { IsPage page }
+        requires registered { object.is_registered self.old.object page ≡ true }
         requires missing { contains_key self.old.host.bytes page ≡ false }
         ensures ok { OnOk result (self.new ≡ table.copied self.old (4096 * page) bytes 0) }
         ensures err { IfErr result (λ back. (back ≡ bytes) × (self.new ≡ self.old)) }

@@ -16,10 +16,11 @@ impl Userfault {
     /// `NoMemory` the object is gone, so this is for one that is a copy.
     pub fn and_registered(self, first: PageNo, count: u32, mode: Mode) -> Result<Self, NoMemory>
         requires bound { first + count ≤ HIGH_PAGE }
-        requires low { (page : ℕ) → HIGH_PAGE ≤ page → machine.is_registered self page ≡ false }
         ensures { IfOk result (λ object. object ≡ machine.registered_where self (in_range first count) (mode_of mode)) }
     {
         let mut object = self;
+        object.missing.ends_by_high_page();
+        object.protect.ends_by_high_page();
         register_run(&mut object.missing, &mut object.protect, first, count, mode)?;
         Ok(object)
     }

@@ -4,7 +4,7 @@ use Rattle.mig_base.specs.declared.schedule.Step.{Step}
 use Rattle.mig_model.specs.Wire.{wire_behind}
 use Rattle.wires.specs.Lanes.{sent_of}
 use Rattle.world.specs.Worlds.{world_of}
-use Rattle.world.proofs.DeliveryLemmas.{answers_good, arrived_moved, arrived_whole, deliver_lacking, deliver_moved, deliver_nothing, deliver_refused, deliver_stopped, deliver_took, first_there, forward_right, taken_off}
+use Rattle.world.proofs.DeliveryLemmas.{answers_good, arrived_moved, arrived_whole, deliver_lacking, deliver_moved, deliver_nothing, deliver_refused, deliver_stopped, deliver_took, forward_right, taken_off}
 use Rattle.world.proofs.StepLemmas.{happens_refused}
 use Rattle.world.proofs.parts.Parts.deliver.Goals as goal
 
@@ -18,8 +18,8 @@ returns-then-is_empty c = happens_refused (world_of c.args.self.now) (Step.Deliv
 
 pub returns-in_default : goal.returns-in_default
 returns-in_default c =
-    let first = first_there c.args.self.now.forward.wire.frames (sym c.is_empty.ensures ∙ c.if-is_empty.false) in
-    rw c.in_default.ensures.arrived (deliver_lacking (world_of c.args.self.now) c.args.n first.sent first.rest (sym c.in_ok-ensure_moving.ensures) first.is)
+    let whole = c.in_default.ensures.arrived.0 in
+    rw c.in_default.ensures.arrived.1 (deliver_lacking (world_of c.args.self.now) c.args.n whole.sent whole.rest (sym c.in_ok-ensure_moving.ensures) whole.first whole.whole)
 
 pub returns-in_default-arrived : goal.returns-in_default-arrived
 returns-in_default-arrived c =

@@ -5,7 +5,7 @@ use Rattle.mig_model.specs.Wire.{wire_behind, wire_with}
 use Rattle.wires.specs.Lanes.{sent_of}
 use Rattle.world.specs.Deliveries.{AreFrames}
 use Rattle.world.specs.Worlds.{world_of}
-use Rattle.world.proofs.DeliveryLemmas.{arrived_moved, arrived_whole, back_good, back_lacking, back_moved, back_nothing, back_right, back_room, back_stopped, back_took, first_there, recv_right, taken_off}
+use Rattle.world.proofs.DeliveryLemmas.{arrived_moved, arrived_whole, back_good, back_lacking, back_moved, back_nothing, back_right, back_room, back_stopped, back_took, recv_right, taken_off}
 use Rattle.world.proofs.StepLemmas.{happens_refused}
 use Rattle.world.proofs.parts.Parts.deliver_back.Goals as goal
 
@@ -19,8 +19,8 @@ returns-then-is_empty c = happens_refused (world_of c.args.self.now) (Step.Deliv
 
 pub returns-in_default : goal.returns-in_default
 returns-in_default c =
-    let first = first_there c.args.self.now.back.wire.frames (sym c.is_empty.ensures ∙ c.if-is_empty.false) in
-    rw c.in_default.ensures.arrived (back_lacking (world_of c.args.self.now) c.args.n first.sent first.rest (sym c.in_ok-ensure_moving.ensures) first.is)
+    let whole = c.in_default.ensures.arrived.0 in
+    rw c.in_default.ensures.arrived.1 (back_lacking (world_of c.args.self.now) c.args.n whole.sent whole.rest (sym c.in_ok-ensure_moving.ensures) whole.first whole.whole)
 
 pub returns-in_default-arrived : goal.returns-in_default-arrived
 returns-in_default-arrived c =
@@ -30,7 +30,7 @@ returns-in_default-arrived c =
 pub returns-in_default-reserve : goal.returns-in_default-reserve
 returns-in_default-reserve c =
     let whole = arrived_whole c.args.self.now.back.wire c.args.n c.in-Ok.arrived c.in-Some.sent c.arrive.new.self.wire c.in-Some.is c.in-Ok.ensures.arrived in
-    rw (c.reserve.ensures.stays, whole.1) (back_lacking (world_of c.args.self.now) c.args.n (sent_of c.in-Some.sent) whole.0.rest (sym c.in_ok-ensure_moving.ensures) whole.0.first)
+    rw (c.reserve.ensures.stays, whole.1) (back_lacking (world_of c.args.self.now) c.args.n (sent_of c.in-Some.sent) whole.0.rest (sym c.in_ok-ensure_moving.ensures) whole.0.first whole.0.whole)
 
 pub hear-requires-clause-right : goal.hear-requires-clause-right
 hear-requires-clause-right c =
@@ -46,7 +46,7 @@ pub returns-in_default-hear : goal.returns-in_default-hear
 returns-in_default-hear c =
     let whole = arrived_whole c.args.self.now.back.wire c.args.n c.in-Ok.arrived c.in-Some.sent c.arrive.new.self.wire c.in-Some.is c.in-Ok.ensures.arrived in
     rw (c.reserve.ensures.stays, whole.1, c.in_default-hear.ensures.err)
-    (back_lacking (world_of c.args.self.now) c.args.n (sent_of c.in-Some.sent) whole.0.rest (sym c.in_ok-ensure_moving.ensures) whole.0.first)
+    (back_lacking (world_of c.args.self.now) c.args.n (sent_of c.in-Some.sent) whole.0.rest (sym c.in_ok-ensure_moving.ensures) whole.0.first whole.0.whole)
 
 pub push_all-requires-clause-good : goal.push_all-requires-clause-good
 push_all-requires-clause-good c =

@@ -3,7 +3,7 @@ use Rattle.mig_base.specs.declared.schedule.Step.{Step}
 use Rattle.mig_model.specs.Wire.{wire_behind}
 use Rattle.wires.specs.Lanes.{sent_of}
 use Rattle.world.specs.Worlds.{world_of}
-use Rattle.world.proofs.DeliveryLemmas.{arrived_moved, arrived_whole, first_there, taken_off, urgent_did, urgent_down, urgent_lacking, urgent_moved, urgent_nothing, urgent_outside, urgent_right}
+use Rattle.world.proofs.DeliveryLemmas.{arrived_moved, arrived_whole, taken_off, urgent_did, urgent_down, urgent_lacking, urgent_moved, urgent_nothing, urgent_outside, urgent_right}
 use Rattle.world.proofs.StepLemmas.{happens_refused}
 use Rattle.world.proofs.parts.Parts.deliver_urgent.Goals as goal
 
@@ -20,8 +20,8 @@ returns-then-is_empty c =
 
 pub returns-in_default : goal.returns-in_default
 returns-in_default c =
-    let first = first_there c.args.self.now.urgent.wire.frames (sym c.is_empty.ensures ∙ c.if-is_empty.false) in
-    rw c.in_default.ensures.arrived (urgent_lacking (world_of c.args.self.now) c.args.n first.sent first.rest (ap not (sym c.has_run.ensures) ∙ ap not c.if-not-has_run.false) (ap not c.if-not-self.false) first.is)
+    let whole = c.in_default.ensures.arrived.0 in
+    rw c.in_default.ensures.arrived.1 (urgent_lacking (world_of c.args.self.now) c.args.n whole.sent whole.rest (ap not (sym c.has_run.ensures) ∙ ap not c.if-not-has_run.false) (ap not c.if-not-self.false) whole.first whole.whole)
 
 pub returns-in_default-arrived : goal.returns-in_default-arrived
 returns-in_default-arrived c =
@@ -37,7 +37,7 @@ pub returns-in_default-receive_urgent : goal.returns-in_default-receive_urgent
 returns-in_default-receive_urgent c =
     let whole = arrived_whole c.args.self.now.urgent.wire c.args.n c.in-Ok.arrived c.in-Some.sent c.arrive.new.self.wire c.in-Some.is c.in-Ok.ensures.arrived in
     rw (whole.1, c.in_default-receive_urgent.ensures.err)
-    (urgent_lacking (world_of c.args.self.now) c.args.n (sent_of c.in-Some.sent) whole.0.rest (ap not (sym c.has_run.ensures) ∙ ap not c.if-not-has_run.false) (ap not c.if-not-self.false) whole.0.first)
+    (urgent_lacking (world_of c.args.self.now) c.args.n (sent_of c.in-Some.sent) whole.0.rest (ap not (sym c.has_run.ensures) ∙ ap not c.if-not-has_run.false) (ap not c.if-not-self.false) whole.0.first whole.0.whole)
 
 pub returns : goal.returns
 returns c =
