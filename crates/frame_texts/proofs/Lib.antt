@@ -1,6 +1,7 @@
 pub mod TextLemmas
 pub mod RunsAndAreas
 pub mod RunsInOrder
+pub mod AreasInOrder
 pub mod OneArea
 pub mod OneText
 pub mod LengthBounds

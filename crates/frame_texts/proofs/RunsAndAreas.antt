@@ -1,6 +1,6 @@
 -- The runs of a set have its pages, and the areas of mapped pages their protections: so either tells what it is of.
 use Rattle.std.proofs.lemmas.Bool.Decides.{nat_tests}
-use Rattle.std.proofs.Common.{◌≡◌, ℕ, zero, suc, ◌+◌, ◌-◌, ◌<◌, ◌≤◌, ◌||◌, if◌then◌else◌, ⊎_elim, Bool, true, false, cond, ltb, Option, Some, None, is_some, List, [], ◌∷◌, ◌++◌, map, refl, sym, ap, ◌∙◌, subst, arith}
+use Rattle.std.proofs.Common.{◌≡◌, ℕ, zero, suc, ◌+◌, ◌-◌, ◌<◌, ◌≤◌, ◌||◌, ⊎_elim, Bool, true, false, cond, ltb, Option, Some, None, is_some, List, [], ◌∷◌, ◌++◌, map, refl, sym, ap, ◌∙◌, subst, arith}
 use Rattle.std.specs.List.{AllByRecursion}
 use Rattle.std.proofs.Math.Bool.{or-true}
 use Rattle.std.specs.Cmp.{both_ways}
@@ -8,7 +8,6 @@ use Rattle.std.specs.Ordering.{nat_cmp}
 use Rattle.std.specs.FinMap.{FinMap, get}
 use Rattle.std.specs.FinSet.{FinSet, contains}
 use Rattle.std.proofs.lemmas.Bool.{lt-ltb}
-use Rattle.mig_base.specs.declared.Area.{Area}
 use Rattle.mig_base.specs.declared.Prot.{Prot}
 use Rattle.mig_base.specs.declared.TheConstants.{HIGH_PAGE}
 use Rattle.mig_base.specs.PageSets.{in_runs}
@@ -19,7 +18,7 @@ use Rattle.mig_base.proofs.RangeLemmas.{in_range-true}
 use Rattle.mig_base.proofs.SetLemmas.{same_members, member_below, member_run}
 use Rattle.mig_model.specs.Ioctls.{same_prot}
 use Rattle.mig_model.specs.Lengths.{begins_run, begins_area}
-use Rattle.frame_texts.specs.Texts.{list_below, run_at, runs_of, area_at, areas_of, AreBelow, AreMappedBelow}
+use Rattle.frame_texts.specs.Texts.{list_below, run_at, runs_of, area_at, areas_of, prot_in, AreBelow, AreMappedBelow}
 use Rattle.mig_model.proofs.Facts.{none_absurd, either, and_second, below_or_at, or_assoc, and_false}
 use Rattle.mig_model.proofs.SourceSending.{present_bytes}
 use Rattle.mig_model.proofs.IoctlLemmas.{same_prot-self}
@@ -139,20 +138,15 @@ area_begins areas prot (suc q) h =
       | false ↦ λ e. begins_here (begins_area areas) (λ j. get areas j ≡ Some prot) (suc q) (rw (h, before, e, and_false (ltb 0 (suc q))) refl) h
     ] refl
 
--- the protection of the first area that has the page
-abbrev prot_in : List Area → ℕ → Option Prot
-prot_in [] q = None
-prot_in (area ∷ areas) q = if in_range area.first area.count q then Some area.prot else prot_in areas q
-
 -- the pages of the area that begins at a page have its protection
-area_tells : (areas : FinMap nat_cmp Prot) (first q : ℕ) → in_range first (area_at areas first).count q ≡ true → get areas q ≡ Some (area_at areas first).prot
+pub area_tells : (areas : FinMap nat_cmp Prot) (first q : ℕ) → in_range first (area_at areas first).count q ≡ true → get areas q ≡ Some (area_at areas first).prot
 area_tells areas first q h = grind (arith, nat_tests, member_run, same_prot_tells, and_second, member_below, present_bytes)
 
 prots_covered : (areas : FinMap nat_cmp Prot) (firsts : List ℕ) (q : ℕ) → prot_in (map (area_at areas) firsts) q ≡ cond (covered (λ first q. in_range first (area_at areas first).count q) firsts q) (get areas q) None
 prots_covered areas [] q = refl
 prots_covered areas (first ∷ firsts) q = grind (arith, nat_tests, prot_in, covered, area_tells, prots_covered areas firsts q)
 
-area_covers : (areas : FinMap nat_cmp Prot) (prot : Prot) (first q : ℕ) → first ≤ q → q < HIGH_PAGE → ((j : ℕ) → first ≤ j → j ≤ q → get areas j ≡ Some prot) → in_range first (area_at areas first).count q ≡ true
+pub area_covers : (areas : FinMap nat_cmp Prot) (prot : Prot) (first q : ℕ) → first ≤ q → q < HIGH_PAGE → ((j : ℕ) → first ≤ j → j ≤ q → get areas j ≡ Some prot) → in_range first (area_at areas first).count q ≡ true
 area_covers areas prot first q low below all = grind (arith, nat_tests, run_covers, member_below, lt-ltb, same_prot-self)
 
 in_areas_of : (areas : FinMap nat_cmp Prot) (prot : Prot) (q : ℕ) → q < HIGH_PAGE → get areas q ≡ Some prot → covered (λ first q. in_range first (area_at areas first).count q) (list_below (begins_area areas) HIGH_PAGE) q ≡ true

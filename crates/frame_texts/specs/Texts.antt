@@ -1,6 +1,6 @@
 -- The text of a frame, which is its bytes on a wire. A text is a header and a body. The header has the version, the tag of the frame,
 -- two zeros, the epoch and the length of the body. Numbers are big-endian.
-use Rattle.std.specs.Prelude.{◌≡◌, ℕ, zero, suc, ◌^◌, ◌<◌, Bool, true, false, if◌then◌else◌, Option, Some, None, unwrap_or, List, [], ◌∷◌, ◌++◌, length, map}
+use Rattle.std.specs.Prelude.{◌≡◌, ◌≢◌, ℕ, zero, suc, ◌+◌, ◌^◌, ◌<◌, ◌≤◌, Bool, true, false, if◌then◌else◌, Option, Some, None, unwrap_or, List, [], ◌∷◌, ◌++◌, length, map}
 use Rattle.std.specs.List.{flat_map, AllByRecursion}
 use Rattle.std.specs.Int.{w32, w64, to_be_bytes}
 use Rattle.std.specs.Ordering.{nat_cmp}
@@ -15,6 +15,7 @@ use Rattle.mig_base.specs.declared.command.Command.{Command}
 use Rattle.mig_base.specs.declared.command.Command.TheVariants.{Load, Store}
 use Rattle.mig_base.specs.declared.phase.Received.{Received}
 use Rattle.mig_base.specs.Codes.{prot_number}
+use Rattle.mig_base.specs.Ranges.{in_range}
 use Rattle.mig_base.specs.Sets.{pages_where, run_length}
 use Rattle.mig_model.specs.Ioctls.{same_prot}
 use Rattle.mig_model.specs.Lengths.{begins_run, begins_area}
@@ -48,6 +49,17 @@ area_at areas first =
 -- the mapped pages as areas, the maximal runs of one protection, ascending
 abbrev pub areas_of : FinMap nat_cmp Prot → List Area
 areas_of areas = map (area_at areas) (list_below (begins_area areas) HIGH_PAGE)
+
+-- the protection of a page: that of the first area that has it
+abbrev pub prot_in : List Area → ℕ → Option Prot
+prot_in [] page = None
+prot_in (area ∷ areas) page = if in_range area.first area.count page then Some area.prot else prot_in areas page
+
+-- areas in order: ascending, none empty, and none touching the next with the same protection. The page and the protection are the end
+-- and the protection of the area before, or 0 and None where there is none
+abbrev pub AreAreasAfter : ℕ → Option Prot → List Area → Type 0
+AreAreasAfter end prot [] = Unit {0}
+AreAreasAfter end prot (area ∷ areas) = (end ≤ area.first) × (0 < area.count) × (end ≡ area.first → prot ≢ Some area.prot) × AreAreasAfter (area.first + area.count) (Some area.prot) areas
 
 -- The text
 

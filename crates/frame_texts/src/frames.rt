@@ -4,8 +4,9 @@
 ghost use Rattle.std.specs.Prelude.{◌≡◌, ◌≢◌, ℕ, ◌+◌, ◌-◌, ◌*◌, ◌^◌, ◌<◌, ◌≤◌, true, length, Option, Some, None, List, [], ◌∷◌, ◌++◌};
 ghost use Rattle.std.specs.Ordering.{nat_cmp};
 ghost use Rattle.std.specs.FinMap as map;
-ghost use Rattle.std.specs.FinMap.{FinMap, empty};
+ghost use Rattle.std.specs.FinMap.{FinMap, empty, get};
 ghost use Rattle.std.specs.FinSet.{FinSet, contains, insert, len};
+ghost use Rattle.mig_base.specs.declared.Area.{Area};
 ghost use Rattle.mig_base.specs.declared.Prot.{Prot};
 ghost use Rattle.mig_base.specs.declared.Prot.TheVariants.{ReadWrite};
 ghost use Rattle.mig_base.specs.declared.Run.{Run as PageRun};
@@ -22,7 +23,7 @@ ghost use Rattle.mig_model.specs.Migration.{World};
 ghost use Rattle.mig_model.specs.Promises.{IsReached};
 ghost use Rattle.mig_model.specs.Bounds.{IsCpuCount, IsFrame, IsRightAccess};
 ghost use Rattle.mig_model.specs.Lengths.{text_len, body_len};
-ghost use Rattle.frame_texts.specs.Texts.{Version, has_frame, text, HasWholePages, IsEncodable, AreBelow, AreMappedBelow, runs_of};
+ghost use Rattle.frame_texts.specs.Texts.{Version, has_frame, text, HasWholePages, IsEncodable, AreBelow, AreMappedBelow, AreAreasAfter, areas_of, prot_in, runs_of};
 ghost use Rattle.frame_texts.specs.Flight.{AreCounted, HasGoodFrames};
 ghost use Rattle.frame_texts.specs.Texts.Version.{One, Two};
 ghost use Rattle.mig_model.specs.Wire.{Frame};
@@ -54,6 +55,14 @@ pub fn the_runs_of_a_set()
     ensures pages { (set : FinSet nat_cmp) (page : ℕ) → AreBelow set → in_runs (runs_of set) page ≡ contains set page }
     ensures ordered { (set : FinSet nat_cmp) → AreRunsFrom 0 (runs_of set) }
     ensures only { (set : FinSet nat_cmp) (runs : List PageRun) → AreBelow set → AreRunsFrom 0 runs → ((page : ℕ) → in_runs runs page ≡ contains set page) → runs ≡ runs_of set }
+{}
+
+/// Mapped pages are written as areas, their maximal runs of one protection. The areas ascend, none is empty, and none touches the next
+/// with the same protection. They give each page its protection, and no other list of this kind does.
+pub fn the_areas_of_a_map()
+    ensures pages { (areas : FinMap nat_cmp Prot) (page : ℕ) → AreMappedBelow areas → prot_in (areas_of areas) page ≡ get areas page }
+    ensures ordered { (areas : FinMap nat_cmp Prot) → AreAreasAfter 0 None (areas_of areas) }
+    ensures only { (areas : FinMap nat_cmp Prot) (list : List Area) → AreMappedBelow areas → AreAreasAfter 0 None list → ((page : ℕ) → prot_in list page ≡ get areas page) → list ≡ areas_of areas }
 {}
 
 /// A text determines its version, its epoch and its frame, whatever bytes follow: no two frames have the same text, and no text is a
