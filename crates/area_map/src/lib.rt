@@ -72,8 +72,8 @@ impl AreaMap {
         }
     }
 
-    /// Gives each of the `count` pages from `first` on the protection, whatever it had. `NoMemory` where the areas become more
-    /// and there is no memory for them: nothing has changed then.
+    /// Gives each of the `count` pages from `first` on the protection, whatever it had. The range ends at or below page 0x100000.
+    /// `NoMemory` where the areas become more and there is no memory for them: nothing has changed then.
     pub fn map(&mut self, first: PageNo, count: u32, prot: Prot) -> Result<(), NoMemory>
         requires { first + count ≤ HIGH_PAGE }
         ensures ok { OnOk result (self.new ≡ set_range self.old first count prot) }
@@ -82,8 +82,8 @@ impl AreaMap {
         self.put(first, count, Some(prot))
     }
 
-    /// Takes the `count` pages from `first` on out. `NoMemory` where that splits an area and there is no memory for one more:
-    /// nothing has changed then.
+    /// Takes the `count` pages from `first` on out. The range ends at or below page 0x100000. `NoMemory` where that splits an area and
+    /// there is no memory for one more: nothing has changed then.
     pub fn unmap(&mut self, first: PageNo, count: u32) -> Result<(), NoMemory>
         requires { first + count ≤ HIGH_PAGE }
         ensures ok { OnOk result (self.new ≡ remove_range self.old first count) }
@@ -106,7 +106,7 @@ impl AreaMap {
         self.mapped
     }
 
-    /// How many of the `count` pages from `first` on are mapped.
+    /// How many of the `count` pages from `first` on are mapped. The range ends at or below page 0x100000.
     pub fn mapped_in(&self, first: PageNo, count: u32) -> u32
         requires { first + count ≤ HIGH_PAGE }
         ensures { result ≡ count_below (λ i. map.contains_key self.now (first + i)) count }
@@ -149,7 +149,7 @@ impl AreaMap {
     }
 
     /// The protection of all `count` pages from `first` on, if they are mapped and have one protection. A range of no pages
-    /// has none.
+    /// has none. The range ends at or below page 0x100000.
     pub fn one_prot(&self, first: PageNo, count: u32) -> Option<Prot>
         requires { first + count ≤ HIGH_PAGE }
         ensures some { IfSome result (HasOneProt (λ page. map.get self.now page) first count) }
@@ -163,7 +163,7 @@ impl AreaMap {
     }
 
     /// Moves the `count` pages from `from` on, with their protections, to `to`: what was mapped there is replaced, and where
-    /// they were nothing stays mapped. The two ranges lie apart. `NoMemory` leaves the map as it was.
+    /// they were nothing stays mapped. Both ranges end at or below page 0x100000, and lie apart. `NoMemory` leaves the map as it was.
     pub fn move_range(&mut self, from: PageNo, to: PageNo, count: u32) -> Result<(), NoMemory>
         requires from_bound { from + count ≤ HIGH_PAGE }
         requires to_bound { to + count ≤ HIGH_PAGE }

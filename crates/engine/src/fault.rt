@@ -19,7 +19,7 @@ pub enum RunFault {
     /// A write failed, or took no byte. A front of the output of the lines read was written.
     #[error("write fault")]
     WriteFault,
-    /// A growth was refused. All output of the lines before the present one was written.
+    /// A growth was refused. The output of some lines from the first on was written, each in full.
     #[error("no memory")]
     NoMemory,
 }

@@ -14,7 +14,7 @@ use std::io::{Read, Write};
 /// The most bytes that are read at once.
 const PIECE: usize = 16_384;
 
-/// Runs a script on a new world of `cpus` processors, and writes what the mode says of each order. What `world` promises of every world
+/// Runs a script on a new world of `cpus` processors, 1 to 16, and writes what the mode says of each order. What `world` promises of every world
 /// holds of the one in which the run ends: its transcript is the run of one flat memory, and once the migration is complete the
 /// destination alone holds that memory.
 ///

@@ -128,7 +128,7 @@ impl Owed {
     }
 
     /// Has the `count` pages from `to` on owed what the pages from `from` on were. What was owed at the target ends, and
-    /// nothing is owed at the old pages afterwards.
+    /// nothing is owed at the old pages afterwards. Both ranges end at or below page 0x100000, and lie apart.
     ///
     /// Leaves in which no page was ever owed are passed whole, and need no room at the target. On `NoMemory`, for that room, the
     /// table is as it was.

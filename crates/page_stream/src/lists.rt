@@ -21,6 +21,7 @@ impl Model for Pages {
 }
 
 impl Pages {
+    /// The list of these pages.
     pub fn new(pages: Vec<PageBytes>) -> Self
         ensures { result ≡ pages.items }
     {
@@ -74,6 +75,7 @@ impl Model for Waiting {
 }
 
 impl Waiting {
+    /// The list of these commands, one entry for each processor: the load or store that it still has to make, if there is one.
     pub fn new(commands: Vec<Option<Command>>) -> Self
         ensures { result ≡ commands.items }
     {

@@ -29,7 +29,8 @@ const PAGE_TAG: u8 = 0x02;
 /// The bytes behind the header of a frame of one page: its number, and what it has.
 const PAGE_BODY_LEN: u32 = 4 + PAGE_BYTES as u32;
 
-/// Appends the text of a frame that is sent in an epoch, in version 2 of the texts: [`Frame::text_len`] bytes.
+/// Appends the text of a frame that is sent in an epoch, in version 2 of the texts: [`Frame::text_len`] bytes. The frame is well formed
+/// ([`Frame::is_well_formed`]).
 ///
 /// All room is made before the first byte is written, and none is asked for where the vector has it. `NoMemory` is for that room,
 /// and leaves the bytes as they were.
@@ -48,7 +49,7 @@ pub fn encode_into(frame: &Frame, epoch: u32, into: &mut Vec<u8>) -> Result<(), 
 }
 
 /// Appends the text of a frame of one page, from bytes that stay where they are: 4,112 bytes, as [`encode_into`] would for
-/// [`Frame::Page`].
+/// [`Frame::Page`]. The page lies from 0x10 to 0xfffff.
 ///
 /// All room is made before the first byte is written, and none is asked for where the vector has it. `NoMemory` is for that room,
 /// and leaves the bytes as they were.
@@ -69,7 +70,7 @@ pub fn encode_page_into(
     Ok(())
 }
 
-/// The text of a frame, as [`encode_into`] writes it. `NoMemory` is for its room.
+/// The text of a well-formed frame, as [`encode_into`] writes it. `NoMemory` is for its room.
 pub fn encode(alloc: Global, frame: &Frame, epoch: u32) -> Result<Vec<u8>, NoMemory>
     requires { IsFrame (frame_of frame.now) }
     ensures { IfOk result (λ bytes. bytes.items ≡ text Two epoch (frame_of frame.now)) }

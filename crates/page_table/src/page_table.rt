@@ -202,7 +202,8 @@ impl PageTable {
         let _ = &self.places;
     }
 
-    /// Moves the `count` pages from `from` on, with their protection, in place of those from `to` on. No byte is copied.
+    /// Moves the `count` pages from `from` on, with their protection, to those from `to` on. No byte is copied. Both ranges end at or
+    /// below page 0x100000, and lie apart.
     ///
     /// What was present in the target range is given up, where the source page is missing too, and the source range is
     /// missing afterwards. On `NoMemory`, for the room of the target's leaves, the table is as it was.

@@ -63,8 +63,9 @@ impl Space {
         }
     }
 
-    /// A space of these areas and present pages: each present page is mapped, and none is protected. With a mode, as the flags of UFFDIO_REGISTER, the object
-    /// is enabled for the three events and all mapped pages are registered in it; with mode 0 it is not enabled.
+    /// A space of these areas and present pages: each present page is mapped, and none is protected. With a mode of 1 to 3, as the flags of
+    /// UFFDIO_REGISTER, the object is enabled for the three events and all mapped pages are registered in it; with mode 0 it is not
+    /// enabled. No other mode may be given.
     ///
     /// On `NoMemory` the table comes back. With mode 0 the call takes no memory.
     pub fn assemble(

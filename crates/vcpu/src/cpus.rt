@@ -121,7 +121,8 @@ impl Cpus {
         }
     }
 
-    /// Processor `k` sleeps on the page of a load or a store. `NoCpu` where there is no such processor, `Busy` unless it is idle.
+    /// Processor `k` sleeps on the page of a load or a store; no other command may be given. `NoCpu` where there is no such processor, `Busy`
+    /// unless it is idle.
     pub fn sleep(&mut self, k: u8, command: Command) -> Result<(), Refusal>
         requires { is_access command ≡ true }
         ensures answer { result ≡ idle_answer self.old k }
@@ -133,8 +134,8 @@ impl Cpus {
         Ok(())
     }
 
-    /// Processor `k` is in a map call, which returns `reply` once `left` messages have been read. `NoCpu` where there is no such
-    /// processor, `Busy` unless it is idle.
+    /// Processor `k` is in a map call, which returns `reply` once `left` messages have been read, at least one. `NoCpu` where there is no
+    /// such processor, `Busy` unless it is idle.
     pub fn call_sleeps(&mut self, k: u8, reply: Reply, left: u8) -> Result<(), Refusal>
         requires { 0 < left }
         ensures answer { result ≡ idle_answer self.old k }
@@ -205,8 +206,8 @@ impl Cpus {
         self.wake(Sleepers::OnAnyPage);
     }
 
-    /// The processors take over from those of another host, which hands each its outstanding command, to be tried again. One that
-    /// is handed none is idle.
+    /// The processors take over from those of another host, which hands each its outstanding command, to be tried again. There is one
+    /// entry for each processor, and one that is handed `None` is idle.
     pub fn take_over(&mut self, commands: &[Option<Command>])
         requires { length commands.now ≡ length self.old }
         ensures { self.new ≡ map taken_over commands.now }

@@ -19,7 +19,7 @@ use mig_base::{
 use page_table::PutFault;
 
 impl Space {
-    /// Makes a load or store of a processor. One that is wrong or not permitted is answered as one flat memory answers it; one of
+    /// Makes a load or store of a processor; no other command may be given. One that is wrong or not permitted is answered as one flat memory answers it; one of
     /// a missing page that is registered for that, or a store to a protected page that is registered for that, is a page fault:
     /// the processor sleeps, and a message waits, unless one of the same kind for the page is unread. Any other is answered as one
     /// flat memory answers it. A load leaves a missing page missing.

@@ -16,7 +16,7 @@ use mig_base::{
 };
 
 impl Space {
-    /// Makes a map call of a processor, and answers as one flat memory does; with the reply comes how many events the call has
+    /// Makes a map call of a processor, which is any command but a load or a store, and answers as one flat memory does; with the reply comes how many events the call has
     /// queued. The processor stays in its call until these are read. A page keeps its mode and its protection when it moves, and
     /// the pages by which a range grows have the mode of its last page.
     pub fn map_call(&mut self, cpu: u8, command: Command) -> Result<(Reply, u8), NoMemory>

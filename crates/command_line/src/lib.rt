@@ -1,0 +1,184 @@
+//! The command line of `postmig`, and its exit statuses.
+//!
+//! `postmig run` reads a script from standard input and writes one line for each step to standard output, or with
+//! `--transcript` one for each command that took effect; `postmig check` reads such a transcript, and says whether it is that of
+//! one flat memory. `docs/SCRIPT.md` says what a script is. [`answer`] is what the program's `main` does; the exit statuses are
+//! `specs/Status.antt`, and what a run or a check reads and writes is the crate `engine`.
+#![tactic(auto)]
+
+ghost use Rattle.std.specs.Prelude.{◌≡◌, ◌≤◌, IfOk, IfErr};
+ghost use Rattle.command_line.specs.Status.{answer_status, fault_status};
+
+use clap::error::ErrorKind;
+use clap::{Arg, ArgAction, ArgMatches, Command, value_parser};
+use engine::{Mode, RunFault, check_script, run_script};
+use std::alloc::{AllocError, Global};
+use std::env::{Env, FillError};
+use std::process::ExitCode;
+use std::{env, io};
+
+/// What `--version` prints behind the program's name.
+const VERSION: &str = "0.1.0";
+
+/// The bytes of an argument that a message shows at most.
+const LONGEST_SHOWN: usize = 4096;
+
+const ALL_DONE: u8 = 0;
+
+const BAD_COMMAND_OR_SCRIPT: u8 = 1;
+
+const READ_OR_WRITE_FAULT: u8 = 2;
+
+const NO_FLAT_RUN: u8 = 3;
+
+const NO_MEMORY: u8 = 4;
+
+/// The command line: `postmig run [--cpus N] [--transcript]`, `postmig check`, or `postmig --version`.
+fn command_line<'a>(alloc: Global) -> Result<Command<'a>, AllocError> {
+    let cpus = Arg::new(alloc, "cpus")
+        .long("cpus")
+        .value_name("N")
+        .help("How many processors the guest has")
+        .value_parser(value_parser!(u8).range(1..=16))
+        .default_value("2");
+    let transcript = Arg::new(alloc, "transcript")
+        .long("transcript")
+        .help("Writes the commands that took effect, with their replies")
+        .action(ArgAction::SetTrue);
+    let run = Command::new(alloc, "run")
+        .about("Runs the script on standard input")
+        .arg(cpus)?
+        .arg(transcript)?;
+    let check = Command::new(alloc, "check").about(
+        "Says whether the transcript on standard input is that of one flat memory",
+    );
+    // (the name in usage lines, whatever the file is called)
+    Command::new(alloc, "postmig")
+        .bin_name("postmig")?
+        .about("Runs scripts on a model of post-copy live migration")
+        .version(VERSION)
+        .subcommand_required(true)
+        .subcommand(run)?
+        .subcommand(check)
+}
+
+/// The exit status of a run or a check: whether all is well, or the fault that ended it.
+fn status_of(outcome: Result<bool, RunFault>) -> u8
+    ensures answer { IfOk outcome (λ answer. result ≡ answer_status answer) }
+    ensures fault { IfErr outcome (λ fault. result ≡ fault_status fault) }
+{
+    match outcome {
+        Ok(true) => ALL_DONE,
+        Ok(false) => NO_FLAT_RUN,
+        Err(RunFault::Line(_)) => BAD_COMMAND_OR_SCRIPT,
+        Err(RunFault::ReadFault | RunFault::WriteFault) => READ_OR_WRITE_FAULT,
+        Err(RunFault::NoMemory) => NO_MEMORY,
+    }
+}
+
+/// Says on standard error why a run or a check ended early, and gives its exit status.
+fn explain(rt: &HostRuntime, outcome: Result<bool, RunFault>) -> u8
+    ensures answer { IfOk outcome (λ answer. result ≡ answer_status answer) }
+    ensures fault { IfErr outcome (λ fault. result ≡ fault_status fault) }
+{
+    if let Err(fault) = outcome {
+        let _ = eprintln!(rt; "{fault}");
+    }
+    status_of(outcome)
+}
+
+/// Runs the script on standard input.
+fn run(rt: &HostRuntime, cpus: u8, mode: Mode) -> u8
+    requires low { 1 ≤ cpus }
+    requires high { cpus ≤ 16 }
+{
+    let outcome = run_script(rt.alloc(), &mut rt.stdin(), &mut rt.stdout(), cpus, mode);
+    explain(rt, outcome.map(|()| true))
+}
+
+/// Checks the transcript on standard input.
+fn check_input(rt: &HostRuntime) -> u8 {
+    let outcome = check_script(rt.alloc(), &mut rt.stdin(), &mut rt.stdout());
+    explain(rt, outcome)
+}
+
+/// Does what the command line asks for, and gives the exit status.
+fn do_command(rt: &HostRuntime, matches: &ArgMatches) -> u8 {
+    match matches.subcommand() {
+        Some(("run", matches)) => {
+            let mode = if matches.get_flag("transcript") {
+                Mode::Transcript
+            } else {
+                Mode::Lines
+            };
+            match matches.get_one::<u8>("cpus") {
+                Some(cpus @ 1..=16) => run(rt, cpus, mode),
+                _ => BAD_COMMAND_OR_SCRIPT,
+            }
+        }
+        Some(("check", _)) => check_input(rt),
+        _ => BAD_COMMAND_OR_SCRIPT,
+    }
+}
+
+/// Says on standard error which argument is not UTF-8: its number, and its bytes as far as they are text. One of more than 4,096 bytes is
+/// passed over.
+fn name_bad_argument(rt: &HostRuntime) -> io::Result<()> {
+    let mut room = [0; LONGEST_SHOWN];
+    for number in 1..usize::MAX {
+        let shown = match rt.arg(number, &mut room) {
+            Ok(len) => &room[..len],
+            Err(FillError::TooLong) => continue,
+            Err(FillError::NotPresent) => break,
+        };
+        if str::from_utf8(shown).is_err() {
+            let text = String::from_utf8_lossy(rt.alloc(), shown)?;
+            eprintln!(rt; "error: argument {number} is not UTF-8: '{text}'")?;
+        }
+    }
+    eprintln!(rt; "\nFor more information, try '--help'.")
+}
+
+/// Reads the command line, does what it asks for, and gives the exit status.
+fn dispatch(rt: &HostRuntime) -> io::Result<u8> {
+    let words: Vec<String> = match env::args(rt) {
+        Ok(words) => words.collect(rt.alloc())?,
+        Err(error) if error.kind() == io::ErrorKind::InvalidData => {
+            name_bad_argument(rt)?;
+            return Ok(BAD_COMMAND_OR_SCRIPT);
+        }
+        Err(error) => return Err(error),
+    };
+    let command = command_line(rt.alloc())?;
+    let matches = match command.try_get_matches_from(words.as_slice()) {
+        Ok(matches) => matches,
+        Err(error) => {
+            if error.kind() == ErrorKind::OutOfMemory {
+                return Err(io::Error::from(io::ErrorKind::OutOfMemory));
+            }
+            error.print(rt)?;
+            let is_fault = error.use_stderr();
+            return Ok(if is_fault {
+                BAD_COMMAND_OR_SCRIPT
+            } else {
+                ALL_DONE
+            });
+        }
+    };
+    Ok(do_command(rt, &matches))
+}
+
+/// Does what the command line asks for, and gives the exit status. An argument that is not UTF-8 is a fault of the command line.
+pub fn answer(rt: &HostRuntime) -> ExitCode {
+    match dispatch(rt) {
+        Ok(status) => ExitCode::from(status),
+        Err(error) if error.kind() == io::ErrorKind::OutOfMemory => {
+            let _ = eprintln!(rt; "{}", RunFault::NoMemory);
+            ExitCode::from(NO_MEMORY)
+        }
+        Err(_) => {
+            let _ = eprintln!(rt; "{}", RunFault::WriteFault);
+            ExitCode::from(READ_OR_WRITE_FAULT)
+        }
+    }
+}
