@@ -30,7 +30,7 @@ breach_more fixed bytes more fault (inr b) = inr (record {
 })
 
 -- after a fault nothing more is answered, and the decoder stays as it is
-record Stays (old : Held) (feeds : List Feed) (new : Held) : Type 0 where
+pub record Stays (old : Held) (feeds : List Feed) (new : Held) : Type 0 where
   pub frames : all_frames feeds ≡ []
   pub same : new ≡ old
 
@@ -46,7 +46,7 @@ stays_step fault old piece (Err faults.BadTag) mid e f = (refl, same_kept fault 
 stays_step fault old piece (Err faults.BadLength) mid e f = (refl, same_kept fault old mid faults.BadLength piece e f)
 stays_step fault old piece (Err faults.BadField) mid e f = (refl, same_kept fault old mid faults.BadField piece e f)
 
-stays : (fault : StreamFault) (old : Held) (feeds : List Feed) (new : Held) → old.fault ≡ Some fault → IsRun old feeds new → Stays old feeds new
+pub stays : (fault : StreamFault) (old : Held) (feeds : List Feed) (new : Held) → old.fault ≡ Some fault → IsRun old feeds new → Stays old feeds new
 stays fault old [] new e run = record { frames = refl; same = run }
 stays fault old (f ∷ fs) new e run =
     let one = stays_step fault old f.piece f.answer run.0 e run.1 in

@@ -112,7 +112,7 @@ filled_begins fixed old piece new rest (inr f) = ap (take (length old)) f.1 ∙ 
 
 -- What is read
 
-length-text_of : (version : machine.Version) (epoch : ℕ) (frame : Frame) → has_frame version frame ≡ true → length (text version epoch frame) ≡ 12 + length (body_text frame)
+pub length-text_of : (version : machine.Version) (epoch : ℕ) (frame : Frame) → has_frame version frame ≡ true → length (text version epoch frame) ≡ 12 + length (body_text frame)
 length-text_of version epoch frame has = ap length (text-is version epoch frame has) ∙ length-append (header_text version (tag_code frame) epoch (length (body_text frame))) (body_text frame)
 
 -- a frame that is at its end takes all bytes

@@ -15,3 +15,4 @@ pub mod Cuts
 pub mod Unique
 pub mod OneFrame
 pub mod Filling
+pub mod Decoding

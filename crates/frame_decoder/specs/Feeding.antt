@@ -1,6 +1,7 @@
 -- What a decoder does with a piece, and with pieces one after the other.
 use Rattle.std.specs.Prelude.{◌≡◌, ℕ, ◌⊎◌, List, [], ◌∷◌, ◌++◌, Option, Some, None, Result, Ok, Err}
 use Rattle.std.specs.Global.{Vec}
+use Rattle.std.specs.List.{AllByRecursion}
 use Rattle.mig_model.specs.Wire.{Sent}
 use Rattle.page_stream.specs.declared.frame.Frame.{Frame}
 use Rattle.frame_decoder.specs.declared.fault.StreamFault.{StreamFault}
@@ -63,3 +64,20 @@ joined (feed ∷ feeds) = taken_of feed ++ joined feeds
 abbrev pub all_frames : List Feed → List Sent
 all_frames [] = []
 all_frames (feed ∷ feeds) = frames_of feed ++ all_frames feeds
+
+-- Streams that have nothing but frames
+
+-- an error that answers the piece is one of memory
+abbrev pub IsFaultless : Feed → Type 0
+IsFaultless feed = (fault : StreamFault) → feed.answer ≡ Err fault → fault ≡ faults.NoMemory
+
+-- these frames were answered, in order, and no fault; these bytes are held then, and no fault
+pub record IsDecoded (feeds : List Feed) (new : Held) (frames : List Sent) (bytes : List ℕ) : Type 0 where
+  pub answered : all_frames feeds ≡ frames
+  pub faultless : AllByRecursion IsFaultless feeds
+  pub held : new.bytes ≡ bytes
+  pub fault : new.fault ≡ None
+
+-- a new decoder that is fed the stream, cut anywhere, answers these frames, and then holds these bytes
+abbrev pub Decodes : (stream : List ℕ) (frames : List Sent) (bytes : List ℕ) → Type 0
+Decodes stream frames bytes = (feeds : List Feed) (new : Held) → IsRun fresh feeds new → joined feeds ≡ stream → IsDecoded feeds new frames bytes

@@ -1,15 +1,16 @@
 //! What holds of every stream. Each law is a function with an empty body, whose contract is the law.
 
-ghost use Rattle.std.specs.Prelude.{◌≡◌, ℕ, List, Option, None};
+ghost use Rattle.std.specs.Prelude.{◌≡◌, ◌++◌, ℕ, [], List, Option, None};
+ghost use Rattle.std.specs.List.{AllByRecursion};
 ghost use Rattle.mig_model.specs.Bounds.{IsFrame};
 ghost use Rattle.mig_model.specs.Wire.{Frame, Sent};
 ghost use Rattle.frame_texts.specs.Texts as texts;
 ghost use Rattle.frame_decoder.specs.declared.fault.StreamFault.{StreamFault};
 ghost use Rattle.frame_decoder.specs.declared.version.Version.{Version};
 ghost use Rattle.frame_decoder.specs.declared.version.Version.TheVariants.{One, Two};
-ghost use Rattle.frame_decoder.specs.Versions.{IsFrameIn};
-ghost use Rattle.frame_decoder.specs.Streams.{IsSent, Held, Splits};
-ghost use Rattle.frame_decoder.specs.Feeding.{fresh, Feed, IsRun, joined, all_frames};
+ghost use Rattle.frame_decoder.specs.Versions.{IsFrameIn, version_of};
+ghost use Rattle.frame_decoder.specs.Streams.{IsSent, Held, Splits, texts as all_texts};
+ghost use Rattle.frame_decoder.specs.Feeding.{fresh, Decodes, Feed, IsRun, joined, all_frames};
 
 /// A stream has one reading: its frames, what is held of its rest, the fault, and the version that is fixed then.
 pub fn one_reading()
@@ -41,4 +42,11 @@ pub fn read_frames_are_written_again()
 /// A frame of version 1 is one of version 2.
 pub fn older_frames_stand()
     ensures { (frame : Frame) → IsFrameIn One frame → IsFrameIn Two frame }
+{}
+
+/// A decoder that is fed the texts of frames, cut anywhere, answers these frames, in order, and no fault, and holds no byte then. Where
+/// less than one more text stands behind them, it holds that.
+pub fn texts_are_decoded()
+    ensures all { (version : Version) (frames : List Sent) → AllByRecursion (IsSent version) frames → Decodes (all_texts version frames) frames [] }
+    ensures part { (version : Version) (frames : List Sent) (sent : Sent) (front rest : List ℕ) → AllByRecursion (IsSent version) frames → IsSent version sent → texts.text (version_of version) sent.epoch sent.frame ≡ front ++ rest → (rest ≡ [] → ⊥) → Decodes (all_texts version frames ++ front) frames front }
 {}

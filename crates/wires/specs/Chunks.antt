@@ -1,5 +1,5 @@
 -- The bytes in flight, as frames.
-use Rattle.std.specs.Prelude.{◌≡◌, ℕ, zero, suc, ◌-◌, ◌/◌, ◌≤◌, List, [], ◌∷◌, ◌++◌, length, drop, Some}
+use Rattle.std.specs.Prelude.{◌≡◌, ℕ, zero, suc, ◌-◌, ◌/◌, ◌≤◌, List, [], ◌∷◌, ◌++◌, length, map, drop, Some}
 use Rattle.std.specs.Global.{Vec}
 use Rattle.std.specs.List.{flat_map, AllByRecursion}
 use Rattle.std.specs.Vec.{vec_capacity, vec_len}
@@ -38,6 +38,10 @@ in_full chunks = flat_map (λ (chunk : Vec ℕ). frames_in chunk.items) chunks
 -- the frames in flight
 abbrev pub in_flight : Chunks → List Sent
 in_flight chunks = frames_in (left chunks) ++ (in_full chunks.full.items ++ frames_in chunks.writing.items)
+
+-- their bytes, in the pieces in which they lie
+abbrev pub pieces : Chunks → List (List ℕ)
+pieces chunks = left chunks ∷ (map (λ (chunk : Vec ℕ). chunk.items) chunks.full.items ++ chunks.writing.items ∷ [])
 
 -- for how many frames there is room, however long they are
 abbrev pub room : Chunks → ℕ

@@ -89,10 +89,10 @@ coded_frame = code_by (Forward ⊎ Back) (coded⊎ coded_forward coded_back) fra
 abbrev pub coded_sent : Coded Sent
 coded_sent = code_by (ℕ × Frame) (coded× coded_ℕ coded_frame) (λ s. (s.epoch, s.frame)) (λ p. record { epoch = p.0; frame = p.1 }) (λ _. refl)
 
--- the code of a wire with its room
+-- the code of a wire with its bytes and its room
 abbrev pub coded_lane : Coded Lane
 coded_lane =
-    code_by (List Sent × (ℕ × ℕ)) (coded× (coded_list coded_sent) (coded× coded_ℕ coded_ℕ))
-    (λ lane. (lane.wire.frames, (lane.wire.held, lane.room)))
-    (λ p. record { wire = record { frames = p.0; held = p.1.0 }; room = p.1.1 })
+    code_by (List Sent × (ℕ × (List (List ℕ) × ℕ))) (coded× (coded_list coded_sent) (coded× coded_ℕ (coded× (coded_list (coded_list coded_ℕ)) coded_ℕ)))
+    (λ lane. (lane.wire.frames, (lane.wire.held, (lane.pieces, lane.room))))
+    (λ p. record { wire = record { frames = p.0; held = p.1.0 }; pieces = p.1.1.0; room = p.1.1.1 })
     (λ _. refl)

@@ -1,5 +1,6 @@
--- A wire of the code: the machine's wire, and the room for more frames.
+-- A wire of the code: the machine's wire, its bytes, and the room for more frames.
 use Rattle.std.specs.Prelude.{◌≡◌, ℕ, ◌<◌, ◌⊎◌, true, false, List, [], ◌∷◌, Option, Some, None, Result, Ok, Err}
+use Rattle.std.specs.List.{concat}
 use Rattle.mig_base.specs.declared.NoMemory.{NoMemory}
 use Rattle.mig_model.specs.Lengths.{text_len}
 use Rattle.mig_model.specs.Migration.{is_short}
@@ -13,12 +14,18 @@ sent_of sent = record { epoch = sent.epoch; frame = frame_of sent.frame }
 
 -- what callers see of it
 pub record Lane : Type 0 where
-  -- the frames in flight, and how many bytes of the first are with the decoder
+  -- the frames in flight, and how many bytes of the first have come
   pub wire : machine.Wire
+  -- the bytes in flight, in the pieces in which the code has them
+  pub pieces : List (List ℕ)
   -- for how many frames there is room, however long they are
   pub room : ℕ
 
--- the bytes of the first frame that are with the decoder do not complete it, and there are none where no frame is in flight
+-- the bytes in flight
+abbrev pub bytes_of : Lane → List ℕ
+bytes_of lane = concat lane.pieces
+
+-- the bytes of the first frame that have come do not complete it, and there are none where no frame is in flight
 abbrev pub IsHeld : List machine.Sent → ℕ → Type 0
 IsHeld [] held = held ≡ 0
 IsHeld (sent ∷ rest) held = held < text_len sent.frame
@@ -44,7 +51,7 @@ pub record Completes (old : machine.Wire) (n : ℕ) : Type 0 where
   pub first : old.frames ≡ sent ∷ rest
   pub whole : is_short old sent.frame n ≡ false
 
--- what comes of so many more bytes of the first frame: they are with the decoder, or complete it, or there is no memory for the frame
+-- what comes of so many more bytes of the first frame: they are counted, or complete it, or there is no memory for the frame
 -- that they complete
 abbrev pub Arrives : machine.Wire → ℕ → Result (Option Sent) NoMemory → machine.Wire → Type 0
 Arrives old n (Ok None) new = ((old.frames ≡ []) × (new ≡ old)) ⊎ IsMoved old n new

@@ -1,11 +1,11 @@
 //! The bytes in flight.
 
-ghost use Rattle.std.specs.Prelude.{◌≡◌, ◌+◌, ◌-◌, ◌≤◌, ◌<◌, ◌++◌, ◌∷◌, [], OnOk, vec_capacity, vec_len};
+ghost use Rattle.std.specs.Prelude.{◌≡◌, ◌+◌, ◌-◌, ◌≤◌, ◌<◌, ◌++◌, ◌∷◌, [], OnOk, length, slice_index_or, vec_capacity, vec_len};
 ghost use Rattle.mig_base.specs.Tests.{is_empty as is_none_of};
 ghost use Rattle.mig_model.specs.Bounds.{IsFrame};
 ghost use Rattle.mig_model.specs.Wire as machine;
 ghost use Rattle.page_stream.specs.Frames.{frame_of};
-ghost use Rattle.wires.specs.Chunks.{AreChunks, in_flight, left, room};
+ghost use Rattle.wires.specs.Chunks.{AreChunks, in_flight, left, pieces, room};
 
 use mig_base::{MAX_CPUS, MAX_PAGES, NoMemory, PAGE_BYTES, PageNo};
 use page_stream::{Frame, encode_into, encode_page_into};
@@ -173,11 +173,34 @@ impl Chunks {
         left
     }
 
+    /// In how many pieces the bytes lie. Any of them may have none.
+    pub(crate) fn pieces(&self) -> usize
+        ensures { result ≡ length (pieces self.now) }
+    {
+        self.full.len() + 2
+    }
+
+    /// One of the pieces: what is left of the chunk that is read, then each that is full, then the one that is written.
+    pub(crate) fn piece(&self, index: usize) -> &[u8]
+        requires chunks { AreChunks self.now }
+        requires index { index < length (pieces self.now) }
+        ensures { result.now ≡ slice_index_or (pieces self.now) index [] }
+    {
+        if index == 0 {
+            return self.left();
+        }
+        match self.full.get(index - 1) {
+            Some(chunk) => chunk.as_slice(),
+            None => self.writing.as_slice(),
+        }
+    }
+
     /// Loses all bytes.
     pub(crate) fn clear(&mut self)
         requires { AreChunks self.old }
         ensures chunks { AreChunks self.new }
         ensures none { in_flight self.new ≡ [] }
+        ensures room { room self.old ≤ room self.new }
     {
         self.reading.clear();
         self.taken = 0;

@@ -1,12 +1,17 @@
 //! The type that callers see.
 
-ghost use Rattle.std.specs.Prelude.{◌≡◌, ◌+◌, ◌<◌, ◌≤◌, ◌∷◌, [], None, IfOk, OnOk, List};
+ghost use Rattle.std.specs.Prelude.{◌≡◌, ◌+◌, ◌<◌, ◌≤◌, ◌++◌, ◌∷◌, [], length, slice_index_or, take, None, IfOk, OnOk, List};
+ghost use Rattle.std.specs.List.{AllByRecursion};
 ghost use Rattle.std.specs.Option.{IfSome};
 ghost use Rattle.mig_base.specs.Tests.{is_empty as is_none_of};
 ghost use Rattle.mig_model.specs.Bounds.{IsFrame};
 ghost use Rattle.mig_model.specs.Wire as machine;
+ghost use Rattle.frame_texts.specs.Texts as written;
 ghost use Rattle.page_stream.specs.Frames.{frame_of};
-ghost use Rattle.wires.specs.Lanes.{Arrives};
+ghost use Rattle.frame_decoder.specs.Feeding.{Decodes};
+ghost use Rattle.frame_decoder.specs.Streams.{IsSent, texts};
+ghost use Rattle.frame_decoder.specs.declared.version.Version.TheVariants.{Two};
+ghost use Rattle.wires.specs.Lanes.{Arrives, IsHeld, bytes_of};
 
 use crate::chunks::Chunks;
 use crate::sent::Sent;
@@ -16,11 +21,15 @@ use page_stream::Frame;
 use std::alloc::Global;
 use std::marker::Model;
 
-/// One way between the nodes: the frames in flight, in the order in which they were sent, and how many bytes of the first are with
-/// the decoder at its end, fewer than its text has. Each frame is well formed.
+/// One way between the nodes: the frames in flight, in the order in which they were sent, and how many bytes of the first have come,
+/// fewer than its text has. Each frame is well formed.
 ///
-/// The wire holds bytes alone, the texts of version 2 of its frames, one after the other. A frame is written as it is sent, and read where
-/// it stands once its last byte has come.
+/// The wire holds bytes alone, the texts of version 2 of its frames, one after the other; [`piece`](Wire::piece) lends them. A frame is
+/// written as it is sent, and read where it stands once its last byte has come. The wire has no [`Decoder`](frame_decoder::Decoder): one
+/// that is fed its bytes, cut anywhere, answers the same frames.
+///
+/// Room is for the frames that are pushed next. [`arrive`](Wire::arrive) and [`drop_first`](Wire::drop_first) may leave less of it, so
+/// whoever sends makes it again first.
 #[derive(Drop)]
 pub struct Wire {
     alloc: Global,
@@ -29,7 +38,7 @@ pub struct Wire {
 }
 
 impl Model for Wire {
-    ghost use Rattle.wires.specs.Chunks.{AreChunks, in_flight, room};
+    ghost use Rattle.wires.specs.Chunks.{AreChunks, in_flight, pieces, room};
     ghost use Rattle.wires.specs.Lanes.{IsHeld, Lane};
     ghost use Rattle.wires.specs.Codes.{coded_lane};
 
@@ -37,7 +46,7 @@ impl Model for Wire {
 
     ghost coded = { coded_lane };
 
-    ghost view = { λ w. record { wire = record { frames = in_flight w.chunks; held = w.held }; room = room w.chunks } };
+    ghost view = { λ w. record { wire = record { frames = in_flight w.chunks; held = w.held }; pieces = pieces w.chunks; room = room w.chunks } };
 
     ghost invariant = { λ w. AreChunks w.chunks × IsHeld (in_flight w.chunks) w.held };
 }
@@ -45,7 +54,8 @@ impl Model for Wire {
 impl Wire {
     /// A wire on which nothing is in flight. It takes no memory.
     pub fn new(alloc: Global) -> Self
-        ensures { result.wire ≡ machine.empty_wire }
+        ensures wire { result.wire ≡ machine.empty_wire }
+        ensures bytes { bytes_of result ≡ [] }
     {
         Wire {
             alloc,
@@ -61,9 +71,39 @@ impl Wire {
         self.chunks.is_empty()
     }
 
+    /// In how many pieces the bytes in flight lie. Joined they are the texts of the frames in flight, in version 2 and in order; a decoder
+    /// that is fed them, cut anywhere, answers these frames and no fault, and holds no byte then.
+    pub fn pieces(&self) -> usize
+        ensures count { result ≡ length self.now.pieces }
+        ensures texts { bytes_of self.now ≡ texts Two self.now.wire.frames }
+        ensures sent { AllByRecursion (IsSent Two) self.now.wire.frames }
+        ensures decoded { Decodes (bytes_of self.now) self.now.wire.frames [] }
+    {
+        self.chunks.pieces()
+    }
+
+    /// One of the pieces, which may be empty; `index` is below [`pieces`](Wire::pieces).
+    pub fn piece(&self, index: usize) -> &[u8]
+        requires { index < length self.now.pieces }
+        ensures { result.now ≡ slice_index_or self.now.pieces index [] }
+    {
+        self.chunks.piece(index)
+    }
+
+    /// How many bytes have come, of the first frame in flight and too few for it: a decoder that is fed these holds them, and answers
+    /// nothing.
+    pub fn held(&self) -> u64
+        ensures count { result ≡ self.now.wire.held }
+        ensures short { IsHeld self.now.wire.frames self.now.wire.held }
+        ensures decoded { Decodes (take self.now.wire.held (bytes_of self.now)) [] (take self.now.wire.held (bytes_of self.now)) }
+    {
+        self.held
+    }
+
     /// Makes room for so many frames, however long they are. `NoMemory` where the room was refused; what is in flight stays either way.
     pub fn reserve(&mut self, count: usize) -> Result<(), NoMemory>
         ensures stays { self.new.wire ≡ self.old.wire }
+        ensures bytes { bytes_of self.new ≡ bytes_of self.old }
         ensures room { OnOk result (count ≤ self.new.room) }
     {
         self.chunks.reserve(self.alloc, count)
@@ -74,6 +114,7 @@ impl Wire {
         requires well_formed { IsFrame (frame_of frame) }
         requires room { 0 < self.old.room }
         ensures wire { self.new.wire ≡ machine.wire_with self.old.wire epoch (frame_of frame ∷ []) }
+        ensures bytes { bytes_of self.new ≡ bytes_of self.old ++ written.text written.Version.Two epoch (frame_of frame) }
         ensures room { self.old.room ≤ self.new.room + 1 }
     {
         self.chunks.write(epoch, &frame);
@@ -84,18 +125,20 @@ impl Wire {
         requires well_formed { IsFrame (machine.Frame.Page page bytes.now) }
         requires room { 0 < self.old.room }
         ensures wire { self.new.wire ≡ machine.wire_with self.old.wire epoch (machine.Frame.Page page bytes.now ∷ []) }
+        ensures bytes { bytes_of self.new ≡ bytes_of self.old ++ written.text written.Version.Two epoch (machine.Frame.Page page bytes.now) }
         ensures room { self.old.room ≤ self.new.room + 1 }
     {
         self.chunks.write_page(epoch, page, bytes);
     }
 
-    /// `n` more bytes of the first frame come. Unless they complete it, the decoder has them, and the answer is `None`. Else it is the
-    /// frame, read from its bytes, and the wire is as before until [`drop_first`](Wire::drop_first): whoever cannot take the frame lets
-    /// it come again. Where nothing is in flight the answer is `None`.
+    /// `n` more bytes of the first frame come. Unless they complete it, they are counted, and the answer is `None`. Else it is the frame,
+    /// read from its bytes, and the wire is as before until [`drop_first`](Wire::drop_first): whoever cannot take the frame lets it come
+    /// again. Where nothing is in flight the answer is `None`.
     ///
     /// `NoMemory` is for the frame that is read, so it comes only where the bytes complete one, and leaves the wire as it was.
     pub fn arrive(&mut self, n: u64) -> Result<Option<Sent>, NoMemory>
         ensures arrived { Arrives self.old.wire n result self.new.wire }
+        ensures bytes { bytes_of self.new ≡ bytes_of self.old }
         ensures frame { IfOk result (λ read. IfSome read (λ sent. IsFrame (frame_of sent.frame))) }
     {
         self.chunks.turn();
@@ -118,6 +161,7 @@ impl Wire {
     /// Takes the first frame, and all bytes of it that have come, off the wire.
     pub fn drop_first(&mut self)
         ensures first { (sent : machine.Sent) (rest : List machine.Sent) → self.old.wire.frames ≡ sent ∷ rest → self.new.wire ≡ machine.wire_behind rest }
+        ensures bytes { (sent : machine.Sent) (rest : List machine.Sent) → self.old.wire.frames ≡ sent ∷ rest → bytes_of self.old ≡ written.text written.Version.Two sent.epoch sent.frame ++ bytes_of self.new }
         ensures none { self.old.wire.frames ≡ [] → self.new.wire ≡ self.old.wire }
     {
         self.chunks.turn();
@@ -132,6 +176,8 @@ impl Wire {
     /// Loses all that is in flight: the channel breaks.
     pub fn clear(&mut self)
         ensures wire { self.new.wire ≡ machine.empty_wire }
+        ensures bytes { bytes_of self.new ≡ [] }
+        ensures room { self.old.room ≤ self.new.room }
     {
         self.chunks.clear();
         self.held = 0;

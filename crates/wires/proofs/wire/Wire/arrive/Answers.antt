@@ -4,6 +4,8 @@ use Rattle.frame_decoder.specs.Streams.{IsTextOf}
 use Rattle.frame_decoder.specs.declared.version.Version.TheVariants as versions
 use Rattle.wires.specs.Chunks.{in_flight}
 use Rattle.wires.proofs.WireLemmas.{completes, has_front, held_below, held_there, moves, none_is_not, read_is}
+use Rattle.wires.specs.Lanes.{bytes_of}
+use Rattle.wires.proofs.ByteLemmas.{same_bytes}
 use Rattle.wires.proofs.wire.Wire.arrive.Goals as goal
 
 pub overflow_sub-len : goal.overflow_sub-len
@@ -46,3 +48,15 @@ returns-clause-arrived c =
       completes (in_flight c.self.inside.chunks) (in_flight c.turn.new.self) front.sent front.rest _ c.self.inside.held c.front_len-len.result c.args.n c.turn.ensures.stays front.flight front.len_is same (λ less. omega (arith, enough, less)),
       (λ i. record { frames = c.turn.ensures.stays i; held = c.self.inside.held }),
     )
+
+pub returns-then-is_empty-clause-bytes : goal.returns-then-is_empty-clause-bytes
+returns-then-is_empty-clause-bytes c = same_bytes c.self.inside.chunks c.turn.new.self c.self.invariant.0 c.turn.ensures.chunks c.turn.ensures.stays ∙ ap bytes_of c.self.view_is
+
+pub returns-then-n-len-clause-bytes : goal.returns-then-n-len-clause-bytes
+returns-then-n-len-clause-bytes c = same_bytes c.self.inside.chunks c.turn.new.self c.self.invariant.0 c.turn.ensures.chunks c.turn.ensures.stays ∙ ap bytes_of c.self.view_is
+
+pub returns-in_err-epoch-clause-bytes : goal.returns-in_err-epoch-clause-bytes
+returns-in_err-epoch-clause-bytes c = same_bytes c.self.inside.chunks c.turn.new.self c.self.invariant.0 c.turn.ensures.chunks c.turn.ensures.stays ∙ ap bytes_of c.self.view_is
+
+pub returns-clause-bytes : goal.returns-clause-bytes
+returns-clause-bytes c = same_bytes c.self.inside.chunks c.turn.new.self c.self.invariant.0 c.turn.ensures.chunks c.turn.ensures.stays ∙ ap bytes_of c.self.view_is

@@ -1,6 +1,8 @@
-use Rattle.std.proofs.Common.{ap, arith, length, sym, ◌∙◌, ◌∷◌, ◌≡◌}
+use Rattle.std.proofs.Common.{◌+◌, ap, arith, length, sym, ◌∙◌, ◌∷◌, ◌≡◌}
 use Rattle.std.proofs.lemmas.Bool.{eqb-false}
 use Rattle.wires.specs.Chunks.{in_flight}
+use Rattle.wires.specs.Lanes.{bytes_of}
+use Rattle.wires.proofs.ByteLemmas.{fewer_bytes}
 use Rattle.wires.proofs.WireLemmas.{has_front, none_held, not_none, same_rest}
 use Rattle.wires.proofs.wire.Wire.drop_first.Goals as goal
 
@@ -21,6 +23,13 @@ returns-clause-first c = λ sent rest is.
     let old : in_flight c.turn.new.self ≡ sent ∷ rest = c.turn.ensures.stays ∙ ap (λ w. w.wire.frames) c.self.view_is ∙ is in
     let left = front.behind ∙ same_rest (in_flight c.turn.new.self) front.sent sent front.rest rest front.flight old in
     λ i. record { frames = left i; held = 0 }
+
+pub returns-clause-bytes : goal.returns-clause-bytes
+returns-clause-bytes c = λ sent rest is.
+    let front = has_front c.turn.new.self c.left-left.result.now c.front_len.result c.turn.ensures.chunks c.left-left.ensures (λ none. eqb-false _ _ (sym c.is_empty.ensures ∙ c.if-is_empty.false) (ap length none)) c.front_len.ensures in
+    let first : in_flight c.self.inside.chunks ≡ sent ∷ rest = ap (λ w. w.wire.frames) c.self.view_is ∙ is in
+    let left = front.behind ∙ same_rest (in_flight c.turn.new.self) front.sent sent front.rest rest front.flight (c.turn.ensures.stays ∙ first) in
+    sym (ap bytes_of c.self.view_is) ∙ fewer_bytes c.self.inside.chunks (record c.turn.new.self { taken = c.turn.new.self.taken + c.front_len.result }) sent rest c.self.invariant.0 front.are first left
 
 pub returns-clause-none : goal.returns-clause-none
 returns-clause-none c = λ none.
