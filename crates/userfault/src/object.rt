@@ -201,7 +201,8 @@ impl Userfault {
         }
     }
 
-    /// Notes an event that a processor caused. `NoMemory` changes nothing.
+    /// Notes an event that a processor caused: any message but a page fault, for which [`queue_fault`](Userfault::queue_fault) is. A page
+    /// fault would wait among the events. `NoMemory` changes nothing.
     pub fn queue_event(&mut self, message: Message, cpu: u8) -> Result<(), NoMemory>
         ensures ok { OnOk result (self.new ≡ machine.event_queued self.old message cpu) }
         ensures err { OnErr result (self.new ≡ self.old) }

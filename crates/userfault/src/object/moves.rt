@@ -69,8 +69,8 @@ impl Userfault {
         move_into(&mut self.protect, from, to, count);
     }
 
-    /// Moves the modes of the `count` pages from `from` on to those from `to` on, in place of theirs. The pages from `from` on
-    /// are not registered afterwards. `NoMemory` changes nothing.
+    /// Moves the modes of the `count` pages from `from` on to those from `to` on, which lose their own. The pages from `from` on
+    /// are not registered afterwards. Both ranges end at or below page 0x100000, and lie apart. `NoMemory` changes nothing.
     pub fn move_range(&mut self, from: PageNo, to: PageNo, count: u32) -> Result<(), NoMemory>
         requires inside { (from + count ≤ HIGH_PAGE) × (to + count ≤ HIGH_PAGE) }
         requires apart { (from + count ≤ to) ⊎ (to + count ≤ from) }
