@@ -18,7 +18,8 @@ const PIECE: usize = 16_384;
 /// holds of the one in which the run ends: its transcript is the run of one flat memory, and once the migration is complete the
 /// destination alone holds that memory.
 ///
-/// At most 4,294,967,295 reads are made; a script that needs more ends with a read fault. What the lines of one read cause is
+/// At most 4,294,967,295 reads are made; a script that needs more ends with a read fault. That is the bound of the loop: no clause counts
+/// reads. What the lines of one read cause is
 /// gathered, and is written before the next read and before any fault is answered. An interrupted read or write is a fault.
 pub fn run_script<R: Read, W: Write>(
     alloc: Global,
