@@ -4,4 +4,5 @@ pub mod Orders
 pub mod Parsing
 pub mod Printed
 pub mod Spelling
+pub mod Tails
 pub mod Words

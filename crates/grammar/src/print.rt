@@ -4,12 +4,13 @@ ghost use Rattle.std.specs.Prelude.{◌≡◌, ◌++◌, ◌∷◌, [], Ok, OnOk
 ghost use Rattle.mig_base.specs.declared.command.Reply.TheVariants as reply;
 ghost use Rattle.mig_base.specs.declared.effect.Effect.TheVariants as effect;
 ghost use Rattle.grammar.specs.Printed.{outcome_line, outcome_text, effect_text, refusal_name, event_text, fault_text, state_text, side_text};
+ghost use Rattle.grammar.specs.Tails.{tail_text};
 
 use mig_base::effect::Effect;
 use mig_base::phase::Received;
 use mig_base::refusal::Refusal;
 use mig_base::schedule::Side;
-use mig_base::{Message, NoMemory, Reply};
+use mig_base::{Addr, Message, NoMemory, Reply};
 use report::ReplyText;
 use std::alloc::AllocError;
 use std::fmt;
@@ -18,47 +19,58 @@ use std::fmt;
 const LINE: usize = 128;
 
 /// The name of a refusal.
-#[derive(Clone, Copy)]
-struct RefusalName(Refusal);
-
-impl fmt::Display for RefusalName {
-    ghost output = { λ x. Some (refusal_name x.0) };
-
-    fn fmt<W: fmt::Write>(&self, f: &mut fmt::Formatter<W>) -> fmt::Result {
-        match self.0 {
-            Refusal::NoCpu => write!(f, "NoCpu"),
-            Refusal::Busy => write!(f, "Busy"),
-            Refusal::NotAsleep => write!(f, "NotAsleep"),
-            Refusal::NotWoken => write!(f, "NotWoken"),
-            Refusal::Phase => write!(f, "Phase"),
-            Refusal::Broken => write!(f, "Broken"),
-            Refusal::NotBroken => write!(f, "NotBroken"),
-            Refusal::StaleEpoch => write!(f, "StaleEpoch"),
-            Refusal::NothingThere => write!(f, "NothingThere"),
-            Refusal::Changing => write!(f, "Changing"),
-            Refusal::InstallFirst => write!(f, "InstallFirst"),
-            Refusal::UrgentFirst => write!(f, "UrgentFirst"),
-            Refusal::PageNotSendable => write!(f, "PageNotSendable"),
-            Refusal::NotRemaining => write!(f, "NotRemaining"),
-            Refusal::PagesLeft => write!(f, "PagesLeft"),
-            Refusal::CountUsed => write!(f, "CountUsed"),
-            Refusal::NoMemory => write!(f, "NoMemory"),
-        }
+fn name_of(refusal: Refusal) -> &'static str
+    ensures { result.now ≡ refusal_name refusal }
+{
+    match refusal {
+        Refusal::NoCpu => "NoCpu",
+        Refusal::Busy => "Busy",
+        Refusal::NotAsleep => "NotAsleep",
+        Refusal::NotWoken => "NotWoken",
+        Refusal::Phase => "Phase",
+        Refusal::Broken => "Broken",
+        Refusal::NotBroken => "NotBroken",
+        Refusal::StaleEpoch => "StaleEpoch",
+        Refusal::NothingThere => "NothingThere",
+        Refusal::Changing => "Changing",
+        Refusal::InstallFirst => "InstallFirst",
+        Refusal::UrgentFirst => "UrgentFirst",
+        Refusal::PageNotSendable => "PageNotSendable",
+        Refusal::NotRemaining => "NotRemaining",
+        Refusal::PagesLeft => "PagesLeft",
+        Refusal::CountUsed => "CountUsed",
+        Refusal::NoMemory => "NoMemory",
     }
 }
 
 /// The kind of a page fault: whether it is a write-protect fault.
-#[derive(Clone, Copy)]
-struct FaultText(bool);
+fn kind_of(wp: bool) -> &'static str
+    ensures { result.now ≡ fault_text wp }
+{
+    match wp {
+        false => "missing",
+        true => "write-protect",
+    }
+}
 
-impl fmt::Display for FaultText {
-    ghost output = { λ x. Some (fault_text x.0) };
+/// How far a destination had come.
+fn state_of(received: Received) -> &'static str
+    ensures { result.now ≡ state_text received }
+{
+    match received {
+        Received::NotRun => "notrun",
+        Received::Running => "running",
+        Received::Ended => "ended",
+    }
+}
 
-    fn fmt<W: fmt::Write>(&self, f: &mut fmt::Formatter<W>) -> fmt::Result {
-        match self.0 {
-            false => write!(f, "missing"),
-            true => write!(f, "write-protect"),
-        }
+/// A side of the channel.
+fn name_of_side(side: Side) -> &'static str
+    ensures { result.now ≡ side_text side }
+{
+    match side {
+        Side::Source => "source",
+        Side::Destination => "dest",
     }
 }
 
@@ -72,7 +84,7 @@ impl fmt::Display for EventText {
     fn fmt<W: fmt::Write>(&self, f: &mut fmt::Formatter<W>) -> fmt::Result {
         match self.0 {
             Message::PageFault { addr, wp, .. } => {
-                let kind = FaultText(wp);
+                let kind = kind_of(wp);
                 write!(f, "fault 0x{addr:x} {kind}")
             }
             Message::Remap { from, to, len } => write!(f, "remap 0x{from:x} 0x{to:x} {len}"),
@@ -82,107 +94,148 @@ impl fmt::Display for EventText {
     }
 }
 
-/// How far a destination had come.
+/// What the text of an effect has behind its first words.
 #[derive(Clone, Copy)]
-struct StateText(Received);
+enum Tail {
+    Nothing,
+    Number(u64),
+    Address(Addr),
+    Pages {
+        addr: Addr,
+        pages: u32,
+    },
+    Reply {
+        cpu: u8,
+        reply: Reply,
+    },
+    Asleep {
+        cpu: u8,
+    },
+    InCall {
+        cpu: u8,
+        messages: u8,
+    },
+    Round {
+        round: u32,
+        todo: u32,
+    },
+    Fault {
+        addr: Addr,
+        wp: bool,
+    },
+    Event(Message),
+    Last {
+        event: Message,
+        cpu: u8,
+        reply: Reply,
+    },
+    Requested {
+        origin: Addr,
+        addr: Addr,
+    },
+    Switched {
+        discard: u32,
+        owed: u32,
+    },
+    Installed {
+        addr: Addr,
+        origin: Addr,
+    },
+    Received {
+        state: Received,
+        pages: u32,
+    },
+    Side(Side),
+}
 
-impl fmt::Display for StateText {
-    ghost output = { λ x. Some (state_text x.0) };
-
-    fn fmt<W: fmt::Write>(&self, f: &mut fmt::Formatter<W>) -> fmt::Result {
-        match self.0 {
-            Received::NotRun => write!(f, "notrun"),
-            Received::Running => write!(f, "running"),
-            Received::Ended => write!(f, "ended"),
-        }
+/// The first words of the text of an effect, and what is behind them.
+fn parts_of(effect: &Effect) -> (&'static str, Tail)
+    ensures { effect_text effect.now ≡ result.0.now ++ tail_text result.1 }
+{
+    match *effect {
+        Effect::Answered { cpu, reply } => ("cpu ", Tail::Reply { cpu, reply }),
+        Effect::Asleep { cpu } => ("cpu ", Tail::Asleep { cpu }),
+        Effect::InCall { cpu, messages } => ("cpu ", Tail::InCall { cpu, messages }),
+        Effect::Started { epoch } => ("started epoch ", Tail::Number(u64::from(epoch))),
+        Effect::RoundMade { round, todo } => ("round ", Tail::Round { round, todo }),
+        Effect::SentPage { addr } => ("sent page ", Tail::Address(addr)),
+        Effect::SentZero { addr } => ("sent zero ", Tail::Address(addr)),
+        Effect::SentRun { addr, pages } => ("sent run ", Tail::Pages { addr, pages }),
+        Effect::ReadFault { addr, wp } => ("read fault ", Tail::Fault { addr, wp }),
+        Effect::ReadEvent { event } => ("read ", Tail::Event(event)),
+        Effect::ReadLast { event, cpu, reply } => ("read ", Tail::Last { event, cpu, reply }),
+        Effect::Unprotected { addr } => ("unprotected ", Tail::Address(addr)),
+        Effect::Zeroed { addr } => ("zeroed ", Tail::Address(addr)),
+        Effect::Woke { addr } => ("woke ", Tail::Address(addr)),
+        Effect::Forgot { addr } => ("forgot ", Tail::Address(addr)),
+        Effect::Requested { origin, addr } => ("requested ", Tail::Requested { origin, addr }),
+        Effect::Switched { discard, owed } => (
+            "switched discard ",
+            Tail::Switched { discard, owed },
+        ),
+        Effect::Moved { bytes } => ("moved ", Tail::Number(bytes)),
+        Effect::TookAdvise => ("took advise", Tail::Nothing),
+        Effect::TookPage { addr } => ("took page ", Tail::Address(addr)),
+        Effect::TookZero { addr } => ("took zero ", Tail::Address(addr)),
+        Effect::TookRun { addr, pages } => ("took run ", Tail::Pages { addr, pages }),
+        Effect::TookDiscard { pages } => ("took discard ", Tail::Number(u64::from(pages))),
+        Effect::TookPackage { owed } => ("took package owed ", Tail::Number(u64::from(owed))),
+        Effect::TookEnd => ("took end", Tail::Nothing),
+        Effect::TookResume => ("took resume", Tail::Nothing),
+        Effect::TookRequest { addr } => ("took request ", Tail::Address(addr)),
+        Effect::TookRecv { state, pages } => ("took recv ", Tail::Received { state, pages }),
+        Effect::TookDone => ("took done", Tail::Nothing),
+        Effect::Installed { addr, origin } => ("installed ", Tail::Installed { addr, origin }),
+        Effect::Dropped { origin } => ("dropped ", Tail::Address(origin)),
+        Effect::Asked { addr } => ("asked ", Tail::Address(addr)),
+        Effect::EndSent => ("end sent", Tail::Nothing),
+        Effect::Broken => ("broken", Tail::Nothing),
+        Effect::Noticed { side } => ("paused ", Tail::Side(side)),
+        Effect::Resumed { epoch } => ("resumed epoch ", Tail::Number(u64::from(epoch))),
     }
 }
 
-/// A side of the channel.
+/// The text behind the first words of an effect's.
 #[derive(Clone, Copy)]
-struct SideText(Side);
+struct TailText(Tail);
 
-impl fmt::Display for SideText {
-    ghost output = { λ x. Some (side_text x.0) };
+impl fmt::Display for TailText {
+    ghost output = { λ x. Some (tail_text x.0) };
 
     fn fmt<W: fmt::Write>(&self, f: &mut fmt::Formatter<W>) -> fmt::Result {
         match self.0 {
-            Side::Source => write!(f, "source"),
-            Side::Destination => write!(f, "dest"),
-        }
-    }
-}
-
-/// What a step did.
-#[derive(Clone, Copy)]
-struct EffectText(Effect);
-
-impl fmt::Display for EffectText {
-    ghost output = { λ x. Some (effect_text x.0) };
-
-    fn fmt<W: fmt::Write>(&self, f: &mut fmt::Formatter<W>) -> fmt::Result {
-        match self.0 {
-            Effect::Answered { cpu, reply } => {
+            Tail::Nothing => Ok(()),
+            Tail::Number(number) => write!(f, "{number}"),
+            Tail::Address(addr) => write!(f, "0x{addr:x}"),
+            Tail::Pages { addr, pages } => write!(f, "0x{addr:x} {pages}"),
+            Tail::Reply { cpu, reply } => {
                 let reply = ReplyText(reply);
-                write!(f, "cpu {cpu} {reply}")
+                write!(f, "{cpu} {reply}")
             }
-            Effect::Asleep { cpu } => write!(f, "cpu {cpu} asleep"),
-            Effect::InCall { cpu, messages } => write!(f, "cpu {cpu} in call {messages}"),
-            Effect::Started { epoch } => write!(f, "started epoch {epoch}"),
-            Effect::RoundMade { round, todo } => write!(f, "round {round} todo {todo}"),
-            Effect::SentPage { addr } => write!(f, "sent page 0x{addr:x}"),
-            Effect::SentZero { addr } => write!(f, "sent zero 0x{addr:x}"),
-            Effect::SentRun { addr, pages } => write!(f, "sent run 0x{addr:x} {pages}"),
-            Effect::ReadFault { addr, wp } => {
-                let kind = FaultText(wp);
-                write!(f, "read fault 0x{addr:x} {kind}")
+            Tail::Asleep { cpu } => write!(f, "{cpu} asleep"),
+            Tail::InCall { cpu, messages } => write!(f, "{cpu} in call {messages}"),
+            Tail::Round { round, todo } => write!(f, "{round} todo {todo}"),
+            Tail::Fault { addr, wp } => {
+                let kind = kind_of(wp);
+                write!(f, "0x{addr:x} {kind}")
             }
-            Effect::ReadEvent { event } => {
+            Tail::Event(event) => {
                 let event = EventText(event);
-                write!(f, "read {event}")
+                write!(f, "{event}")
             }
-            Effect::ReadLast { event, cpu, reply } => {
+            Tail::Last { event, cpu, reply } => {
                 let event = EventText(event);
                 let reply = ReplyText(reply);
-                write!(f, "read {event}, cpu {cpu} {reply}")
+                write!(f, "{event}, cpu {cpu} {reply}")
             }
-            Effect::Unprotected { addr } => write!(f, "unprotected 0x{addr:x}"),
-            Effect::Zeroed { addr } => write!(f, "zeroed 0x{addr:x}"),
-            Effect::Woke { addr } => write!(f, "woke 0x{addr:x}"),
-            Effect::Forgot { addr } => write!(f, "forgot 0x{addr:x}"),
-            Effect::Requested { origin, addr } => {
-                write!(f, "requested 0x{origin:x} for 0x{addr:x}")
+            Tail::Requested { origin, addr } => write!(f, "0x{origin:x} for 0x{addr:x}"),
+            Tail::Switched { discard, owed } => write!(f, "{discard} owed {owed}"),
+            Tail::Installed { addr, origin } => write!(f, "0x{addr:x} from 0x{origin:x}"),
+            Tail::Received { state, pages } => {
+                let state = state_of(state);
+                write!(f, "{state} {pages}")
             }
-            Effect::Switched { discard, owed } => {
-                write!(f, "switched discard {discard} owed {owed}")
-            }
-            Effect::Moved { bytes } => write!(f, "moved {bytes}"),
-            Effect::TookAdvise => write!(f, "took advise"),
-            Effect::TookPage { addr } => write!(f, "took page 0x{addr:x}"),
-            Effect::TookZero { addr } => write!(f, "took zero 0x{addr:x}"),
-            Effect::TookRun { addr, pages } => write!(f, "took run 0x{addr:x} {pages}"),
-            Effect::TookDiscard { pages } => write!(f, "took discard {pages}"),
-            Effect::TookPackage { owed } => write!(f, "took package owed {owed}"),
-            Effect::TookEnd => write!(f, "took end"),
-            Effect::TookResume => write!(f, "took resume"),
-            Effect::TookRequest { addr } => write!(f, "took request 0x{addr:x}"),
-            Effect::TookRecv { state, pages } => {
-                let state = StateText(state);
-                write!(f, "took recv {state} {pages}")
-            }
-            Effect::TookDone => write!(f, "took done"),
-            Effect::Installed { addr, origin } => {
-                write!(f, "installed 0x{addr:x} from 0x{origin:x}")
-            }
-            Effect::Dropped { origin } => write!(f, "dropped 0x{origin:x}"),
-            Effect::Asked { addr } => write!(f, "asked 0x{addr:x}"),
-            Effect::EndSent => write!(f, "end sent"),
-            Effect::Broken => write!(f, "broken"),
-            Effect::Noticed { side } => {
-                let side = SideText(side);
-                write!(f, "paused {side}")
-            }
-            Effect::Resumed { epoch } => write!(f, "resumed epoch {epoch}"),
+            Tail::Side(side) => f.write_str(name_of_side(side)),
         }
     }
 }
@@ -222,11 +275,12 @@ fn write_line(text: &mut String, outcome: &Result<Effect, Refusal>) -> Result<()
             },
         ) => write_done(text, cpu),
         Ok(effect) => {
-            let effect = EffectText(effect);
-            write!(text, "{effect}\n")
+            let (words, tail) = parts_of(&effect);
+            let tail = TailText(tail);
+            write!(text, "{words}{tail}\n")
         }
         Err(refusal) => {
-            let name = RefusalName(refusal);
+            let name = name_of(refusal);
             write!(text, "refused {name}\n")
         }
     }

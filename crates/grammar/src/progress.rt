@@ -28,20 +28,15 @@ pub struct Progress {
 }
 
 /// The name of a phase.
-#[derive(Clone, Copy)]
-struct PhaseText(WorldPhase);
-
-impl fmt::Display for PhaseText {
-    ghost output = { λ x. Some (phase_text x.0) };
-
-    fn fmt<W: fmt::Write>(&self, f: &mut fmt::Formatter<W>) -> fmt::Result {
-        match self.0 {
-            WorldPhase::Idle => write!(f, "idle"),
-            WorldPhase::Precopy => write!(f, "precopy"),
-            WorldPhase::Switching => write!(f, "switching"),
-            WorldPhase::Postcopy => write!(f, "postcopy"),
-            WorldPhase::Complete => write!(f, "complete"),
-        }
+fn name_of(phase: WorldPhase) -> &'static str
+    ensures { result.now ≡ phase_text phase }
+{
+    match phase {
+        WorldPhase::Idle => "idle",
+        WorldPhase::Precopy => "precopy",
+        WorldPhase::Switching => "switching",
+        WorldPhase::Postcopy => "postcopy",
+        WorldPhase::Complete => "complete",
     }
 }
 
@@ -89,7 +84,7 @@ impl fmt::Display for Progress {
     ghost output = { λ x. Some (progress_text x) };
 
     fn fmt<W: fmt::Write>(&self, f: &mut fmt::Formatter<W>) -> fmt::Result {
-        let phase = PhaseText(self.phase);
+        let phase = name_of(self.phase);
         let sent = SentText {
             rounds: self.rounds,
             sent: self.sent,
