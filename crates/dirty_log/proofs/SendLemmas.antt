@@ -1,13 +1,13 @@
 -- What is sent of pages, and of a log whose pages were sent.
-use Rattle.std.proofs.Common.{◌≡◌, ◌↔◌, lt-ltb, ℕ, zero, suc, ◌+◌, ◌<◌, ◌≤◌, ◌||◌, Bool, true, false, cond, not, eqb, ltb, Some, None, List, [], ◌∷◌, ◌++◌, length, replicate, set, take, refl, sym, ap, ◌∙◌, arith}
+use Rattle.std.proofs.Common.{◌≡◌, ◌↔◌, lt-ltb, ℕ, zero, suc, ◌+◌, ◌<◌, ◌≤◌, ◌||◌, Bool, true, false, cond, not, eqb, ltb, Some, None, is_some, List, [], ◌∷◌, ◌++◌, length, replicate, set, take, refl, sym, ap, ◌∙◌, arith}
 use Rattle.std.specs.Ordering.{nat_cmp}
 use Rattle.std.specs.List.{list_all}
-use Rattle.std.specs.FinMap.{get}
+use Rattle.std.specs.FinMap.{contains_key, get}
 use Rattle.std.specs.FinSet.{FinSet, contains, insert}
-use Rattle.std.proofs.lemmas.Bool.{and_parts, not-false}
+use Rattle.std.proofs.lemmas.Bool.{and_parts, false≢true, not-false}
 use Rattle.std.proofs.lemmas.Bool.Decides.{nat_tests}
 use Rattle.std.proofs.lemmas.List.{take_more_set}
-use Rattle.mig_base.specs.declared.TheConstants.{HIGH_PAGE}
+use Rattle.mig_base.specs.declared.TheConstants.{HIGH_PAGE, LOW_PAGE}
 use Rattle.mig_base.specs.declared.refusal.Refusal.{Refusal}
 use Rattle.mig_base.specs.Bytes.{contents, zero_page}
 use Rattle.mig_base.specs.Ranges.{in_range}
@@ -18,16 +18,19 @@ use Rattle.mig_base.proofs.RangeLemmas.{in_range-true}
 use Rattle.mig_base.proofs.SetLemmas.{member_below}
 use Rattle.mig_model.specs.Space.{Space, IsSoundSpace}
 use Rattle.mig_model.specs.Userfault.{changing}
+use Rattle.mig_model.specs.Bounds.{IsPage}
 use Rattle.mig_model.specs.Guest.{is_present}
+use Rattle.mig_model.specs.Host.{Host, IsSound}
 use Rattle.mig_model.specs.Ioctls.{protected_in}
 use Rattle.mig_model.specs.Log.{Log, log_run_sent, log_sent}
 use Rattle.mig_model.specs.Source.{Source, bytes_of, run_of}
-use Rattle.mig_model.specs.Wire.{is_zeros}
+use Rattle.mig_model.specs.Wire.{Frame, is_zeros, page_frame}
 use Rattle.mig_model.proofs.Facts.{zero_bytes}
 use Rattle.mig_model.proofs.IoctlLemmas.{every_page}
 use Rattle.mig_model.proofs.SourceSending.{present_bytes, protected_now, whole_bytes}
+use Rattle.guest.specs.Lent.{IsLent}
 use Rattle.dirty_log.specs.Answers.{send_refusal}
-use Rattle.dirty_log.specs.Sending.{sent_of}
+use Rattle.dirty_log.specs.Sending.{frame_sent}
 use Rattle.dirty_log.specs.Spaces.{is_sendable}
 use Rattle.dirty_log.specs.declared.sent.Sent.{Sent}
 
@@ -74,39 +77,54 @@ all_zeros : is_zeros zero_page ≡ true
 unfolding zero_page
 all_zeros = zeros_pass 4096
 
-zero_is : (zeros : Bool) → cond zeros Sent.Zero Sent.Page ≡ Sent.Zero → zeros ≡ true
-zero_is true h = refl
-zero_is false h = absurd (cc)
+zeros_by : (zeros : Bool) (page : ℕ) (bytes : List ℕ) → Frame.Zero page ≡ cond zeros (Frame.Zero page) (Frame.Page page bytes) → zeros ≡ true
+zeros_by true page bytes h = refl
+zeros_by false page bytes h = absurd (cc)
+
+zero_by : (sent : Sent) (page : ℕ) → frame_sent page sent ≡ Frame.Zero page → sent ≡ Sent.Zero
+zero_by Sent.Zero page h = refl
+zero_by (Sent.Page bytes) page h = absurd (cc)
 
 -- zeros alone are sent as such
-zeros_sent : (bytes : List ℕ) → length bytes ≡ 4096 → (sent_of bytes ≡ Sent.Zero) ↔ (bytes ≡ zero_page)
-zeros_sent bytes whole = (λ h. zero_bytes bytes whole (zero_is (is_zeros bytes) h), λ h. ap sent_of h ∙ ap (λ zeros. cond zeros Sent.Zero Sent.Page) all_zeros)
+zeros_sent : (bytes : List ℕ) (page : ℕ) (sent : Sent) → length bytes ≡ 4096 → frame_sent page sent ≡ page_frame page bytes → (sent ≡ Sent.Zero) ↔ (bytes ≡ zero_page)
+zeros_sent bytes page sent whole is = (
+  λ h. zero_bytes bytes whole (zeros_by (is_zeros bytes) page bytes (ap (frame_sent page) (sym h) ∙ is)),
+  λ h. zero_by sent page (is ∙ ap (page_frame page) h ∙ ap (λ zeros. cond zeros (Frame.Zero page) (Frame.Page page zero_page)) all_zeros),
+)
 
--- a page that was protected and read, and what is sent of it
-pub record IsSent (space new : Space) (page : ℕ) (sent : Sent) : Type 0 where
-  pub sound : IsSoundSpace space
-  pub accepted : send_refusal space page 1 ≡ None
-  pub protects : new ≡ protected_in space page 1 true
-  pub sent_is : sent ≡ sent_of (contents space.host.bytes page)
+pub zero_shown : (space : Space) (page : ℕ) (sent : Sent) → IsSoundSpace space → send_refusal space page 1 ≡ None → frame_sent page sent ≡ page_frame page (contents space.host.bytes page) →
+    (sent ≡ Sent.Zero) ↔ (contents space.host.bytes page ≡ zero_page)
+zero_shown space page sent sound accepted is = zeros_sent (contents space.host.bytes page) page sent (whole_bytes space page (get space.host.bytes page) sound refl (here_there space page accepted)) is
 
-pub bytes_shown : (space new : Space) (page : ℕ) (sent : Sent) → IsSent space new page sent → get new.host.bytes page ≡ Some (contents space.host.bytes page)
-bytes_shown space new page sent is = ap (λ s. get s.host.bytes page) is.protects ∙ sym (present_bytes (get space.host.bytes page) zero_page (here_there space page is.accepted))
+-- a present page of a space that is lent
 
-same_bytes : {A : Type 0} {a b : A} → Some a ≡ Some b → a ≡ b
-same_bytes h = cc
+mapped_where : (there mapped : Bool) → (there ≡ true → mapped ≡ true) → mapped ≡ false → there ≡ false
+mapped_where there mapped h none = grind (arith, nat_tests)
 
-pub zero_shown : (space new : Space) (page : ℕ) (sent : Sent) → IsSent space new page sent → (sent ≡ Sent.Zero) ↔ (get new.host.bytes page ≡ Some zero_page)
-zero_shown space new page sent is =
-    let shown = bytes_shown space new page sent is in
-    let zeros = zeros_sent (contents space.host.bytes page) (whole_bytes space page (get space.host.bytes page) is.sound refl (here_there space page is.accepted)) in (
-      λ h. shown ∙ ap (λ bytes. Some bytes) (zeros.0 (sym is.sent_is ∙ h)),
-      λ h. is.sent_is ∙ zeros.1 (same_bytes (sym shown ∙ h)),
-    )
+not_low : (page : ℕ) → (page < LOW_PAGE → ⊥) → LOW_PAGE ≤ page
+not_low page h = grind (arith, nat_tests, h)
 
-pub protected_shown : (space new : Space) (page : ℕ) (sent : Sent) → page < HIGH_PAGE → IsSent space new page sent → contains new.protected page ≡ true
-protected_shown space new page sent low is =
-    ap (λ s. contains s.protected page) is.protects ∙ member_below _ HIGH_PAGE page
-    ∙ protected_now (ltb page HIGH_PAGE) (in_range page 1 page) (is_present space page) (contains space.protected page) (lt-ltb page HIGH_PAGE low) (here_there space page is.accepted)
+not_high : (page : ℕ) → (HIGH_PAGE ≤ page → ⊥) → page < HIGH_PAGE
+not_high page h = grind (arith, nat_tests, h)
+
+pub page_of_present : (space : Space) (page : ℕ) → IsLent space → IsSoundSpace space → is_present space page ≡ true → IsPage page
+page_of_present space page lent sound here =
+    let not_mapped = λ (none : contains_key space.host.areas page ≡ false).
+    false≢true (sym (mapped_where (is_present space page) (contains_key space.host.areas page) (has_areas space.host page sound.host) none) ∙ here) in
+    (not_low page (λ low. not_mapped (lent.low page low)), not_high page (λ high. not_mapped (ap is_some (sound.host.bound page high))))
+  where
+    has_areas : (host : Host) (page : ℕ) → IsSound host → contains_key host.bytes page ≡ true → contains_key host.areas page ≡ true
+    has_areas host page sound h = grind (arith, nat_tests)
+
+-- a page that was protected
+
+pub bytes_shown : (space new : Space) (page : ℕ) → send_refusal space page 1 ≡ None → new ≡ protected_in space page 1 true → get new.host.bytes page ≡ Some (contents space.host.bytes page)
+bytes_shown space new page accepted is = ap (λ s. get s.host.bytes page) is ∙ sym (present_bytes (get space.host.bytes page) zero_page (here_there space page accepted))
+
+pub protected_shown : (space new : Space) (page : ℕ) → page < HIGH_PAGE → send_refusal space page 1 ≡ None → new ≡ protected_in space page 1 true → contains new.protected page ≡ true
+protected_shown space new page low accepted is =
+    ap (λ s. contains s.protected page) is ∙ member_below _ HIGH_PAGE page
+    ∙ protected_now (ltb page HIGH_PAGE) (in_range page 1 page) (is_present space page) (contains space.protected page) (lt-ltb page HIGH_PAGE low) (here_there space page accepted)
     (ap (λ b. b || contains space.protected page) (in_range-true page 1 page (omega arith) (omega arith)))
 
 -- Runs

@@ -2,5 +2,6 @@ pub mod Codes
 pub mod Spaces
 pub mod Rounds
 pub mod Sending
+pub mod Lending
 pub mod Acts
 pub mod Answers

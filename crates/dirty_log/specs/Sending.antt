@@ -1,8 +1,9 @@
--- What is sent of pages, as the code has it.
-use Rattle.std.specs.Prelude.{ℕ, List, if◌then◌else◌}
-use Rattle.mig_model.specs.Wire.{is_zeros}
+-- What is sent of a page, as the code has it.
+use Rattle.std.specs.Prelude.{ℕ}
+use Rattle.mig_model.specs.Wire.{Frame}
 use Rattle.dirty_log.specs.declared.sent.Sent.{Sent}
 
--- what is sent of a page with these bytes
-abbrev pub sent_of : List ℕ → Sent
-sent_of bytes = if is_zeros bytes then Sent.Zero else Sent.Page
+-- the frame of a page of which this is sent: the bytes that are borrowed, or that they are all zero
+abbrev pub frame_sent : ℕ → Sent → Frame
+frame_sent page (Sent.Page bytes) = Frame.Page page bytes.now
+frame_sent page Sent.Zero = Frame.Zero page

@@ -1,7 +1,7 @@
 //! Bytes of pages.
 
 ghost use Rattle.std.specs.Prelude.{◌≡◌, ℕ, ◌+◌, ◌<◌, ◌≤◌, ◌==◌, length, true, IfOk};
-ghost use Rattle.std.specs.List.{list_all};
+ghost use Rattle.std.specs.List.{All, list_all};
 ghost use Rattle.mig_base.specs.Bytes.{contents};
 ghost use Rattle.mig_model.specs.Guest.{is_present};
 ghost use Rattle.mig_base.specs.declared.TheConstants.{HIGH_PAGE};
@@ -39,6 +39,11 @@ pub fn bytes_at(space: &Space, page: PageNo) -> &[u8; PAGE_BYTES]
         None => unreachable!(),
     }
 }
+
+/// A law of every slice of that type. The call does nothing.
+pub fn are_bytes(bytes: &[u8])
+    ensures { All (λ byte. byte < 256) bytes.now }
+{}
 
 /// Copies the bytes of neighbouring present pages, from the first on.
 pub fn read_pages(space: &Space, first: PageNo, into: &mut Vec<PageBytes>)

@@ -15,8 +15,8 @@ use std::marker::Model;
 
 /// What a source knows of its pages, and the faults that its handler holds.
 ///
-/// The calls ask to be lent always the same [`uffd_ioctl::Space`], enabled with the three events at least, which from the first such
-/// call on is changed, these calls aside, by loads, stores and map calls alone. A call that is refused changes neither the log, nor
+/// The calls ask to be lent always the same [`uffd_ioctl::Space`], enabled with the three events at least, in which no page below 0x10000 is
+/// mapped, and which from the first such call on is changed, these calls aside, by loads, stores and map calls alone. A call that is refused changes neither the log, nor
 /// the space, nor the processors. `NoMemory` comes after every other refusal, and the same call may succeed later.
 #[derive(Drop)]
 pub struct DirtyLog {

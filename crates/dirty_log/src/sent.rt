@@ -2,32 +2,38 @@
 
 ghost use Rattle.std.specs.Prelude.{◌≡◌, true};
 ghost use Rattle.mig_base.specs.Bytes.{contents};
+ghost use Rattle.mig_model.specs.Bounds.{IsFrame, IsPage};
 ghost use Rattle.mig_model.specs.Guest.{is_present};
-ghost use Rattle.dirty_log.specs.Sending.{sent_of};
+ghost use Rattle.mig_model.specs.Wire.{page_frame};
+ghost use Rattle.dirty_log.specs.Sending.{frame_sent};
 
-use crate::content::{are_zeros, bytes_at};
-use mig_base::PageNo;
+use crate::content::{are_bytes, are_zeros, bytes_at};
+use mig_base::{PAGE_BYTES, PageNo};
 use uffd_ioctl::Space;
 
-/// What is sent of a page.
-#[derive(Clone, Copy, Debug, PartialEq, Eq)]
-pub enum Sent {
+/// What is sent of a page. The bytes stay where they are, and are borrowed until they are written: what goes on a wire are those of this
+/// page, at this time.
+#[derive(Clone, Copy)]
+pub enum Sent<'a> {
     /// Its bytes.
-    Page,
+    Page(&'a [u8; PAGE_BYTES]),
     /// That they are all zero.
     Zero,
 }
 
-impl Sent {
-    /// What is sent of a present page, which is left as it is.
-    pub fn read(space: &Space, page: PageNo) -> Self
+impl<'a> Sent<'a> {
+    /// What is sent of a present page.
+    pub fn read(space: &'a Space, page: PageNo) -> Self
         requires { is_present space.now page ≡ true }
-        ensures { result ≡ sent_of (contents space.now.host.bytes page) }
+        ensures sent { frame_sent page result ≡ page_frame page (contents space.now.host.bytes page) }
+        ensures frame { IsPage page → IsFrame (frame_sent page result) }
     {
-        if are_zeros(bytes_at(space, page)) {
+        let bytes = bytes_at(space, page);
+        are_bytes(bytes);
+        if are_zeros(bytes) {
             Sent::Zero
         } else {
-            Sent::Page
+            Sent::Page(bytes)
         }
     }
 }

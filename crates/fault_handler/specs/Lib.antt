@@ -3,6 +3,8 @@ pub mod Answers
 pub mod Arrivals
 pub mod Codes
 pub mod Kept
+pub mod Memory
 pub mod Order
+pub mod Requests
 pub mod Steps
 pub mod Taking

@@ -3,6 +3,7 @@
 ghost use Rattle.std.specs.Prelude.{◌≡◌, ◌↔◌, false, length, IfOk, Err};
 ghost use Rattle.mig_model.specs.Destination as machine;
 ghost use Rattle.vcpu.specs.Answers.{is_count};
+ghost use Rattle.fault_handler.specs.Requests.{StandOnce};
 
 mod commands;
 mod frames;
@@ -121,7 +122,8 @@ impl Destination {
 
     /// The pages of the source that it has asked for, each once, in the order in which they were first asked for.
     pub fn requests(&self) -> &[PageNo]
-        ensures { result.now ≡ self.now.requests }
+        ensures pages { result.now ≡ self.now.requests }
+        ensures once { StandOnce self.now.requests }
     {
         self.requests.as_slice()
     }

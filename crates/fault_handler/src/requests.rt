@@ -2,6 +2,7 @@
 
 ghost use Rattle.std.specs.Prelude.{◌≡◌, false, [], not, IfOk, OnOk, OnErr};
 ghost use Rattle.mig_model.specs.Owed.{is_requested, requesting, without_request};
+ghost use Rattle.fault_handler.specs.Requests.{StandOnce};
 
 use indexmap::IndexSet;
 use mig_base::{NoMemory, PageNo};
@@ -37,7 +38,8 @@ impl Requests {
 
     /// The pages, in their order.
     pub fn as_slice(&self) -> &[PageNo]
-        ensures { result.now ≡ self.now }
+        ensures pages { result.now ≡ self.now }
+        ensures once { StandOnce self.now }
     {
         self.pages.as_slice()
     }

@@ -15,7 +15,9 @@ use vcpu::Cpus;
 
 /// Reads the next message of the guest's userfault object, and answers it with what is told of it; none where no message waits. Those
 /// that sleep on pages that are gone, or have moved away, are woken, and with the last message of its call the processor is handed its
-/// reply.
+/// reply. It takes no memory.
+///
+/// The space is one that a node lends: its userfault object is enabled for the three events, and no page below 0x10000 is mapped.
 pub fn read(space: &mut Space, cpus: &mut Cpus) -> Option<(Message, Effect)>
     requires { IsLent space.old }
     ensures none { (result ≡ None) ↔ (next_message space.old.object ≡ None) }

@@ -10,6 +10,8 @@ use mig_base::{NoMemory, PAGE_SIZE, PageBytes, PageNo, page_address};
 use uffd_ioctl::Space;
 
 /// Makes a missing page present, with zeros. Out of memory changes nothing.
+///
+/// The space is one that a node lends, as for [`crate::read`]. No event of it is unread, and the page is registered.
 pub fn make_zeros(space: &mut Space, page: PageNo) -> Result<(), NoMemory>
     requires lent { IsLent space.old }
     requires quiet { object.changing space.old.object ≡ 0 }
@@ -27,6 +29,8 @@ pub fn make_zeros(space: &mut Space, page: PageNo) -> Result<(), NoMemory>
 
 /// Makes a missing page present, with these bytes, which are not copied. On an error, which is want of memory, they come back, and
 /// nothing is changed.
+///
+/// The space is one that a node lends, as for [`crate::read`]. No event of it is unread, and the page is registered.
 pub fn install(space: &mut Space, page: PageNo, bytes: PageBytes) -> Result<(), PageBytes>
     requires lent { IsLent space.old }
     requires quiet { object.changing space.old.object ≡ 0 }

@@ -1,5 +1,5 @@
 -- What the machine's steps make of a stopped source.
-use Rattle.std.proofs.Common.{◌≡◌, ℕ, ◌+◌, ◌*◌, true, List, [], ◌∷◌, refl, inl, inr, arith}
+use Rattle.std.proofs.Common.{◌≡◌, ℕ, ◌+◌, ◌*◌, true, false, List, [], ◌∷◌, refl, inl, inr, arith}
 use Rattle.std.specs.Prelude.{Ok, Err}
 use Rattle.std.specs.FinSet as finset
 use Rattle.mig_base.specs.declared.effect.Effect.{Effect}
@@ -8,9 +8,9 @@ use Rattle.mig_base.specs.declared.schedule.Step.{Step}
 use Rattle.mig_base.specs.declared.schedule.Ticket.{Ticket}
 use Rattle.mig_model.specs.Log.{less}
 use Rattle.mig_model.specs.Migration.{is_used, outcome, page_effect, unless}
-use Rattle.mig_model.specs.Source.{Source, bytes_of, not_clean, page_pushed, request_served, switch_frames, switch_made, urgent_pushed}
+use Rattle.mig_model.specs.Source.{Source, is_released, bytes_of, not_clean, page_pushed, request_served, switch_frames, switch_made, urgent_pushed}
 use Rattle.mig_model.specs.Wire.{Frame, page_frame}
-use Rattle.dirty_log.specs.Sending.{sent_of}
+use Rattle.dirty_log.specs.Sending.{frame_sent}
 use Rattle.dirty_log.specs.declared.sent.Sent.{Sent}
 use Rattle.precopy.specs.Answers.{end_answer, next_count, push_answer, stop_answer, switch_answer}
 use Rattle.precopy.specs.Sending.{sent_effect}
@@ -23,13 +23,17 @@ pushed_by : (node : Source) (ticket : Ticket) → push_answer node ticket ≡ Ok
 unfolding unless
 pushed_by node ticket is = grind arith
 
-pub push_done : (node new : Source) (ticket : Ticket) (sent : Sent) (effect : Effect) → push_answer node ticket ≡ Ok tt → sent ≡ sent_of (bytes_of node ticket.page) → effect ≡ sent_effect ticket.page sent → new ≡ page_pushed node ticket.page →
-    IsMade node (Step.Push ticket) effect (page_frame ticket.page (bytes_of new ticket.page) ∷ []) new
-push_done node new ticket sent effect is same told new_is = rw (new_is, told, effect_is ticket.page (bytes_of node ticket.page) sent same) (pushed_by node ticket is)
+pub push_done : (node new : Source) (ticket : Ticket) (sent : Sent) (effect : Effect) → push_answer node ticket ≡ Ok tt → frame_sent ticket.page sent ≡ page_frame ticket.page (bytes_of node ticket.page) → effect ≡ sent_effect ticket.page sent → new ≡ page_pushed node ticket.page →
+    IsMade node (Step.Push ticket) effect (frame_sent ticket.page sent ∷ []) new
+push_done node new ticket sent effect is same told new_is = rw (new_is, told, effect_is ticket.page (bytes_of node ticket.page) sent same, same) (pushed_by node ticket is)
 
 pub push_refused : (node : Source) (ticket : Ticket) (refusal : Refusal) → push_answer node ticket ≡ Err refusal → IsRefusedAs node (Step.Push ticket) refusal
 unfolding unless outcome
 push_refused node ticket refusal is = grind arith
+
+-- the source that sends it is not released
+pub push_unreleased : (node : Source) (ticket : Ticket) → push_answer node ticket ≡ Ok tt → is_released node.phase ≡ false
+push_unreleased node ticket is = grind arith
 
 -- PushUrgent
 
@@ -37,9 +41,9 @@ hurried_by : (node : Source) (ticket : Ticket) → push_answer node ticket ≡ O
 unfolding unless
 hurried_by node ticket is = grind arith
 
-pub urgent_done : (node new : Source) (ticket : Ticket) (sent : Sent) (effect : Effect) → push_answer node ticket ≡ Ok tt → sent ≡ sent_of (bytes_of node ticket.page) → effect ≡ sent_effect ticket.page sent → new ≡ urgent_pushed node ticket.page →
-    IsMadeUrgently node (Step.PushUrgent ticket) effect (page_frame ticket.page (bytes_of new ticket.page)) new
-urgent_done node new ticket sent effect is same told new_is = rw (new_is, told, effect_is ticket.page (bytes_of node ticket.page) sent same) (hurried_by node ticket is)
+pub urgent_done : (node new : Source) (ticket : Ticket) (sent : Sent) (effect : Effect) → push_answer node ticket ≡ Ok tt → frame_sent ticket.page sent ≡ page_frame ticket.page (bytes_of node ticket.page) → effect ≡ sent_effect ticket.page sent → new ≡ urgent_pushed node ticket.page →
+    IsMadeUrgently node (Step.PushUrgent ticket) effect (frame_sent ticket.page sent) new
+urgent_done node new ticket sent effect is same told new_is = rw (new_is, told, effect_is ticket.page (bytes_of node ticket.page) sent same, same) (hurried_by node ticket is)
 
 pub urgent_refused : (node : Source) (ticket : Ticket) (refusal : Refusal) → push_answer node ticket ≡ Err refusal → IsRefusedAs node (Step.PushUrgent ticket) refusal
 unfolding unless outcome

@@ -1,16 +1,18 @@
 -- What the machine's SendRun makes of a source, and why it is refused; the pages of a run can be sent.
-use Rattle.std.proofs.Common.{◌≡◌, ℕ, ◌+◌, ◌*◌, ◌<◌, true, false, not, ltb, None, [], ◌∷◌, length, refl, ap, ◌∙◌, inl, inr, arith}
+use Rattle.std.proofs.Common.{◌≡◌, ℕ, zero, suc, ◌+◌, ◌*◌, ◌<◌, ◌≤◌, List, sym, subst, true, false, not, ltb, None, [], ◌∷◌, length, refl, ap, ◌∙◌, inl, inr, arith}
 use Rattle.std.specs.Prelude.{Ok, Err}
 use Rattle.std.specs.FinSet.{contains}
 use Rattle.mig_base.specs.declared.effect.Effect.{Effect}
 use Rattle.mig_base.specs.declared.refusal.Refusal.{Refusal}
 use Rattle.mig_base.specs.declared.schedule.Step.{Step}
-use Rattle.mig_base.specs.declared.TheConstants.{HIGH_PAGE, PAGE_SIZE}
+use Rattle.mig_base.specs.declared.TheConstants.{HIGH_PAGE, LOW_PAGE, MAX_RUN, PAGE_SIZE}
+use Rattle.std.proofs.lemmas.Bool.Decides.{nat_tests}
 use Rattle.mig_base.specs.Ranges.{in_range}
 use Rattle.mig_base.specs.Sets.{run_length}
 use Rattle.mig_base.specs.Tests.{is_every}
 use Rattle.mig_base.proofs.RangeLemmas.{in_range-true, least_below_tells, none_below-from}
 use Rattle.mig_base.proofs.SetLemmas.{member_run, run_length-some}
+use Rattle.mig_model.specs.Bounds.{ArePageBytes, IsFrame}
 use Rattle.mig_model.specs.Migration.{outcome, run_bound, unless}
 use Rattle.mig_model.specs.Source.{Source, run_of, run_sent, space_of}
 use Rattle.mig_model.specs.Space.{Space}
@@ -71,3 +73,21 @@ pub run_stopped : (node : Source) (first count pages : ℕ) (refusal : Refusal) 
     IsRefused node (Step.SendRun count) refusal
 run_stopped node first count pages refusal is few kept why =
     rw (only_memory refusal _ (ap (send_refusal (space_of node) first) few ∙ run_accepted node first (run_bound count) is kept) why) (run_lacks node first count is)
+
+-- Its frame
+
+bound_few : (count : ℕ) → run_bound count ≤ 64
+bound_few count = grind (arith, nat_tests)
+
+pub few_pages : (node : Source) (first count pages most : ℕ) → most ≡ run_bound count → pages ≤ most → pages ≤ 64
+few_pages node first count pages most is few = let bound = bound_few count in omega (arith, is, few, bound)
+
+length-run_of : (node : Source) (first number : ℕ) → length (run_of node first number) ≡ number
+length-run_of node first zero = refl
+length-run_of node first (suc number) = ap suc (length-run_of node (1 + first) number)
+
+pub run_frame : (node : Source) (first count : ℕ) (pages : List (List ℕ)) (frame : Frame) → frame ≡ Frame.Run first pages → pages ≡ run_of node first count → 0 < count → count ≤ 64 → LOW_PAGE ≤ first → first + count ≤ HIGH_PAGE → ArePageBytes pages →
+    IsFrame frame
+run_frame node first count pages frame is bytes some few low end whole =
+    let many = ap length bytes ∙ length-run_of node first count in
+    subst IsFrame (sym is) (subst (λ n. 0 < n) (sym many) some, subst (λ n. n ≤ MAX_RUN) (sym many) few, low, subst (λ n. first + n ≤ HIGH_PAGE) (sym many) end, whole)

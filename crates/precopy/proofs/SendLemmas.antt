@@ -12,7 +12,7 @@ use Rattle.mig_model.specs.Whereabouts.{is_unread}
 use Rattle.mig_model.specs.Log.{least_of}
 use Rattle.mig_model.specs.Migration.{is_changing}
 use Rattle.mig_model.specs.Space.{Space}
-use Rattle.mig_model.specs.Source.{Source, space_of}
+use Rattle.mig_model.specs.Source.{Source, is_released, space_of}
 use Rattle.dirty_log.specs.Answers.{IsRefusedFor, send_refusal}
 use Rattle.dirty_log.specs.Spaces.{is_sendable}
 use Rattle.precopy.specs.Answers.{send_answer}
@@ -26,6 +26,9 @@ least_sent node page is = grind arith
 
 pub quiet : (node : Source) (page : ℕ) → send_answer node ≡ Ok page → is_changing node.guest ≡ false
 quiet node page is = grind arith
+
+pub send_unreleased : (node : Source) (page : ℕ) → send_answer node ≡ Ok page → is_released node.phase ≡ false
+send_unreleased node page is = grind arith
 
 pub no_unread : (events : List Noted) (page : ℕ) → ltb 0 (length events) ≡ false → is_unread events page ≡ false
 no_unread [] page h = refl

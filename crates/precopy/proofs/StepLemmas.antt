@@ -9,7 +9,7 @@ use Rattle.mig_model.specs.Source.{Source, bytes_of, not_clean, page_sent, round
 use Rattle.mig_model.specs.Wire.{Frame, is_zeros, page_frame}
 use Rattle.precopy.specs.Answers.{round_answer, send_answer, start_answer}
 use Rattle.precopy.specs.Sending.{sent_effect}
-use Rattle.dirty_log.specs.Sending.{sent_of}
+use Rattle.dirty_log.specs.Sending.{frame_sent}
 use Rattle.dirty_log.specs.declared.sent.Sent.{Sent}
 use Rattle.std.specs.FinSet as finset
 use Rattle.precopy.specs.Steps.{IsMade, IsRefused}
@@ -54,17 +54,27 @@ sent_by : (node : Source) (page : ℕ) → send_answer node ≡ Ok page → IsMa
 unfolding unless
 sent_by node page is = grind arith
 
-effect_by : (zeros : Bool) (page : ℕ) → sent_effect page (cond zeros Sent.Zero Sent.Page) ≡ cond zeros (Effect.SentZero (4096 * page)) (Effect.SentPage (4096 * page))
-effect_by true page = refl
-effect_by false page = refl
+-- what is told of the frame of a page
+abbrev told_of : Frame → Effect
+told_of (Frame.Zero page) = Effect.SentZero (4096 * page)
+told_of (Frame.Page page bytes) = Effect.SentPage (4096 * page)
+told_of frame = Effect.EndSent
+
+told_sent : (page : ℕ) (sent : Sent) → sent_effect page sent ≡ told_of (frame_sent page sent)
+told_sent page (Sent.Page bytes) = refl
+told_sent page Sent.Zero = refl
+
+told_by : (zeros : Bool) (page : ℕ) (bytes : List ℕ) → told_of (cond zeros (Frame.Zero page) (Frame.Page page bytes)) ≡ cond zeros (Effect.SentZero (4096 * page)) (Effect.SentPage (4096 * page))
+told_by true page bytes = refl
+told_by false page bytes = refl
 
 -- what is told of a page goes by its bytes
-pub effect_is : (page : ℕ) (bytes : List ℕ) (sent : Sent) → sent ≡ sent_of bytes → sent_effect page sent ≡ page_effect page bytes
-effect_is page bytes sent is = ap (sent_effect page) is ∙ effect_by (is_zeros bytes) page
+pub effect_is : (page : ℕ) (bytes : List ℕ) (sent : Sent) → frame_sent page sent ≡ page_frame page bytes → sent_effect page sent ≡ page_effect page bytes
+effect_is page bytes sent is = told_sent page sent ∙ ap told_of is ∙ told_by (is_zeros bytes) page bytes
 
-pub send_done : (node new : Source) (page : ℕ) (sent : Sent) (effect : Effect) → send_answer node ≡ Ok page → sent ≡ sent_of (bytes_of node page) → effect ≡ sent_effect page sent → new ≡ page_sent node page →
-    IsMade node Step.Send effect (page_frame page (bytes_of new page) ∷ []) new
-send_done node new page sent effect is same told new_is = rw (new_is, told, effect_is page (bytes_of node page) sent same) (sent_by node page is)
+pub send_done : (node new : Source) (page : ℕ) (sent : Sent) (effect : Effect) → send_answer node ≡ Ok page → frame_sent page sent ≡ page_frame page (bytes_of node page) → effect ≡ sent_effect page sent → new ≡ page_sent node page →
+    IsMade node Step.Send effect (frame_sent page sent ∷ []) new
+send_done node new page sent effect is same told new_is = rw (new_is, told, effect_is page (bytes_of node page) sent same, same) (sent_by node page is)
 
 pub send_refused : (node : Source) (refusal : Refusal) → send_answer node ≡ Err refusal → IsRefused node Step.Send refusal
 unfolding unless outcome

@@ -1,18 +1,24 @@
 //! What a round of pre-copy makes of a log: which pages it has to send, and each page that is sent.
 
 ghost use Rattle.std.specs.Prelude.{◌≡◌, ◌+◌, ◌<◌, ◌≤◌, ◌↔◌, true, Some, None, IfOk, IfErr, OnOk, OnErr};
+ghost use Rattle.std.specs.Borrow.{sem};
 ghost use Rattle.std.specs.Option.{IfSome};
 ghost use Rattle.std.specs.FinMap.{get};
 ghost use Rattle.std.specs.FinSet.{contains};
 ghost use Rattle.mig_base.specs.Bytes.{contents, zero_page};
 ghost use Rattle.mig_base.specs.Sets.{run_length};
 ghost use Rattle.mig_base.specs.declared.TheConstants.{HIGH_PAGE};
+ghost use Rattle.mig_model.specs.Bounds.{IsFrame, IsPage};
+ghost use Rattle.mig_model.specs.Guest.{is_present};
 ghost use Rattle.mig_model.specs.Ioctls.{protected_in};
 ghost use Rattle.mig_model.specs.Log as machine;
 ghost use Rattle.mig_model.specs.Source.{Source, all_registered, run_of, space_of};
 ghost use Rattle.guest.specs.Lent.{IsLent};
 ghost use Rattle.dirty_log.specs.Answers.{IsRefusedFor, send_refusal};
-ghost use Rattle.dirty_log.specs.Sending.{sent_of};
+ghost use Rattle.mig_model.specs.Wire.{page_frame};
+ghost use Rattle.dirty_log.specs.Lending.{LeavesSpace};
+ghost use Rattle.dirty_log.specs.Sending.{frame_sent};
+ghost use Rattle.dirty_log.specs.declared.sent.Sent.{Sent};
 
 use super::DirtyLog;
 use crate::content::{blank_pages, read_pages};
@@ -73,28 +79,51 @@ impl DirtyLog {
         (end - first).min(most)
     }
 
-    /// Write-protects a page, then reads what is to be sent of it; its bytes stay in the space, and are to be sent before it changes. The
-    /// page is clean from then on. Refused as `Changing` while an event is unread, and as `PageNotSendable` where the page is missing or
-    /// not registered for write-protect faults.
-    pub fn send_page(&mut self, space: &mut Space, page: PageNo) -> Result<Sent, Refusal>
+    /// Write-protects a page, which is clean from then on: its bytes are to be sent before it changes. Refused as `Changing` while an
+    /// event is unread, and as `PageNotSendable` where the page is missing or not registered for write-protect faults.
+    pub fn protect_page(&mut self, space: &mut Space, page: PageNo) -> Result<(), Refusal>
         requires lent { IsLent space.old }
         requires page { page < HIGH_PAGE }
         ensures accepted { OnOk result (send_refusal space.old page 1 ≡ None) }
         ensures refused { IfErr result (λ refusal. IsRefusedFor (send_refusal space.old page 1) refusal) }
         ensures log { OnOk result (self.new ≡ machine.log_sent self.old page) }
         ensures space { OnOk result (space.new ≡ protected_in space.old page 1 true) }
-        ensures sent { IfOk result (λ sent. sent ≡ sent_of (contents space.old.host.bytes page)) }
         ensures err { OnErr result ((self.new ≡ self.old) × (space.new ≡ space.old)) }
         ensures lent { IsLent space.new }
 
-        // The same in the words of a reader: the page is protected, has what it had, and is a page of zeros where it has nothing else.
+        // The same in the words of a reader: the page is protected, and has what it had.
         ensures protected { OnOk result (contains space.new.protected page ≡ true) }
         ensures bytes { OnOk result (get space.new.host.bytes page ≡ Some (contents space.old.host.bytes page)) }
-        ensures zero { IfOk result (λ sent. (sent ≡ Sent.Zero) ↔ (get space.new.host.bytes page ≡ Some zero_page)) }
+        ensures present { OnOk result ((is_present space.new page ≡ true) × IsPage page) }
     {
         space.is_in_order();
         ensure_sendable(space, page, 1)?;
         self.mark_sent(space, page, 1)?;
+        Ok(())
+    }
+
+    /// The same for a page that is sent: it is write-protected, then read. What is to be sent of it borrows the space, which cannot change
+    /// until that is written. Refused as [`DirtyLog::protect_page`] is.
+    pub fn send_page<'a>(
+        space: &'a mut Space,
+        log: &mut DirtyLog,
+        page: PageNo,
+    ) -> Result<Sent<'a>, Refusal>
+        requires lent { IsLent space.old }
+        requires page { page < HIGH_PAGE }
+        ensures* space { sem 𝓛 (LeavesSpace space.entry result (λ last. (last ≡ protected_in space.old page 1 true) × IsLent last)) }
+        ensures accepted { OnOk result (send_refusal space.old page 1 ≡ None) }
+        ensures refused { IfErr result (λ refusal. IsRefusedFor (send_refusal space.old page 1) refusal) }
+        ensures log { OnOk result (log.new ≡ machine.log_sent log.old page) }
+        ensures sent { IfOk result (λ sent. frame_sent page sent ≡ page_frame page (contents space.old.host.bytes page)) }
+        ensures frame { IfOk result (λ sent. IsFrame (frame_sent page sent)) }
+        ensures err { OnErr result (log.new ≡ log.old) }
+
+        // The same in the words of a reader: it is a page of zeros where it has nothing else.
+        ensures zero { IfOk result (λ sent. (sent ≡ Sent.Zero) ↔ (contents space.old.host.bytes page ≡ zero_page)) }
+    {
+        space.is_in_order();
+        log.protect_page(space, page)?;
         Ok(Sent::read(space, page))
     }
 

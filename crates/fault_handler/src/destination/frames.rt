@@ -1,6 +1,7 @@
 //! Frames that come from the source.
 
 ghost use Rattle.std.specs.Prelude.{◌≡◌, true, None, map, option_to_list, unwrap_or, IfOk, IfErr, OnOk, OnErr};
+ghost use Rattle.std.specs.Option.{IfSome};
 ghost use Rattle.mig_model.specs.Bounds.{IsFrame};
 ghost use Rattle.mig_model.specs.Destination.{destination_took, urgent_took};
 ghost use Rattle.mig_model.specs.Faults.{take_fault, urgent_fault};
@@ -19,7 +20,7 @@ impl Destination {
     /// Takes a frame that the source has sent in an epoch, and answers the frame that is to be sent back at once: Done for an End, and none
     /// for any other. What is to be sent for a Resume is a recovery's to say, before it is taken.
     ///
-    /// A frame that is refused is handed back, and nothing is changed. `OutOfPlace` for a frame that the phase does not take, and for
+    /// The frame is well formed ([`Frame::is_well_formed`]). One that is refused is handed back, and nothing is changed. `OutOfPlace` for a frame that the phase does not take, and for
     /// an End while pages are owed, no copy waits and no urgent frame is still to come; then `StaleEpoch` for one of another epoch
     /// (an Advise may be of any, a Resume has to be of a later one), `BadFrame` for a Package that owes a page which is kept, or does
     /// not map one that it owes or one that is kept, or is of another number of processors, and for an End that tells of fewer
@@ -33,6 +34,7 @@ impl Destination {
         ensures handed_back { IfErr result (λ refused. refused.1 ≡ frame) }
         ensures took { OnOk result (self.new ≡ destination_took self.old epoch (frame_of frame)) }
         ensures answer { IfOk result (λ answer. map frame_of (option_to_list answer) ≡ answered_at_once self.old (frame_of frame)) }
+        ensures well_formed { IfOk result (λ answer. IfSome answer (λ frame. IsFrame (frame_of frame))) }
         ensures err { OnErr result (self.new ≡ self.old) }
     {
         if let Some(fault) = self.take_fault(epoch, &frame) {
@@ -44,8 +46,8 @@ impl Destination {
         }
     }
 
-    /// Takes a frame of the urgent wire, which waits to be installed and is counted. A frame that is refused is handed back, and nothing is
-    /// changed: `OutOfPlace` unless it is the copy of one page and the destination runs, then `StaleEpoch`, and `NoMemory`, which is also for
+    /// Takes a frame of the urgent wire, which waits to be installed and is counted. The frame is well formed
+    /// ([`Frame::is_well_formed`]). One that is refused is handed back, and nothing is changed: `OutOfPlace` unless it is the copy of one page and the destination runs, then `StaleEpoch`, and `NoMemory`, which is also for
     /// the frame after 2^64 - 1 others of its epoch, since it could not be counted.
     pub fn take_urgent(&mut self, epoch: u32, frame: Frame) -> Result<(), (TakeFault, Frame)>
         requires { IsFrame (frame_of frame) }
@@ -70,6 +72,7 @@ impl Destination {
         requires accepted { take_fault self.old epoch (frame_of frame) ≡ None }
         ensures took { OnOk result (self.new ≡ destination_took self.old epoch (frame_of frame)) }
         ensures answer { IfOk result (λ answer. map frame_of (option_to_list answer) ≡ answered_at_once self.old (frame_of frame)) }
+        ensures well_formed { IfOk result (λ answer. IfSome answer (λ frame. IsFrame (frame_of frame))) }
         ensures handed_back { IfErr result (λ back. back ≡ frame) }
         ensures memory { OnErr result (takes_memory (frame_of frame) ≡ true) }
         ensures err { OnErr result (self.new ≡ self.old) }

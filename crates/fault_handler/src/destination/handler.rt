@@ -1,6 +1,6 @@
 //! The handler of the destination: messages that are read, and faults that are resolved.
 
-ghost use Rattle.std.specs.Prelude.{◌≡◌, ℕ, ◌*◌, ◌<◌, ◌⊎◌, false, None, Some, [], ◌∷◌, List, map, option_to_list, IfOk, IfErr, OnOk, OnErr};
+ghost use Rattle.std.specs.Prelude.{◌≡◌, ℕ, ◌*◌, ◌<◌, ◌⊎◌, true, false, None, Some, Err, [], ◌∷◌, List, map, option_to_list, IfOk, IfErr, OnOk, OnErr};
 ghost use Rattle.mig_base.specs.declared.TheConstants.{HIGH, PAGE_SIZE};
 ghost use Rattle.mig_base.specs.declared.effect.Effect as effects;
 ghost use Rattle.mig_base.specs.declared.refusal.Refusal.{Refusal};
@@ -8,10 +8,12 @@ ghost use Rattle.mig_base.specs.declared.schedule.Step.{Step};
 ghost use Rattle.mig_model.specs.Destination.{act_frames, destination_act, settled};
 ghost use Rattle.mig_model.specs.Guest as machine;
 ghost use Rattle.mig_model.specs.Guest.{is_present};
-ghost use Rattle.mig_model.specs.Owed.{owed_table_after, requesting};
+ghost use Rattle.mig_model.specs.Owed.{is_requested, owed_table_after, requesting};
+ghost use Rattle.mig_model.specs.Userfault.{Noted, next_message};
 ghost use Rattle.page_stream.specs.Frames.{frame_of};
 ghost use Rattle.fault_handler.specs.Acts.{act_is};
 ghost use Rattle.fault_handler.specs.Answers.{act_refusal, run_answer};
+ghost use Rattle.fault_handler.specs.Memory.{act_grows, read_grows};
 ghost use Rattle.fault_handler.specs.Order.{LiesInside};
 ghost use Rattle.fault_handler.specs.Steps.{IsChecked, IsMade, IsRefused};
 
@@ -29,10 +31,12 @@ use std::collections::VecDeque;
 impl Destination {
     /// Reads the next message. A page fault is held. An event is applied to the pages that are owed: pairs of pages that are gone end, and
     /// pairs of pages that moved move; those that sleep on pages that are gone are woken, and with the last message of its call the
-    /// processor is handed its reply. Refused as `Phase` before it has run, and as `NothingThere` where no message waits.
+    /// processor is handed its reply. Refused as `Phase` before it has run, and as `NothingThere` where no message waits; then as
+    /// `NoMemory`, of a page fault or a move alone.
     pub fn read(&mut self) -> Result<Effect, Refusal>
         ensures made { IfOk result (λ effect. IsMade self.old Step.DestRead effect [] self.new) }
         ensures refused { IfErr result (λ refusal. IsRefused self.old Step.DestRead refusal) }
+        ensures memory { (noted : Noted) → next_message self.old.guest.space.object ≡ Some noted → result ≡ Err Refusal.NoMemory → read_grows noted.message ≡ true }
         ensures err { OnErr result (self.new ≡ self.old) }
 
         // The same in the words of a reader: which page of the source is owed where, once the unread events are applied, is as it was.
@@ -57,10 +61,12 @@ impl Destination {
     /// the requests, and a Request is to be sent, unless it was asked for before or the destination is paused or has ended; those that
     /// sleep on it sleep on. A missing page that is not owed becomes zeros, and those that sleep on it are woken, as they are where
     /// the page is there, or is not mapped or not registered any more. Refused as `Phase` before it has run, as `NothingThere` where
-    /// no fault is held, and as `Changing` while an event is unread.
+    /// no fault is held, and as `Changing` while an event is unread; then as `NoMemory`, of a page that becomes zeros or was not asked for
+    /// before alone.
     pub fn act(&mut self) -> Result<(Effect, Option<Frame>), Refusal>
         ensures made { IfOk result (λ told. IsMade self.old Step.DestAct told.0 (map frame_of (option_to_list told.1)) self.new) }
         ensures refused { IfErr result (λ refusal. IsRefused self.old Step.DestAct refusal) }
+        ensures memory { (fault : machine.Fault) (rest : List machine.Fault) → self.old.held ≡ fault ∷ rest → result ≡ Err Refusal.NoMemory → act_grows (destination_act self.old fault) self.old ≡ true }
         ensures err { OnErr result (self.new ≡ self.old) }
 
         // The same in the words of a reader: no page that is owed, or present, is made zeros.
@@ -118,6 +124,7 @@ impl Destination {
         ensures frame { IfOk result (λ frame. map frame_of (option_to_list frame) ≡ act_frames (machine.Act.Requested origin) self.old) }
         ensures ok { OnOk result (self.new ≡ record self.old { requests = requesting self.old.requests origin }) }
         ensures refused { IfErr result (λ refusal. refusal ≡ Refusal.NoMemory) }
+        ensures absent { OnErr result (is_requested self.old.requests origin ≡ false) }
         ensures err { OnErr result (self.new ≡ self.old) }
     {
         let Ok(is_new) = self.requests.add(origin) else {
@@ -146,6 +153,7 @@ fn note(held: &mut VecDeque<Fault>, owed: &mut Owed, message: Message) -> Result
     requires { LiesInside message }
     ensures held { OnOk result (held.new.items ≡ machine.held_after held.old.items message) }
     ensures owed { OnOk result (owed.new ≡ owed_table_after message owed.old) }
+    ensures memory { OnErr result (read_grows message ≡ true) }
     ensures err { OnErr result ((held.new.items ≡ held.old.items) × (owed.new ≡ owed.old)) }
 {
     match message {

@@ -1,12 +1,14 @@
 //! Copies that are installed.
 
-ghost use Rattle.std.specs.Prelude.{◌≡◌, ℕ, ◌*◌, false, [], ◌∷◌, List, Some, None, IfOk, IfErr, OnOk, OnErr};
+ghost use Rattle.std.specs.Prelude.{◌≡◌, ℕ, ◌*◌, true, false, [], ◌∷◌, List, is_some, Some, None, Err, IfOk, IfErr, OnOk, OnErr};
 ghost use Rattle.mig_base.specs.declared.TheConstants.{PAGE_SIZE};
 ghost use Rattle.mig_base.specs.declared.effect.Effect as effects;
+ghost use Rattle.mig_base.specs.declared.refusal.Refusal.{Refusal};
 ghost use Rattle.mig_base.specs.declared.schedule.Step.{Step};
 ghost use Rattle.mig_model.specs.Destination.{settled};
 ghost use Rattle.mig_model.specs.Guest.{is_forgotten, is_present};
 ghost use Rattle.mig_model.specs.Ioctls.{installed};
+ghost use Rattle.mig_model.specs.Owed.{home};
 ghost use Rattle.mig_model.specs.Userfault as object;
 ghost use Rattle.mig_model.specs.Wire as wire;
 ghost use Rattle.guest.specs.Lent.{IsLent};
@@ -26,10 +28,11 @@ impl Destination {
     /// Puts the first copy that has arrived where its page belongs now, by moving its bytes: UFFDIO_COPY for that page, or UFFDIO_ZEROPAGE
     /// for a page of zeros. The page is owed no longer, its request ends, and those that sleep on it are woken. A copy of a page that is not
     /// owed is given up. Refused as `Phase` before it has run, as `NothingThere` where no copy waits, and as `Changing` while an event
-    /// is unread.
+    /// is unread; then as `NoMemory`, of a copy that is not given up alone.
     pub fn install(&mut self) -> Result<Effect, Refusal>
         ensures made { IfOk result (λ effect. IsMade self.old Step.Install effect [] self.new) }
         ensures refused { IfErr result (λ refusal. IsRefused self.old Step.Install refusal) }
+        ensures memory { (copy : wire.Copy) (rest : List wire.Copy) → self.old.arrivals ≡ copy ∷ rest → result ≡ Err Refusal.NoMemory → is_some (home self.old.owed copy.page) ≡ true }
         ensures err { OnErr result (self.new ≡ self.old) }
 
         // The same in the words of a reader: a copy is installed at the page that its page of the source is owed at, which is owed nothing

@@ -1,7 +1,12 @@
 //! The handler of the source: messages that are read, and faults that are resolved.
 
-ghost use Rattle.std.specs.Prelude.{◌≡◌, [], IfOk, IfErr, OnErr};
+ghost use Rattle.std.specs.Prelude.{◌≡◌, List, [], ◌∷◌, Some, Err, IfOk, IfErr, OnErr};
+ghost use Rattle.mig_base.specs.declared.refusal.Refusal.{Refusal};
 ghost use Rattle.mig_base.specs.declared.schedule.Step.{Step};
+ghost use Rattle.mig_model.specs.Guest as guest;
+ghost use Rattle.mig_model.specs.Guest.{Fault, fault_count};
+ghost use Rattle.mig_model.specs.Source.{source_act};
+ghost use Rattle.mig_model.specs.Userfault.{Noted, next_message};
 ghost use Rattle.precopy.specs.Answers.{run_answer};
 ghost use Rattle.precopy.specs.Steps.{IsMade, IsRefused};
 ghost use Rattle.precopy.specs.Telling.{act_told, faults_told};
@@ -16,10 +21,11 @@ use mig_base::refusal::Refusal;
 impl Source {
     /// Reads the next message. A page fault is held. The pages of an event are neither clean nor to be sent, those that sleep on pages that
     /// are gone are woken, and with the last message of its call the processor is handed its reply. Refused as `Phase` before the start
-    /// and once the processors have stopped, and as `NothingThere` where no message waits.
+    /// and once the processors have stopped, and as `NothingThere` where no message waits; then as `NoMemory`, of a page fault alone.
     pub fn read(&mut self) -> Result<Effect, Refusal>
         ensures made { IfOk result (λ effect. IsMade self.old Step.SourceRead effect [] self.new) }
         ensures refused { IfErr result (λ refusal. IsRefused self.old Step.SourceRead refusal) }
+        ensures memory { (noted : Noted) → next_message self.old.guest.space.object ≡ Some noted → result ≡ Err Refusal.NoMemory → fault_count noted.message ≡ 1 }
         ensures err { OnErr result (self.new ≡ self.old) }
     {
         self.ensure_running()?;
@@ -30,10 +36,12 @@ impl Source {
     }
 
     /// Resolves the first fault that is held, by what its page is now, and wakes those that sleep on the page. Refused as `Phase` before the
-    /// start and once the processors have stopped, as `NothingThere` where no fault is held, and as `Changing` while an event is unread.
+    /// start and once the processors have stopped, as `NothingThere` where no fault is held, and as `Changing` while an event is unread;
+    /// then as `NoMemory`, of a page that becomes zeros alone.
     pub fn act(&mut self) -> Result<Effect, Refusal>
         ensures made { IfOk result (λ effect. IsMade self.old Step.SourceAct effect [] self.new) }
         ensures refused { IfErr result (λ refusal. IsRefused self.old Step.SourceAct refusal) }
+        ensures memory { (fault : Fault) (rest : List Fault) → self.old.log.held ≡ fault ∷ rest → result ≡ Err Refusal.NoMemory → source_act self.old fault ≡ guest.Act.Zeroed }
         ensures err { OnErr result (self.new ≡ self.old) }
     {
         self.ensure_running()?;

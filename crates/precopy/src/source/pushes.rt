@@ -1,9 +1,11 @@
 //! Post-copy: the switch, and the owed pages that a stopped source sends.
 
 ghost use Rattle.std.specs.Prelude.{◌≡◌, ◌⊎◌, [], ◌∷◌, true, IfOk, IfErr, OnOk, OnErr};
-ghost use Rattle.dirty_log.specs.Sending.{sent_of};
+ghost use Rattle.std.specs.Borrow.{sem};
+ghost use Rattle.dirty_log.specs.Sending.{frame_sent};
 ghost use Rattle.mig_base.specs.declared.TheConstants.{HIGH_PAGE};
 ghost use Rattle.mig_base.specs.declared.schedule.Step.{Step};
+ghost use Rattle.mig_model.specs.Bounds.{IsFrame};
 ghost use Rattle.mig_model.specs.Guest.{is_present};
 ghost use Rattle.mig_model.specs.Log.{least_of};
 ghost use Rattle.mig_base.specs.declared.refusal.Refusal.{Refusal};
@@ -13,7 +15,9 @@ ghost use Rattle.mig_model.specs.Wire.{page_frame};
 ghost use Rattle.page_stream.specs.Frames.{frame_of};
 ghost use Rattle.precopy.specs.Answers.{end_answer, push_answer, stop_answer};
 ghost use Rattle.precopy.specs.Handing.{IsHandedOver};
-ghost use Rattle.precopy.specs.Steps.{IsMade, IsMadeUrgently, IsRefused, IsRefusedAs};
+ghost use Rattle.precopy.specs.Lending.{LeavesSource};
+ghost use Rattle.precopy.specs.Sending.{IsPushed, IsPushedUrgently};
+ghost use Rattle.precopy.specs.Steps.{IsMade, IsRefused, IsRefusedAs};
 
 use super::Source;
 use super::rounds::{next_count, told_page};
@@ -75,48 +79,49 @@ impl Source {
         })
     }
 
-    /// Sends an owed page, which does not remain then. What goes on the wire are the bytes that the space has, before the call as after
-    /// it. Refused as `Phase` unless the source is stopped, as `StaleEpoch` where the ticket is of another epoch, as `PageNotSendable`
+    /// Sends an owed page, which does not remain then. Its bytes are borrowed, so that nothing changes until they are written. Refused as `Phase` unless the source is stopped, as `StaleEpoch` where the ticket is of another epoch, as `PageNotSendable`
     /// where the page is not present here, and as `NotRemaining` where it is not owed or was sent in this epoch. It takes no memory.
-    pub fn push(&mut self, ticket: Ticket) -> Result<(Effect, Sent), Refusal>
-        ensures made { IfOk result (λ told. IsMade self.old (Step.Push ticket) told.0 (page_frame ticket.page (bytes_of self.new ticket.page) ∷ []) self.new) }
-        ensures sent { IfOk result (λ told. told.1 ≡ sent_of (bytes_of self.new ticket.page)) }
-        ensures present { OnOk result (is_present self.new.guest.space ticket.page ≡ true) }
+    pub fn push(&mut self, ticket: Ticket) -> Result<(Effect, Sent<'_>), Refusal>
+        ensures* made { sem 𝓛 (LeavesSource self.entry result (λ told last. IsPushed self.old ticket told.0 (frame_sent ticket.page told.1) last)) }
+        ensures sent { IfOk result (λ told. frame_sent ticket.page told.1 ≡ page_frame ticket.page (bytes_of self.old ticket.page)) }
+        ensures frame { IfOk result (λ told. IsFrame (frame_sent ticket.page told.1)) }
+        ensures present { OnOk result (is_present self.old.guest.space ticket.page ≡ true) }
         ensures refused { IfErr result (λ refusal. IsRefusedAs self.old (Step.Push ticket) refusal) }
-        ensures err { OnErr result (self.new ≡ self.old) }
     {
         self.ensure_owed(ticket)?;
-        let sent = self.send_owed(ticket.page);
+        self.take_owed(ticket.page);
+        self.space.is_in_order();
+        let sent = Sent::read(&self.space, ticket.page);
         Ok((told_page(ticket.page, sent), sent))
     }
 
     /// The same as [`Source::push`], for the urgent wire: the page goes there, and is counted. Refused as that call is, and behind that as
     /// `CountUsed` where the count of the epoch is at its greatest value; no source in a world gets there, since it sends a page once in an
     /// epoch.
-    pub fn push_urgent(&mut self, ticket: Ticket) -> Result<(Effect, Sent), Refusal>
-        ensures made { IfOk result (λ told. IsMadeUrgently self.old (Step.PushUrgent ticket) told.0 (page_frame ticket.page (bytes_of self.new ticket.page)) self.new) }
-        ensures sent { IfOk result (λ told. told.1 ≡ sent_of (bytes_of self.new ticket.page)) }
-        ensures present { OnOk result (is_present self.new.guest.space ticket.page ≡ true) }
+    pub fn push_urgent(&mut self, ticket: Ticket) -> Result<(Effect, Sent<'_>), Refusal>
+        ensures* made { sem 𝓛 (LeavesSource self.entry result (λ told last. IsPushedUrgently self.old ticket told.0 (frame_sent ticket.page told.1) last)) }
+        ensures sent { IfOk result (λ told. frame_sent ticket.page told.1 ≡ page_frame ticket.page (bytes_of self.old ticket.page)) }
+        ensures frame { IfOk result (λ told. IsFrame (frame_sent ticket.page told.1)) }
+        ensures present { OnOk result (is_present self.old.guest.space ticket.page ≡ true) }
         ensures refused { IfErr result (λ refusal. IsRefusedAs self.old (Step.PushUrgent ticket) refusal ⊎ ((refusal ≡ Refusal.CountUsed) × (is_used self.old.urgent_sent ≡ true))) }
-        ensures err { OnErr result (self.new ≡ self.old) }
     {
         self.ensure_owed(ticket)?;
         let urgent = next_count(self.urgent_sent)?;
-        let sent = self.send_owed(ticket.page);
+        self.take_owed(ticket.page);
         self.urgent_sent = urgent;
+        self.space.is_in_order();
+        let sent = Sent::read(&self.space, ticket.page);
         Ok((told_page(ticket.page, sent), sent))
     }
 
-    /// What is sent of an owed page, which does not remain then.
-    fn send_owed(&mut self, page: PageNo) -> Sent
+    /// An owed page is sent, and does not remain.
+    fn take_owed(&mut self, page: PageNo)
         requires { is_present self.old.guest.space page ≡ true }
-        ensures node { self.new ≡ page_pushed self.old page }
-        ensures sent { result ≡ sent_of (bytes_of self.old page) }
+        ensures { self.new ≡ page_pushed self.old page }
     {
         self.space.is_in_order();
         self.remaining.remove(page);
         self.pages_sent = self.pages_sent.saturating_add(1);
-        Sent::read(&self.space, page)
     }
 
     /// Takes the first request of the destination: the address of the page that is asked for. Refused as `Phase` unless the source is
@@ -139,6 +144,7 @@ impl Source {
     /// this epoch, and as `PagesLeft` while pages remain. It takes no memory.
     pub fn end(&mut self) -> Result<(Effect, Frame), Refusal>
         ensures made { IfOk result (λ told. IsMade self.old Step.End told.0 (frame_of told.1 ∷ []) self.new) }
+        ensures frame { IfOk result (λ told. IsFrame (frame_of told.1)) }
         ensures refused { IfErr result (λ refusal. IsRefusedAs self.old Step.End refusal) }
         ensures err { OnErr result (self.new ≡ self.old) }
     {

@@ -1,6 +1,6 @@
 //! What a broken channel, the recovery from it and the end of a migration make of a source. No call takes memory, and none is refused.
 
-ghost use Rattle.std.specs.Prelude.{◌≡◌, false, true, []};
+ghost use Rattle.std.specs.Prelude.{◌≡◌, ◌<◌, false, true, []};
 ghost use Rattle.mig_model.specs.Log.{forgotten};
 ghost use Rattle.mig_model.specs.Source.{is_released, released};
 
@@ -27,8 +27,9 @@ impl Source {
         self.phase = SourcePhase::Paused;
     }
 
-    /// A new epoch begins, in which nothing was put on the urgent wire.
+    /// A new epoch begins, in which nothing was put on the urgent wire, and no End was sent: it is greater than every one before.
     pub fn set_epoch(&mut self, epoch: u32)
+        requires { self.old.epoch < epoch }
         ensures { self.new ≡ record self.old { epoch = epoch; urgent_sent = 0 } }
     {
         self.epoch = epoch;

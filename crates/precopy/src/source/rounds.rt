@@ -1,18 +1,19 @@
 //! Pre-copy: the start of a migration, its rounds, and the pages that a round sends.
 
-ghost use Rattle.std.specs.Prelude.{◌≡◌, ◌↔◌, ◌<◌, [], ◌∷◌, true, Some, IfOk, IfErr, OnErr};
-ghost use Rattle.std.specs.FinMap.{get};
-ghost use Rattle.std.specs.FinSet.{contains};
+ghost use Rattle.std.specs.Prelude.{◌≡◌, ◌↔◌, ◌<◌, [], ◌∷◌, IfOk, IfErr, OnErr};
+ghost use Rattle.std.specs.Borrow.{sem};
 ghost use Rattle.mig_base.specs.Bytes.{zero_page};
+ghost use Rattle.mig_model.specs.Bounds.{IsFrame};
 ghost use Rattle.mig_model.specs.Source.{bytes_of};
 ghost use Rattle.mig_model.specs.Wire.{page_frame};
 ghost use Rattle.mig_base.specs.declared.schedule.Step.{Step};
-ghost use Rattle.dirty_log.specs.Sending.{sent_of};
+ghost use Rattle.dirty_log.specs.Sending.{frame_sent};
 ghost use Rattle.dirty_log.specs.declared.sent.Sent.{Sent};
 ghost use Rattle.mig_base.specs.declared.TheConstants.{HIGH_PAGE};
 ghost use Rattle.page_stream.specs.Frames.{frame_of};
 ghost use Rattle.precopy.specs.Answers.{next_count as counted_on, round_answer, send_answer, start_answer, switch_answer};
-ghost use Rattle.precopy.specs.Sending.{sent_effect};
+ghost use Rattle.precopy.specs.Lending.{LeavesSource};
+ghost use Rattle.precopy.specs.Sending.{IsPageSent, sent_effect};
 ghost use Rattle.precopy.specs.Steps.{IsMade, IsRefused};
 
 use super::Source;
@@ -28,6 +29,7 @@ impl Source {
     /// and the destination is told. Refused as `Phase` where a migration has begun, and as `CountUsed` where no epoch is left.
     pub fn start(&mut self) -> Result<(Effect, Frame), Refusal>
         ensures made { IfOk result (λ told. IsMade self.old Step.Start told.0 (frame_of told.1 ∷ []) self.new) }
+        ensures frame { IfOk result (λ told. IsFrame (frame_of told.1)) }
         ensures refused { IfErr result (λ refusal. IsRefused self.old Step.Start refusal) }
         ensures err { OnErr result (self.new ≡ self.old) }
     {
@@ -64,23 +66,22 @@ impl Source {
     }
 
     /// Sends the least page of the round: it is write-protected, then read, and is clean from then on. A page whose bytes are all zero
-    /// is sent as a page of zeros. What goes on the wire are the bytes that the space has after the call. Refused as `Phase` outside
+    /// is sent as a page of zeros. Its bytes are borrowed, so that nothing changes until they are written. Refused as `Phase` outside
     /// pre-copy, as `NothingThere` where the round has sent all its pages, and as `Changing` while an event is unread.
-    pub fn send_next(&mut self) -> Result<(Effect, PageNo, Sent), Refusal>
-        ensures made { IfOk result (λ told. IsMade self.old Step.Send told.0 (page_frame told.1 (bytes_of self.new told.1) ∷ []) self.new) }
-        ensures sent { IfOk result (λ told. told.2 ≡ sent_of (bytes_of self.new told.1)) }
+    pub fn send_next(&mut self) -> Result<(Effect, PageNo, Sent<'_>), Refusal>
+        ensures* made { sem 𝓛 (LeavesSource self.entry result (λ told last. IsPageSent self.old told.0 told.1 (frame_sent told.1 told.2) last)) }
+        ensures sent { IfOk result (λ told. frame_sent told.1 told.2 ≡ page_frame told.1 (bytes_of self.old told.1)) }
+        ensures frame { IfOk result (λ told. IsFrame (frame_sent told.1 told.2)) }
         ensures refused { IfErr result (λ refusal. IsRefused self.old Step.Send refusal) }
-        ensures err { OnErr result (self.new ≡ self.old) }
 
-        // The same in the words of a reader: the page is protected, has what it had, and is a page of zeros where it has nothing else.
-        ensures protected { IfOk result (λ told. contains self.new.guest.space.protected told.1 ≡ true) }
-        ensures bytes { IfOk result (λ told. get self.new.guest.space.host.bytes told.1 ≡ Some (bytes_of self.old told.1)) }
-        ensures zero { IfOk result (λ told. (told.2 ≡ Sent.Zero) ↔ (get self.new.guest.space.host.bytes told.1 ≡ Some zero_page)) }
+        // The same in the words of a reader: it is a page of zeros where it has nothing else.
+        ensures zero { IfOk result (λ told. (told.2 ≡ Sent.Zero) ↔ (bytes_of self.old told.1 ≡ zero_page)) }
     {
         let page = self.next_to_send()?;
         self.space.is_in_order();
-        let sent = self.log.send_page(&mut self.space, page)?;
+        self.log.protect_page(&mut self.space, page)?;
         self.pages_sent = self.pages_sent.saturating_add(1);
+        let sent = Sent::read(&self.space, page);
         Ok((told_page(page, sent), page, sent))
     }
 
@@ -137,11 +138,11 @@ impl Source {
 
 /// What is told of a page that was sent.
 pub(super) fn told_page(page: PageNo, sent: Sent) -> Effect
-    ensures { result ≡ sent_effect page sent }
+    ensures { result ≡ sent_effect page sent.entry }
 {
     let addr = page_address(page);
     match sent {
-        Sent::Page => Effect::SentPage { addr },
+        Sent::Page(_) => Effect::SentPage { addr },
         Sent::Zero => Effect::SentZero { addr },
     }
 }

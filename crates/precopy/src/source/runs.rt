@@ -4,6 +4,7 @@ ghost use Rattle.std.specs.Prelude.{◌≡◌, ◌*◌, [], ◌∷◌, IfOk, IfE
 ghost use Rattle.mig_base.specs.declared.TheConstants.{MAX_RUN, PAGE_SIZE};
 ghost use Rattle.mig_base.specs.declared.effect.Effect.{Effect};
 ghost use Rattle.mig_base.specs.declared.schedule.Step.{Step};
+ghost use Rattle.mig_model.specs.Bounds.{ArePageBytes, IsFrame};
 ghost use Rattle.mig_model.specs.Migration.{run_bound};
 ghost use Rattle.mig_model.specs.Wire as wire;
 ghost use Rattle.page_stream.specs.Frames.{frame_of};
@@ -21,6 +22,7 @@ impl Source {
     /// [`Source::send_next`] is.
     pub fn send_run(&mut self, count: u8) -> Result<(Effect, Frame), Refusal>
         ensures made { IfOk result (λ told. IsMade self.old (Step.SendRun count) told.0 (frame_of told.1 ∷ []) self.new) }
+        ensures frame { IfOk result (λ told. IsFrame (frame_of told.1)) }
         ensures refused { IfErr result (λ refusal. IsRefused self.old (Step.SendRun count) refusal) }
         ensures err { OnErr result (self.new ≡ self.old) }
     {
@@ -44,13 +46,13 @@ fn most_of(count: u8) -> u32
 fn told_run(first: PageNo, count: u32, sent: Vec<PageBytes>) -> (Effect, Frame)
     ensures effect { result.0 ≡ Effect.SentRun (PAGE_SIZE * first) count }
     ensures frame { frame_of result.1 ≡ wire.Frame.Run first sent.items }
+    ensures whole { ArePageBytes sent.items }
 {
     let addr = page_address(first);
+    let pages = Pages::new(sent);
+    pages.are_whole();
     (
         Effect::SentRun { addr, pages: count },
-        Frame::Run {
-            first,
-            pages: Pages::new(sent),
-        },
+        Frame::Run { first, pages },
     )
 }

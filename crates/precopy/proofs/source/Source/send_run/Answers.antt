@@ -1,10 +1,13 @@
-use Rattle.std.proofs.Common.{rules, refl, sym, ap, ◌∙◌}
+use Rattle.std.proofs.Common.{rules, refl, sym, ap, ◌∙◌, arith, ◌<◌}
 use Rattle.std.proofs.lemmas.Result.{err_from_is_err_and}
 use Rattle.mig_base.specs.declared.refusal.Refusal.{Refusal}
+use Rattle.mig_model.specs.Source.{Source, is_released}
 use Rattle.mig_model.specs.Wire as wire
 use Rattle.dirty_log.specs.Answers.{IsRefusedFor, send_refusal}
 use Rattle.precopy.proofs.OrderLemmas.{sent_order}
-use Rattle.precopy.proofs.RunLemmas.{few_are, run_done, run_refused, run_some, run_stopped}
+use Rattle.dirty_log.proofs.SendLemmas.{page_of_present, page_there}
+use Rattle.precopy.proofs.SendLemmas.{send_unreleased}
+use Rattle.precopy.proofs.RunLemmas.{few_are, few_pages, run_done, run_frame, run_refused, run_some, run_stopped}
 use Rattle.mig_model.proofs.Facts.{counted_is}
 use Rattle.precopy.proofs.source.Source.send_run.Goals as goal
 
@@ -32,3 +35,15 @@ returns-clause-made c =
     run_done c.args.self.now _ c.in_ok-first.first c.args.count c.run_length-pages.result _ _ (sym c.next_to_send.ensures.answer ∙ c.in_ok-first.was) few c.told_run.ensures.effect
     (c.told_run.ensures.frame ∙ ap (wire.Frame.Run c.in_ok-first.first) (c.in_ok-sent.ensures.bytes c.args.self.now (rw (← c.self.view_is) refl)))
     (rw (c.in_ok-sent.ensures.log, c.in_ok-sent.ensures.space, c.saturating_add-self-inside.ensures, c.from.ensures, counted_is, ← c.self.view_is) refl)
+
+pub returns-clause-frame : goal.returns-clause-frame
+returns-clause-frame c =
+    let first = c.in_ok-first.first in
+    let pages = c.run_length-pages.result in
+    let few = few_are c.args.self.now first c.args.count c.most_of.result pages (rw (← c.self.view_is) c.run_length-pages.ensures.run) c.most_of.ensures in
+    let some : 0 < pages = rw few (run_some c.args.self.now first c.args.count (sym c.next_to_send.ensures.answer ∙ c.in_ok-first.was)) in
+    let lent = c.self.invariant.lent (ap (λ (n : Source). is_released n.phase) c.self.view_is ∙ send_unreleased c.args.self.now first (sym c.next_to_send.ensures.answer ∙ c.in_ok-first.was)) in
+    let here = page_there c.self.inside.space first pages first c.in_ok-sent.ensures.accepted (omega arith) (omega (arith, some)) in
+    run_frame c.args.self.now first pages c.in_ok-sent.sent.items _ c.told_run.ensures.frame (c.in_ok-sent.ensures.bytes c.args.self.now (rw (← c.self.view_is) refl)) some
+    (few_pages c.args.self.now first c.args.count pages c.most_of.result c.most_of.ensures c.run_length-pages.ensures.few) (page_of_present c.self.inside.space first lent c.is_in_order.ensures here).0
+    c.run_length-pages.ensures.inside c.told_run.ensures.whole

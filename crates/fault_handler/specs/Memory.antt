@@ -1,0 +1,20 @@
+-- Which calls of a destination may want for memory.
+use Rattle.std.specs.Prelude.{not, Bool, true, false}
+use Rattle.mig_base.specs.declared.message.Message.{Message}
+use Rattle.mig_base.specs.declared.message.Message.TheVariants.{PageFault, Remap, Remove, Unmap}
+use Rattle.mig_model.specs.Destination.{Destination}
+use Rattle.mig_model.specs.Guest.{Act}
+use Rattle.mig_model.specs.Owed.{is_requested}
+
+-- whether the reading of a message may: a page fault is held, and pairs of pages that move may need room where they move to
+abbrev pub read_grows : Message → Bool
+read_grows (PageFault addr write wp tid) = true
+read_grows (Remap from to len) = true
+read_grows (Remove start end) = false
+read_grows (Unmap start end) = false
+
+-- whether what is made of a fault may: a page is asked for that was not before, or becomes zeros
+abbrev pub act_grows : Act → Destination → Bool
+act_grows (Act.Requested origin) node = not (is_requested node.requests origin)
+act_grows Act.Zeroed node = true
+act_grows act node = false
