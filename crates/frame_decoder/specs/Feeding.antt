@@ -65,9 +65,9 @@ abbrev pub all_frames : List Feed → List Sent
 all_frames [] = []
 all_frames (feed ∷ feeds) = frames_of feed ++ all_frames feeds
 
--- Streams that have nothing but frames
+-- A stream, and all that it is answered
 
--- an error that answers the piece is one of memory
+-- the piece is answered by no fault of the stream
 abbrev pub IsFaultless : Feed → Type 0
 IsFaultless feed = (fault : StreamFault) → feed.answer ≡ Err fault → fault ≡ faults.NoMemory
 

@@ -9,7 +9,7 @@ use std::test::Fail;
 use wires::{Sent, Wire};
 
 /// Texts of frames, and how many bytes of 7 are behind each.
-static TEXTS: [(&[u8], usize); 11] = [
+pub(crate) static TEXTS: [(&[u8], usize); 11] = [
     (b"\x02\x01\x00\x00\x00\x00\x00\x01\x00\x00\x00\x00", 0),
     (
         b"\x02\x02\x00\x00\x00\x00\x00\x01\x00\x00\x10\x04\x00\x00\x00\x10",
@@ -47,7 +47,7 @@ static TEXTS: [(&[u8], usize); 11] = [
     (b"\x02\x83\x00\x00\x00\x00\x00\x01\x00\x00\x00\x00", 0),
 ];
 
-fn text(alloc: Global, front: &[u8], sevens: usize) -> Result<Vec<u8>, NoMemory> {
+pub(crate) fn text(alloc: Global, front: &[u8], sevens: usize) -> Result<Vec<u8>, NoMemory> {
     let mut bytes = Vec::from_slice(alloc, front)?;
     for _ in 0..sevens {
         bytes.push(7)?;

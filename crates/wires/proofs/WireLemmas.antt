@@ -57,14 +57,14 @@ has_front chunks bytes len are is some tells =
       };
     }
 
--- fewer bytes than its text has are with the decoder
+-- fewer bytes have come than its text has
 pub held_below : (frames : List machine.Sent) (sent : machine.Sent) (rest : List machine.Sent) (held : ℕ) → frames ≡ sent ∷ rest → IsHeld frames held → held < text_len sent.frame
 held_below frames sent rest held is below = subst (λ (frames : List machine.Sent). IsHeld frames held) is below
 
 pub held_there : (frames : List machine.Sent) (sent : machine.Sent) (rest : List machine.Sent) (held : ℕ) → frames ≡ sent ∷ rest → held < text_len sent.frame → IsHeld frames held
 held_there frames sent rest held is below = subst (λ (frames : List machine.Sent). IsHeld frames held) (sym is) below
 
--- so none are with it of the next
+-- so none have come of the next
 pub none_held : (frames : List machine.Sent) → IsHeld frames 0
 none_held [] = refl
 none_held (sent ∷ rest) = omega arith

@@ -16,7 +16,7 @@ sent_of sent = record { epoch = sent.epoch; frame = frame_of sent.frame }
 pub record Lane : Type 0 where
   -- the frames in flight, and how many bytes of the first have come
   pub wire : machine.Wire
-  -- the bytes in flight, in the pieces in which the code has them
+  -- the bytes in flight, in the pieces in which they are lent
   pub pieces : List (List ℕ)
   -- for how many frames there is room, however long they are
   pub room : ℕ

