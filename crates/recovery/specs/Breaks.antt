@@ -1,5 +1,5 @@
 -- What a break and a recovery make of the two nodes.
-use Rattle.std.specs.Prelude.{false, List, map, Result, Ok, Err}
+use Rattle.std.specs.Prelude.{Bool, true, false, List, map, Result, Ok, Err}
 use Rattle.mig_base.specs.declared.effect.Effect.{Effect}
 use Rattle.mig_base.specs.declared.refusal.Refusal.{Refusal}
 use Rattle.mig_base.specs.declared.phase.Received.{Received}
@@ -32,3 +32,10 @@ received_by state node = machine.Frame.Recv state no_pages
 
 abbrev pub received_frame : Destination → machine.Frame
 received_frame node = received_by (received_of node) node
+
+-- whether a source that goes on from there needs memory: for the pages that a destination which runs still needs, or for all of its own
+-- once it has switched
+abbrev pub takes_pages : Received → Bool → Bool
+takes_pages Received.NotRun switched = switched
+takes_pages Received.Running switched = true
+takes_pages Received.Ended switched = false

@@ -1,6 +1,6 @@
 //! The source: the break is noticed, and the migration goes on from what the destination has received.
 
-ghost use Rattle.std.specs.Prelude.{◌≡◌, ◌==◌, false, true, [], None, unwrap_or, IfOk, IfErr, OnOk, OnErr};
+ghost use Rattle.std.specs.Prelude.{◌≡◌, ◌==◌, false, true, [], None, Err, unwrap_or, IfOk, IfErr, OnOk, OnErr};
 ghost use Rattle.std.specs.FinSet.{len};
 ghost use Rattle.mig_base.specs.declared.schedule.Side.{Side};
 ghost use Rattle.mig_base.specs.declared.schedule.Step.{Step};
@@ -9,7 +9,7 @@ ghost use Rattle.mig_model.specs.Faults.{is_bad_owed, rebuild_fault};
 ghost use Rattle.mig_model.specs.Log as log;
 ghost use Rattle.mig_model.specs.Migration.{answer};
 ghost use Rattle.mig_model.specs.Source as machine;
-ghost use Rattle.recovery.specs.Breaks.{answered_with, broken_world, frames_of};
+ghost use Rattle.recovery.specs.Breaks.{answered_with, broken_world, frames_of, takes_pages};
 
 use mig_base::effect::Effect;
 use mig_base::fault::RebuildFault;
@@ -45,7 +45,8 @@ pub fn notice_source(source: &mut Source) -> Result<Effect, Refusal>
 /// needs remain. Where it has ended, the source is released.
 ///
 /// `BadOwed` for a page that is not present, for any page unless the destination runs, and for a destination that runs or has ended
-/// before the switch; then `NoMemory`. A refusal changes nothing.
+/// before the switch; then `NoMemory`, where the destination runs, or the source has switched and sends its pages anew. A refusal changes
+/// nothing.
 pub fn rebuild(
     alloc: Global,
     source: &mut Source,
@@ -55,6 +56,7 @@ pub fn rebuild(
     requires { machine.is_released source.old.phase ≡ false }
     ensures accepted { OnOk result (rebuild_fault source.old state owed.now ≡ None) }
     ensures refused { IfErr result (λ fault. fault ≡ unwrap_or (rebuild_fault source.old state owed.now) RebuildFault.NoMemory) }
+    ensures memory { result ≡ Err RebuildFault.NoMemory → takes_pages state source.old.switched ≡ true }
     ensures rebuilt { OnOk result (source.new ≡ machine.source_rebuilt state owed.now source.old) }
     ensures frames { IfOk result (λ frames. frames_of frames.items ≡ machine.rebuild_frames state source.old) }
     ensures err { OnErr result (source.new ≡ source.old) }
@@ -106,6 +108,7 @@ fn go_on(
     requires right { is_bad_owed source.old state owed.now ≡ false }
     ensures rebuilt { OnOk result (source.new ≡ machine.source_rebuilt state owed.now source.old) }
     ensures frames { IfOk result (λ frames. frames_of frames.items ≡ machine.rebuild_frames state source.old) }
+    ensures memory { OnErr result (takes_pages state source.old.switched ≡ true) }
     ensures err { OnErr result (source.new ≡ source.old) }
 {
     match state {

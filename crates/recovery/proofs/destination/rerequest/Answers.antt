@@ -7,4 +7,4 @@ use Rattle.recovery.proofs.destination.rerequest.Goals as goal
 
 pub returns : goal.returns
 returns c =
-    IfOk-weaker c.requests_for.result _ _ (λ frames same. ap frames_of same ∙ asked_again c.requests.result.now ∙ ap (map wire.Frame.Request) c.requests.ensures) c.requests_for.ensures
+    IfOk-weaker c.requests_for.result _ _ (λ frames same. ap frames_of same ∙ asked_again c.requests.result.now ∙ ap (map wire.Frame.Request) c.requests.ensures.pages) c.requests_for.ensures
