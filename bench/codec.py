@@ -1,7 +1,7 @@
 #!/usr/bin/env python3
 """Times the codec, frames of pages that are written and read, as ratios to a loop that copies pages twice.
 
-Run it from anywhere, once `rt run` has built the crate frame_bench: python3 bench/codec.py [--write]. With --write the table goes to
+Run it from anywhere, once `rt run` has built the crate bench: python3 bench/codec.py [--write]. With --write the table goes to
 docs/PERFORMANCE.md.
 """
 
@@ -12,7 +12,7 @@ import time
 
 import page
 
-PROGRAM = page.TOP / "crates" / "frame_bench" / "out" / "frame_bench"
+PROGRAM = page.TOP / "crates" / "bench" / "out" / "bench"
 FRAME = 4112
 RUNS = 5
 
@@ -34,7 +34,7 @@ def run(kind, piece, batch, rounds, tunables):
     environment = page.environment()
     if not tunables:
         environment.pop("GLIBC_TUNABLES", None)
-    words = [PROGRAM, kind, str(piece), str(batch), str(rounds)]
+    words = [PROGRAM, "frames", kind, str(piece), str(batch), str(rounds)]
     child = subprocess.Popen(words, stdout=subprocess.PIPE, text=True, env=environment)
     peak = 0
     while child.poll() is None:

@@ -1,8 +1,8 @@
 #!/usr/bin/env python3
 """Times what a migration does for each page, by script and by World::step, as ratios to loops that copy pages.
 
-Run it from anywhere, once ./postmig prove has built the program, and `rt run` the crate world_bench: python3 bench/migration.py
-[--write]. With --write the table goes to docs/PERFORMANCE.md.
+Run it from anywhere, once ./postmig prove has built the program, and `rt run` the crate bench: python3 bench/migration.py [--write].
+With --write the table goes to docs/PERFORMANCE.md.
 """
 
 import os
@@ -16,7 +16,7 @@ import time
 import page
 from bench import LOW, PAGE, PROGRAM, stored
 
-STEPS = page.TOP / "crates" / "world_bench" / "out" / "world_bench"
+STEPS = page.TOP / "crates" / "bench" / "out" / "bench"
 
 # How many pages, and how many runs of each script: a short run is disturbed more.
 NUMBERS = ((1024, 140), (16_384, 28), (262_144, 14))
@@ -57,7 +57,7 @@ def faulted(pages):
         yield from (f"cpu 0 load {addr} 8", "dread", "dact", "back", "serve", f"push {addr}", "deliver", "install", "retry 0")
 
 
-# What is done for each page, as world_bench calls it, with the script of what comes before and the script with it.
+# What is done for each page, as `bench world` calls it, with the script of what comes before and the script with it.
 WORK = {
     "pre-copy": (begun, sent),
     "store": (sent, stored_again),
@@ -100,7 +100,7 @@ def steps(pages, runs):
     least = {}
     for _ in range(runs):
         for words in ([str(pages)], ["new-copies", str(pages)]):
-            line = subprocess.run([STEPS, *words], check=True, capture_output=True, text=True, env=page.environment()).stdout
+            line = subprocess.run([STEPS, "world", *words], check=True, capture_output=True, text=True, env=page.environment()).stdout
             for name, nanoseconds in re.findall(r"([a-z-]+) (\d+)[, ]", line.split(": ")[1]):
                 if name != "new-copy" or len(words) == 2:
                     least[name] = min(least.get(name, 10**12), int(nanoseconds))

@@ -1,35 +1,23 @@
 //! Times a whole migration, step by step and without a script: for each page what pre-copy does for it, a store to a page that was
 //! sent, what post-copy does for it, and a fault at the destination.
 //!
-//! With no argument it does so for a few pages, and says so. Each argument is a number of pages, for which it prints how many
-//! nanoseconds a page took, and beside them those of two loops that copy as many pages, to others that are there and to new ones. Behind
-//! the word `new-copies` it does nothing but the loop over new ones, which has no memory from the work before then.
-#![tactic(auto)]
+//! Each word is a number of pages, for which it prints how many nanoseconds a page took, and beside them those of two loops that copy as
+//! many pages, to others that are there and to new ones. Behind the word `new-copies` it does nothing but the loop over new ones, which
+//! has no memory from the work before then.
 
-mod copies;
-mod migration;
-
-use crate::migration::Work;
-use mig_base::NoMemory;
-use mig_base::refusal::Refusal;
+use crate::copies;
+use crate::failure::{lacking, refused};
+use crate::migration::{self, Work};
+use crate::numbers::{nanoseconds, number};
+use std::io;
 use std::time::{Duration, Instant};
-use std::{env, io};
 use world::World;
 
-/// The pages of a run without an argument.
+/// The pages of a run where there is no number.
 const FEW: u32 = 16;
 
 /// The word before numbers of pages for which only new copies are timed.
 const NEW_COPIES: &str = "new-copies";
-
-/// What is told of a refusal: no other is to be expected than want of memory.
-fn refused(_: Refusal) -> io::Error {
-    io::Error::from(io::ErrorKind::OutOfMemory)
-}
-
-fn lacking(_: NoMemory) -> io::Error {
-    io::Error::from(io::ErrorKind::OutOfMemory)
-}
 
 /// How long the work for all pages takes, on a new world.
 fn time_on(rt: &HostRuntime, world: &mut World, work: Work, pages: u32) -> io::Result<Duration> {
@@ -64,13 +52,8 @@ fn time_new_copies(rt: &HostRuntime, pages: u32) -> io::Result<Duration> {
     begun.elapsed(rt)
 }
 
-/// Nanoseconds a page.
-fn nanoseconds(time: Duration, pages: u32) -> u128 {
-    time.as_nanos() / u128::from(pages.max(1))
-}
-
 /// Prints what so many pages take.
-fn measure(rt: &HostRuntime, pages: u32) -> io::Result<()> {
+fn measure_work(rt: &HostRuntime, pages: u32) -> io::Result<()> {
     let precopy = nanoseconds(time_work(rt, Work::PreCopy, pages)?, pages);
     let store = nanoseconds(time_work(rt, Work::Store, pages)?, pages);
     let postcopy = nanoseconds(time_work(rt, Work::PostCopy, pages)?, pages);
@@ -88,32 +71,26 @@ fn measure_new_copies(rt: &HostRuntime, pages: u32) -> io::Result<()> {
     println!(rt; "{pages} pages: new-copy {new_copy} ns a page")
 }
 
-/// The number of pages that a word says.
-fn pages_of(word: &str) -> io::Result<u32> {
-    word.parse::<u32>()
-        .map_err(|_| io::Error::from(io::ErrorKind::InvalidInput))
+/// Prints what the numbers of pages take that words say.
+pub fn measure(rt: &HostRuntime, words: &[String]) -> io::Result<()> {
+    match words {
+        [word, rest @ ..] if word.as_str() == NEW_COPIES => {
+            for word in rest {
+                measure_new_copies(rt, number(word.as_str())?)?;
+            }
+        }
+        _ => {
+            for word in words {
+                measure_work(rt, number(word.as_str())?)?;
+            }
+        }
+    }
+    Ok(())
 }
 
 /// Does the work for a few pages, and says so.
-fn try_few(rt: &HostRuntime) -> io::Result<()> {
+pub fn try_few(rt: &HostRuntime) -> io::Result<()> {
     time_work(rt, Work::Store, FEW)?;
     time_work(rt, Work::Fault, FEW)?;
     println!(rt; "{FEW} pages are migrated")
-}
-
-fn main(rt: HostRuntime) -> io::Result<()> {
-    let words: Vec<String> = env::args(&rt)?.skip(1).collect(rt.alloc())?;
-    if words.is_empty() {
-        return try_few(&rt);
-    }
-    if words[0].as_str() == NEW_COPIES {
-        for word in &words[1..] {
-            measure_new_copies(&rt, pages_of(word)?)?;
-        }
-        return Ok(());
-    }
-    for word in &words {
-        measure(&rt, pages_of(word)?)?;
-    }
-    Ok(())
 }

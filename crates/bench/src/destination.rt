@@ -1,5 +1,6 @@
 //! A destination that is owed pages: the copies that come for it, and map calls over what it is owed.
 
+use crate::failure::Failed;
 use area_map::AreaMap;
 use fault_handler::Destination;
 use guest::Tried;
@@ -19,10 +20,6 @@ const FAR: Addr = 0x8000_0000;
 
 /// How far the pages of the map calls are from each other.
 pub const APART: u32 = 8;
-
-/// A call was refused, or did something else than it is made for.
-#[derive(Clone, Copy)]
-pub struct Failed;
 
 /// A map call over one page that is owed.
 #[derive(Clone, Copy)]

@@ -4,7 +4,6 @@ use mig_base::effect::Effect;
 use mig_base::refusal::Refusal;
 use mig_base::{Addr, Command, PAGE_SIZE, Place, Prot, Reply};
 use precopy::Source;
-use std::alloc::Global;
 
 /// Makes a command of the only processor, and gives the address that it is answered, or 0.
 fn command(source: &mut Source, command: Command) -> Result<Addr, Refusal> {
@@ -39,14 +38,11 @@ fn store(source: &mut Source, pages: u32) -> Result<(), Refusal> {
     Ok(())
 }
 
-/// A source in pre-copy, of one processor, with something on so many pages.
-pub fn started(alloc: Global, pages: u32) -> Result<Source, Refusal> {
-    let Ok(mut source) = Source::new(alloc, 1, 0, 0) else {
-        return Err(Refusal::NoMemory);
-    };
-    store(&mut source, pages)?;
+/// Puts something on so many pages of a new source, of one processor, and begins a migration.
+pub fn start(source: &mut Source, pages: u32) -> Result<(), Refusal> {
+    store(source, pages)?;
     source.start()?;
-    Ok(source)
+    Ok(())
 }
 
 /// Sends so many pages of the round.

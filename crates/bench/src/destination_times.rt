@@ -1,21 +1,20 @@
 //! Times the destination of a migration: the copies that come for the pages that it is owed, their installation, and map calls over
 //! pages that are still owed.
 //!
-//! With no argument it does so with a few pages, and says so. Each argument is a number of pages, `MAX_PAGES` at the most, for which it
-//! prints how many nanoseconds a page took: to come, to be installed, and in a loop that copies as many pages to new ones; and how many a map call
-//! over one page took, to the end of the reading of its messages.
-#![tactic(auto)]
+//! Each word is a number of pages, `MAX_PAGES` at the most, for which it prints how many nanoseconds a page took: to come, to be
+//! installed, and in a loop that copies as many pages to new ones; and how many a map call over one page took, to the end of the
+//! reading of its messages.
 
-mod copies;
-mod destination;
-
-use destination::{APART, Call, Failed};
+use crate::copies;
+use crate::destination::{self, APART, Call};
+use crate::failure::{Failed, call_failed, lacking};
+use crate::numbers::{nanoseconds, number};
 use fault_handler::Destination;
-use mig_base::{LOW_PAGE, MAX_PAGES, NoMemory};
+use mig_base::{LOW_PAGE, MAX_PAGES};
+use std::io;
 use std::time::{Duration, Instant};
-use std::{env, io};
 
-/// The pages that come where there is no argument.
+/// The pages that come where there is no number.
 const FEW: u32 = 64;
 
 /// The map calls that are timed, unless there are too few pages for them.
@@ -24,15 +23,6 @@ const CALLS: u32 = 512;
 /// How often they are timed.
 const ROUNDS: u32 = 8;
 
-/// What is told of a call that failed: no other reason is to be expected than want of memory.
-fn failed(_: Failed) -> io::Error {
-    io::Error::from(io::ErrorKind::OutOfMemory)
-}
-
-fn lacking(_: NoMemory) -> io::Error {
-    io::Error::from(io::ErrorKind::OutOfMemory)
-}
-
 /// How long the coming of all copies takes.
 fn time_arrival(
     rt: &HostRuntime,
@@ -40,7 +30,7 @@ fn time_arrival(
     pages: u32,
 ) -> io::Result<Duration> {
     let begun = Instant::now(rt)?;
-    destination::arrive_all(rt.alloc(), destination, pages).map_err(failed)?;
+    destination::arrive_all(rt.alloc(), destination, pages).map_err(call_failed)?;
     begun.elapsed(rt)
 }
 
@@ -51,7 +41,7 @@ fn time_installs(
     pages: u32,
 ) -> io::Result<Duration> {
     let begun = Instant::now(rt)?;
-    destination::install_all(destination, pages).map_err(failed)?;
+    destination::install_all(destination, pages).map_err(call_failed)?;
     begun.elapsed(rt)
 }
 
@@ -61,7 +51,7 @@ fn time_both(
     destination: &mut Destination,
     pages: u32,
 ) -> io::Result<(Duration, Duration)> {
-    destination::start(rt.alloc(), destination, pages).map_err(failed)?;
+    destination::start(rt.alloc(), destination, pages).map_err(call_failed)?;
     let arrival = time_arrival(rt, destination, pages)?;
     Ok((arrival, time_installs(rt, destination, pages)?))
 }
@@ -70,7 +60,7 @@ fn time_both(
 fn time_destination(rt: &HostRuntime, pages: u32) -> io::Result<(Duration, Duration)> {
     match Destination::new(rt.alloc(), 1) {
         Ok(mut destination) => time_both(rt, &mut destination, pages),
-        Err(_) => Err(failed(Failed)),
+        Err(_) => Err(call_failed(Failed)),
     }
 }
 
@@ -81,11 +71,11 @@ fn time_calls_of(
     pages: u32,
     kind: Call,
 ) -> io::Result<Duration> {
-    destination::start(rt.alloc(), destination, pages).map_err(failed)?;
+    destination::start(rt.alloc(), destination, pages).map_err(call_failed)?;
     let calls = calls_over(pages);
     let first = LOW_PAGE.wrapping_add(pages.saturating_sub(CALLS * APART));
     let begun = Instant::now(rt)?;
-    destination::make_all(destination, kind, first, calls).map_err(failed)?;
+    destination::make_all(destination, kind, first, calls).map_err(call_failed)?;
     begun.elapsed(rt)
 }
 
@@ -93,7 +83,7 @@ fn time_calls_of(
 fn time_once(rt: &HostRuntime, pages: u32, kind: Call) -> io::Result<Duration> {
     match Destination::new(rt.alloc(), 1) {
         Ok(mut destination) => time_calls_of(rt, &mut destination, pages, kind),
-        Err(_) => Err(failed(Failed)),
+        Err(_) => Err(call_failed(Failed)),
     }
 }
 
@@ -108,16 +98,11 @@ fn time_calls(rt: &HostRuntime, pages: u32, kind: Call) -> io::Result<u128> {
 
 /// How long the copies to new pages take.
 fn time_copies(rt: &HostRuntime, pages: u32) -> io::Result<Duration> {
-    let filled = copies::filled(rt.alloc(), pages).map_err(lacking)?;
+    let filled = copies::filled(rt.alloc(), pages, 1).map_err(lacking)?;
     let begun = Instant::now(rt)?;
     // They are there until the time is taken.
-    let _copies = copies::copy(rt.alloc(), filled.as_slice()).map_err(lacking)?;
+    let _copies = copies::copy_to_new(rt.alloc(), &filled).map_err(lacking)?;
     begun.elapsed(rt)
-}
-
-/// Nanoseconds for each of so many.
-fn nanoseconds(time: Duration, count: u32) -> u128 {
-    time.as_nanos() / u128::from(count.max(1))
 }
 
 /// How many map calls are made over the last of so many pages.
@@ -145,34 +130,29 @@ fn measure_calls(rt: &HostRuntime, pages: u32) -> io::Result<()> {
     )
 }
 
-/// Prints both for the number of pages that a word says.
-fn measure_word(rt: &HostRuntime, word: &str) -> io::Result<()> {
-    match word.parse::<u32>() {
-        Ok(pages) if pages <= MAX_PAGES => {
-            measure_pages(rt, pages)?;
-            measure_calls(rt, pages)
-        }
-        _ => Err(io::Error::from(io::ErrorKind::InvalidInput)),
+/// Prints both.
+fn measure_both(rt: &HostRuntime, pages: u32) -> io::Result<()> {
+    if pages > MAX_PAGES {
+        return Err(io::Error::from(io::ErrorKind::InvalidInput));
     }
+    measure_pages(rt, pages)?;
+    measure_calls(rt, pages)
+}
+
+/// Prints both for the numbers of pages that words say.
+pub fn measure(rt: &HostRuntime, words: &[String]) -> io::Result<()> {
+    for word in words {
+        measure_both(rt, number(word.as_str())?)?;
+    }
+    Ok(())
 }
 
 /// Installs a few pages, makes a few map calls, and says so.
-fn install_few(rt: &HostRuntime) -> io::Result<()> {
+pub fn try_few(rt: &HostRuntime) -> io::Result<()> {
     time_destination(rt, FEW)?;
     let calls = calls_over(FEW);
     for kind in [Call::DontNeed, Call::Unmap, Call::Move] {
         time_once(rt, FEW, kind)?;
     }
     println!(rt; "{FEW} pages are installed, and {calls} map calls of each kind made")
-}
-
-fn main(rt: HostRuntime) -> io::Result<()> {
-    let words: Vec<String> = env::args(&rt)?.skip(1).collect(rt.alloc())?;
-    if words.is_empty() {
-        return install_few(&rt);
-    }
-    for word in &words {
-        measure_word(&rt, word)?;
-    }
-    Ok(())
 }

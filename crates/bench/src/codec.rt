@@ -1,5 +1,6 @@
 //! Page frames that are written and read again.
 
+use crate::failure::Failed;
 use frame_decoder::Decoder;
 use mig_base::{LOW_PAGE, PAGE_BYTES, PageBytes};
 use page_stream::{Frame, encode_into};
@@ -7,10 +8,6 @@ use std::alloc::Global;
 
 /// The epoch of all frames.
 const EPOCH: u32 = 1;
-
-/// A call was refused, or the frames were not as many as were written.
-#[derive(Clone, Copy)]
-pub struct Failed;
 
 /// The frame of a page with something on it.
 fn frame(alloc: Global, index: u32) -> Result<Frame, Failed> {
