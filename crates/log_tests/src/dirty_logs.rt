@@ -114,10 +114,9 @@ fn send(
     ensures { IsLent space.new }
 {
     assert!(rt; page < HIGH_PAGE);
-    match (log.send_page(space, page)?, space.page(page)) {
-        (Sent::Page, Some(bytes)) => Ok(Answer::Sent(page, Some(bytes[0]))),
-        (Sent::Zero, Some(_)) => Ok(Answer::Sent(page, None)),
-        (_, None) => Ok(Answer::Nothing),
+    match DirtyLog::send_page(space, log, page)? {
+        Sent::Page(bytes) => Ok(Answer::Sent(page, Some(bytes[0]))),
+        Sent::Zero => Ok(Answer::Sent(page, None)),
     }
 }
 

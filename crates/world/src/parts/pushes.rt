@@ -1,13 +1,11 @@
 //! Post-copy at the source: what is owed is sent, in the background or because it was asked for.
 
-ghost use Rattle.std.specs.Prelude.{◌≡◌, ◌<◌, ◌∷◌, [], true};
-ghost use Rattle.mig_base.specs.Bytes.{contents};
+ghost use Rattle.std.specs.Prelude.{◌≡◌, ◌<◌, ◌∷◌, []};
 ghost use Rattle.mig_base.specs.declared.schedule.Step.{Step};
 ghost use Rattle.mig_model.specs.Bounds.{IsFrame};
-ghost use Rattle.mig_model.specs.Guest.{is_present};
 ghost use Rattle.mig_model.specs.Runs.{Happens};
-ghost use Rattle.mig_model.specs.Wire.{page_frame, wire_with};
-ghost use Rattle.dirty_log.specs.Sending.{sent_of};
+ghost use Rattle.mig_model.specs.Wire.{wire_with};
+ghost use Rattle.dirty_log.specs.Sending.{frame_sent};
 ghost use Rattle.world.specs.Answers.{stopped_answer};
 ghost use Rattle.world.specs.Worlds.{IsWorld, world_of};
 
@@ -19,7 +17,6 @@ use mig_base::phase::SourcePhase;
 use mig_base::refusal::Refusal;
 use mig_base::schedule::Ticket;
 use page_stream::Frame;
-use uffd_ioctl::Space;
 use wires::Wire;
 
 impl Parts {
@@ -32,9 +29,9 @@ impl Parts {
         let Ok(()) = self.forward.reserve(1) else {
             return Err(Refusal::NoMemory);
         };
+        let epoch = self.source.epoch();
         let (effect, sent) = self.source.push(ticket)?;
-        let (epoch, space) = (self.source.epoch(), self.source.space());
-        send_page(&mut self.forward, epoch, space, ticket.page, sent);
+        send_page(&mut self.forward, epoch, ticket.page, sent);
         Ok(effect)
     }
 
@@ -49,8 +46,7 @@ impl Parts {
         };
         let epoch = self.source.epoch();
         let (effect, sent) = self.source.push_urgent(ticket)?;
-        let space = self.source.space();
-        send_page(&mut self.urgent, epoch, space, ticket.page, sent);
+        send_page(&mut self.urgent, epoch, ticket.page, sent);
         Ok(effect)
     }
 
@@ -92,18 +88,13 @@ impl Parts {
 }
 
 /// Puts a page that the source sends on a wire that has room for it. Its bytes go there from where they stand.
-pub(super) fn send_page(wire: &mut Wire, epoch: u32, space: &Space, page: PageNo, sent: Sent)
-    requires present { is_present space.now page ≡ true }
-    requires sent { sent ≡ sent_of (contents space.now.host.bytes page) }
-    requires well_formed { IsFrame (page_frame page (contents space.now.host.bytes page)) }
+pub(super) fn send_page(wire: &mut Wire, epoch: u32, page: PageNo, sent: Sent)
+    requires well_formed { IsFrame (frame_sent page sent) }
     requires room { 0 < wire.old.room }
-    ensures { wire.new.wire ≡ wire_with wire.old.wire epoch (page_frame page (contents space.now.host.bytes page) ∷ []) }
+    ensures { wire.new.wire ≡ wire_with wire.old.wire epoch (frame_sent page sent.entry ∷ []) }
 {
     match sent {
         Sent::Zero => wire.push(epoch, Frame::Zero { page }),
-        Sent::Page => match space.page(page) {
-            Some(bytes) => wire.push_page(epoch, page, bytes),
-            None => unreachable!(),
-        },
+        Sent::Page(bytes) => wire.push_page(epoch, page, bytes),
     }
 }

@@ -43,9 +43,9 @@ impl Parts {
         let Ok(()) = self.forward.reserve(1) else {
             return Err(Refusal::NoMemory);
         };
+        let epoch = self.source.epoch();
         let (effect, page, sent) = self.source.send_next()?;
-        let (epoch, space) = (self.source.epoch(), self.source.space());
-        send_page(&mut self.forward, epoch, space, page, sent);
+        send_page(&mut self.forward, epoch, page, sent);
         Ok(effect)
     }
 

@@ -1,11 +1,10 @@
 use Rattle.std.proofs.Common.{[], ◌∷◌, refl, ◌∙◌}
-use Rattle.std.proofs.lemmas.Result.{err_from_is_err_and}
+use Rattle.std.proofs.lemmas.Result.{MatchResult-at_err, MatchResult-at_ok, err_from_is_err_and}
 use Rattle.mig_base.specs.declared.schedule.Step.{Step}
-use Rattle.mig_base.specs.Bytes.{contents}
-use Rattle.mig_model.specs.Source.{bytes_of}
-use Rattle.mig_model.specs.Wire.{page_frame, wire_with}
+use Rattle.mig_model.specs.Wire.{wire_with}
+use Rattle.dirty_log.specs.Sending.{frame_sent}
+use Rattle.precopy.specs.Sending.{IsPushedUrgently}
 use Rattle.world.specs.Worlds.{world_of}
-use Rattle.world.proofs.FlightLemmas.{urgent_good}
 use Rattle.world.proofs.SendingLemmas.{sends_urgent, sends_answered, sends_asked, sends_up}
 use Rattle.world.proofs.StepLemmas.{happens_lacking, happens_refused, source_urgent}
 use Rattle.world.proofs.UrgentLemmas.{urgent_refused}
@@ -24,16 +23,17 @@ pub returns-in_err-effect : goal.returns-in_err-effect
 returns-in_err-effect c =
     let up = sends_up (world_of c.args.self.now) c.check_push.result _ c.in_ok-unless_down.ensures in
     let p = err_from_is_err_and c.from_residual-in_err-effect.result c.from_residual-in_err-effect.ensures.1 in
-    rw (p.1, p.2, c.reserve.ensures.stays, c.in_err-effect.ensures.err) (urgent_refused (world_of c.args.self.now) c.args.ticket _ c.requires ((sends_urgent (world_of c.args.self.now) c.args.ticket).with_link up) (sends_asked (world_of c.args.self.now) (Step.PushUrgent c.args.ticket) c.check_push.result _ c.check_push.ensures.urgent c.in_ok-unless_down.ensures) c.in_err-effect.ensures.refused)
+    let kept = MatchResult-at_err _ _ _ c.in_err-effect.was c.push_urgent.follows.holds-at-none in
+    rw (p.1, p.2, c.reserve.ensures.stays, kept) (urgent_refused (world_of c.args.self.now) c.args.ticket _ c.requires ((sends_urgent (world_of c.args.self.now) c.args.ticket).with_link up) (sends_asked (world_of c.args.self.now) (Step.PushUrgent c.args.ticket) c.check_push.result _ c.check_push.ensures.urgent c.in_ok-unless_down.ensures) c.in_err-effect.ensures.refused)
 
 pub send_page-requires-clause-well_formed : goal.send_page-requires-clause-well_formed
-send_page-requires-clause-well_formed c =
-    let up = sends_up (world_of c.args.self.now) c.check_push.result _ c.in_ok-unless_down.ensures in
-    rw c.space-space.ensures (urgent_good (world_of c.args.self.now) (Step.PushUrgent c.args.ticket) _ (page_frame c.args.ticket.page (bytes_of c.push_urgent.new.self c.args.ticket.page)) _ c.requires ((sends_urgent (world_of c.args.self.now) c.args.ticket).with_link up) c.in_ok-effect.ensures.made).0
+send_page-requires-clause-well_formed c = c.in_ok-effect.ensures.frame
 
 pub returns : goal.returns
 returns c =
     let up = sends_up (world_of c.args.self.now) c.check_push.result _ c.in_ok-unless_down.ensures in
     let page = c.args.ticket.page in
-    source_urgent (world_of c.args.self.now) (Step.PushUrgent c.args.ticket) _ (page_frame page (bytes_of c.push_urgent.new.self page)) _ _ ((sends_urgent (world_of c.args.self.now) c.args.ticket).with_link up) c.in_ok-effect.ensures.made
-    (c.send_page.ensures ∙ (λ i. wire_with (c.reserve.ensures.stays i) (c.epoch-epoch.ensures i) (page_frame page (contents (c.space-space.ensures i).host.bytes page) ∷ [])))
+    let done : IsPushedUrgently c.args.self.now.source c.args.ticket c.in_ok-effect.effect (frame_sent page c.in_ok-effect.sent) c.push_urgent.follows.lender-at-none =
+    MatchResult-at_ok _ _ _ c.in_ok-effect.was c.push_urgent.follows.holds-at-none in
+    source_urgent (world_of c.args.self.now) (Step.PushUrgent c.args.ticket) _ (frame_sent page c.in_ok-effect.sent) _ _ ((sends_urgent (world_of c.args.self.now) c.args.ticket).with_link up) done.made
+    (c.send_page.ensures ∙ (λ i. wire_with (c.reserve.ensures.stays i) (c.epoch-epoch.ensures i) (frame_sent page c.in_ok-effect.sent ∷ [])))

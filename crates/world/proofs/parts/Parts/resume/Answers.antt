@@ -1,9 +1,10 @@
-use Rattle.std.proofs.Common.{ap, not, refl, sym, ◌∙◌}
+use Rattle.std.proofs.Common.{ap, arith, not, refl, sym, ◌∙◌}
 use Rattle.std.proofs.lemmas.Result.{err_from_is_err_and}
 use Rattle.mig_base.specs.declared.schedule.Step.{Step}
 use Rattle.mig_model.specs.Wire.Frame.{Resume}
 use Rattle.mig_model.specs.Wire.{wire_with}
 use Rattle.std.specs.Prelude.{[], ◌∷◌}
+use Rattle.precopy.proofs.PushLemmas.{used_is}
 use Rattle.world.specs.Worlds.{world_of}
 use Rattle.world.proofs.BreakLemmas.{resume_destination, resume_done, resume_ok, resume_source, resume_up, resume_used}
 use Rattle.world.proofs.StepLemmas.{happens_lacking, happens_refused}
@@ -38,3 +39,6 @@ pub returns : goal.returns
 returns c =
     resume_done (world_of c.args.self.now) _ _ _ (ap not (sym c.is_paused.ensures) ∙ ap not c.if-not-is_paused.false) (ap not (sym c.is_paused-2.ensures) ∙ ap not c.if-not-is_paused-2.false) c.if-self.false (sym c.in_ok-epoch.ensures) c.set_epoch.ensures
     (c.push.ensures.wire ∙ (λ i. wire_with (c.reserve.ensures.stays i) c.in_ok-epoch.epoch (Resume ∷ [])))
+
+pub set_epoch-requires : goal.set_epoch-requires
+set_epoch-requires c = let is = used_is _ c.in_ok-epoch.epoch (sym c.in_ok-epoch.ensures) in omega (arith, is)
