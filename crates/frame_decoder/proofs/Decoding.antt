@@ -1,5 +1,5 @@
 -- Texts of frames are decoded.
-use Rattle.std.proofs.Common.{◌≡◌, ℕ, ◌+◌, ◌≤◌, Bool, true, false, ltb, List, [], ◌∷◌, ◌++◌, length, Option, Some, None, Ok, Err, refl, sym, ap, subst, ◌∙◌, arith, inl, inr}
+use Rattle.std.proofs.Common.{◌≡◌, ℕ, ◌≤◌, Bool, true, false, ltb, List, [], ◌∷◌, ◌++◌, length, Option, Some, None, Ok, Err, refl, sym, ap, subst, ◌∙◌, arith, inl, inr}
 use Rattle.std.specs.List.{AllByRecursion}
 use Rattle.std.proofs.lemmas.Bool.{ltb-false, ltb-true}
 use Rattle.std.proofs.lemmas.List.{append-nil, length-append, nil_from_length}
@@ -11,7 +11,7 @@ use Rattle.frame_decoder.specs.declared.fault.StreamFault.TheVariants as faults
 use Rattle.frame_decoder.specs.declared.version.Version.{Version}
 use Rattle.frame_decoder.specs.Versions.{version_of, tag_of}
 use Rattle.frame_decoder.specs.Streams.{Fixes, Held, IsPart, IsSent, May, Splits, texts}
-use Rattle.frame_decoder.specs.Feeding.{Answer, Decodes, Fed, FedFault, Feed, IsFaultless, IsRun, all_frames, fresh, joined}
+use Rattle.frame_decoder.specs.Feeding.{Answer, Decodes, Fed, FedFault, Feed, IsFaultless, IsRun, all_frames, fresh}
 use Rattle.frame_decoder.proofs.Cuts.{any_cut, stays}
 use Rattle.frame_decoder.proofs.Feeds.{header_front}
 use Rattle.frame_decoder.proofs.Fillings.{length-text_of}
