@@ -10,7 +10,8 @@ pair behind --bench are two programs that time the codec: the crate bench, or a 
 Of each script it prints the least seconds of N runs of both programs and the ratio, and then the instructions of user space: of a
 migration those for a page, as the difference between a run with the lines for the pages and one without them, else those for a line.
 Migrations of more pages than COUNTED are counted with that many. Of the codec it prints nanoseconds a page or a byte, and
-the instructions as the difference between many rounds and few; those of `pages` have the two copies beside the codec in them.
+the instructions of a frame, as the difference between many rounds and few; those of `pages` are of the codec's loop alone (LOOP), without
+the copies beside it.
 The last line has the greatest ratio of instructions.
 """
 
@@ -50,6 +51,9 @@ CODEC = (
     ("feed", 1, 16, 20),
 )
 
+# The function of the program that has the codec's loop, without the copies beside it.
+LOOP = "*codec::write_and_read*"
+
 # How many frames are counted in few rounds, and how many times as many in many.
 FEW_FRAMES, TIMES = 256, 5
 
@@ -72,9 +76,10 @@ def seconds(program, script):
     return took
 
 
-def instructions(program, words, script=os.devnull):
-    """The instructions of user space of one run."""
-    command = ["valgrind", "--tool=callgrind", f"--callgrind-out-file={os.devnull}", program, *words]
+def instructions(program, words, script=os.devnull, function=None):
+    """The instructions of user space of one run, or of the calls of a function in it."""
+    only = [f"--toggle-collect={function}"] if function else []
+    command = ["valgrind", "--tool=callgrind", f"--callgrind-out-file={os.devnull}", *only, program, *words]
     with open(script) as source:
         done = subprocess.run(command, stdin=source, stdout=subprocess.DEVNULL, stderr=subprocess.PIPE, env=page.environment())
     said = done.stderr.decode(errors="replace")
@@ -176,7 +181,13 @@ def codec_clock(program, kind, piece, batch, rounds):
 def codec_count(program, kind, piece, batch):
     """The instructions of a frame, in rounds that are many as against few."""
     few = max(FEW_FRAMES // batch, 1)
-    counts = [instructions(program, codec_words(program, [kind, str(piece), str(batch), str(rounds)])) for rounds in (few, few * TIMES)]
+    function = LOOP if kind == "pages" else None
+    counts = []
+    for rounds in (few, few * TIMES):
+        words = codec_words(program, [kind, str(piece), str(batch), str(rounds)])
+        counts.append(instructions(program, words, function=function))
+    if counts[0] == counts[1]:
+        sys.exit(f"{program}: no function {LOOP}")
     return (counts[1] - counts[0]) / (few * (TIMES - 1) * batch)
 
 

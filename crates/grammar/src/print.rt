@@ -94,7 +94,7 @@ impl fmt::Display for EventText {
     }
 }
 
-/// What the text of an effect has behind its first words.
+/// What the text of an effect has behind its first words. Where that begins with an address, its `0x` is one of these.
 #[derive(Clone, Copy)]
 enum Tail {
     Nothing,
@@ -158,36 +158,36 @@ fn parts_of(effect: &Effect) -> (&'static str, Tail)
         Effect::InCall { cpu, messages } => ("cpu ", Tail::InCall { cpu, messages }),
         Effect::Started { epoch } => ("started epoch ", Tail::Number(u64::from(epoch))),
         Effect::RoundMade { round, todo } => ("round ", Tail::Round { round, todo }),
-        Effect::SentPage { addr } => ("sent page ", Tail::Address(addr)),
-        Effect::SentZero { addr } => ("sent zero ", Tail::Address(addr)),
-        Effect::SentRun { addr, pages } => ("sent run ", Tail::Pages { addr, pages }),
-        Effect::ReadFault { addr, wp } => ("read fault ", Tail::Fault { addr, wp }),
+        Effect::SentPage { addr } => ("sent page 0x", Tail::Address(addr)),
+        Effect::SentZero { addr } => ("sent zero 0x", Tail::Address(addr)),
+        Effect::SentRun { addr, pages } => ("sent run 0x", Tail::Pages { addr, pages }),
+        Effect::ReadFault { addr, wp } => ("read fault 0x", Tail::Fault { addr, wp }),
         Effect::ReadEvent { event } => ("read ", Tail::Event(event)),
         Effect::ReadLast { event, cpu, reply } => ("read ", Tail::Last { event, cpu, reply }),
-        Effect::Unprotected { addr } => ("unprotected ", Tail::Address(addr)),
-        Effect::Zeroed { addr } => ("zeroed ", Tail::Address(addr)),
-        Effect::Woke { addr } => ("woke ", Tail::Address(addr)),
-        Effect::Forgot { addr } => ("forgot ", Tail::Address(addr)),
-        Effect::Requested { origin, addr } => ("requested ", Tail::Requested { origin, addr }),
+        Effect::Unprotected { addr } => ("unprotected 0x", Tail::Address(addr)),
+        Effect::Zeroed { addr } => ("zeroed 0x", Tail::Address(addr)),
+        Effect::Woke { addr } => ("woke 0x", Tail::Address(addr)),
+        Effect::Forgot { addr } => ("forgot 0x", Tail::Address(addr)),
+        Effect::Requested { origin, addr } => ("requested 0x", Tail::Requested { origin, addr }),
         Effect::Switched { discard, owed } => (
             "switched discard ",
             Tail::Switched { discard, owed },
         ),
         Effect::Moved { bytes } => ("moved ", Tail::Number(bytes)),
         Effect::TookAdvise => ("took advise", Tail::Nothing),
-        Effect::TookPage { addr } => ("took page ", Tail::Address(addr)),
-        Effect::TookZero { addr } => ("took zero ", Tail::Address(addr)),
-        Effect::TookRun { addr, pages } => ("took run ", Tail::Pages { addr, pages }),
+        Effect::TookPage { addr } => ("took page 0x", Tail::Address(addr)),
+        Effect::TookZero { addr } => ("took zero 0x", Tail::Address(addr)),
+        Effect::TookRun { addr, pages } => ("took run 0x", Tail::Pages { addr, pages }),
         Effect::TookDiscard { pages } => ("took discard ", Tail::Number(u64::from(pages))),
         Effect::TookPackage { owed } => ("took package owed ", Tail::Number(u64::from(owed))),
         Effect::TookEnd => ("took end", Tail::Nothing),
         Effect::TookResume => ("took resume", Tail::Nothing),
-        Effect::TookRequest { addr } => ("took request ", Tail::Address(addr)),
+        Effect::TookRequest { addr } => ("took request 0x", Tail::Address(addr)),
         Effect::TookRecv { state, pages } => ("took recv ", Tail::Received { state, pages }),
         Effect::TookDone => ("took done", Tail::Nothing),
-        Effect::Installed { addr, origin } => ("installed ", Tail::Installed { addr, origin }),
-        Effect::Dropped { origin } => ("dropped ", Tail::Address(origin)),
-        Effect::Asked { addr } => ("asked ", Tail::Address(addr)),
+        Effect::Installed { addr, origin } => ("installed 0x", Tail::Installed { addr, origin }),
+        Effect::Dropped { origin } => ("dropped 0x", Tail::Address(origin)),
+        Effect::Asked { addr } => ("asked 0x", Tail::Address(addr)),
         Effect::EndSent => ("end sent", Tail::Nothing),
         Effect::Broken => ("broken", Tail::Nothing),
         Effect::Noticed { side } => ("paused ", Tail::Side(side)),
@@ -206,8 +206,8 @@ impl fmt::Display for TailText {
         match self.0 {
             Tail::Nothing => Ok(()),
             Tail::Number(number) => write!(f, "{number}"),
-            Tail::Address(addr) => write!(f, "0x{addr:x}"),
-            Tail::Pages { addr, pages } => write!(f, "0x{addr:x} {pages}"),
+            Tail::Address(addr) => write!(f, "{addr:x}"),
+            Tail::Pages { addr, pages } => write!(f, "{addr:x} {pages}"),
             Tail::Reply { cpu, reply } => {
                 let reply = ReplyText(reply);
                 write!(f, "{cpu} {reply}")
@@ -217,7 +217,7 @@ impl fmt::Display for TailText {
             Tail::Round { round, todo } => write!(f, "{round} todo {todo}"),
             Tail::Fault { addr, wp } => {
                 let kind = kind_of(wp);
-                write!(f, "0x{addr:x} {kind}")
+                write!(f, "{addr:x} {kind}")
             }
             Tail::Event(event) => {
                 let event = EventText(event);
@@ -228,9 +228,9 @@ impl fmt::Display for TailText {
                 let reply = ReplyText(reply);
                 write!(f, "{event}, cpu {cpu} {reply}")
             }
-            Tail::Requested { origin, addr } => write!(f, "0x{origin:x} for 0x{addr:x}"),
+            Tail::Requested { origin, addr } => write!(f, "{origin:x} for 0x{addr:x}"),
             Tail::Switched { discard, owed } => write!(f, "{discard} owed {owed}"),
-            Tail::Installed { addr, origin } => write!(f, "0x{addr:x} from 0x{origin:x}"),
+            Tail::Installed { addr, origin } => write!(f, "{addr:x} from 0x{origin:x}"),
             Tail::Received { state, pages } => {
                 let state = state_of(state);
                 write!(f, "{state} {pages}")
