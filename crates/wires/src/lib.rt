@@ -4,7 +4,8 @@
 //! its text have come. It keeps order, and loses frames only when it is cleared. Whoever sends makes room first, so that what a node
 //! sends once it has changed is never refused.
 //!
-//! Contracts see the machine's wire (`mig_model`, `specs/Wire.antt`) and the room (`specs/Lanes.antt`).
+//! Contracts see the machine's wire (`mig_model`, `specs/Wire.antt`), its bytes in the pieces in which they are lent, and the room
+//! (`specs/Lanes.antt`).
 #![tactic(auto)]
 
 mod chunks;
