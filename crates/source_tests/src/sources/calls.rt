@@ -170,27 +170,26 @@ fn sent(answer: Result<(Effect, Frame), Refusal>) -> Result<Answer, Refusal> {
 }
 
 /// What goes on the wire of a page.
-fn page_sent(source: &Source, page: PageNo, sent: Sent) -> Brief {
-    match (sent, source.space().page(page)) {
-        (Sent::Page, Some(bytes)) => Brief::Page(page, bytes[0]),
-        (Sent::Zero, Some(_)) => Brief::Zero(page),
-        (_, None) => Brief::Unfit,
+fn page_sent(page: PageNo, sent: Sent) -> Brief {
+    match sent {
+        Sent::Page(bytes) => Brief::Page(page, bytes[0]),
+        Sent::Zero => Brief::Zero(page),
     }
 }
 
 fn send(source: &mut Source) -> Result<Answer, Refusal> {
     let (effect, page, sent) = source.send_next()?;
-    Ok(Sends(effect, page_sent(source, page, sent)))
+    Ok(Sends(effect, page_sent(page, sent)))
 }
 
 fn push(source: &mut Source, ticket: Ticket) -> Result<Answer, Refusal> {
     let (effect, sent) = source.push(ticket)?;
-    Ok(Sends(effect, page_sent(source, ticket.page, sent)))
+    Ok(Sends(effect, page_sent(ticket.page, sent)))
 }
 
 fn push_urgent(source: &mut Source, ticket: Ticket) -> Result<Answer, Refusal> {
     let (effect, sent) = source.push_urgent(ticket)?;
-    Ok(Sends(effect, page_sent(source, ticket.page, sent)))
+    Ok(Sends(effect, page_sent(ticket.page, sent)))
 }
 
 fn handed(answer: Result<(Effect, Frame, Frame), Refusal>) -> Result<Answer, Refusal> {
@@ -320,7 +319,10 @@ fn recovered(
             not_released(rt, source);
             source.pause();
         }
-        SetEpoch(epoch) => source.set_epoch(epoch),
+        SetEpoch(epoch) => {
+            assert!(rt; source.epoch() < epoch);
+            source.set_epoch(epoch);
+        }
         ToPrecopy => {
             assert!(rt; !source.has_switched());
             source.to_precopy();
