@@ -8,3 +8,4 @@ pub mod ReadyLemmas
 pub mod RequestLemmas
 pub mod TornLemmas
 pub mod WorldLemmas
+pub mod PageLemmas

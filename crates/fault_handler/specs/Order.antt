@@ -1,10 +1,12 @@
 -- What every destination keeps, whatever calls are made of it.
 use Rattle.std.specs.Prelude.{◌≡◌, ℕ, ◌+◌, ◌/◌, ◌≤◌, ◌⊎◌, Bool, true, false, Some, List, [], ◌∷◌}
 use Rattle.std.specs.FinMap.{get}
-use Rattle.std.specs.FinSet.{contains}
+use Rattle.std.specs.FinSet.{FinSet, contains}
+use Rattle.std.specs.Ordering.{nat_cmp}
 use Rattle.mig_base.specs.declared.TheConstants.{PAGE_SIZE, HIGH_PAGE}
 use Rattle.mig_base.specs.declared.message.Message.{Message}
 use Rattle.mig_base.specs.declared.message.Message.TheVariants.{PageFault, Remap, Remove, Unmap}
+use Rattle.mig_model.specs.Bounds.{AreFewPages}
 use Rattle.mig_model.specs.Guest.{is_present}
 use Rattle.mig_model.specs.Promises.{AreFaults}
 use Rattle.mig_model.specs.Invariant.{AreRight}
@@ -12,6 +14,7 @@ use Rattle.mig_model.specs.Owed.{Owed, settled_by}
 use Rattle.mig_model.specs.Space.{Space}
 use Rattle.mig_model.specs.Userfault.{Noted}
 use Rattle.guest.specs.Lent.{IsLent}
+use Rattle.fault_handler.specs.Requests.{AreListed}
 
 -- whether the pages of an event lie in the address space; of a move, the ranges lie apart
 abbrev pub LiesInside : Message → Type 0
@@ -40,3 +43,11 @@ pub record IsReady (space : Space) (owed : Owed) : Type 0 where
 -- from the run on
 pub record IsInOrder (has_run : Bool) (space : Space) (owed : Owed) : Type 0 where
   pub ready : has_run ≡ true → IsReady space owed
+
+-- the pages of the source that are owed are among those that the Package owed, which may all be mapped at once; and each that was asked
+-- for may be mapped
+pub record HasPages (owed : Owed) (requests : List ℕ) : Type 0 where
+  pub first : FinSet nat_cmp
+  pub few : AreFewPages first
+  pub among : (page origin : ℕ) → get owed page ≡ Some origin → contains first origin ≡ true
+  pub listed : AreListed requests

@@ -3,7 +3,9 @@
 ghost use Rattle.std.specs.Prelude.{◌≡◌, ◌↔◌, false, length, IfOk, Err};
 ghost use Rattle.mig_model.specs.Destination as machine;
 ghost use Rattle.vcpu.specs.Answers.{is_count};
-ghost use Rattle.fault_handler.specs.Requests.{StandOnce};
+ghost use Rattle.mig_model.specs.Bounds.{AreFewPages};
+ghost use Rattle.mig_model.specs.Owed.{origins};
+ghost use Rattle.fault_handler.specs.Requests.{AreListed, StandOnce};
 
 mod commands;
 mod frames;
@@ -53,7 +55,7 @@ pub struct Destination {
 impl Model for Destination {
     ghost use Rattle.mig_model.specs.Destination as machine;
     ghost use Rattle.fault_handler.specs.Codes.{coded_destination};
-    ghost use Rattle.fault_handler.specs.Order.{IsInOrder};
+    ghost use Rattle.fault_handler.specs.Order.{HasPages, IsInOrder};
 
     ghost Value = { machine.Destination };
 
@@ -61,7 +63,7 @@ impl Model for Destination {
 
     ghost view = { λ d. record { phase = d.phase; has_run = d.has_run; ended = d.ended; epoch = d.epoch; kept = d.kept; guest = record { space = d.space; cpus = d.cpus }; held = d.held.items; owed = d.owed; requests = d.requests; arrivals = d.arrivals.items; urgent_taken = d.urgent_taken; installed = d.installed; dropped = d.dropped; faults = d.faults } };
 
-    ghost invariant = { λ d. IsInOrder d.has_run d.space d.owed };
+    ghost invariant = { λ d. IsInOrder d.has_run d.space d.owed × HasPages d.owed d.requests };
 }
 
 impl Destination {
@@ -115,7 +117,8 @@ impl Destination {
 
     /// The pages that it still has to get, each with its page at the source.
     pub fn owed(&self) -> &Owed
-        ensures { result.now ≡ self.now.owed }
+        ensures owed { result.now ≡ self.now.owed }
+        ensures few { AreFewPages (origins self.now.owed) }
     {
         &self.owed
     }
@@ -124,6 +127,7 @@ impl Destination {
     pub fn requests(&self) -> &[PageNo]
         ensures pages { result.now ≡ self.now.requests }
         ensures once { StandOnce self.now.requests }
+        ensures mapped { AreListed self.now.requests }
     {
         self.requests.as_slice()
     }

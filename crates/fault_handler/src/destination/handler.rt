@@ -1,10 +1,12 @@
 //! The handler of the destination: messages that are read, and faults that are resolved.
 
+ghost use Rattle.std.specs.Option.{IfSome};
 ghost use Rattle.std.specs.Prelude.{◌≡◌, ℕ, ◌*◌, ◌<◌, ◌⊎◌, true, false, None, Some, Err, [], ◌∷◌, List, map, option_to_list, IfOk, IfErr, OnOk, OnErr};
 ghost use Rattle.mig_base.specs.declared.TheConstants.{HIGH, PAGE_SIZE};
 ghost use Rattle.mig_base.specs.declared.effect.Effect as effects;
 ghost use Rattle.mig_base.specs.declared.refusal.Refusal.{Refusal};
 ghost use Rattle.mig_base.specs.declared.schedule.Step.{Step};
+ghost use Rattle.mig_model.specs.Bounds.{IsFrame, IsPage};
 ghost use Rattle.mig_model.specs.Destination.{act_frames, destination_act, settled};
 ghost use Rattle.mig_model.specs.Guest as machine;
 ghost use Rattle.mig_model.specs.Guest.{is_present};
@@ -65,6 +67,7 @@ impl Destination {
     /// before alone.
     pub fn act(&mut self) -> Result<(Effect, Option<Frame>), Refusal>
         ensures made { IfOk result (λ told. IsMade self.old Step.DestAct told.0 (map frame_of (option_to_list told.1)) self.new) }
+        ensures well_formed { IfOk result (λ told. IfSome told.1 (λ frame. IsFrame (frame_of frame))) }
         ensures refused { IfErr result (λ refusal. IsRefused self.old Step.DestAct refusal) }
         ensures memory { (fault : machine.Fault) (rest : List machine.Fault) → self.old.held ≡ fault ∷ rest → result ≡ Err Refusal.NoMemory → act_grows (destination_act self.old fault) self.old ≡ true }
         ensures err { OnErr result (self.new ≡ self.old) }
@@ -107,6 +110,7 @@ impl Destination {
         ensures refused { IfErr result (λ refusal. act_refusal self.now ≡ Some refusal) }
         ensures act { (fault : machine.Fault) (rest : List machine.Fault) → self.now.held ≡ fault ∷ rest → IfOk result (λ next. (act_is next.0 ≡ destination_act self.now fault) × (next.1 ≡ 4096 * fault.page)) }
         ensures low { IfOk result (λ next. (next.0 ≡ Act.Forgot) ⊎ (next.1 < HIGH)) }
+        ensures page { IfOk result (λ next. (origin : ℕ) → next.0 ≡ Act.Requested origin → IsPage origin) }
     {
         self.ensure_run()?;
         let Some(fault) = self.held.front() else {
@@ -121,7 +125,9 @@ impl Destination {
     /// Puts a page of the source behind the requests: the frame that asks for it, unless it was asked for before, or the destination
     /// is paused or has ended.
     fn request(&mut self, origin: PageNo) -> Result<Option<Frame>, Refusal>
+        requires page { IsPage origin }
         ensures frame { IfOk result (λ frame. map frame_of (option_to_list frame) ≡ act_frames (machine.Act.Requested origin) self.old) }
+        ensures well_formed { IfOk result (λ frame. IfSome frame (λ frame. IsFrame (frame_of frame))) }
         ensures ok { OnOk result (self.new ≡ record self.old { requests = requesting self.old.requests origin }) }
         ensures refused { IfErr result (λ refusal. refusal ≡ Refusal.NoMemory) }
         ensures absent { OnErr result (is_requested self.old.requests origin ≡ false) }

@@ -4,7 +4,7 @@ ghost use Rattle.std.specs.Prelude.{◌≡◌, ◌+◌, ◌<◌, ◌≤◌, true
 ghost use Rattle.mig_base.specs.Bytes.{zero_page};
 ghost use Rattle.mig_base.specs.declared.TheConstants.{HIGH_PAGE};
 ghost use Rattle.mig_base.specs.declared.phase.DestPhase.{DestPhase};
-ghost use Rattle.mig_model.specs.Bounds.{IsMapping};
+ghost use Rattle.mig_model.specs.Bounds.{AreFewPages, IsMapping};
 ghost use Rattle.mig_model.specs.Destination.{arrived, copy_came, destination_ran, destination_took};
 ghost use Rattle.mig_model.specs.Faults.{is_torn};
 ghost use Rattle.mig_model.specs.Wire as wire;
@@ -119,6 +119,7 @@ impl Destination {
     /// A Package has come, with which the destination runs.
     pub(super) fn package_came(&mut self, areas: AreaMap, owed: PageSet, commands: Waiting) -> Taken
         requires mapping { IsMapping areas }
+        requires few { AreFewPages owed }
         requires whole { is_torn self.old.kept areas owed ≡ false }
         requires cpus { length commands ≡ length self.old.guest.cpus }
         ensures ok { OnOk result (self.new ≡ destination_ran self.old areas owed commands) }
@@ -138,6 +139,7 @@ impl Destination {
     /// The destination runs: it has a space of these areas with the pages that were kept, and is owed these pages.
     fn run(&mut self, areas: &AreaMap, owed: &PageSet, commands: &Waiting) -> Result<(), NoMemory>
         requires mapping { IsMapping areas.now }
+        requires few { AreFewPages owed.now }
         requires whole { is_torn self.old.kept areas.now owed.now ≡ false }
         requires cpus { length commands.now ≡ length self.old.guest.cpus }
         ensures ok { OnOk result (self.new ≡ destination_ran self.old areas.now owed.now commands.now) }

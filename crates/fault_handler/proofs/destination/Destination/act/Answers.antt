@@ -55,7 +55,7 @@ invariant_of-self-2 c =
       | in-Zeroed+in-Ok w ↦
           let quiet : changing c.self.inside.space.object ≡ 0 = ap (λ (node : Destination). changing node.guest.space.object) c.self.view_is ∙ h.quiet in
           let nothing = (missing_at c.args.self.now (the_view c.self.inside) h.fault c.in_ok-act.addr c.self.view_is (sym next.0 ∙ ap act_is w.in-Zeroed.is) next.1).nothing in
-          rw w.self-inside-is (zeroed_order _ c.self.inside.space _ c.self.inside.owed (c.in_ok-act.addr / 4096) quiet nothing w.in-Ok.ensures.ok c.self.invariant)
+          rw w.self-inside-is (zeroed_order _ c.self.inside.space _ c.self.inside.owed (c.in_ok-act.addr / 4096) quiet nothing w.in-Ok.ensures.ok c.self.invariant.0, c.self.invariant.1)
       | in-Woke w ↦ rw w.self-inside-is c.self.invariant
     ]
 

@@ -7,6 +7,7 @@ use Rattle.mig_model.specs.Owed.{home}
 use Rattle.mig_model.specs.Userfault.{changing}
 use Rattle.fault_handler.specs.contracts.destination.Destination.{the_view}
 use Rattle.mig_model.proofs.Facts.{counted_is}
+use Rattle.fault_handler.proofs.PageLemmas.{installed_paged}
 use Rattle.fault_handler.proofs.ReadyLemmas.{pairs_now}
 use Rattle.fault_handler.proofs.InstallLemmas.{IsFirst, IsVacant, dropped_is, install_done, install_lacks, install_refused, installed_is, installed_order, pair_ends, same_pages, some_arrival, vacant}
 use Rattle.fault_handler.proofs.destination.Destination.install.Goals as goal
@@ -26,7 +27,7 @@ vacancy : (c : goal.After-put_first-arg-2-1) → IsVacant c.self.inside.space c.
 vacancy c =
     let one = some_arrival c.args.self.now c.in_ok-origin.origin (sym c.next_arrival.ensures ∙ c.in_ok-origin.was) in
     vacant c.self.inside.space c.self.inside.owed c.in-Some.page c.in_ok-origin.origin c.is_in_order.ensures (ap (λ (n : Destination). changing n.guest.space.object) c.self.view_is ∙ one.quiet)
-    (c.self.invariant.ready (ap (λ (n : Destination). n.has_run) c.self.view_is ∙ one.run)) ((c.home.ensures.only c.in-Some.page).0 c.in-Some.is)
+    (c.self.invariant.0.ready (ap (λ (n : Destination). n.has_run) c.self.view_is ∙ one.run)) ((c.home.ensures.only c.in-Some.page).0 c.in-Some.is)
 
 pub put_first-requires-clause-watched : goal.put_first-requires-clause-watched
 put_first-requires-clause-watched c = (vacancy c).watched
@@ -49,8 +50,11 @@ waits c = ap (λ (n : Destination). n.arrivals) c.self.view_is ∙ (first c).is
 
 pub invariant_of-self-2 : goal.invariant_of-self-2
 invariant_of-self-2 c =
-    installed_order _ c.self.inside.space _ c.self.inside.owed _ c.in-Some.page (first c).copy.bytes (ap (λ (n : Destination). changing n.guest.space.object) c.self.view_is ∙ (first c).quiet)
-    (c.in-Ok.ensures.space (first c).copy (first c).rest (waits c)) (c.settle.ensures.settled c.in-Some.page (owes c)) c.self.invariant
+    let removed = c.settle.ensures.settled c.in-Some.page (owes c) in (
+      installed_order _ c.self.inside.space _ c.self.inside.owed _ c.in-Some.page (first c).copy.bytes (ap (λ (n : Destination). changing n.guest.space.object) c.self.view_is ∙ (first c).quiet)
+    (c.in-Ok.ensures.space (first c).copy (first c).rest (waits c)) removed c.self.invariant.0,
+      installed_paged c.self.inside.owed _ c.in-Some.page _ _ _ removed c.end.ensures c.self.invariant.1,
+    )
 
 -- the destination after it
 new : (c : goal.After-page_address-3) →
@@ -78,7 +82,7 @@ told c page origin h =
 
 pub returns-clause-missing : goal.returns-clause-missing
 returns-clause-missing c page origin h =
-    let ready = c.self.invariant.ready (ap (λ (n : Destination). n.has_run) c.self.view_is ∙ (first c).run) in
+    let ready = c.self.invariant.0.ready (ap (λ (n : Destination). n.has_run) c.self.view_is ∙ (first c).run) in
     let quiet = ap (λ (n : Destination). changing n.guest.space.object) c.self.view_is ∙ (first c).quiet in
     let was = (pairs_now c.self.inside.space c.self.inside.owed c.in-Some.page c.in_ok-origin.origin quiet ready (owes c)).1 in
     subst (λ q. is_present c.args.self.now.guest.space q ≡ false) (told c page origin h).0 (ap (λ (n : Destination). is_present n.guest.space c.in-Some.page) (sym c.self.view_is) ∙ was)

@@ -10,7 +10,7 @@ returns-in_err-tried-clause-refused c run =
 
 pub invariant_of-self-2 : goal.invariant_of-self-2
 invariant_of-self-2 c =
-    tried_order _ (record { space = c.self.inside.space; cpus = c.self.inside.cpus }) _ c.self.inside.owed c.args.cpu c.args.command c.is_in_order.ensures (ap (λ g. g.space) c.in_ok-tried.ensures.guest) c.self.invariant
+    (tried_order _ (record { space = c.self.inside.space; cpus = c.self.inside.cpus }) _ c.self.inside.owed c.args.cpu c.args.command c.is_in_order.ensures (ap (λ g. g.space) c.in_ok-tried.ensures.guest) c.self.invariant.0, c.self.invariant.1)
 
 pub returns-clause-made : goal.returns-clause-made
 returns-clause-made c =

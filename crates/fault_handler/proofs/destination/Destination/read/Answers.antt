@@ -2,6 +2,7 @@ use Rattle.std.proofs.Common.{◌≡◌, Some, rules, sym, ap, subst, ◌∙◌}
 use Rattle.mig_model.specs.Owed.{owed_table_after}
 use Rattle.mig_model.specs.Userfault.{next_message}
 use Rattle.fault_handler.proofs.HandlerLemmas.{IsNext, none_next, read_done, read_is, read_lacks, read_nothing, read_order, read_refused, settled_done, some_next, told_effect}
+use Rattle.fault_handler.proofs.PageLemmas.{read_paged}
 use Rattle.mig_model.specs.Destination.{Destination, destination_read}
 use Rattle.mig_model.specs.Migration.{read_effect}
 use Rattle.fault_handler.specs.Order.{IsInOrder}
@@ -27,8 +28,10 @@ next c = some_next (next_message c.self.inside.space.object) c.in-Some.message (
 pub invariant_of-self-2 : goal.invariant_of-self-2
 invariant_of-self-2 c =
     let n = next c in
-    read_order _ (record { space = c.self.inside.space; cpus = c.self.inside.cpus }) _ c.self.inside.owed _ n.noted n.is (ap (λ g. g.space) (c.read.ensures.guest n.noted n.is)) c.read.ensures.lent
-    (c.in-Ok.ensures.owed ∙ ap (λ m. owed_table_after m c.self.inside.owed) (sym n.same)) c.self.invariant
+    let owed = c.in-Ok.ensures.owed ∙ ap (λ m. owed_table_after m c.self.inside.owed) (sym n.same) in (
+      read_order _ (record { space = c.self.inside.space; cpus = c.self.inside.cpus }) _ c.self.inside.owed _ n.noted n.is (ap (λ g. g.space) (c.read.ensures.guest n.noted n.is)) c.read.ensures.lent owed c.self.invariant.0,
+      read_paged n.noted.message c.self.inside.owed _ _ owed c.self.invariant.1,
+    )
 
 -- the destination after it
 read : (c : goal.After-self-1) → record (the_view c.self.inside) { guest = record { space = c.read.new.space; cpus = c.read.new.cpus }; held = c.note.new.held.items; owed = c.note.new.owed; faults = c.saturating_add-self-inside.result } ≡ destination_read c.args.self.now (next c).noted
@@ -47,4 +50,4 @@ returns-clause-made c =
 
 pub returns-clause-settled : goal.returns-clause-settled
 returns-clause-settled c page =
-    settled_done c.args.self.now _ (next c).noted page (waits c) (sym c.ensure_run.ensures ∙ c.in_ok-ensure_run.was) (subst (λ (node : Destination). IsInOrder node.has_run node.guest.space node.owed) c.self.view_is c.self.invariant) (read c)
+    settled_done c.args.self.now _ (next c).noted page (waits c) (sym c.ensure_run.ensures ∙ c.in_ok-ensure_run.was) (subst (λ (node : Destination). IsInOrder node.has_run node.guest.space node.owed) c.self.view_is c.self.invariant.0) (read c)

@@ -12,7 +12,7 @@ returns-in_err-tried-clause-refused c run =
 pub invariant_of-self-2 : goal.invariant_of-self-2
 invariant_of-self-2 c =
     let waits = waiting c.self.inside.cpus c.args.cpu c.self.inside.has_run c.in_ok-tried.ensures.accepted in
-    tried_order _ (record { space = c.self.inside.space; cpus = c.self.inside.cpus }) _ c.self.inside.owed c.args.cpu waits.command c.is_in_order.ensures (ap (λ g. g.space) (c.in_ok-tried.ensures.guest waits.command waits.is)) c.self.invariant
+    (tried_order _ (record { space = c.self.inside.space; cpus = c.self.inside.cpus }) _ c.self.inside.owed c.args.cpu waits.command c.is_in_order.ensures (ap (λ g. g.space) (c.in_ok-tried.ensures.guest waits.command waits.is)) c.self.invariant.0, c.self.invariant.1)
 
 pub returns-clause-made : goal.returns-clause-made
 returns-clause-made c =
