@@ -4,7 +4,7 @@ use Rattle.std.proofs.lemmas.Bool.Decides.{nat_tests}
 use Rattle.std.proofs.Common.{◌≡◌, ℕ, ◌<◌, ◌≤◌, ◌&&◌, ◌||◌, Bool, eqb, ltb, not, true, false, Err, List, [], ◌∷◌, map, refl, ap, ◌∙◌, arith}
 use Rattle.std.specs.Ordering.{nat_cmp}
 use Rattle.std.specs.FinSet as finset
-use Rattle.std.specs.FinSet.{FinSet, contains}
+use Rattle.std.specs.FinSet.{FinSet, contains, len-empty}
 use Rattle.mig_base.specs.declared.effect.Effect.{Effect}
 use Rattle.mig_base.specs.declared.phase.DestPhase.{DestPhase}
 use Rattle.mig_base.specs.declared.phase.SourcePhase.{SourcePhase}
@@ -16,16 +16,19 @@ use Rattle.mig_base.proofs.TestLemmas.{and_false}
 use Rattle.mig_base.specs.declared.phase.Received.{Received}
 use Rattle.mig_model.specs.Destination.{Destination, is_dest_paused, received_of, recv_by}
 use Rattle.mig_model.specs.Guest.{is_present}
-use Rattle.mig_model.specs.Log.{less, present}
+use Rattle.mig_model.specs.Log.{less, present, no_pages}
 use Rattle.mig_model.specs.Migration.{made, notice, unless}
 use Rattle.mig_model.specs.Source.{Source, is_released, is_source_idle}
 use Rattle.mig_model.specs.Space.{IsSoundSpace, Space}
 use Rattle.mig_model.proofs.FrameFaults.{none_empty, present_below}
 use Rattle.mig_model.proofs.SetSizes.{len-some}
 use Rattle.mig_model.proofs.Stopping.{member_less}
+use Rattle.mig_model.proofs.Facts.{no_page}
+use Rattle.mig_model.specs.Bounds.{AreFewPages}
 use Rattle.mig_model.specs.Wire as wire
 use Rattle.page_stream.specs.declared.frame.Frame.{Frame}
-use Rattle.recovery.specs.Breaks.{broken_world, frames_of, received_by}
+use Rattle.fault_handler.specs.Requests.{AreListed}
+use Rattle.recovery.specs.Breaks.{AreWellFormed, broken_world, frames_of, received_by}
 
 -- the source with a phase
 abbrev in_phase : Source → SourcePhase → Source
@@ -128,3 +131,12 @@ one_missing space pages q here gone =
 pub none_past : (space : Space) (pages : FinSet nat_cmp) (page : ℕ) → ((q : ℕ) → HIGH_PAGE ≤ q → contains pages q ≡ false) → HIGH_PAGE ≤ page → ((q : ℕ) → q < page → contains pages q ≡ true → is_present space q ≡ true) →
     (q : ℕ) → contains pages q ≡ true → is_present space q ≡ true
 none_past space pages page low past all q is = grind (arith, nat_tests)
+
+-- requests for pages that may be mapped
+pub asked_right : (pages : List ℕ) → AreListed pages → AreWellFormed (map wire.Frame.Request pages)
+asked_right [] are = tt
+asked_right (page ∷ pages) are = (are.0, asked_right pages are.1)
+
+-- a set of none
+pub few_none : AreFewPages no_pages
+few_none = (λ page h. no_page page h, let none = len-empty nat_cmp in omega (arith, none))

@@ -1,8 +1,9 @@
 -- What a break and a recovery make of the two nodes.
-use Rattle.std.specs.Prelude.{Bool, true, false, List, map, Result, Ok, Err}
+use Rattle.std.specs.Prelude.{Bool, true, false, List, [], ◌∷◌, map, Result, Ok, Err}
 use Rattle.mig_base.specs.declared.effect.Effect.{Effect}
 use Rattle.mig_base.specs.declared.refusal.Refusal.{Refusal}
 use Rattle.mig_base.specs.declared.phase.Received.{Received}
+use Rattle.mig_model.specs.Bounds.{IsFrame}
 use Rattle.mig_model.specs.Destination.{Destination, received_of}
 use Rattle.mig_model.specs.Log.{no_pages}
 use Rattle.mig_model.specs.Owed.{origins}
@@ -24,6 +25,11 @@ answered_with source destination (Err refusal) = Err refusal
 -- the machine's words for frames
 abbrev pub frames_of : List Frame → List machine.Frame
 frames_of frames = map frame_of frames
+
+-- each of them can be sent
+abbrev pub AreWellFormed : List machine.Frame → Type 0
+AreWellFormed [] = Unit {0}
+AreWellFormed (frame ∷ frames) = IsFrame frame × AreWellFormed frames
 
 -- how far a destination has come: the first frame that it answers to a Resume
 abbrev pub received_by : Received → Destination → machine.Frame

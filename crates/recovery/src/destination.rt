@@ -3,13 +3,14 @@
 ghost use Rattle.std.specs.Prelude.{◌≡◌, ◌∷◌, ◌++◌, map, IfOk, OnErr};
 ghost use Rattle.mig_base.specs.declared.schedule.Side.{Side};
 ghost use Rattle.mig_base.specs.declared.schedule.Step.{Step};
+ghost use Rattle.mig_model.specs.Bounds.{IsFrame};
 ghost use Rattle.mig_model.specs.Destination as machine;
 ghost use Rattle.mig_model.specs.Migration.{answer};
 ghost use Rattle.mig_model.specs.Source.{is_released, is_source_idle};
 ghost use Rattle.mig_model.specs.Wire as wire;
 ghost use Rattle.page_stream.specs.Frames.{frame_of};
 ghost use Rattle.page_stream.specs.declared.frame.Frame as frames;
-ghost use Rattle.recovery.specs.Breaks.{answered_with, broken_world, frames_of, received_frame};
+ghost use Rattle.recovery.specs.Breaks.{AreWellFormed, answered_with, broken_world, frames_of, received_frame};
 
 use fault_handler::Destination;
 use mig_base::effect::Effect;
@@ -44,7 +45,8 @@ pub fn notice_dest(source: &Source, destination: &mut Destination) -> Result<Eff
 
 /// The frame that tells how far the destination has come, with the pages of the source that it still needs if it runs.
 pub fn report_received(alloc: Global, destination: &Destination) -> Result<Frame, NoMemory>
-    ensures { IfOk result (λ frame. frame_of frame ≡ received_frame destination.now) }
+    ensures frame { IfOk result (λ frame. frame_of frame ≡ received_frame destination.now) }
+    ensures well_formed { IfOk result (λ frame. IsFrame (frame_of frame)) }
 {
     let state = destination.received();
     let owed = match state {
@@ -56,7 +58,8 @@ pub fn report_received(alloc: Global, destination: &Destination) -> Result<Frame
 
 /// The requests of the destination once more, in the order in which they were first made: what it sends behind a Recv if it runs.
 pub fn rerequest(alloc: Global, destination: &Destination) -> Result<Vec<Frame>, NoMemory>
-    ensures { IfOk result (λ frames. frames_of frames.items ≡ map wire.Frame.Request destination.now.requests) }
+    ensures frames { IfOk result (λ frames. frames_of frames.items ≡ map wire.Frame.Request destination.now.requests) }
+    ensures well_formed { IfOk result (λ frames. AreWellFormed (frames_of frames.items)) }
 {
     requests_for(alloc, destination.requests())
 }

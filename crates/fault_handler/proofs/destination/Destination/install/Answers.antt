@@ -52,7 +52,7 @@ pub invariant_of-self-2 : goal.invariant_of-self-2
 invariant_of-self-2 c =
     let removed = c.settle.ensures.settled c.in-Some.page (owes c) in (
       installed_order _ c.self.inside.space _ c.self.inside.owed _ c.in-Some.page (first c).copy.bytes (ap (λ (n : Destination). changing n.guest.space.object) c.self.view_is ∙ (first c).quiet)
-    (c.in-Ok.ensures.space (first c).copy (first c).rest (waits c)) removed c.self.invariant.0,
+          (c.in-Ok.ensures.space (first c).copy (first c).rest (waits c)) removed c.self.invariant.0,
       installed_paged c.self.inside.owed _ c.in-Some.page _ _ _ removed c.end.ensures c.self.invariant.1,
     )
 
