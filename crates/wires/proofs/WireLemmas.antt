@@ -13,7 +13,7 @@ use Rattle.frame_decoder.specs.declared.version.Version.{Version}
 use Rattle.frame_decoder.specs.declared.version.Version.TheVariants as versions
 use Rattle.page_stream.specs.declared.frame.Frame.{Frame}
 use Rattle.wires.specs.Chunks.{AreChunks, frames_in, in_flight, in_full, left}
-use Rattle.wires.specs.Lanes.{IsHeld, IsMoved, IsWhole, sent_of}
+use Rattle.wires.specs.Lanes.{Completes, IsHeld, IsMoved, IsWhole, sent_of}
 use Rattle.wires.specs.declared.chunks.Chunks.{Chunks}
 use Rattle.wires.specs.declared.sent.Sent.{Sent}
 use Rattle.wires.proofs.ChunkLemmas.{AreThose, has_first}
@@ -83,6 +83,12 @@ completes old new sent rest read held len n stays first long same enough =
       first = sym stays ∙ first ∙ ap (λ (sent : machine.Sent). sent ∷ rest) (sym same);
       whole = ap (λ (sent : machine.Sent). ltb n (text_len sent.frame - held)) same ∙ le-ltb _ _ (omega (arith, long, enough));
     }
+
+-- the first frame is complete, whether or not there is memory to read it
+pub completes_first : (old new : List machine.Sent) (sent : machine.Sent) (rest : List machine.Sent) (held len n : ℕ) → new ≡ old → new ≡ sent ∷ rest → len ≡ text_len sent.frame → (n < len - held → ⊥) →
+    Completes (record { frames = old; held = held }) n
+completes_first old new sent rest held len n stays first long enough =
+    record { sent = sent; rest = rest; first = sym stays ∙ first; whole = le-ltb _ _ (omega (arith, long, enough)) }
 
 -- what was read
 

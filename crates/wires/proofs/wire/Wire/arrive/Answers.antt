@@ -1,9 +1,10 @@
 use Rattle.std.proofs.Common.{◌+◌, ap, arith, inr, length, sym, ◌∙◌}
 use Rattle.std.proofs.lemmas.Bool.{eqb-false}
+use Rattle.std.proofs.lemmas.Result.{err_from_is_err_and}
 use Rattle.frame_decoder.specs.Streams.{IsTextOf}
 use Rattle.frame_decoder.specs.declared.version.Version.TheVariants as versions
 use Rattle.wires.specs.Chunks.{in_flight}
-use Rattle.wires.proofs.WireLemmas.{completes, has_front, held_below, held_there, moves, none_is_not, read_is}
+use Rattle.wires.proofs.WireLemmas.{completes, completes_first, has_front, held_below, held_there, moves, none_is_not, read_is}
 use Rattle.wires.specs.Lanes.{bytes_of}
 use Rattle.wires.proofs.ByteLemmas.{same_bytes}
 use Rattle.wires.proofs.wire.Wire.arrive.Goals as goal
@@ -54,6 +55,16 @@ returns-then-is_empty-clause-bytes c = same_bytes c.self.inside.chunks c.turn.ne
 
 pub returns-then-n-len-clause-bytes : goal.returns-then-n-len-clause-bytes
 returns-then-n-len-clause-bytes c = same_bytes c.self.inside.chunks c.turn.new.self c.self.invariant.0 c.turn.ensures.chunks c.turn.ensures.stays ∙ ap bytes_of c.self.view_is
+
+pub returns-in_err-epoch-clause-arrived : goal.returns-in_err-epoch-clause-arrived
+returns-in_err-epoch-clause-arrived c =
+    let p = err_from_is_err_and c.from_residual.result c.from_residual.ensures.1 in
+    let front = has_front c.turn.new.self c.left-left.result.now c.front_len-len.result c.turn.ensures.chunks c.left-left.ensures (λ none. eqb-false _ _ (sym c.is_empty.ensures ∙ c.if-is_empty.false) (ap length none)) c.front_len-len.ensures in
+    let enough = c.if-n-len.false in
+    rw (p.1, ← c.self.view_is) (
+      completes_first (in_flight c.self.inside.chunks) (in_flight c.turn.new.self) front.sent front.rest c.self.inside.held c.front_len-len.result c.args.n c.turn.ensures.stays front.flight front.len_is (λ less. omega (arith, enough, less)),
+      (λ i. record { frames = c.turn.ensures.stays i; held = c.self.inside.held }),
+    )
 
 pub returns-in_err-epoch-clause-bytes : goal.returns-in_err-epoch-clause-bytes
 returns-in_err-epoch-clause-bytes c = same_bytes c.self.inside.chunks c.turn.new.self c.self.invariant.0 c.turn.ensures.chunks c.turn.ensures.stays ∙ ap bytes_of c.self.view_is
