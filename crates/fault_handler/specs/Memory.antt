@@ -1,4 +1,4 @@
--- Which calls of a destination may want for memory.
+-- Which calls of a destination may need memory.
 use Rattle.std.specs.Prelude.{not, Bool, true, false}
 use Rattle.mig_base.specs.declared.message.Message.{Message}
 use Rattle.mig_base.specs.declared.message.Message.TheVariants.{PageFault, Remap, Remove, Unmap}

@@ -20,8 +20,9 @@ impl Destination {
     /// Takes a frame that the source has sent in an epoch, and answers the frame that is to be sent back at once: Done for an End, and none
     /// for any other. What is to be sent for a Resume is a recovery's to say, before it is taken.
     ///
-    /// The frame is well formed ([`Frame::is_well_formed`]). One that is refused is handed back, and nothing is changed. `OutOfPlace` for a frame that the phase does not take, and for
-    /// an End while pages are owed, no copy waits and no urgent frame is still to come; then `StaleEpoch` for one of another epoch
+    /// The frame is well formed ([`Frame::is_well_formed`]). One that is refused is handed back, and nothing is changed. `OutOfPlace` for
+    /// a frame that the phase does not take, and for an End while pages are owed, no copy waits and no urgent frame is still to come;
+    /// then `StaleEpoch` for one of another epoch
     /// (an Advise may be of any, a Resume has to be of a later one), `BadFrame` for a Package that owes a page which is kept, or does
     /// not map one that it owes or one that is kept, or is of another number of processors, and for an End that tells of fewer
     /// urgent frames than came; then, for an End, `InstallFirst` while a copy waits and `UrgentFirst` while urgent frames are still to
@@ -47,8 +48,9 @@ impl Destination {
     }
 
     /// Takes a frame of the urgent wire, which waits to be installed and is counted. The frame is well formed
-    /// ([`Frame::is_well_formed`]). One that is refused is handed back, and nothing is changed: `OutOfPlace` unless it is the copy of one page and the destination runs, then `StaleEpoch`, and `NoMemory`, which is also for
-    /// the frame after 2^64 - 1 others of its epoch, since it could not be counted.
+    /// ([`Frame::is_well_formed`]). One that is refused is handed back, and nothing is changed: `OutOfPlace` unless it is the copy of one
+    /// page and the destination runs, then `StaleEpoch`, and `NoMemory`, which is also for the frame after 2^64 - 1 others of its epoch,
+    /// since it could not be counted.
     pub fn take_urgent(&mut self, epoch: u32, frame: Frame) -> Result<(), (TakeFault, Frame)>
         requires { IsFrame (frame_of frame) }
         ensures accepted { OnOk result (urgent_fault self.old epoch (frame_of frame) ≡ None) }

@@ -28,7 +28,7 @@ impl Destination {
     /// Puts the first copy that has arrived where its page belongs now, by moving its bytes: UFFDIO_COPY for that page, or UFFDIO_ZEROPAGE
     /// for a page of zeros. The page is owed no longer, its request ends, and those that sleep on it are woken. A copy of a page that is not
     /// owed is given up. Refused as `Phase` before it has run, as `NothingThere` where no copy waits, and as `Changing` while an event
-    /// is unread; then as `NoMemory`, of a copy that is not given up alone.
+    /// is unread; then as `NoMemory`, which only a copy that is installed needs.
     pub fn install(&mut self) -> Result<Effect, Refusal>
         ensures made { IfOk result (λ effect. IsMade self.old Step.Install effect [] self.new) }
         ensures refused { IfErr result (λ refusal. IsRefused self.old Step.Install refusal) }
