@@ -20,7 +20,7 @@ use Rattle.precopy.specs.Steps as from
 use Rattle.world.specs.Deliveries.{AreFrames}
 use Rattle.world.specs.Worlds.{IsWorld}
 use Rattle.mig_model.proofs.WireLemmas.{sending-behind}
-use Rattle.world.proofs.StepLemmas.{IsOfDestination, IsOfSource, destination_made, source_made, source_urgent}
+use Rattle.world.proofs.StepLemmas.{IsOfDestination, IsOfSource, destination_made, source_made}
 
 -- the same processors after one step more
 next_reached : (old : World) (step : Step) (reached : IsReached old) → (again : IsReached (next old step)) × (again.cpus ≡ reached.cpus)
@@ -72,11 +72,6 @@ pub source_good : (world : World) (step : Step) (effect : Effect) (frames : List
 source_good world step effect frames new is of made =
     all_good world.forward.frames new.epoch frames
     (good _ (world_happens world _ step (Ok effect) is (source_made world step effect frames new (wire_with world.forward new.epoch frames) of made refl))).forward
-
-pub urgent_good : (world : World) (step : Step) (effect : Effect) (frame : Frame) (new : Source) → IsWorld world → IsOfSource world step → from.IsMadeUrgently world.source step effect frame new → AreFrames (frame ∷ [])
-urgent_good world step effect frame new is of made =
-    all_good world.urgent.frames world.source.epoch (frame ∷ [])
-    (good _ (world_happens world _ step (Ok effect) is (source_urgent world step effect frame new (wire_with world.urgent world.source.epoch (frame ∷ [])) of made refl))).urgent
 
 with_link : (up : Bool) → up ≡ true → (world : World) (epoch : ℕ) (frames : List Frame) → flight.AreFrames (wire_if up world.back epoch frames).frames → AreFrames frames
 with_link true h world epoch frames are = all_good world.back.frames epoch frames are
