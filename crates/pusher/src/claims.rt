@@ -4,6 +4,7 @@ ghost use Rattle.pusher.specs.Rule.{IsWhole, kept_share, given_share};
 ghost use Rattle.pusher.specs.Seats.{IsSeatOf, IsUnclaimed};
 
 use crate::bits::{is_set, mask};
+use crate::entries::{find, sorted_entries};
 use crate::flags::mark_all;
 use crate::pages::{push_flagged, push_free};
 use crate::rule::{EachOnce, Fork, Known, Look, Merge, Take};
@@ -18,12 +19,13 @@ use std::marker::Model;
 pub struct Claims {
     epoch: u32,
     pages: Vec<PageNo>,
+    by_page: Vec<(PageNo, usize)>,
     table: Table<(), Known, usize, EachOnce, Global>,
 }
 
 impl Model for Claims {
     ghost use Rattle.std.specs.Prelude.{◌≡◌, ◌≢◌, ◌+◌, ◌/◌, length, AllPairs};
-    ghost use Rattle.pusher.specs.Seats.{Starting, starting_code};
+    ghost use Rattle.pusher.specs.Seats.{Starting, starting_code, IsIndexed};
 
     ghost Value = { Starting };
 
@@ -31,7 +33,7 @@ impl Model for Claims {
 
     ghost view = { λ a. record { table = a.table.shared.table_id; epoch = a.epoch; pages = a.pages.items } };
 
-    ghost invariant = { λ a. (a.table.shared.table_id.words ≡ length a.pages.items / 64 + 1) × (a.table.shared.table_id.slots ≡ 0) × (a.table.shared.key ≡ length a.pages.items) × AllPairs ◌≢◌ a.pages.items };
+    ghost invariant = { λ a. (a.table.shared.table_id.words ≡ length a.pages.items / 64 + 1) × (a.table.shared.table_id.slots ≡ 0) × (a.table.shared.key ≡ length a.pages.items) × AllPairs ◌≢◌ a.pages.items × IsIndexed a.pages.items a.by_page.items };
 }
 
 impl Claims {
@@ -46,6 +48,7 @@ impl Claims {
         ensures seat { IfOk result (λ r. IsSeatOf r.0 r.1 × (r.1.claimed ≡ []) × (r.1.seen ≡ []) × (r.1.share ≡ 0 ∷ [])) }
     {
         let count = pages.len();
+        let by_page = sorted_entries(alloc, pages.as_slice())?;
         let Ok(held) = Vec::from_elem(alloc, false, count) else {
             return Err(NoMemory);
         };
@@ -58,6 +61,7 @@ impl Claims {
         let claims = Claims {
             epoch,
             pages,
+            by_page,
             table,
         };
         Ok((claims, ClaimSeat { seat, held }))
@@ -91,7 +95,7 @@ impl Claims {
         ensures some { IfSome result (λ i. (i < length self.now.pages) × (slice_index self.now.pages i ≡ page)) }
         ensures none { IfNone result (Contains self.now.pages page → ⊥) }
     {
-        self.pages.iter().position(|p| *p == page)
+        find(self.by_page.as_slice(), page)
     }
 
     /// Claims an index by one atomic step. None: it was claimed before.
@@ -201,6 +205,7 @@ impl Claims {
         let Claims {
             epoch: _,
             pages,
+            by_page: _,
             table,
         } = self;
         let ClaimSeat { seat, held } = seat;

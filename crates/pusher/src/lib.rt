@@ -3,6 +3,7 @@
 
 mod bits;
 mod claims;
+mod entries;
 mod flags;
 mod law;
 mod pages;
