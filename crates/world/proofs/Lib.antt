@@ -8,3 +8,4 @@ pub mod SendingLemmas
 pub mod StepLemmas
 pub mod UrgentLemmas
 pub mod NewLemmas
+pub mod WithinLemmas

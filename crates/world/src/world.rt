@@ -1,6 +1,6 @@
 //! The type that callers see.
 
-ghost use Rattle.std.specs.Prelude.{◌≡◌, ◌↔◌, ◌==◌, ◌||◌, nat_lt, true, false, Ok, Err, ◌⊎◌, IfOk, IfErr, OnErr};
+ghost use Rattle.std.specs.Prelude.{◌≡◌, ◌↔◌, ◌==◌, ◌||◌, nat_lt, true, false, Ok, Err, ◌⊎◌, IfOk, IfErr, OnErr, All, ◌<◌, length};
 ghost use Rattle.mig_base.specs.Flat.{IsFlatRun};
 ghost use Rattle.mig_model.specs.Runs.{Happens, IsRun};
 ghost use Rattle.mig_model.specs.Views.{new_world_with};
@@ -131,10 +131,11 @@ impl World {
         let _ = &self.parts;
     }
 
-    /// The commands that took effect, in that order, with their replies.
+    /// The commands that took effect, in that order, with their replies. Each is of a processor that the guest has.
     pub fn transcript(&self) -> &[Entry]
         ensures entries { result.now ≡ self.now.transcript }
         ensures flat { IsFlatRun result.now }
+        ensures within { All (λ e. e.cpu < length self.now.source.guest.cpus) result.now }
     {
         self.parts.transcript.as_slice()
     }

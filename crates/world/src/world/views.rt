@@ -1,6 +1,6 @@
 //! What a world tells of itself.
 
-ghost use Rattle.std.specs.Prelude.{◌≡◌};
+ghost use Rattle.std.specs.Prelude.{◌≡◌, ◌≤◌, length};
 ghost use Rattle.mig_base.specs.declared.phase.WorldPhase.{WorldPhase};
 ghost use Rattle.mig_model.specs.Views as views;
 ghost use Rattle.world.specs.Headline.{IsMoved};
@@ -10,7 +10,7 @@ use mig_base::counts::Counts;
 use mig_base::cpu_state::CpuState;
 use mig_base::phase::SourcePhase;
 use mig_base::refusal::Refusal;
-use mig_base::{PageSet, WorldPhase};
+use mig_base::{MAX_CPUS, PageSet, WorldPhase};
 use wires::Wire;
 
 impl World {
@@ -95,6 +95,14 @@ impl World {
         ensures { result.now.wire ≡ self.now.urgent }
     {
         &self.parts.urgent
+    }
+
+    /// How many processors the guest has.
+    pub fn cpus(&self) -> u8
+        ensures count { result ≡ length self.now.source.guest.cpus }
+        ensures range { (1 ≤ result) × (result ≤ MAX_CPUS) }
+    {
+        self.parts.source.cpus().count()
     }
 
     /// What a processor does, where the guest runs; while it runs nowhere, as at the switch. `NoCpu` where there is no such processor.
