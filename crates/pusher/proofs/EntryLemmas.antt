@@ -10,8 +10,8 @@ use Rattle.std.proofs.lemmas.Cmp.{ranked}
 use Rattle.std.proofs.lemmas.Bool.Decides.{nat_tests}
 use Rattle.std.proofs.lemmas.List.{get_or_default}
 use Rattle.std.proofs.lemmas.List.Elements.{Contains-push, Contains-append_left}
-use Rattle.std.proofs.lemmas.List.Sorted.{IsPermutation-sym, All-permutation, Contains-permutation}
-use Rattle.pusher.specs.Seats.{IsIndexed}
+use Rattle.std.proofs.lemmas.List.Sorted.{All-permutation, Contains-permutation}
+use Rattle.pusher.specs.Entries.{IsIndexed}
 
 -- one more page has its entry
 pub each_push : (pages : List ℕ) (entries : List (ℕ × ℕ)) (n : ℕ) (page : ℕ) → page ≡ slice_index pages n → ((i : ℕ) → i < n → Contains entries (slice_index pages i, i)) → (i : ℕ) → i < n + 1 → Contains (entries ++ (page, n) ∷ []) (slice_index pages i, i)

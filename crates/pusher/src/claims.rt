@@ -1,4 +1,4 @@
-//! The claims, and their calls.
+//! The claims of one epoch.
 ghost use Rattle.std.specs.Prelude.{◌≡◌, ◌≢◌, ℕ, ◌+◌, ◌<◌, ◌⊎◌, [], ◌∷◌, ◌++◌, false, length, slice_index, IfSome, IfNone, IfOk, IfErr, OnErr, AllPairs, All, Contains, IsPermutation, IsTrue, ◌↔◌, map};
 ghost use Rattle.pusher.specs.Rule.{IsWhole, kept_share, given_share};
 ghost use Rattle.pusher.specs.Seats.{IsSeatOf, IsUnclaimed};
@@ -15,6 +15,7 @@ use mig_base::{NoMemory, PageNo};
 use std::alloc::Global;
 use std::marker::Model;
 
+/// A list of pages with a bit for each, which is set while its page is free.
 #[derive(Drop)]
 pub struct Claims {
     epoch: u32,
@@ -25,7 +26,8 @@ pub struct Claims {
 
 impl Model for Claims {
     ghost use Rattle.std.specs.Prelude.{◌≡◌, ◌≢◌, ◌+◌, ◌/◌, length, AllPairs};
-    ghost use Rattle.pusher.specs.Seats.{Starting, starting_code, IsIndexed};
+    ghost use Rattle.pusher.specs.Entries.{IsIndexed};
+    ghost use Rattle.pusher.specs.Seats.{Starting, starting_code};
 
     ghost Value = { Starting };
 
@@ -37,7 +39,7 @@ impl Model for Claims {
 }
 
 impl Claims {
-    /// Every index is free, and the seat has claimed none.
+    /// Claims of a list of pages, in any order, all free, and a seat that has the whole share. Out of memory, the list is dropped.
     pub fn new(
         alloc: Global,
         epoch: u32,
@@ -67,7 +69,7 @@ impl Claims {
         Ok((claims, ClaimSeat { seat, held }))
     }
 
-    /// How many pages there were at the start. No page is there twice.
+    /// The number of starting pages. No two of them are equal.
     pub fn len(&self) -> usize
         ensures count { result ≡ length self.now.pages }
         ensures distinct { AllPairs ◌≢◌ self.now.pages }
@@ -75,14 +77,14 @@ impl Claims {
         self.pages.len()
     }
 
-    /// The epoch that each ticket has.
+    /// The epoch of each ticket.
     pub fn epoch(&self) -> u32
         ensures { result ≡ self.now.epoch }
     {
         self.epoch
     }
 
-    /// The page of an index.
+    /// The page at an index.
     pub fn page(&self, index: usize) -> PageNo
         requires { index < length self.now.pages }
         ensures { result ≡ slice_index self.now.pages index }
@@ -90,7 +92,7 @@ impl Claims {
         self.pages[index]
     }
 
-    /// The index of a starting page.
+    /// The index of a page, or none where it is not a starting page. A binary search, without an atomic step.
     pub fn index_of(&self, page: PageNo) -> Option<usize>
         ensures some { IfSome result (λ i. (i < length self.now.pages) × (slice_index self.now.pages i ≡ page)) }
         ensures none { IfNone result (Contains self.now.pages page → ⊥) }
@@ -98,7 +100,7 @@ impl Claims {
         find(self.by_page.as_slice(), page)
     }
 
-    /// Claims an index by one atomic step. None: it was claimed before.
+    /// Claims an index with one fetch-and. None: it was claimed before, by this seat or another.
     pub fn claim(&self, seat: &mut ClaimSeat, index: usize) -> Option<Ticket>
         requires seat { IsSeatOf self.now seat.old }
         requires index { index < length self.now.pages }
@@ -124,7 +126,7 @@ impl Claims {
         })
     }
 
-    /// Whether an index is free, by one load. False holds from then on.
+    /// Whether an index is free, by one load. Another thread may claim it at once; a false answer stays true of the index.
     pub fn is_free(&self, seat: &mut ClaimSeat, index: usize) -> bool
         requires seat { IsSeatOf self.now seat.old }
         requires index { index < length self.now.pages }
@@ -138,7 +140,7 @@ impl Claims {
         is_set(found, index % 64)
     }
 
-    /// Whether the seat has claimed an index. No word is read.
+    /// Whether the seat has claimed an index. It reads no shared word.
     pub fn holds(&self, seat: &ClaimSeat, index: usize) -> bool
         requires seat { IsSeatOf self.now seat.now }
         requires index { index < length self.now.pages }
@@ -147,7 +149,7 @@ impl Claims {
         seat.held[index]
     }
 
-    /// A seat for one more thread, which has claimed nothing and seen nothing.
+    /// A seat for one more thread, with nothing claimed and half of a share. Out of memory, the seat stays as it was.
     pub fn split(&self, alloc: Global, seat: &mut ClaimSeat) -> Result<ClaimSeat, NoMemory>
         requires { IsSeatOf self.now seat.old }
         ensures seat { IsSeatOf self.now seat.new }
@@ -163,7 +165,7 @@ impl Claims {
         Ok(ClaimSeat { seat: other, held })
     }
 
-    /// Puts what another seat has claimed and seen behind what this one has.
+    /// Adds what another seat has claimed and seen, and its share. The other seat ends.
     pub fn join(&self, seat: &mut ClaimSeat, other: ClaimSeat)
         requires seat { IsSeatOf self.now seat.old }
         requires other { IsSeatOf self.now other }
@@ -180,7 +182,8 @@ impl Claims {
         mark_all(&mut seat.held, other_held.as_slice());
     }
 
-    /// What is left, and what this seat has claimed. For want of memory both arguments come back.
+    /// The pages that are free, and those that the seat has claimed, each in the order of their indexes. Out of memory, both
+    /// arguments come back unchanged.
     pub fn close(
         self,
         alloc: Global,

@@ -1,12 +1,12 @@
-// The pages with their indexes, sorted by page, so that a page is found without a walk through the list.
+// The pages with their indexes, sorted by page, so that a binary search finds a page.
 ghost use Rattle.std.specs.Prelude.{ℕ, IfOk, IfSome, IfNone, Contains};
 ghost use Rattle.std.specs.List.Sorted.{IsNonDecreasingBy};
-ghost use Rattle.pusher.specs.Seats.{IsIndexed};
+ghost use Rattle.pusher.specs.Entries.{IsIndexed};
 
 use mig_base::{NoMemory, PageNo};
 use std::alloc::Global;
 
-/// An entry for each page.
+/// Each page with its index, in ascending order of pages.
 pub(crate) fn sorted_entries(
     alloc: Global,
     pages: &[PageNo],

@@ -8,11 +8,7 @@ use pusher::{ClaimSeat, Claims};
 use std::alloc::Global;
 use std::test::Fail;
 
-fn of_ascending(
-    alloc: Global,
-    first: PageNo,
-    count: u32,
-) -> Result<(Claims, ClaimSeat), NoMemory>
+fn of_ascending(alloc: Global, first: PageNo, count: u32) -> Result<(Claims, ClaimSeat), NoMemory>
     requires { first + count < 2 ^ 32 }
     ensures { IfOk result (λ r. IsSeatOf r.0 r.1) }
 {
@@ -20,11 +16,7 @@ fn of_ascending(
     Claims::new(alloc, 1, pages)
 }
 
-fn of_descending(
-    alloc: Global,
-    last: PageNo,
-    count: u32,
-) -> Result<(Claims, ClaimSeat), NoMemory>
+fn of_descending(alloc: Global, last: PageNo, count: u32) -> Result<(Claims, ClaimSeat), NoMemory>
     requires { count ≤ last }
     ensures { IfOk result (λ r. IsSeatOf r.0 r.1) }
 {
@@ -33,11 +25,7 @@ fn of_descending(
 }
 
 /// Claims of the pages from `first` up, in epoch 1.
-pub fn open_ascending(
-    alloc: Global,
-    first: PageNo,
-    count: u32,
-) -> Result<(Claims, ClaimSeat), Fail>
+pub fn open_ascending(alloc: Global, first: PageNo, count: u32) -> Result<(Claims, ClaimSeat), Fail>
     requires { first + count < 2 ^ 32 }
     ensures { IfOk result (λ r. IsSeatOf r.0 r.1) }
 {
@@ -48,11 +36,7 @@ pub fn open_ascending(
 }
 
 /// Claims of the pages from `last` down, in epoch 1.
-pub fn open_descending(
-    alloc: Global,
-    last: PageNo,
-    count: u32,
-) -> Result<(Claims, ClaimSeat), Fail>
+pub fn open_descending(alloc: Global, last: PageNo, count: u32) -> Result<(Claims, ClaimSeat), Fail>
     requires { count ≤ last }
     ensures { IfOk result (λ r. IsSeatOf r.0 r.1) }
 {

@@ -1,21 +1,7 @@
 //! `Claims`, call by call.
-ghost use Rattle.pusher.specs.Seats.{IsSeatOf};
-
 use crate::again::{close, open_ascending, open_descending, split};
 use mig_base::schedule::Ticket;
-use pusher::{ClaimSeat, Claims};
 use std::test::Fail;
-use std::thread::join;
-
-fn claim_all(claims: &Claims, mut seat: ClaimSeat) -> ClaimSeat
-    requires { IsSeatOf claims.now seat }
-    ensures { IsSeatOf claims.now result }
-{
-    for index in 0..claims.len() {
-        let _ = claims.claim(&mut seat, index);
-    }
-    seat
-}
 
 #[test]
 fn each_page_is_claimed_once(rt: HostRuntime) -> Result<(), Fail> {
@@ -79,30 +65,5 @@ fn pages_that_descend(rt: HostRuntime) -> Result<(), Fail> {
     let (left, claimed) = close(rt.alloc(), claims, seat)?;
     assert_eq!(rt; left.as_slice(), [0x13, 0x11].as_slice());
     assert_eq!(rt; claimed.as_slice(), [0x12, 0x10].as_slice());
-    Ok(())
-}
-
-#[test]
-fn two_threads_leave_nothing(rt: HostRuntime) -> Result<(), Fail> {
-    let (claims, mut first) = open_ascending(rt.alloc(), 0x10, 1000)?;
-    let second = split(rt.alloc(), &claims, &mut first)?;
-    let shared = &claims;
-    let (mut first, second) = join(
-        &rt,
-        move ||
-            requires { IsSeatOf shared.now first }
-            ensures { IsSeatOf shared.entry.now result }
-        { claim_all(shared, first) },
-        move ||
-            requires { IsSeatOf shared.now second }
-            ensures { IsSeatOf shared.entry.now result }
-        { claim_all(shared, second) },
-    );
-    claims.join(&mut first, second);
-    let (left, claimed) = close(rt.alloc(), claims, first)?;
-    assert!(rt; left.is_empty() && claimed.len() == 1000);
-    for (index, page) in claimed.iter().enumerate() {
-        assert!(rt; u64::from(*page) == index as u64 + 0x10);
-    }
     Ok(())
 }

@@ -10,3 +10,5 @@ mod again;
 mod claiming;
 #[cfg(test)]
 mod rows;
+#[cfg(test)]
+mod two_threads;

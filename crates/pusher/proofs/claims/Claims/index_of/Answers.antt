@@ -1,6 +1,6 @@
-use Rattle.std.proofs.Common.{rules, ap, sym, subst, length}
+use Rattle.std.proofs.Common.{ap, sym, subst}
 use Rattle.std.specs.Prelude.{Contains, IfNone}
-use Rattle.pusher.specs.Seats.{IsIndexed}
+use Rattle.pusher.specs.Entries.{IsIndexed}
 use Rattle.pusher.proofs.EntryLemmas.{none_found}
 use Rattle.pusher.proofs.claims.Claims.index_of.Goals as goal
 
