@@ -41,10 +41,10 @@ registered_kept log space sound kept page h u =
     let was = kept page h u in
     member_below _ HIGH_PAGE page ∙ rw (watched_below space page sound (sound.watched page was), was) refl
 
-in_from : (first count page : ℕ) → in_range first count page ≡ true → first ≤ page
+pub in_from : (first count page : ℕ) → in_range first count page ≡ true → first ≤ page
 in_from first count page h = grind (arith, ranges)
 
-in_to : (first count page : ℕ) → in_range first count page ≡ true → page < first + count
+pub in_to : (first count page : ℕ) → in_range first count page ≡ true → page < first + count
 in_to first count page h = grind (arith, ranges)
 
 pub sent_kept : (log : Log) (space : Space) (first count : ℕ) → IsSoundSpace space → send_refusal space first count ≡ None → AreProtected log space → AreProtected (log_run_sent log first count) (protected_in space first count true)

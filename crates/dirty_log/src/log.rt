@@ -1,6 +1,7 @@
 //! The type that callers see: what a source knows of its pages.
 
 ghost use Rattle.std.specs.Prelude.{◌≡◌, [], length, IfOk};
+ghost use Rattle.mig_model.specs.Bounds.{ArePages};
 ghost use Rattle.mig_model.specs.Log as machine;
 
 mod handler;
@@ -30,6 +31,7 @@ pub struct DirtyLog {
 }
 
 impl Model for DirtyLog {
+    ghost use Rattle.mig_model.specs.Bounds.{ArePages};
     ghost use Rattle.mig_model.specs.Log as machine;
     ghost use Rattle.dirty_log.specs.Codes.{coded_log};
     ghost use Rattle.dirty_log.specs.Rounds.{HasComeTo};
@@ -40,7 +42,7 @@ impl Model for DirtyLog {
 
     ghost view = { λ log. record { clean = log.clean; todo = log.todo; sent = log.sent; held = log.held.items } };
 
-    ghost invariant = { λ log. HasComeTo log.todo log.from };
+    ghost invariant = { λ log. HasComeTo log.todo log.from × ArePages log.sent };
 }
 
 impl DirtyLog {
@@ -86,9 +88,11 @@ impl DirtyLog {
         self.held.len()
     }
 
-    /// The pages that were sent in this epoch and are not clean now, as a set of its own: a destination has to discard its copies.
+    /// The pages that were sent in this epoch and are not clean now, as a set of its own: a destination has to discard its copies. Each of
+    /// them may be mapped.
     pub fn discarded(&self) -> Result<PageSet, NoMemory>
-        ensures { IfOk result (λ pages. pages ≡ machine.less self.now.sent self.now.clean) }
+        ensures discarded { IfOk result (λ pages. pages ≡ machine.less self.now.sent self.now.clean) }
+        ensures pages { IfOk result (λ pages. ArePages pages) }
     {
         let mut pages = self.sent.copy()?;
         subtract(&mut pages, &self.clean);

@@ -166,6 +166,7 @@ impl DirtyLog {
         ensures space { OnOk result (space.new ≡ protected_in space.old first count true) }
         ensures err { OnErr result ((self.new ≡ self.old) × (space.new ≡ space.old)) }
     {
+        space.is_in_order();
         let Ok(()) = PageSet::insert_range_in_both(&mut self.clean, &mut self.sent, first, count)
         else {
             return Err(Refusal::NoMemory);

@@ -43,6 +43,7 @@ impl Source {
     /// the destination takes those commands over. Refused as `Phase` outside pre-copy, and as `Changing` while an event is unread.
     pub fn switch(&mut self) -> Result<(Effect, Frame, Frame), Refusal>
         ensures made { IfOk result (λ told. IsMade self.old Step.Switch told.0 (frame_of told.1 ∷ frame_of told.2 ∷ []) self.new) }
+        ensures discard { IfOk result (λ told. IsFrame (frame_of told.1)) }
         ensures refused { IfErr result (λ refusal. IsRefused self.old Step.Switch refusal) }
         ensures err { OnErr result (self.new ≡ self.old) }
     {

@@ -1,6 +1,7 @@
 use Rattle.std.proofs.Common.{◌∙◌, ap}
 use Rattle.mig_base.specs.Sets.{without}
 use Rattle.dirty_log.proofs.RoundLemmas.{come_on, stay_on}
+use Rattle.dirty_log.proofs.SentLemmas.{run_sent}
 use Rattle.dirty_log.proofs.log.DirtyLog.mark_sent.Goals as goal
 use Rattle.dirty_log.proofs.log.DirtyLog.mark_sent.Goals.{then-next-first, else-next-first}
 
@@ -10,10 +11,15 @@ invariant_of-self-2 c =
     let first = c.args.first in
     let count = c.args.count in
     let left = c.remove_range.new.self in
+    let sent = run_sent c.args.space.now log.sent first count c.requires.lent c.is_in_order.ensures c.requires.sendable c.self.invariant.1 in
     elim c.if-next-first.branch [
-      | then-next-first w ↦
-          come_on log.todo left first count log.from c.next.result c.if-next-first.self-inside.from c.self.invariant c.requires.inside c.next.ensures.before (c.remove_range.ensures ∙ ap (λ l. without l.todo first count) w.self-inside-is) w.if-next-first.true
-          (ap (λ l. l.from) w.self-inside-is ∙ w.max-self-inside.ensures)
-      | else-next-first w ↦
-          rw (ap (λ l. l.from) w.self-inside-is) (stay_on log.todo left first count log.from c.self.invariant (c.remove_range.ensures ∙ ap (λ l. without l.todo first count) w.self-inside-is))
+      | then-next-first w ↦ (
+        come_on log.todo left first count log.from c.next.result c.if-next-first.self-inside.from c.self.invariant.0 c.requires.inside c.next.ensures.before (c.remove_range.ensures ∙ ap (λ l. without l.todo first count) w.self-inside-is) w.if-next-first.true
+            (ap (λ l. l.from) w.self-inside-is ∙ w.max-self-inside.ensures),
+        rw (ap (λ l. l.sent) w.self-inside-is ∙ c.in-Ok.ensures.other) sent,
+      )
+      | else-next-first w ↦ (
+        rw (ap (λ l. l.from) w.self-inside-is) (stay_on log.todo left first count log.from c.self.invariant.0 (c.remove_range.ensures ∙ ap (λ l. without l.todo first count) w.self-inside-is)),
+        rw (ap (λ l. l.sent) w.self-inside-is ∙ c.in-Ok.ensures.other) sent,
+      )
     ]

@@ -16,4 +16,4 @@ returns-clause-log c noted next =
     (c.self.view_is ∙ IfOk-at_ok _ c.in-Ok.is c.hold.ensures.ok) c.remove_changed.ensures c.remove_changed-2.ensures
 
 pub invariant_of-self : goal.invariant_of-self
-invariant_of-self c = rw c.remove_changed-2.ensures (read_come c.self.inside.todo c.in-Some-read.message c.self.inside.from c.self.invariant)
+invariant_of-self c = (rw c.remove_changed-2.ensures (read_come c.self.inside.todo c.in-Some-read.message c.self.inside.from c.self.invariant.0), c.self.invariant.1)
