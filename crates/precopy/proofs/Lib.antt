@@ -1,5 +1,6 @@
 pub mod CheckLemmas
 pub mod CommandLemmas
+pub mod GuestLemmas
 pub mod HandlerLemmas
 pub mod OrderLemmas
 pub mod PushLemmas

@@ -23,6 +23,7 @@ use Rattle.mig_base.proofs.SetLemmas.{member_below}
 use Rattle.mig_base.specs.declared.TheConstants.{HIGH_PAGE}
 use Rattle.dirty_log.proofs.KeptLemmas.{acted_kept, none_clean, read_kept, registered_kept, sent_kept}
 use Rattle.precopy.specs.Order.{IsInOrder}
+use Rattle.precopy.proofs.GuestLemmas.{dirty_present}
 use Rattle.precopy.proofs.TodoLemmas.{acted_todo, none_todo, planned_todo, read_todo, registered_todo, sent_todo}
 
 has_all_events : has_events enabled_space.object ≡ true
@@ -53,12 +54,6 @@ new_order =
       stopped = λ h. absurd (false≢true h);
       released = λ h. absurd (false≢true h);
     }
-
--- a page that is not clean is present
-dirty_present : (space : Space) (log : Log) (page : ℕ) → contains (dirty space log) page ≡ true → is_present space page ≡ true
-dirty_present space log page h =
-    let parts = and_parts (contains (present space) page) (not (contains log.clean page)) (sym (member_less (present space) log.clean page) ∙ h) in
-    (and_parts (ltb page HIGH_PAGE) (is_present space page) (sym (member_below (λ q. is_present space q) HIGH_PAGE page) ∙ parts.0)).1
 
 -- a space in which all mapped pages are registered, where the source is in pre-copy from then on
 pub registered_order : (phase : SourcePhase) (switched : Bool) (space new : Space) (log : Log) → IsSoundSpace space → new ≡ all_registered space → IsLent new → IsInOrder phase switched space log → IsInOrder SourcePhase.Precopy switched new log

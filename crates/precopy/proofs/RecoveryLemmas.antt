@@ -8,10 +8,10 @@ use Rattle.mig_base.specs.declared.phase.Received.{Received}
 use Rattle.mig_base.specs.declared.phase.SourcePhase.{SourcePhase}
 use Rattle.mig_base.specs.declared.schedule.Side.{Side}
 use Rattle.mig_base.specs.declared.schedule.Step.{Step}
-use Rattle.mig_model.specs.Log.{Log, forgotten, present}
+use Rattle.mig_model.specs.Log.{Log, empty_log, forgotten, present}
 use Rattle.mig_model.specs.Migration.{World, answer, unless}
 use Rattle.mig_model.specs.Source.{Source, is_released, source_took, space_of}
-use Rattle.mig_model.specs.Space.{Space}
+use Rattle.mig_model.specs.Space.{Space, fresh_space}
 use Rattle.mig_model.specs.Wire.{Frame}
 use Rattle.dirty_log.proofs.KeptLemmas.{none_clean}
 use Rattle.precopy.specs.Order.{IsInOrder}
@@ -29,6 +29,17 @@ precopy_order phase switched space log now is forgot old =
       todo = rw forgot (none_todo (forgotten log) space refl);
       stopped = λ h. absurd (false≢true h);
       released = λ h. absurd (false≢true h);
+    }
+
+-- a source that has switched is released, and has given up its memory
+pub released_order : (switched : Bool) → switched ≡ true → IsInOrder SourcePhase.Released switched fresh_space empty_log
+released_order switched is =
+    record {
+      lent = λ h. absurd (false≢true (sym h));
+      clean = none_clean empty_log fresh_space refl;
+      todo = none_todo empty_log fresh_space refl;
+      stopped = λ h. absurd (false≢true h);
+      released = λ h. is;
     }
 
 -- In any world

@@ -1,11 +1,16 @@
 -- What every source keeps, whatever calls are made of it.
-use Rattle.std.specs.Prelude.{◌≡◌, ℕ, Bool, true, false}
+use Rattle.std.specs.Prelude.{◌≡◌, ℕ, Bool, true, false, List}
 use Rattle.std.specs.FinSet.{contains}
+use Rattle.mig_base.specs.declared.command.Entry.{Entry}
 use Rattle.mig_base.specs.declared.phase.SourcePhase.{SourcePhase}
+use Rattle.mig_base.specs.Flat.{memory_of}
+use Rattle.mig_model.specs.Bounds.{AreRightAccesses}
+use Rattle.mig_model.specs.Cpus.{Cpus}
+use Rattle.mig_model.specs.Host.{Host, memory}
 use Rattle.mig_model.specs.Space.{Space}
 use Rattle.mig_model.specs.Whereabouts.{is_unread}
 use Rattle.mig_model.specs.Log.{Log}
-use Rattle.mig_model.specs.Source.{Source, is_released, is_stopped, space_of}
+use Rattle.mig_model.specs.Source.{Source, commands_of, is_released, is_stopped, space_of}
 use Rattle.guest.specs.Lent.{IsLent}
 use Rattle.dirty_log.specs.Spaces.{AreProtected, is_sendable}
 
@@ -21,6 +26,13 @@ pub record IsInOrder (phase : SourcePhase) (switched : Bool) (space : Space) (lo
   pub todo : AreSendable log space
   pub stopped : is_stopped phase ≡ true → switched ≡ true
   pub released : is_released phase ≡ true → switched ≡ true
+
+-- its host has the memory that some list of commands leaves, and each command that a processor still has to make is a load or store of the
+-- right form
+pub record HasRightGuest (host : Host) (cpus : Cpus) : Type 0 where
+  pub entries : List Entry
+  pub holds : memory host ≡ memory_of entries
+  pub right : AreRightAccesses (commands_of cpus)
 
 -- a page is clean, and no unread event has changed it
 abbrev pub IsClean : Source → ℕ → Type 0

@@ -51,7 +51,7 @@ pub struct Source {
 impl Model for Source {
     ghost use Rattle.mig_model.specs.Source as machine;
     ghost use Rattle.precopy.specs.Codes.{coded_source};
-    ghost use Rattle.precopy.specs.Order.{IsInOrder};
+    ghost use Rattle.precopy.specs.Order.{HasRightGuest, IsInOrder};
 
     ghost Value = { machine.Source };
 
@@ -59,7 +59,7 @@ impl Model for Source {
 
     ghost view = { λ s. record { phase = s.phase; switched = s.switched; epoch = s.epoch; end_epoch = s.end_epoch; guest = record { space = s.space; cpus = s.cpus }; log = s.log; remaining = s.remaining; asked = s.asked.items; urgent_sent = s.urgent_sent; packaged = s.packaged; rounds = s.rounds; pages_sent = s.pages_sent; faults = s.faults } };
 
-    ghost invariant = { λ s. IsInOrder s.phase s.switched s.space s.log };
+    ghost invariant = { λ s. IsInOrder s.phase s.switched s.space s.log × HasRightGuest s.space.host s.cpus };
 }
 
 impl Source {

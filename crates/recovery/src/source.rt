@@ -9,7 +9,7 @@ ghost use Rattle.mig_model.specs.Faults.{is_bad_owed, rebuild_fault};
 ghost use Rattle.mig_model.specs.Log as log;
 ghost use Rattle.mig_model.specs.Migration.{answer};
 ghost use Rattle.mig_model.specs.Source as machine;
-ghost use Rattle.recovery.specs.Breaks.{answered_with, broken_world, frames_of, takes_pages};
+ghost use Rattle.recovery.specs.Breaks.{AreWellFormed, answered_with, broken_world, frames_of, takes_pages};
 
 use mig_base::effect::Effect;
 use mig_base::fault::RebuildFault;
@@ -59,6 +59,7 @@ pub fn rebuild(
     ensures memory { result ≡ Err RebuildFault.NoMemory → takes_pages state source.old.switched ≡ true }
     ensures rebuilt { OnOk result (source.new ≡ machine.source_rebuilt state owed.now source.old) }
     ensures frames { IfOk result (λ frames. frames_of frames.items ≡ machine.rebuild_frames state source.old) }
+    ensures well_formed { IfOk result (λ frames. AreWellFormed (frames_of frames.items)) }
     ensures err { OnErr result (source.new ≡ source.old) }
 {
     if is_bad(source, state, owed) {
@@ -108,6 +109,7 @@ fn go_on(
     requires right { is_bad_owed source.old state owed.now ≡ false }
     ensures rebuilt { OnOk result (source.new ≡ machine.source_rebuilt state owed.now source.old) }
     ensures frames { IfOk result (λ frames. frames_of frames.items ≡ machine.rebuild_frames state source.old) }
+    ensures well_formed { IfOk result (λ frames. AreWellFormed (frames_of frames.items)) }
     ensures memory { OnErr result (takes_pages state source.old.switched ≡ true) }
     ensures err { OnErr result (source.new ≡ source.old) }
 {
@@ -135,6 +137,7 @@ fn begin_again(alloc: Global, source: &mut Source) -> Result<Vec<Frame>, NoMemor
     requires switched { source.old.switched ≡ true }
     ensures rebuilt { OnOk result (source.new ≡ record source.old { phase = SourcePhase.Stopped; asked = []; remaining = log.present (machine.space_of source.old); packaged = len (log.present (machine.space_of source.old)) }) }
     ensures frames { IfOk result (λ frames. frames_of frames.items ≡ machine.package_frames source.old log.no_pages (log.present (machine.space_of source.old))) }
+    ensures well_formed { IfOk result (λ frames. AreWellFormed (frames_of frames.items)) }
     ensures err { OnErr result (source.new ≡ source.old) }
 {
     let owed = source.present()?;

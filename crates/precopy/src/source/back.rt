@@ -1,6 +1,7 @@
 //! What comes back from the destination, and what a source says of its guest.
 
 ghost use Rattle.std.specs.Prelude.{◌≡◌, true, None, Err, unwrap_or, IfOk, IfErr, OnOk, OnErr};
+ghost use Rattle.mig_model.specs.Bounds.{AreFewPages, IsFrame};
 ghost use Rattle.mig_model.specs.Faults.{back_fault, is_in_place_back};
 ghost use Rattle.mig_model.specs.Log as log;
 ghost use Rattle.mig_model.specs.Source.{commands_of, space_of};
@@ -57,10 +58,14 @@ impl Source {
     }
 
     /// The frame with which a destination can run that is owed these pages: the mapped pages, and the commands that the processors still
-    /// have to make.
+    /// have to make. It is well formed where these pages may all be mapped.
     pub fn package(&self, owed: &PageSet) -> Result<Frame, NoMemory>
-        ensures { IfOk result (λ frame. frame_of frame ≡ machine.Frame.Package (space_of self.now).host.areas owed.now (commands_of self.now.guest.cpus)) }
+        ensures frame { IfOk result (λ frame. frame_of frame ≡ machine.Frame.Package (space_of self.now).host.areas owed.now (commands_of self.now.guest.cpus)) }
+        ensures well_formed { AreFewPages owed.now → IfOk result (λ frame. IsFrame (frame_of frame)) }
     {
+        self.space.is_in_order();
+        // A law of all processors: how many they may be.
+        let _count = self.cpus.count();
         let areas = self.space.areas()?;
         let owed = owed.copy()?;
         let commands = Waiting::new(self.cpus.commands()?);
@@ -73,7 +78,8 @@ impl Source {
 
     /// Its present pages.
     pub fn present(&self) -> Result<PageSet, NoMemory>
-        ensures { IfOk result (λ pages. pages ≡ log.present (space_of self.now)) }
+        ensures few { IfOk result (λ pages. AreFewPages pages) }
+        ensures present { IfOk result (λ pages. pages ≡ log.present (space_of self.now)) }
     {
         self.space.is_in_order();
         self.space.present()

@@ -43,7 +43,7 @@ impl Source {
     /// the destination takes those commands over. Refused as `Phase` outside pre-copy, and as `Changing` while an event is unread.
     pub fn switch(&mut self) -> Result<(Effect, Frame, Frame), Refusal>
         ensures made { IfOk result (λ told. IsMade self.old Step.Switch told.0 (frame_of told.1 ∷ frame_of told.2 ∷ []) self.new) }
-        ensures discard { IfOk result (λ told. IsFrame (frame_of told.1)) }
+        ensures frames { IfOk result (λ told. IsFrame (frame_of told.1) × IsFrame (frame_of told.2)) }
         ensures refused { IfErr result (λ refusal. IsRefused self.old Step.Switch refusal) }
         ensures err { OnErr result (self.new ≡ self.old) }
     {
@@ -72,6 +72,7 @@ impl Source {
     fn hand_over(&self) -> Result<HandedOver, NoMemory>
         ensures { IfOk result (λ handed. IsHandedOver self.now handed) }
     {
+        self.space.is_in_order();
         let owed = self.log.dirty(&self.space)?;
         Ok(HandedOver {
             discarded: self.log.discarded()?,

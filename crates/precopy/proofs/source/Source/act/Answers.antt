@@ -7,6 +7,7 @@ use Rattle.mig_model.specs.Source.{source_act, source_acted, space_of}
 use Rattle.dirty_log.specs.Spaces.{source_of}
 use Rattle.precopy.proofs.HandlerLemmas.{IsHeld, act_done, act_refused, act_stopped, acted_is, told_is, some_held}
 use Rattle.precopy.proofs.OrderLemmas.{acted_order}
+use Rattle.precopy.proofs.GuestLemmas.{acted_guest}
 use Rattle.precopy.proofs.source.Source.act.Goals as goal
 
 pub returns-in_err-ensure_running-clause-refused : goal.returns-in_err-ensure_running-clause-refused
@@ -26,7 +27,10 @@ acted c = c.in_ok-act.ensures.acted (held c).fault (held c).rest (held c).is
 
 pub invariant_of-self-2 : goal.invariant_of-self-2
 invariant_of-self-2 c =
-    acted_order _ _ (source_of c.self.inside.log c.self.inside.space c.self.inside.cpus) _ _ (held c).fault c.is_in_order.ensures (ap space_of (acted c)) c.act.ensures.lent (ap (λ node. node.log) (acted c)) c.self.invariant
+    (
+      acted_order _ _ (source_of c.self.inside.log c.self.inside.space c.self.inside.cpus) _ _ (held c).fault c.is_in_order.ensures (ap space_of (acted c)) c.act.ensures.lent (ap (λ node. node.log) (acted c)) c.self.invariant.0,
+      acted_guest (source_of c.self.inside.log c.self.inside.space c.self.inside.cpus) _ (held c).fault (acted c) c.self.invariant.1,
+    )
 
 pub returns-clause-made : goal.returns-clause-made
 returns-clause-made c =

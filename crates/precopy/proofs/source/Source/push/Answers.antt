@@ -23,7 +23,7 @@ returns c =
     let here = c.in_ok-ensure_owed.ensures.present in
     let same = c.self.view_is ∙ c.take_owed.ensures in
     let sent = c.read-sent.ensures.sent ∙ ap (λ (n : Source). page_frame page (bytes_of n page)) same in
-    let lent = c.self.invariant.lent (ap (λ (n : Source). is_released n.phase) same ∙ push_unreleased node c.args.ticket answer) in (
+    let lent = c.self.invariant.0.lent (ap (λ (n : Source). is_released n.phase) same ∙ push_unreleased node c.args.ticket answer) in (
       (refl, λ _. tt, record { made = push_done node _ c.args.ticket c.read-sent.result _ answer sent c.told_page.ensures same; epoch = ap (λ (n : Source). n.epoch) same }),
       record {
         made = tt;

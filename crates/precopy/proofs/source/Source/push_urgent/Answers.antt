@@ -31,7 +31,7 @@ returns c =
     let here = c.in_ok-ensure_owed.ensures.present in
     let same = c.self-2.view_is ∙ c.take_owed.ensures in
     let sent = c.read-sent.ensures.sent ∙ ap (λ (n : Source). page_frame page (bytes_of n page)) same in
-    let lent = c.self-2.invariant.lent (ap (λ (n : Source). is_released n.phase) same ∙ push_unreleased node c.args.ticket answer) in
+    let lent = c.self-2.invariant.0.lent (ap (λ (n : Source). is_released n.phase) same ∙ push_unreleased node c.args.ticket answer) in
     let counted = ap (λ (n : Source). record n { urgent_sent = c.in_ok-urgent.urgent }) same in
     let urgent = used_is node.urgent_sent c.in_ok-urgent.urgent (sym (rw (← c.self.view_is) c.next_count.ensures) ∙ c.in_ok-urgent.was) in (
       (

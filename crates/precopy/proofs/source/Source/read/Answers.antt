@@ -4,6 +4,7 @@ use Rattle.precopy.specs.Telling.{faults_told}
 use Rattle.precopy.proofs.HandlerLemmas.{faults_read, read_done, read_refused, read_stopped, some_noted}
 use Rattle.precopy.proofs.OrderLemmas.{read_order}
 use Rattle.mig_model.proofs.Facts.{counted_is}
+use Rattle.precopy.proofs.GuestLemmas.{seen_guest}
 use Rattle.precopy.proofs.source.Source.read.Goals as goal
 
 pub returns-in_err-ensure_running-clause-refused : goal.returns-in_err-ensure_running-clause-refused
@@ -17,7 +18,10 @@ returns-in_err-effect-clause-refused c =
 pub invariant_of-self-2 : goal.invariant_of-self-2
 invariant_of-self-2 c =
     let read = some_noted (record { space = c.self.inside.space; cpus = c.self.inside.cpus }) _ c.in_ok-effect.effect c.in_ok-effect.ensures.answer in
-    read_order _ _ (record { space = c.self.inside.space; cpus = c.self.inside.cpus }) _ c.self.inside.log _ read.noted read.is (c.in_ok-effect.ensures.space read.noted read.is) c.read.ensures.lent (c.in_ok-effect.ensures.log read.noted read.is) c.self.invariant
+    (
+      read_order _ _ (record { space = c.self.inside.space; cpus = c.self.inside.cpus }) _ c.self.inside.log _ read.noted read.is (c.in_ok-effect.ensures.space read.noted read.is) c.read.ensures.lent (c.in_ok-effect.ensures.log read.noted read.is) c.self.invariant.0,
+      seen_guest (record { space = c.self.inside.space; cpus = c.self.inside.cpus }) _ _ read.noted.cpu read.noted.message (c.in_ok-effect.ensures.space read.noted read.is) (c.in_ok-effect.ensures.cpus read.noted read.is) c.self.invariant.1,
+    )
 
 pub returns-clause-made : goal.returns-clause-made
 returns-clause-made c =

@@ -25,7 +25,7 @@ returns-in_err-page c =
 pub returns-in_err-protect_page : goal.returns-in_err-protect_page
 returns-in_err-protect_page c =
     let stopped = λ (refusal : Refusal) (why : IsRefusedFor (send_refusal c.self.inside.space c.in_ok-page.page 1) refusal).
-    send_stopped c.args.self.now c.in_ok-page.page refusal (ap send_answer (sym c.self.view_is) ∙ sym c.next_to_send.ensures.answer ∙ c.in_ok-page.was) (rw (← c.self.view_is) c.self.invariant.todo) (rw (← c.self.view_is) why) in
+    send_stopped c.args.self.now c.in_ok-page.page refusal (ap send_answer (sym c.self.view_is) ∙ sym c.next_to_send.ensures.answer ∙ c.in_ok-page.was) (rw (← c.self.view_is) c.self.invariant.0.todo) (rw (← c.self.view_is) why) in
     let p = err_from_is_err_and c.from_residual-in_err-protect_page.result c.from_residual-in_err-protect_page.ensures.1 in
     let kept = c.in_err-protect_page.ensures.err in
     rw (p.1, p.2) (
@@ -35,8 +35,11 @@ returns-in_err-protect_page c =
 
 pub invariant_of-self-2 : goal.invariant_of-self-2
 invariant_of-self-2 c =
-    sent_order _ _ c.self.inside.space _ c.self.inside.log _ c.in_ok-page.page 1 c.is_in_order.ensures c.in_ok-protect_page.ensures.accepted c.in_ok-protect_page.ensures.space c.protect_page.ensures.lent
-    (c.in_ok-protect_page.ensures.log ∙ sym (one_sent c.self.inside.log c.in_ok-page.page)) c.self.invariant
+    (
+      sent_order _ _ c.self.inside.space _ c.self.inside.log _ c.in_ok-page.page 1 c.is_in_order.ensures c.in_ok-protect_page.ensures.accepted c.in_ok-protect_page.ensures.space c.protect_page.ensures.lent
+    (c.in_ok-protect_page.ensures.log ∙ sym (one_sent c.self.inside.log c.in_ok-page.page)) c.self.invariant.0,
+      rw c.in_ok-protect_page.ensures.space c.self.invariant.1,
+    )
 
 pub returns : goal.returns
 returns c =

@@ -21,13 +21,16 @@ pub returns-in_err-sent-clause-refused : goal.returns-in_err-sent-clause-refused
 returns-in_err-sent-clause-refused c =
     let few = few_are c.args.self.now c.in_ok-first.first c.args.count c.most_of.result c.run_length-pages.result (rw (← c.self.view_is) c.run_length-pages.ensures.run) c.most_of.ensures in
     let stopped = λ (refusal : Refusal) (why : IsRefusedFor (send_refusal c.self.inside.space c.in_ok-first.first c.run_length-pages.result) refusal).
-    run_stopped c.args.self.now c.in_ok-first.first c.args.count c.run_length-pages.result refusal (sym c.next_to_send.ensures.answer ∙ c.in_ok-first.was) few (rw (← c.self.view_is) c.self.invariant.todo) (rw (← c.self.view_is) why) in
+    run_stopped c.args.self.now c.in_ok-first.first c.args.count c.run_length-pages.result refusal (sym c.next_to_send.ensures.answer ∙ c.in_ok-first.was) few (rw (← c.self.view_is) c.self.invariant.0.todo) (rw (← c.self.view_is) why) in
     let p = err_from_is_err_and c.from_residual-in_err-sent.result c.from_residual-in_err-sent.ensures.1 in
     rw (p.1, p.2) (stopped _ c.in_err-sent.ensures.refused)
 
 pub invariant_of-self-2 : goal.invariant_of-self-2
 invariant_of-self-2 c =
-    sent_order _ _ c.self.inside.space _ c.self.inside.log _ c.in_ok-first.first c.run_length-pages.result c.is_in_order.ensures c.in_ok-sent.ensures.accepted c.in_ok-sent.ensures.space c.send_run.ensures.lent c.in_ok-sent.ensures.log c.self.invariant
+    (
+      sent_order _ _ c.self.inside.space _ c.self.inside.log _ c.in_ok-first.first c.run_length-pages.result c.is_in_order.ensures c.in_ok-sent.ensures.accepted c.in_ok-sent.ensures.space c.send_run.ensures.lent c.in_ok-sent.ensures.log c.self.invariant.0,
+      rw c.in_ok-sent.ensures.space c.self.invariant.1,
+    )
 
 pub returns-clause-made : goal.returns-clause-made
 returns-clause-made c =
@@ -42,7 +45,7 @@ returns-clause-frame c =
     let pages = c.run_length-pages.result in
     let few = few_are c.args.self.now first c.args.count c.most_of.result pages (rw (← c.self.view_is) c.run_length-pages.ensures.run) c.most_of.ensures in
     let some : 0 < pages = rw few (run_some c.args.self.now first c.args.count (sym c.next_to_send.ensures.answer ∙ c.in_ok-first.was)) in
-    let lent = c.self.invariant.lent (ap (λ (n : Source). is_released n.phase) c.self.view_is ∙ send_unreleased c.args.self.now first (sym c.next_to_send.ensures.answer ∙ c.in_ok-first.was)) in
+    let lent = c.self.invariant.0.lent (ap (λ (n : Source). is_released n.phase) c.self.view_is ∙ send_unreleased c.args.self.now first (sym c.next_to_send.ensures.answer ∙ c.in_ok-first.was)) in
     let here = page_there c.self.inside.space first pages first c.in_ok-sent.ensures.accepted (omega arith) (omega (arith, some)) in
     run_frame c.args.self.now first pages c.in_ok-sent.sent.items _ c.told_run.ensures.frame (c.in_ok-sent.ensures.bytes c.args.self.now (rw (← c.self.view_is) refl)) some
     (few_pages c.args.self.now first c.args.count pages c.most_of.result c.most_of.ensures c.run_length-pages.ensures.few) (page_of_present c.self.inside.space first lent c.is_in_order.ensures here).0
