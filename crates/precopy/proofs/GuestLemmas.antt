@@ -1,6 +1,6 @@
 -- The guest of a source: its memory is one that commands leave, and what its processors still have to make is of the right form.
 use Rattle.std.proofs.lemmas.Bool.Decides.{nat_tests}
-use Rattle.std.proofs.Common.{◌≡◌, ℕ, zero, suc, ◌&&◌, Bool, true, false, cond, eqb, ltb, not, unwrap_or, Option, Some, None, is_some, List, [], ◌∷◌, ◌++◌, length, set, refl, sym, ap, ◌∙◌, subst, arith}
+use Rattle.std.proofs.Common.{◌≡◌, ℕ, zero, suc, Bool, true, cond, eqb, ltb, not, Option, Some, None, is_some, List, [], ◌∷◌, ◌++◌, length, set, refl, sym, ap, ◌∙◌, subst, arith}
 use Rattle.std.specs.FinMap.{get}
 use Rattle.std.specs.FinSet.{FinSet, contains}
 use Rattle.std.specs.Ordering.{nat_cmp}
@@ -22,7 +22,7 @@ use Rattle.mig_model.specs.Cpus.{Cpus, Took, all_woken, idle_processors, message
 use Rattle.mig_model.specs.Cpus.Took.{Answer, Call, Sleep}
 use Rattle.mig_model.specs.Guest as machine
 use Rattle.mig_model.specs.Guest.{Fault, Guest, is_left_by, is_present, read_guest, took_by, tried}
-use Rattle.mig_model.specs.Host.{Host, bare_host, host_after, memory}
+use Rattle.mig_model.specs.Host.{bare_host, memory}
 use Rattle.mig_model.specs.Log.{Log, dirty, present}
 use Rattle.mig_model.specs.Source.{Source, commands_of, source_act, source_act_by, source_acted, source_acted_by, space_of}
 use Rattle.mig_model.specs.Space.{IsSoundSpace, Space}

@@ -1,26 +1,22 @@
 -- Each call leaves a source in order.
-use Rattle.std.proofs.Common.{◌≡◌, ℕ, Bool, true, false, Some, None, not, ltb, is_some, [], ◌∷◌, refl, sym, ap, ◌∙◌}
+use Rattle.std.proofs.Common.{◌≡◌, ℕ, Bool, true, false, Some, None, is_some, [], ◌∷◌, refl, ap}
 use Rattle.std.specs.FinMap.{get-empty}
-use Rattle.std.specs.FinSet.{contains}
 use Rattle.std.specs.Ordering.{nat_cmp}
 use Rattle.std.specs.Prelude.{Ok}
 use Rattle.mig_base.specs.Bits.{is_one}
 use Rattle.mig_base.specs.Ranges.{none_below}
 use Rattle.mig_base.specs.Tests.{first_holding}
 use Rattle.mig_base.specs.declared.command.Errno.TheVariants.{Einval}
-use Rattle.std.proofs.lemmas.Bool.{and_parts, false≢true}
+use Rattle.std.proofs.lemmas.Bool.{false≢true}
 use Rattle.mig_base.specs.declared.phase.SourcePhase.{SourcePhase}
 use Rattle.mig_model.specs.Userfault.{Noted, next_message}
 use Rattle.mig_model.specs.Space.{IsSoundSpace, Space, fresh_space}
 use Rattle.mig_model.specs.Ioctls.{all_features, answered_by, handshake_answer, handshaken, has_events, has_unknown, is_feature, left_by, protected_in}
-use Rattle.mig_model.specs.Log.{Log, dirty, empty_log, log_read, log_run_sent, present}
-use Rattle.mig_model.specs.Guest.{Fault, Guest, is_present, read_guest}
-use Rattle.mig_model.proofs.Stopping.{member_less}
+use Rattle.mig_model.specs.Log.{Log, dirty, empty_log, log_read, log_run_sent}
+use Rattle.mig_model.specs.Guest.{Fault, Guest, read_guest}
 use Rattle.mig_model.specs.Source.{Source, all_registered, enabled_space, source_act, source_acted, space_of}
 use Rattle.guest.specs.Lent.{IsLent}
 use Rattle.dirty_log.specs.Answers.{send_refusal}
-use Rattle.mig_base.proofs.SetLemmas.{member_below}
-use Rattle.mig_base.specs.declared.TheConstants.{HIGH_PAGE}
 use Rattle.dirty_log.proofs.KeptLemmas.{acted_kept, none_clean, read_kept, registered_kept, sent_kept}
 use Rattle.precopy.specs.Order.{IsInOrder}
 use Rattle.precopy.proofs.GuestLemmas.{dirty_present}

@@ -1,7 +1,6 @@
 use Rattle.std.proofs.Common.{ap, map, sym, subst, ◌∙◌}
 use Rattle.std.proofs.lemmas.Result.{IfOk-weaker}
 use Rattle.mig_model.specs.Wire as wire
-use Rattle.fault_handler.specs.Requests.{AreListed}
 use Rattle.recovery.specs.Breaks.{AreWellFormed, frames_of}
 use Rattle.recovery.proofs.RecoveryLemmas.{asked_again, asked_right}
 use Rattle.recovery.proofs.destination.rerequest.Goals as goal

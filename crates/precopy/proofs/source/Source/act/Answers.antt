@@ -26,11 +26,10 @@ acted : (c : goal.After-told_act) → source_of c.act.new.self c.act.new.space c
 acted c = c.in_ok-act.ensures.acted (held c).fault (held c).rest (held c).is
 
 pub invariant_of-self-2 : goal.invariant_of-self-2
-invariant_of-self-2 c =
-    (
-      acted_order _ _ (source_of c.self.inside.log c.self.inside.space c.self.inside.cpus) _ _ (held c).fault c.is_in_order.ensures (ap space_of (acted c)) c.act.ensures.lent (ap (λ node. node.log) (acted c)) c.self.invariant.0,
-      acted_guest (source_of c.self.inside.log c.self.inside.space c.self.inside.cpus) _ (held c).fault (acted c) c.self.invariant.1,
-    )
+invariant_of-self-2 c = (
+  acted_order _ _ (source_of c.self.inside.log c.self.inside.space c.self.inside.cpus) _ _ (held c).fault c.is_in_order.ensures (ap space_of (acted c)) c.act.ensures.lent (ap (λ node. node.log) (acted c)) c.self.invariant.0,
+  acted_guest (source_of c.self.inside.log c.self.inside.space c.self.inside.cpus) _ (held c).fault (acted c) c.self.invariant.1,
+)
 
 pub returns-clause-made : goal.returns-clause-made
 returns-clause-made c =

@@ -10,11 +10,10 @@ returns-in_err-tried-clause-refused c =
     rw (p.1, p.2) (issue_refused c.args.self.now c.args.cpu c.args.command _ (rw (← c.self.view_is) c.in_err-tried.ensures.refused))
 
 pub invariant_of-self-2 : goal.invariant_of-self-2
-invariant_of-self-2 c =
-    (
-      tried_order _ _ (record { space = c.self.inside.space; cpus = c.self.inside.cpus }) _ c.self.inside.log c.args.cpu c.args.command c.is_in_order.ensures (ap (λ g. g.space) c.in_ok-tried.ensures.guest) c.self.invariant.0,
-      tried_guest (record { space = c.self.inside.space; cpus = c.self.inside.cpus }) _ c.args.cpu c.args.command c.is_in_order.ensures c.in_ok-tried.ensures.guest c.self.invariant.1,
-    )
+invariant_of-self-2 c = (
+  tried_order _ _ (record { space = c.self.inside.space; cpus = c.self.inside.cpus }) _ c.self.inside.log c.args.cpu c.args.command c.is_in_order.ensures (ap (λ g. g.space) c.in_ok-tried.ensures.guest) c.self.invariant.0,
+  tried_guest (record { space = c.self.inside.space; cpus = c.self.inside.cpus }) _ c.args.cpu c.args.command c.is_in_order.ensures c.in_ok-tried.ensures.guest c.self.invariant.1,
+)
 
 pub returns-clause-made : goal.returns-clause-made
 returns-clause-made c =

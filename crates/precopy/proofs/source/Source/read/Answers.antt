@@ -17,8 +17,7 @@ returns-in_err-effect-clause-refused c =
 
 pub invariant_of-self-2 : goal.invariant_of-self-2
 invariant_of-self-2 c =
-    let read = some_noted (record { space = c.self.inside.space; cpus = c.self.inside.cpus }) _ c.in_ok-effect.effect c.in_ok-effect.ensures.answer in
-    (
+    let read = some_noted (record { space = c.self.inside.space; cpus = c.self.inside.cpus }) _ c.in_ok-effect.effect c.in_ok-effect.ensures.answer in (
       read_order _ _ (record { space = c.self.inside.space; cpus = c.self.inside.cpus }) _ c.self.inside.log _ read.noted read.is (c.in_ok-effect.ensures.space read.noted read.is) c.read.ensures.lent (c.in_ok-effect.ensures.log read.noted read.is) c.self.invariant.0,
       seen_guest (record { space = c.self.inside.space; cpus = c.self.inside.cpus }) _ _ read.noted.cpu read.noted.message (c.in_ok-effect.ensures.space read.noted read.is) (c.in_ok-effect.ensures.cpus read.noted read.is) c.self.invariant.1,
     )

@@ -12,8 +12,7 @@ returns-in_err-tried-clause-refused c =
 
 pub invariant_of-self-2 : goal.invariant_of-self-2
 invariant_of-self-2 c =
-    let waits = waiting c.self.inside.cpus c.args.cpu (not c.self.inside.switched) c.in_ok-tried.ensures.accepted in
-    (
+    let waits = waiting c.self.inside.cpus c.args.cpu (not c.self.inside.switched) c.in_ok-tried.ensures.accepted in (
       tried_order _ _ (record { space = c.self.inside.space; cpus = c.self.inside.cpus }) _ c.self.inside.log c.args.cpu waits.command c.is_in_order.ensures (ap (λ g. g.space) (c.in_ok-tried.ensures.guest waits.command waits.is)) c.self.invariant.0,
       tried_guest (record { space = c.self.inside.space; cpus = c.self.inside.cpus }) _ c.args.cpu waits.command c.is_in_order.ensures (c.in_ok-tried.ensures.guest waits.command waits.is) c.self.invariant.1,
     )

@@ -14,11 +14,10 @@ pub returns-in_default-register_new-clause-refused : goal.returns-in_default-reg
 returns-in_default-register_new-clause-refused c = round_lacks c.args.self.now c.in_ok-round.round (sym c.next_round.ensures ∙ c.in_ok-round.was)
 
 pub invariant_of-self-2 : goal.invariant_of-self-2
-invariant_of-self-2 c =
-    (
-      round_order _ _ c.self.inside.space _ c.self.inside.log _ c.is_in_order.ensures c.in-Ok-register_new.ensures.ok c.register_new.ensures.lent (c.begin_round.ensures ∙ ap (λ t. record c.self.inside.log { todo = t }) c.in-Ok.ensures) c.self.invariant.0,
-      rw c.in-Ok-register_new.ensures.ok c.self.invariant.1,
-    )
+invariant_of-self-2 c = (
+  round_order _ _ c.self.inside.space _ c.self.inside.log _ c.is_in_order.ensures c.in-Ok-register_new.ensures.ok c.register_new.ensures.lent (c.begin_round.ensures ∙ ap (λ t. record c.self.inside.log { todo = t }) c.in-Ok.ensures) c.self.invariant.0,
+  rw c.in-Ok-register_new.ensures.ok c.self.invariant.1,
+)
 
 pub returns-clause-made : goal.returns-clause-made
 returns-clause-made c =

@@ -34,12 +34,11 @@ returns-in_err-protect_page c =
     )
 
 pub invariant_of-self-2 : goal.invariant_of-self-2
-invariant_of-self-2 c =
-    (
-      sent_order _ _ c.self.inside.space _ c.self.inside.log _ c.in_ok-page.page 1 c.is_in_order.ensures c.in_ok-protect_page.ensures.accepted c.in_ok-protect_page.ensures.space c.protect_page.ensures.lent
-    (c.in_ok-protect_page.ensures.log ∙ sym (one_sent c.self.inside.log c.in_ok-page.page)) c.self.invariant.0,
-      rw c.in_ok-protect_page.ensures.space c.self.invariant.1,
-    )
+invariant_of-self-2 c = (
+  sent_order _ _ c.self.inside.space _ c.self.inside.log _ c.in_ok-page.page 1 c.is_in_order.ensures c.in_ok-protect_page.ensures.accepted c.in_ok-protect_page.ensures.space c.protect_page.ensures.lent
+      (c.in_ok-protect_page.ensures.log ∙ sym (one_sent c.self.inside.log c.in_ok-page.page)) c.self.invariant.0,
+  rw c.in_ok-protect_page.ensures.space c.self.invariant.1,
+)
 
 pub returns : goal.returns
 returns c =

@@ -26,11 +26,10 @@ returns-in_err-sent-clause-refused c =
     rw (p.1, p.2) (stopped _ c.in_err-sent.ensures.refused)
 
 pub invariant_of-self-2 : goal.invariant_of-self-2
-invariant_of-self-2 c =
-    (
-      sent_order _ _ c.self.inside.space _ c.self.inside.log _ c.in_ok-first.first c.run_length-pages.result c.is_in_order.ensures c.in_ok-sent.ensures.accepted c.in_ok-sent.ensures.space c.send_run.ensures.lent c.in_ok-sent.ensures.log c.self.invariant.0,
-      rw c.in_ok-sent.ensures.space c.self.invariant.1,
-    )
+invariant_of-self-2 c = (
+  sent_order _ _ c.self.inside.space _ c.self.inside.log _ c.in_ok-first.first c.run_length-pages.result c.is_in_order.ensures c.in_ok-sent.ensures.accepted c.in_ok-sent.ensures.space c.send_run.ensures.lent c.in_ok-sent.ensures.log c.self.invariant.0,
+  rw c.in_ok-sent.ensures.space c.self.invariant.1,
+)
 
 pub returns-clause-made : goal.returns-clause-made
 returns-clause-made c =
