@@ -1,0 +1,53 @@
+-- What a seat has, and what the entries of one processor are.
+use Rattle.std.specs.Prelude.{Bool, ◌≡◌, ℕ, ◌<◌, ◌≤◌, ◌+◌, ◌==◌, true, if◌then◌else◌, List, [], ◌∷◌, ◌++◌, length, Some}
+use Rattle.std.specs.List.{slice_get}
+use Rattle.mig_base.specs.declared.command.Entry.{Entry}
+use Rattle.rig.specs.declared.seat.Answer.{Answer}
+
+pub record Seat : Type 0 where
+  pub cpu : ℕ
+  pub answers : List Answer
+
+-- what callers see of a rig: the transcript at its beginning, and which seats were handed out
+pub record Handed : Type 0 where
+  pub opening : List Entry
+  pub handed : List Bool
+
+-- the values of the items with that number, joined
+abbrev pub picked : {X : Type 0} → {Y : Type 0} → (X → ℕ) → (X → List Y) → ℕ → List X → List Y
+picked number value k [] = []
+picked number value k (x ∷ xs) = if number x == k then value x ++ picked number value k xs else picked number value k xs
+
+abbrev pub answer_of : Entry → Answer
+answer_of entry = record { command = entry.command; reply = entry.reply }
+
+-- the answers of a processor, in the order of the transcript
+abbrev pub answers_of : ℕ → List Entry → List Answer
+answers_of k entries = picked (λ (e : Entry). e.cpu) (λ e. answer_of e ∷ []) k entries
+
+-- the list of a processor's seat, [] where there is none
+abbrev pub list_of : ℕ → List Seat → List Answer
+list_of k seats = picked (λ (s : Seat). s.cpu) (λ s. s.answers) k seats
+
+-- how many seats of a processor there are
+abbrev pub seats_of : ℕ → List Seat → ℕ
+seats_of k [] = 0
+seats_of k (s ∷ ss) = (if s.cpu == k then 1 else 0) + seats_of k ss
+
+-- the number of answers of all seats
+abbrev pub calls_of : List Seat → ℕ
+calls_of [] = 0
+calls_of (s ∷ ss) = length s.answers + calls_of ss
+
+-- its answers are those of the opening transcript and then its seat's; at most one seat has come back, and one if it was
+-- handed out; a world that does not have the processor has no seat of it
+pub record IsRight (rig : Handed) (seats : List Seat) (entries : List Entry) (cpus : ℕ) (k : ℕ) : Type 0 where
+  pub answers : answers_of k entries ≡ answers_of k rig.opening ++ list_of k seats
+  pub once : seats_of k seats ≤ 1
+  pub back : slice_get rig.handed k ≡ Some true → seats_of k seats ≡ 1
+  pub known : cpus ≤ k → seats_of k seats ≡ 0
+
+-- the least processor that is not right
+pub record IsLeastWrong (rig : Handed) (seats : List Seat) (entries : List Entry) (cpus : ℕ) (k : ℕ) : Type 0 where
+  pub wrong : IsRight rig seats entries cpus k → ⊥
+  pub least : (j : ℕ) → j < k → IsRight rig seats entries cpus j

@@ -1,0 +1,26 @@
+-- What a section of the lock makes: at most one step, and what that step enters.
+use Rattle.std.specs.Prelude.{◌≡◌, ℕ, List, [], ◌∷◌, ◌++◌}
+use Rattle.mig_base.specs.declared.command.Command.{Command}
+use Rattle.mig_base.specs.declared.command.Entry.{Entry}
+use Rattle.mig_base.specs.declared.command.Reply.{Reply}
+use Rattle.mig_base.specs.declared.effect.Effect.{Effect}
+use Rattle.mig_base.specs.declared.schedule.Step.{Step}
+use Rattle.mig_model.specs.Migration.{World}
+use Rattle.mig_model.specs.Runs.{Happens, Outcome}
+use Rattle.rig.specs.declared.section.Tried.{Tried}
+
+-- one step was made, or refused
+abbrev pub IsStep : World → Step → World → Type 0
+IsStep old step new = (outcome : Outcome) × Happens old step outcome new
+
+-- the entries of a command that was tried: none where it sleeps
+abbrev pub entries_by : ℕ → Command → Tried → List Entry
+entries_by cpu command (Tried.Answered reply) = record { cpu = cpu; command = command; reply = reply } ∷ []
+entries_by cpu command (Tried.InCall reply) = record { cpu = cpu; command = command; reply = reply } ∷ []
+entries_by cpu command Tried.Asleep = []
+
+-- what the effect of a try tells of the transcript: a map call that waits for its messages is entered with some reply
+abbrev pub IsEntered : Effect → List Entry → List Entry → ℕ → Command → Type 0
+IsEntered (Effect.Answered k reply) old new cpu command = new ≡ old ++ record { cpu = cpu; command = command; reply = reply } ∷ []
+IsEntered (Effect.InCall k messages) old new cpu command = (reply : Reply) × (new ≡ old ++ record { cpu = cpu; command = command; reply = reply } ∷ [])
+IsEntered _ old new cpu command = new ≡ old

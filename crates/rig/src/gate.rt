@@ -1,0 +1,89 @@
+//! Which turns the workers take.
+
+use mig_base::schedule::Step;
+
+/// A thread that makes steps of its own accord.
+#[derive(Clone, Copy, Debug, PartialEq, Eq)]
+pub enum Worker {
+    /// The source's handler, its sender, and the wire back.
+    Source,
+    /// The destination's handler, and both wires to it.
+    Dest,
+    /// Serves the requests of the destination.
+    Serve,
+    /// Pushes the owed pages.
+    Push,
+}
+
+/// A step without its fields.
+#[derive(Clone, Copy, Debug, PartialEq, Eq)]
+pub enum StepKind {
+    Issue,
+    Retry,
+    Start,
+    Round,
+    Send,
+    SendRun,
+    SourceRead,
+    SourceAct,
+    Switch,
+    Deliver,
+    DeliverBack,
+    DestRead,
+    DestAct,
+    Install,
+    Push,
+    PushUrgent,
+    DeliverUrgent,
+    Serve,
+    End,
+    Break,
+    Notice,
+    Resume,
+}
+
+/// What a worker does with its turn.
+#[derive(Clone, Copy, Debug, PartialEq, Eq)]
+pub enum Pass {
+    /// It makes the step.
+    Go,
+    /// It goes on to the next turn.
+    Skip,
+    /// It ends.
+    Stop,
+}
+
+/// Decides which turns the workers take. It is asked before each turn, while the lock is free. The turns of each worker are counted from 0.
+pub trait Gate {
+    fn pass(&self, who: Worker, next: StepKind, turn: u64) -> Pass;
+}
+
+impl StepKind {
+    /// The kind of a step.
+    pub fn of(step: Step) -> StepKind {
+        match step {
+            Step::Issue { .. } => StepKind::Issue,
+            Step::Retry { .. } => StepKind::Retry,
+            Step::Start => StepKind::Start,
+            Step::Round => StepKind::Round,
+            Step::Send => StepKind::Send,
+            Step::SendRun { .. } => StepKind::SendRun,
+            Step::SourceRead => StepKind::SourceRead,
+            Step::SourceAct => StepKind::SourceAct,
+            Step::Switch => StepKind::Switch,
+            Step::Deliver { .. } => StepKind::Deliver,
+            Step::DeliverBack { .. } => StepKind::DeliverBack,
+            Step::DestRead => StepKind::DestRead,
+            Step::DestAct => StepKind::DestAct,
+            Step::Install => StepKind::Install,
+            Step::Push(_) => StepKind::Push,
+            Step::PushUrgent(_) => StepKind::PushUrgent,
+            Step::DeliverUrgent { .. } => StepKind::DeliverUrgent,
+            Step::Serve => StepKind::Serve,
+            Step::End => StepKind::End,
+            Step::Break => StepKind::Break,
+            Step::Notice(_) => StepKind::Notice,
+            Step::Resume => StepKind::Resume,
+        }
+    }
+}

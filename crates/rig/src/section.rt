@@ -1,0 +1,73 @@
+//! What is done while the lock is held: at most one step of the world.
+
+ghost use Rattle.std.specs.Prelude.{◌≡◌, ◌++◌, ◌⊎◌, List, ℕ, IfOk, OnErr};
+ghost use Rattle.mig_base.specs.declared.command.Command.{Command};
+ghost use Rattle.mig_base.specs.declared.command.Entry.{Entry};
+ghost use Rattle.mig_base.specs.declared.schedule.Step.{Step};
+ghost use Rattle.rig.specs.Sections.{IsEntered, IsStep, entries_by};
+
+use mig_base::cpu_state::CpuState;
+use mig_base::effect::Effect;
+use mig_base::refusal::Refusal;
+use mig_base::schedule::Step;
+use mig_base::{Command, Reply};
+use world::World;
+
+/// What became of a command that was tried.
+#[derive(Clone, Copy, Debug, PartialEq, Eq)]
+pub(crate) enum Tried {
+    /// It is answered.
+    Answered(Reply),
+    /// It took effect, and returns this reply once its messages have been read.
+    InCall(Reply),
+    /// It sleeps.
+    Asleep,
+}
+
+/// A processor begins a command.
+pub(crate) fn issue_in(world: &mut World, cpu: u8, command: Command) -> Result<Tried, Refusal>
+    ensures step { IsStep world.old (Step.Issue cpu command) world.new }
+    ensures entered { IfOk result (λ tried. world.new.transcript ≡ world.old.transcript ++ entries_by cpu command tried) }
+    ensures refused { OnErr result (world.new ≡ world.old) }
+{
+    match world.step(Step::Issue { cpu, command }) {
+        Ok(effect) => Ok(told(world, effect)),
+        Err(refusal) => Err(refusal),
+    }
+}
+
+/// A processor tries the command that it waits with, if it was woken.
+pub(crate) fn retry_in(world: &mut World, cpu: u8) -> Result<(Command, Tried), Refusal>
+    ensures step { (world.new ≡ world.old) ⊎ IsStep world.old (Step.Retry cpu) world.new }
+    ensures entered { IfOk result (λ r. world.new.transcript ≡ world.old.transcript ++ entries_by cpu r.0 r.1) }
+    ensures refused { OnErr result (world.new ≡ world.old) }
+{
+    match world.cpu_state(cpu) {
+        Ok(CpuState::Asleep(command)) => Ok((command, Tried::Asleep)),
+        Ok(CpuState::Woken(command)) => match world.step(Step::Retry { cpu }) {
+            Ok(effect) => Ok((command, told(world, effect))),
+            Err(refusal) => Err(refusal),
+        },
+        Ok(CpuState::Idle | CpuState::InCall { .. }) => Err(Refusal::NotAsleep),
+        Err(refusal) => Err(refusal),
+    }
+}
+
+/// Whether a processor is in a map call whose messages are not all read.
+pub(crate) fn is_in_call(world: &World, cpu: u8) -> bool {
+    matches!(world.cpu_state(cpu), Ok(CpuState::InCall { .. }))
+}
+
+/// What the effect of a try tells. The reply of a map call that waits is that of its entry, the last one.
+fn told(world: &World, effect: Effect) -> Tried
+    ensures { (old : List Entry) (cpu : ℕ) (command : Command) → IsEntered effect old world.now.transcript cpu command → world.now.transcript ≡ old ++ entries_by cpu command result }
+{
+    match effect {
+        Effect::Answered { reply, .. } => Tried::Answered(reply),
+        Effect::InCall { .. } => match world.transcript().last() {
+            Some(entry) => Tried::InCall(entry.reply),
+            None => Tried::Asleep,
+        },
+        _ => Tried::Asleep,
+    }
+}
