@@ -60,11 +60,7 @@ fn same_command(one: Command, other: Command) -> bool
                 may_move: m,
                 fixed: f,
             } => {
-                addr == a
-                    && old_len == o
-                    && new_len == n
-                    && may_move == m
-                    && same_target(fixed, f)
+                addr == a && old_len == o && new_len == n && may_move == m && same_target(fixed, f)
             }
             _ => false,
         },
