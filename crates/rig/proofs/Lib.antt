@@ -1,2 +1,3 @@
+pub mod RemainingLemmas
 pub mod SeatLemmas
 pub mod SectionLemmas

@@ -10,11 +10,12 @@
 //! That a thread runs, wakes or ends no contract says.
 //!
 //! The modules follow: `gate` (which turns the workers take), `seat` (the answers of a processor), `section` (what is done while the
-//! lock is held), `same` (equal answers), `check` (what `close` tests), `rig` (the type that callers share).
+//! lock is held), `same` (equal answers), `remaining` (what claims are made of and tested against), `check` (what `close` tests of the seats), `rig` (the type that callers share).
 #![tactic(auto)]
 
 mod check;
 mod gate;
+mod remaining;
 mod rig;
 mod same;
 mod seat;

@@ -1,19 +1,25 @@
 //! A world under a lock, with processors and workers in threads of their own.
 
-ghost use Rattle.std.specs.Prelude.{◌≡◌, ◌++◌, ◌∷◌, [], length, ◌<◌, ◌≤◌, ℕ, IfOk, IfErr, OnOk, OnErr, true, false, Some, Err, All, ◌+◌, ◌↔◌, set, Bool, List};
+ghost use Rattle.std.specs.Prelude.{◌≡◌, ◌++◌, ◌∷◌, [], length, ◌<◌, ◌≤◌, ℕ, IfOk, IfErr, IfSome, OnOk, OnErr, true, false, Some, Err, All, ◌+◌, ◌↔◌, set, Bool, List};
 ghost use Rattle.std.specs.List.{slice_get};
 ghost use Rattle.mig_base.specs.Flat.{IsFlatRun};
 ghost use Rattle.mig_base.specs.declared.command.Command.{Command};
+ghost use Rattle.pusher.specs.Seats.{IsSeatOf};
+ghost use Rattle.rig.specs.Claiming.{AreKept, IsLost};
 ghost use Rattle.rig.specs.Seats.{answers_of, list_of, seats_of, IsRight, IsLeastWrong, calls_of};
+
+mod pushing;
 
 use crate::check::first_wrong;
 use crate::gate::{Gate, Pass, StepKind, Worker};
+use crate::remaining::are_lost;
 use crate::seat::{Answer, CpuSeat};
 use crate::section::{Tried, is_in_call, issue_in, retry_in};
 use mig_base::effect::Effect;
 use mig_base::refusal::Refusal;
 use mig_base::schedule::{Side, Step};
 use mig_base::{Command, Entry, NoMemory, Reply, WorldPhase};
+use pusher::{ClaimSeat, Claims};
 use std::alloc::Global;
 use std::marker::Model;
 use std::sync::{Condvar, Mutex, Wait};
@@ -25,6 +31,8 @@ use world::World;
 pub enum CloseFault {
     /// The answers of the processor of this number are not those of its seat.
     Answers(u8),
+    /// A page of the claims neither remains to be sent nor was claimed by the seat that came with them.
+    Claims,
 }
 
 /// A world that threads share.
@@ -292,19 +300,54 @@ impl Rig {
     fn make<R: Wait>(&self, rt: &R, step: Step) -> Result<Effect, Refusal> {
         let mut world = self.world.lock(rt);
         let outcome = world.step(step);
-        self.changed.notify_all();
+        if outcome.is_ok() {
+            self.changed.notify_all();
+        }
         outcome
     }
 
     /// Returns the world, and tests that each processor's entries are those that it had when the rig was made, and then the answers of
     /// its seat; that each seat that was handed out is there once; and that no other is. `Answers` names the least processor of which
-    /// this is wrong. Takes 16 walks over the transcript, and no memory.
-    pub fn close(self, seats: Vec<CpuSeat>) -> Result<World, (CloseFault, World)>
+    /// this is wrong. Then, of claims of the world's epoch, it tests that each of their pages remains to be sent or was claimed by the seat
+    /// that comes with them; `Claims` where one does neither. Claims of another epoch are not tested. With a fault comes the world.
+    ///
+    /// Takes 16 walks over the transcript and one over the claims, and no memory.
+    pub fn close(
+        self,
+        seats: Vec<CpuSeat>,
+        claims: Option<(Claims, ClaimSeat)>,
+    ) -> Result<World, (CloseFault, World)>
+        requires { IfSome claims (λ c. IsSeatOf c.0 c.1) }
+        ensures flat { IfOk result (λ world. IsFlatRun world.transcript) }
+        ensures answers { IfOk result (λ world. (k : ℕ) → k < length world.source.guest.cpus → answers_of k world.transcript ≡ answers_of k self.opening ++ list_of k seats.items) }
+        ensures once { IfOk result (λ world. (k : ℕ) → k < length world.source.guest.cpus → seats_of k seats.items ≤ 1) }
+        ensures count { IfOk result (λ world. length world.transcript ≡ length self.opening + calls_of seats.items) }
+        ensures kept { IfOk result (λ world. IfSome claims (λ c. c.0.epoch ≡ world.source.epoch → AreKept c.0 c.1 world.source.remaining)) }
+        ensures fault { IfErr result (λ r. (k : ℕ) → r.0 ≡ CloseFault.Answers k → IsLeastWrong self seats.items r.1.transcript (length r.1.source.guest.cpus) k) }
+        ensures lost { IfErr result (λ r. r.0 ≡ CloseFault.Claims → IsLost claims r.1) }
+        ensures flat_still { IfErr result (λ r. IsFlatRun r.1.transcript) }
+    {
+        let world = match self.close_seats(seats) {
+            Ok(world) => world,
+            Err(fault) => return Err(fault),
+        };
+        let Some((claims, seat)) = claims else {
+            return Ok(world);
+        };
+        if are_lost(&world, &claims, &seat) {
+            return Err((CloseFault::Claims, world));
+        }
+        Ok(world)
+    }
+
+    /// Returns the world, and tests the seats.
+    fn close_seats(self, seats: Vec<CpuSeat>) -> Result<World, (CloseFault, World)>
         ensures flat { IfOk result (λ world. IsFlatRun world.transcript) }
         ensures answers { IfOk result (λ world. (k : ℕ) → k < length world.source.guest.cpus → answers_of k world.transcript ≡ answers_of k self.opening ++ list_of k seats.items) }
         ensures once { IfOk result (λ world. (k : ℕ) → k < length world.source.guest.cpus → seats_of k seats.items ≤ 1) }
         ensures count { IfOk result (λ world. length world.transcript ≡ length self.opening + calls_of seats.items) }
         ensures fault { IfErr result (λ r. (k : ℕ) → r.0 ≡ CloseFault.Answers k → IsLeastWrong self seats.items r.1.transcript (length r.1.source.guest.cpus) k) }
+        ensures seats { IfErr result (λ r. r.0 ≡ CloseFault.Claims → ⊥) }
         ensures flat_still { IfErr result (λ r. IsFlatRun r.1.transcript) }
     {
         let Rig {

@@ -1,15 +1,17 @@
 //! What is done while the lock is held: at most one step of the world.
 
-ghost use Rattle.std.specs.Prelude.{◌≡◌, ◌++◌, ◌⊎◌, List, ℕ, IfOk, OnErr};
+ghost use Rattle.std.specs.Prelude.{◌≡◌, ◌++◌, ◌⊎◌, List, ℕ, Err, IfOk, IfSome, IfNone, OnErr, true, false};
+ghost use Rattle.mig_model.specs.Runs.{Happens};
 ghost use Rattle.mig_base.specs.declared.command.Command.{Command};
 ghost use Rattle.mig_base.specs.declared.command.Entry.{Entry};
+ghost use Rattle.mig_base.specs.declared.refusal.Refusal.{Refusal};
 ghost use Rattle.mig_base.specs.declared.schedule.Step.{Step};
 ghost use Rattle.rig.specs.Sections.{IsEntered, IsStep, entries_by};
 
 use mig_base::cpu_state::CpuState;
 use mig_base::effect::Effect;
 use mig_base::refusal::Refusal;
-use mig_base::schedule::Step;
+use mig_base::schedule::{Step, Ticket};
 use mig_base::{Command, Reply};
 use world::World;
 
@@ -56,6 +58,36 @@ pub(crate) fn retry_in(world: &mut World, cpu: u8) -> Result<(Command, Tried), R
 /// Whether a processor is in a map call whose messages are not all read.
 pub(crate) fn is_in_call(world: &World, cpu: u8) -> bool {
     matches!(world.cpu_state(cpu), Ok(CpuState::InCall { .. }))
+}
+
+/// Takes the first request of the destination; `StaleEpoch`, and no step, where the epoch is another.
+pub(crate) fn serve_in(world: &mut World, epoch: u32) -> Result<Effect, Refusal>
+    ensures { ((result ≡ Err Refusal.StaleEpoch) × (world.new ≡ world.old)) ⊎ Happens world.old Step.Serve result world.new }
+{
+    if world.epoch() != epoch {
+        return Err(Refusal::StaleEpoch);
+    }
+    world.step(Step::Serve)
+}
+
+/// Sends the page of a ticket, on the urgent wire or behind the others. With no ticket no step is made; `StaleEpoch` where the epoch is another, else
+/// `NothingThere`.
+pub(crate) fn send_in(
+    world: &mut World,
+    epoch: u32,
+    ticket: Option<Ticket>,
+    urgent: bool,
+) -> Result<Effect, Refusal>
+    ensures urgent { IfSome ticket (λ t. urgent ≡ true → Happens world.old (Step.PushUrgent t) result world.new) }
+    ensures push { IfSome ticket (λ t. urgent ≡ false → Happens world.old (Step.Push t) result world.new) }
+    ensures none { IfNone ticket (world.new ≡ world.old) }
+{
+    match ticket {
+        Some(ticket) if urgent => world.step(Step::PushUrgent(ticket)),
+        Some(ticket) => world.step(Step::Push(ticket)),
+        None if world.epoch() != epoch => Err(Refusal::StaleEpoch),
+        None => Err(Refusal::NothingThere),
+    }
 }
 
 /// What the effect of a try tells. The reply of a map call that waits is that of its entry, the last one.

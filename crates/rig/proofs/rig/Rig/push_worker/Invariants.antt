@@ -1,0 +1,6 @@
+use Rattle.std.proofs.Common.{◌≡◌}
+use Rattle.pusher.specs.Seats.{IsSeatOf}
+use Rattle.rig.proofs.rig.Rig.push_worker.Given as goal
+
+abbrev pub invariant-loop-turn : goal.invariant-loop-turn
+invariant-loop-turn g l = IsSeatOf l.claims l.seat × (l.seat.share ≡ l.fn.seat.share)
