@@ -23,9 +23,9 @@ def product():
     for line in (page.TOP / "crates.txt").read_text().splitlines():
         if line.startswith("# tests"):
             return
-        name = line.partition("#")[0].partition(":")[0].strip()
-        if name:
-            yield name
+        words = line.partition("#")[0].partition(":")[0].split()
+        if words:
+            yield words[0]
 
 
 def names(word, text):

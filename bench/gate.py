@@ -117,9 +117,9 @@ def lines():
 
 def crates():
     for line in (page.TOP / "crates.txt").read_text().splitlines():
-        name = line.partition("#")[0].partition(":")[0].strip()
-        if name:
-            yield name
+        words = line.partition("#")[0].partition(":")[0].split()
+        if words:
+            yield words[0]
 
 
 def costs(seen):
