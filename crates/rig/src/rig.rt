@@ -107,7 +107,7 @@ impl Rig {
     ///
     /// `Busy` where the processor still has a command: one of the opening, or one whose retry was refused for memory; see
     /// [`finish`](Rig::finish). `NoMemory` where the seat has no room for the answer, or a step had none. In the second case a command
-    /// that has slept is not given up, and `finish` waits for its reply.
+    /// that has slept stays with the processor, and `finish` waits for its reply.
     pub fn call<R: Wait>(
         &self,
         rt: &R,
