@@ -1,9 +1,10 @@
 #!/usr/bin/env python3
 """Lists, by crate, the files of definitions that the contracts of public calls rest on: those that they name, and those that these name in turn.
 
-python3 bench/definitions.py [--write]
+python3 bench/definitions.py [--write | --check]
 
-A reader has to believe these definitions; all others serve proofs. With --write the list goes to docs/DESIGN.md.
+A reader has to believe these definitions; all others serve proofs. With --write the list goes to docs/DESIGN.md, with --check the status is 1
+where that page has another list.
 """
 
 import collections
@@ -97,9 +98,15 @@ def main():
         by_crate[crate][file] += 1
     rows = ["| Crate | Files of `specs/`, with the number of definitions in each that public contracts rest on |", "|---|---|"]
     rows += [f"| `{crate}` | {', '.join(f'{file} {by_crate[crate][file]}' for file in sorted(by_crate[crate]))} |" for crate in product() if by_crate[crate]]
-    print(*rows, sep="\n")
+    part, text = "what has to be believed", "\n".join(rows)
+    if sys.argv[1:] == ["--check"]:
+        stands = DESIGN.read_text()
+        if page.replaced(stands, part, text, DESIGN) != stands:
+            raise SystemExit("docs/DESIGN.md: what has to be believed is not as 'python3 bench/definitions.py --write' makes it")
+        return
+    print(text)
     if sys.argv[1:] == ["--write"]:
-        page.put("what has to be believed", "\n".join(rows), DESIGN)
+        page.put(part, text, DESIGN)
 
 
 if __name__ == "__main__":

@@ -21,11 +21,15 @@ def environment():
     return {"GLIBC_TUNABLES": "glibc.malloc.hugetlb=1", **os.environ}
 
 
-def put(part, text, file=PAGE):
-    page = file.read_text()
+def replaced(page, part, text, file):
+    """The text of a page with another text in a part of it. The file is what a message names where the page has no such part."""
     begin, end = f"<!-- {part} -->\n", f"<!-- end of {part} -->\n"
     head, _, rest = page.partition(begin)
     _, found, tail = rest.partition(end)
     if not found:
         raise SystemExit(f"{file}: no part {part}")
-    file.write_text(head + begin + text.rstrip("\n") + "\n" + end + tail)
+    return head + begin + text.rstrip("\n") + "\n" + end + tail
+
+
+def put(part, text, file=PAGE):
+    file.write_text(replaced(file.read_text(), part, text, file))
