@@ -21,7 +21,7 @@ def pages():
     return sorted(page.TOP.glob("*.md")) + sorted((page.TOP / "docs").glob("*.md"))
 
 
-@functools.cache
+@functools.lru_cache(maxsize=None)
 def anchors(file):
     """The anchors of a page's headings, as a forge makes them."""
     text = re.sub(r"^```.*?^```", "", file.read_text(), flags=re.M | re.S)
