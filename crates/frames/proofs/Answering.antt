@@ -26,18 +26,7 @@ taken_or_not : (o : Option TakeFault) (fault : TakeFault) → (fault ≡ takes.N
 taken_or_not None fault some is = absurd (some is)
 taken_or_not (Some other) fault some is = ap (λ (f : TakeFault). Some f) (sym is)
 
--- the answer, where the frame is taken
-pub record IsTaken (node : Destination) (sent : Sent) : Type 0 where
-  pub node_is : after node sent ≡ destination_took node sent.epoch sent.frame
-  pub line_is : answer_line node sent ≡ outcome_line (Ok (frame_effect sent.frame))
-
-pub is_taken : (node : Destination) (sent : Sent) → take_fault node sent.epoch sent.frame ≡ None → IsTaken node sent
-is_taken node sent none = record {
-  node_is = ap (λ (o : Option TakeFault). elim o [ None ↦ destination_took node sent.epoch sent.frame | Some reason ↦ node ]) none;
-  line_is = ap (λ (o : Option TakeFault). elim o [ None ↦ outcome_line (Ok (frame_effect sent.frame)) | Some reason ↦ refusal_line reason ]) none;
-}
-
--- and where it is not
+-- the answer, where the frame is not taken
 pub record IsRefused (node : Destination) (sent : Sent) (fault : TakeFault) : Type 0 where
   pub node_is : after node sent ≡ node
   pub line_is : answer_line node sent ≡ refusal_line fault
@@ -59,12 +48,3 @@ pub refused_line : {T E : Type 0} (result : Result T E) (node : Destination) (se
     → old ≡ [] → OnOk result (new ≡ old ++ refusal_line fault) → OnOk result (new ≡ answer_line node sent)
 refused_line (Err e) node sent fault old new some is none line = tt
 refused_line (Ok x) node sent fault old new some is none line = line ∙ ap (λ (l : List ℕ). l ++ refusal_line fault) none ∙ sym (is_refused node sent fault some is).line_is
-
-pub taken_node : {T E : Type 0} (result : Result T E) (node now : Destination) (sent : Sent) → take_fault node sent.epoch sent.frame ≡ None → now ≡ destination_took node sent.epoch sent.frame → OnOk result (now ≡ after node sent)
-taken_node (Err e) node now sent none is = tt
-taken_node (Ok x) node now sent none is = is ∙ sym (is_taken node sent none).node_is
-
-pub taken_line : {T E : Type 0} (result : Result T E) (node : Destination) (sent : Sent) (old new : List ℕ) → take_fault node sent.epoch sent.frame ≡ None → old ≡ [] → OnOk result (new ≡ old ++ outcome_line (Ok (frame_effect sent.frame)))
-    → OnOk result (new ≡ answer_line node sent)
-taken_line (Err e) node sent old new none empty line = tt
-taken_line (Ok x) node sent old new none empty line = line ∙ ap (λ (l : List ℕ). l ++ outcome_line (Ok (frame_effect sent.frame))) empty ∙ sym (is_taken node sent none).line_is

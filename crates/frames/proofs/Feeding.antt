@@ -1,22 +1,17 @@
 -- What becomes of a reader by one piece.
-use Rattle.std.proofs.Common.{◌≡◌, ◌≢◌, ℕ, ◌<◌, List, [], ◌++◌, length, Option, Some, None, Ok, Err, refl, sym, ap, subst, ◌∙◌, append-nil, arith}
+use Rattle.std.proofs.Common.{◌≡◌, ℕ, ◌<◌, List, [], ◌++◌, length, Option, Ok, Err, sym, ap, subst, ◌∙◌, append-nil, arith}
 use Rattle.std.specs.Prelude.{IfErr, OnOk, Result}
 use Rattle.std.specs.Io.KnownBytes.{Appends}
-use Rattle.std.proofs.lemmas.List.{length-append, nil_from_length}
-use Rattle.mig_base.specs.declared.fault.TakeFault.{TakeFault}
+use Rattle.std.proofs.lemmas.List.{length-append}
 use Rattle.mig_model.specs.Wire.{Sent}
 use Rattle.engine.specs.Engine.{Front}
-use Rattle.frame_decoder.specs.declared.fault.StreamFault.{StreamFault}
-use Rattle.frame_decoder.specs.declared.fault.StreamFault.TheVariants as stream
 use Rattle.frame_decoder.specs.Feeding.{Fed}
 use Rattle.frame_decoder.specs.Streams.{Held, Splits}
-use Rattle.frame_decoder.proofs.Whole.{spells_none}
 use Rattle.frames.specs.declared.fault.FramesFault.{FramesFault}
 use Rattle.frames.specs.declared.fault.FramesFault.TheVariants as faults
 use Rattle.frames.specs.declared.reader.FrameReader.{FrameReader}
 use Rattle.frames.specs.Answers.{answer_lines}
-use Rattle.frames.specs.Faults.{fault_of}
-use Rattle.frames.specs.Parts.{BeginsWith, EndsBy, EndsWhole, FedUntil, Gathers, GathersSome, Halts, IsCounted, Passes, TakesSome, WritesSome}
+use Rattle.frames.specs.Parts.{BeginsWith, FedUntil, Gathers, GathersSome, Halts, Passes, TakesSome, WritesSome}
 use Rattle.frames.proofs.Splitting.{splits_front}
 
 -- Gathering
@@ -24,15 +19,6 @@ use Rattle.frames.proofs.Splitting.{splits_front}
 -- what is held and the piece begin with the frames that were answered
 begins_all : (old : Held) (piece : List ℕ) (frames : List Sent) (new : Held) → Fed old piece (Ok frames) new → BeginsWith old piece frames
 begins_all old piece frames new fed = record { front = fed.1.read; rest = fed.1.unread; version = new.version; whole = fed.1.whole; spells = fed.1.spells; faultless = fed.0 }
-
-begins_none : (old : Held) (piece : List ℕ) → old.fault ≡ None → BeginsWith old piece []
-begins_none old piece none = record { front = []; rest = old.bytes ++ piece; version = old.version; whole = refl; spells = spells_none old.version; faultless = none }
-
-pub fed_until : (old : FrameReader) (piece : List ℕ) (fault : StreamFault) (new : Held) (output : List ℕ) → Fed old.decoder piece (Err fault) new → output ≡ old.taker.output.items → FedUntil old piece (fault_of fault) output
-fed_until old piece stream.NoMemory new output fed same = record { frames = []; begins = begins_none old.decoder piece fed.0; gathers = same ∙ sym (append-nil old.taker.output.items) }
-fed_until old piece stream.BadTag new output fed same = ((new, fed), same)
-fed_until old piece stream.BadLength new output fed same = ((new, fed), same)
-fed_until old piece stream.BadField new output fed same = ((new, fed), same)
 
 pub fed_some : (old : FrameReader) (piece : List ℕ) (frames : List Sent) (new : Held) (output : List ℕ) → Fed old.decoder piece (Ok frames) new → TakesSome old.taker.destination frames old.taker.output.items output → GathersSome old piece output
 fed_some old piece frames new output fed some =
@@ -103,16 +89,3 @@ piece_unwritten (Err fault) old mid piece w0 w1 clean gathered fed front =
     (front.1, front.3, unwritten old piece mid.taker.output.items front.0 front.1 fault w0 w1 clean fed front.2 front.3 front.4)
 
 -- The end
-
-pub halts_ends : (old new : FrameReader) (fault : FramesFault) (w0 w1 : Option (List ℕ)) → Halts old [] fault w0 w1 → EndsBy old fault new w0 w1
-halts_ends old new (faults.Stream fault) w0 w1 h = h
-halts_ends old new faults.Truncated w0 w1 h = absurd h
-halts_ends old new faults.ReadFault w0 w1 h = absurd h
-halts_ends old new faults.WriteFault w0 w1 h = h
-halts_ends old new faults.NoMemory w0 w1 h = h
-
-pub ends_whole : (old new : FrameReader) (w0 w1 : Option (List ℕ)) → Passes old [] new w0 w1 → IsCounted new.decoder new.held → new.held ≡ 0 → EndsWhole old new w0 w1
-ends_whole old new w0 w1 passed counted zero = (passed, λ none. nil_from_length new.decoder.bytes (sym (counted none).0 ∙ zero))
-
-pub ends_inside : (old new : FrameReader) (w0 w1 : Option (List ℕ)) → Passes old [] new w0 w1 → IsCounted new.decoder new.held → 0 < new.held → EndsBy old faults.Truncated new w0 w1
-ends_inside old new w0 w1 passed counted some = (passed, λ none. subst (λ (n : ℕ). 0 < n) (counted none).0 some)

@@ -1,9 +1,8 @@
 -- Frames that are handed to a destination in turn.
-use Rattle.std.proofs.Common.{◌≡◌, ℕ, zero, suc, ◌+◌, ◌<◌, List, [], ◌∷◌, ◌++◌, length, get_or, take, drop, map, map-id, refl, ap, sym, subst, ◌∙◌, append_assoc, append-nil, arith}
+use Rattle.std.proofs.Common.{◌≡◌, ℕ, zero, suc, ◌<◌, List, [], ◌∷◌, ◌++◌, length, get_or, take, drop, map, map-id, ap, sym, subst, ◌∙◌, append_assoc, append-nil, arith}
 use Rattle.std.proofs.lemmas.List.{map-append, take-append-drop}
 use Rattle.mig_model.specs.Bounds.{IsFrame}
 use Rattle.mig_model.specs.Destination.{Destination}
-use Rattle.mig_model.specs.Wire.{Sent}
 use Rattle.page_stream.specs.declared.frame.Frame.{Frame}
 use Rattle.page_stream.specs.Frames.{frame_of}
 use Rattle.frame_decoder.specs.Streams.{sent_of, sents}
@@ -15,9 +14,6 @@ use Rattle.frames.proofs.Answering.{behind-append, answer_lines-append}
 pub record Handed (start : Destination) (old : List ℕ) (frames : List (ℕ × Frame)) (now : Destination) (new : List ℕ) : Type 0 where
   pub is_behind : now ≡ behind start (sents frames)
   pub gathers : new ≡ old ++ answer_lines start (sents frames)
-
-pub handed_none : (start : Destination) (old : List ℕ) → Handed start old [] start old
-handed_none start old = record { is_behind = refl; gathers = sym (append-nil old) }
 
 pub handed_one : (start : Destination) (old : List ℕ) (frames : List (ℕ × Frame)) (a b : Destination) (x y : List ℕ) (one : ℕ × Frame) → Handed start old frames a x → b ≡ after a (sent_of one) → y ≡ x ++ answer_line a (sent_of one)
     → Handed start old (frames ++ one ∷ []) b y
@@ -51,6 +47,3 @@ handed_some start old frames taken now x y front so_far same =
           ∙ ap (λ (l : List (ℕ × Frame)). sents l ++ sents (drop (length taken) frames)) (sym first);
       gathers = same ∙ so_far.gathers;
     }
-
-pub handed_all : (start : Destination) (old : List ℕ) (frames taken : List (ℕ × Frame)) (now : Destination) (new : List ℕ) → map (λ (f : ℕ × Frame). f) taken ≡ frames → Handed start old taken now new → Handed start old frames now new
-handed_all start old frames taken now new all so_far = subst (λ (l : List (ℕ × Frame)). Handed start old l now new) (sym (map-id taken) ∙ all) so_far

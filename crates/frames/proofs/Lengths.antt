@@ -1,5 +1,5 @@
 -- How many bytes frames take, and how many are held behind them.
-use Rattle.std.proofs.Common.{◌≡◌, ℕ, ◌+◌, ◌-◌, ◌≤◌, ◌<◌, ◌^◌, List, [], ◌∷◌, ◌++◌, length, Option, Some, None, Ok, refl, sym, ap, subst, ◌∙◌, arith}
+use Rattle.std.proofs.Common.{◌≡◌, ℕ, ◌+◌, ◌-◌, ◌≤◌, ◌<◌, ◌^◌, List, [], ◌∷◌, ◌++◌, length, Option, Some, None, Ok, refl, ap, arith}
 use Rattle.std.specs.Prelude.{sum_by}
 use Rattle.std.specs.List.{AllByRecursion}
 use Rattle.std.proofs.lemmas.List.{length-append}
@@ -14,7 +14,7 @@ use Rattle.frame_decoder.specs.declared.version.Version.{Version}
 use Rattle.frame_decoder.specs.Feeding.{Fed}
 use Rattle.page_stream.specs.declared.frame.Frame.{Frame}
 use Rattle.page_stream.specs.Frames.{frame_of}
-use Rattle.frame_decoder.specs.Streams.{sent_of, sents, Ends, Held, IsSent, Splits, texts}
+use Rattle.frame_decoder.specs.Streams.{sent_of, sents, Held, IsSent, Splits, texts}
 use Rattle.frame_decoder.specs.Versions.{version_of}
 use Rattle.frame_decoder.proofs.Unique.{read_back}
 use Rattle.frames.specs.Parts.{AreFrames, IsCounted, texts_len}

@@ -1,11 +1,11 @@
 -- The machine that reads a stream: what its decoder holds, the destination, and the frames that came.
-use Rattle.std.proofs.Common.{◌≡◌, ℕ, List, [], ◌∷◌, ◌++◌, length, Option, Some, None, Ok, refl, sym, ap, subst, ◌∙◌, append_assoc, append-nil, arith, inl, inr}
+use Rattle.std.proofs.Common.{◌≡◌, ℕ, List, [], ◌++◌, Option, Some, None, Ok, refl, sym, ap, subst, ◌∙◌, append_assoc, append-nil, arith, inl, inr}
 use Rattle.mig_model.specs.Destination.{Destination}
 use Rattle.mig_model.specs.Wire.{Sent}
 use Rattle.frame_decoder.specs.declared.fault.StreamFault.{StreamFault}
 use Rattle.frame_decoder.specs.declared.version.Version.{Version}
 use Rattle.frame_decoder.specs.Feeding.{Fed, FedFault, fresh}
-use Rattle.frame_decoder.specs.Streams.{Held, Spells, Splits}
+use Rattle.frame_decoder.specs.Streams.{Held, Splits}
 use Rattle.frame_decoder.proofs.Unique.{one_split}
 use Rattle.frame_decoder.proofs.Whole.{spells_none, spells_join}
 use Rattle.frames.specs.Answers.{answer_lines, behind}

@@ -1,21 +1,20 @@
 -- A whole stream, from the first read on.
-use Rattle.std.proofs.Common.{◌≡◌, ℕ, ◌<◌, List, [], ◌++◌, length, take, Option, None, Some, Ok, Err, refl, sym, ap, subst, ◌∙◌, append_assoc, append-nil, arith}
+use Rattle.std.proofs.Common.{◌≡◌, ℕ, List, [], ◌++◌, Option, None, Some, Ok, Err, refl, sym, ap, subst, ◌∙◌, append_assoc, append-nil}
 use Rattle.std.specs.Prelude.{IfSome, IfErr, OnOk, Result}
-use Rattle.std.specs.Io.KnownBytes.{Appends, Keeps, Consumes, IsAtEnd}
-use Rattle.std.proofs.KnownBytes.{Appends-nil, Appends-trans, Consumes-nil, Consumes-trans, Consumes-kept}
+use Rattle.std.specs.Io.KnownBytes.{Appends, Consumes, IsAtEnd}
+use Rattle.std.proofs.KnownBytes.{Appends-nil, Appends-trans, Consumes-trans}
 use Rattle.mig_model.specs.Destination.{Destination}
 use Rattle.mig_model.specs.Wire.{Sent}
 use Rattle.frame_decoder.specs.declared.fault.StreamFault.{StreamFault}
-use Rattle.frame_decoder.specs.Feeding.{fresh}
-use Rattle.frame_decoder.specs.Streams.{Held, Splits}
+use Rattle.frame_decoder.specs.Streams.{Splits}
 use Rattle.frame_decoder.proofs.Whole.{spells_none}
 use Rattle.frames.specs.declared.fault.FramesFault.{FramesFault}
 use Rattle.frames.specs.declared.fault.FramesFault.TheVariants as faults
 use Rattle.frames.specs.declared.reader.FrameReader.{FrameReader}
 use Rattle.frames.specs.Answers.{answer_lines}
 use Rattle.frames.specs.Endings.{IsAnswered, IsAnsweredInPart, Stops}
-use Rattle.frames.specs.Parts.{BeginsWith, EndsBy, EndsWhole, Halts, Passes, WritesSome}
-use Rattle.frames.proofs.Pieces.{Taken, taken_none, taken_then, lines_then, taken_fault, taken_some, taken_nothing}
+use Rattle.frames.specs.Parts.{EndsBy, EndsWhole, Halts, Passes, WritesSome}
+use Rattle.frames.proofs.Pieces.{Taken, taken_then, lines_then, taken_fault, taken_some, taken_nothing}
 
 -- the run so far: what was read, the frames that it has, and their lines, which were written
 pub record Ran (start : Destination) (r0 r1 : Option (List ℕ)) (reader : FrameReader) (w0 w1 : Option (List ℕ)) : Type 0 where
@@ -24,15 +23,6 @@ pub record Ran (start : Destination) (r0 r1 : Option (List ℕ)) (reader : Frame
   pub consumes : Consumes r0 r1 consumed
   pub taken : Taken start consumed frames reader.decoder reader.taker.destination
   pub appends : Appends w0 w1 (answer_lines start frames)
-
-pub ran_none : (start : Destination) (reader : FrameReader) (r w : Option (List ℕ)) → reader.decoder ≡ fresh → reader.taker.destination ≡ start → Ran start r r reader w w
-ran_none start reader r w new node = record {
-  consumed = [];
-  frames = [];
-  consumes = Consumes-nil r;
-  taken = subst (λ (d : Destination). Taken start [] [] reader.decoder d) (sym node) (subst (λ (h : Held). Taken start [] [] h start) (sym new) (taken_none start));
-  appends = Appends-nil w;
-}
 
 pub ran_then : (start : Destination) (p q : FrameReader) (chunk : List ℕ) (r0 r1 r2 w0 w1 w2 : Option (List ℕ)) → Ran start r0 r1 p w0 w1 → Consumes r1 r2 chunk → Passes p chunk q w1 w2 → Ran start r0 r2 q w0 w2
 ran_then start p q chunk r0 r1 r2 w0 w1 w2 ran more passed = record {
@@ -92,20 +82,6 @@ ran_halts start p chunk fault r0 r1 r2 w0 w1 w2 ran more q = by_input r0 r2 (Con
     by_input None r2 c = tt
     by_input (Some x) None c = absurd c
     by_input (Some x) (Some y) c = halts_from start p x ran.consumed chunk y ran.frames fault (Some y) w0 w1 w2 c ran.taken ran.appends q
-
-pub ran_read_fault : (start : Destination) (p : FrameReader) (r0 r1 r2 w0 w1 : Option (List ℕ)) → Ran start r0 r1 p w0 w1 → Keeps r1 r2 → IfSome r0 (λ input. Stops start input r2 faults.ReadFault w0 w1)
-ran_read_fault start p r0 r1 r2 w0 w1 ran kept = by_input r0 r2 (Consumes-kept r0 r1 r2 ran.consumed ran.consumes kept)
-  where
-    by_input : (r0 r2 : Option (List ℕ)) → Consumes r0 r2 ran.consumed → IfSome r0 (λ input. Stops start input r2 faults.ReadFault w0 w1)
-    by_input None r2 c = tt
-    by_input (Some x) None c = absurd c
-    by_input (Some x) (Some y) c = (
-      ran.consumed,
-      p.decoder.bytes,
-      p.decoder.fault,
-      c,
-      record { frames = ran.frames; version = p.decoder.version; splits = ran.taken.splits; appends = ran.appends },
-    )
 
 -- ---- the end of the input
 
