@@ -2,6 +2,8 @@
 use Rattle.std.specs.Prelude.{ℕ, Bool, true, false}
 use Rattle.engine.specs.declared.fault.RunFault.{RunFault}
 use Rattle.engine.specs.declared.fault.RunFault.TheVariants.{Line, ReadFault, WriteFault, NoMemory}
+use Rattle.frames.specs.declared.fault.FramesFault.{FramesFault}
+use Rattle.frames.specs.declared.fault.FramesFault.TheVariants as frames
 
 -- the status of a run to its end, or of a check with this answer
 abbrev pub answer_status : Bool → ℕ
@@ -14,3 +16,11 @@ fault_status (Line n) = 1
 fault_status ReadFault = 2
 fault_status WriteFault = 2
 fault_status NoMemory = 4
+
+-- the status of a stream of frames that ended with a fault
+abbrev pub frames_fault_status : FramesFault → ℕ
+frames_fault_status (frames.Stream fault) = 1
+frames_fault_status frames.Truncated = 1
+frames_fault_status frames.ReadFault = 2
+frames_fault_status frames.WriteFault = 2
+frames_fault_status frames.NoMemory = 4

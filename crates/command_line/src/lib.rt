@@ -2,16 +2,18 @@
 //!
 //! `postmig run` reads a script from standard input and writes one line for each step to standard output, or with
 //! `--transcript` one for each command that took effect; `postmig check` reads such a transcript, and says whether it is that of
-//! one flat memory. `docs/SCRIPT.md` says what a script is. [`answer`] is what the program's `main` does; the exit statuses are
-//! `specs/Status.antt`, and what a run or a check reads and writes is the crate `engine`.
+//! one flat memory; `postmig frames` reads frames, and writes what a destination answers to each. `docs/SCRIPT.md` says what a
+//! script is, and `docs/FORMATS.md` what a frame is. [`answer`] is what the program's `main` does; the exit statuses are
+//! `specs/Status.antt`. What a run or a check reads and writes is the crate `engine`, and for frames the crate `frames`.
 #![tactic(auto)]
 
-ghost use Rattle.std.specs.Prelude.{◌≡◌, ◌≤◌, IfOk, IfErr};
-ghost use Rattle.command_line.specs.Status.{answer_status, fault_status};
+ghost use Rattle.std.specs.Prelude.{◌≡◌, ◌≤◌, IfOk, IfErr, OnOk};
+ghost use Rattle.command_line.specs.Status.{answer_status, fault_status, frames_fault_status};
 
 use clap::error::ErrorKind;
 use clap::{Arg, ArgAction, ArgMatches, Command, value_parser};
 use engine::{Mode, RunFault, check_script, run_script};
+use frames::{FramesFault, run_frames};
 use std::alloc::{AllocError, Global};
 use std::env::{Env, FillError};
 use std::process::ExitCode;
@@ -33,21 +35,32 @@ const NO_FLAT_RUN: u8 = 3;
 
 const NO_MEMORY: u8 = 4;
 
-/// The command line: `postmig run [--cpus N] [--transcript]`, `postmig check`, or `postmig --version`.
-fn command_line<'a>(alloc: Global) -> Result<Command<'a>, AllocError> {
-    let cpus = Arg::new(alloc, "cpus")
+/// `--cpus N`.
+fn cpus_argument<'a>(alloc: Global) -> Arg<'a> {
+    Arg::new(alloc, "cpus")
         .long("cpus")
         .value_name("N")
         .help("How many processors the guest has")
         .value_parser(value_parser!(u8).range(1..=16))
-        .default_value("2");
+        .default_value("2")
+}
+
+/// `postmig frames [--cpus N]`.
+fn frames_command<'a>(alloc: Global) -> Result<Command<'a>, AllocError> {
+    Command::new(alloc, "frames")
+        .about("Hands the frames on standard input to a destination")
+        .arg(cpus_argument(alloc))
+}
+
+/// The command line: `postmig run [--cpus N] [--transcript]`, `postmig check`, `postmig frames [--cpus N]`, or `postmig --version`.
+fn command_line<'a>(alloc: Global) -> Result<Command<'a>, AllocError> {
     let transcript = Arg::new(alloc, "transcript")
         .long("transcript")
         .help("Writes the commands that took effect, with their replies")
         .action(ArgAction::SetTrue);
     let run = Command::new(alloc, "run")
         .about("Runs the script on standard input")
-        .arg(cpus)?
+        .arg(cpus_argument(alloc))?
         .arg(transcript)?;
     let check = Command::new(alloc, "check").about(
         "Says whether the transcript on standard input is that of one flat memory",
@@ -59,7 +72,8 @@ fn command_line<'a>(alloc: Global) -> Result<Command<'a>, AllocError> {
         .version(VERSION)
         .subcommand_required(true)
         .subcommand(run)?
-        .subcommand(check)
+        .subcommand(check)?
+        .subcommand(frames_command(alloc)?)
 }
 
 /// The exit status of a run or a check: whether all is well, or the fault that ended it.
@@ -102,6 +116,31 @@ fn check_input(rt: &HostRuntime) -> u8 {
     explain(rt, outcome)
 }
 
+/// The exit status of frames that were handed to a destination.
+fn frames_status_of(outcome: Result<(), FramesFault>) -> u8
+    ensures ok { OnOk outcome (result ≡ 0) }
+    ensures fault { IfErr outcome (λ fault. result ≡ frames_fault_status fault) }
+{
+    match outcome {
+        Ok(()) => ALL_DONE,
+        Err(FramesFault::Stream(_) | FramesFault::Truncated) => BAD_COMMAND_OR_SCRIPT,
+        Err(FramesFault::ReadFault | FramesFault::WriteFault) => READ_OR_WRITE_FAULT,
+        Err(FramesFault::NoMemory) => NO_MEMORY,
+    }
+}
+
+/// Hands the frames on standard input to a destination. Says on standard error why they ended early.
+fn take_frames(rt: &HostRuntime, cpus: u8) -> u8
+    requires low { 1 ≤ cpus }
+    requires high { cpus ≤ 16 }
+{
+    let outcome = run_frames(rt.alloc(), &mut rt.stdin(), &mut rt.stdout(), cpus);
+    if let Err(fault) = outcome {
+        let _ = eprintln!(rt; "{fault}");
+    }
+    frames_status_of(outcome)
+}
+
 /// Does what the command line asks for, and gives the exit status.
 fn do_command(rt: &HostRuntime, matches: &ArgMatches) -> u8 {
     match matches.subcommand() {
@@ -117,6 +156,10 @@ fn do_command(rt: &HostRuntime, matches: &ArgMatches) -> u8 {
             }
         }
         Some(("check", _)) => check_input(rt),
+        Some(("frames", matches)) => match matches.get_one::<u8>("cpus") {
+            Some(cpus @ 1..=16) => take_frames(rt, cpus),
+            _ => BAD_COMMAND_OR_SCRIPT,
+        },
         _ => BAD_COMMAND_OR_SCRIPT,
     }
 }

@@ -1,0 +1,50 @@
+-- What a destination answers to frames, some of them after others.
+use Rattle.std.proofs.Common.{◌≡◌, ◌≢◌, ℕ, List, [], ◌∷◌, ◌++◌, Option, Some, None, Ok, Err, refl, ap, sym, ◌∙◌, append_assoc}
+use Rattle.std.specs.Prelude.{unwrap_or, OnOk, Result}
+use Rattle.mig_base.specs.declared.fault.TakeFault.{TakeFault}
+use Rattle.mig_base.specs.declared.fault.TakeFault.TheVariants as takes
+use Rattle.mig_model.specs.Destination.{Destination, destination_took}
+use Rattle.mig_model.specs.Faults.{take_fault}
+use Rattle.mig_model.specs.Migration.{frame_effect}
+use Rattle.mig_model.specs.Wire.{Sent}
+use Rattle.grammar.specs.Printed.{outcome_line}
+use Rattle.frames.specs.Answers.{after, answer_line, answer_lines, behind, refusal_line}
+
+pub behind-append : (node : Destination) (xs ys : List Sent) → behind node (xs ++ ys) ≡ behind (behind node xs) ys
+behind-append node [] ys = refl
+behind-append node (x ∷ xs) ys = behind-append (after node x) xs ys
+
+pub answer_lines-append : (node : Destination) (xs ys : List Sent) → answer_lines node (xs ++ ys) ≡ answer_lines node xs ++ answer_lines (behind node xs) ys
+answer_lines-append node [] ys = refl
+answer_lines-append node (x ∷ xs) ys =
+    ap (λ (l : List ℕ). answer_line node x ++ l) (answer_lines-append (after node x) xs ys)
+    ∙ sym (append_assoc (answer_line node x) (answer_lines (after node x) xs) (answer_lines (behind (after node x) xs) ys))
+
+-- one frame
+
+taken_or_not : (o : Option TakeFault) (fault : TakeFault) → (fault ≡ takes.NoMemory → ⊥) → fault ≡ unwrap_or o takes.NoMemory → o ≡ Some fault
+taken_or_not None fault some is = absurd (some is)
+taken_or_not (Some other) fault some is = ap (λ (f : TakeFault). Some f) (sym is)
+
+-- the answer, where the frame is not taken
+pub record IsRefused (node : Destination) (sent : Sent) (fault : TakeFault) : Type 0 where
+  pub node_is : after node sent ≡ node
+  pub line_is : answer_line node sent ≡ refusal_line fault
+
+pub is_refused : (node : Destination) (sent : Sent) (fault : TakeFault) → (fault ≡ takes.NoMemory → ⊥) → fault ≡ unwrap_or (take_fault node sent.epoch sent.frame) takes.NoMemory → IsRefused node sent fault
+is_refused node sent fault some is =
+    let why = taken_or_not (take_fault node sent.epoch sent.frame) fault some is in
+    record {
+      node_is = ap (λ (o : Option TakeFault). elim o [ None ↦ destination_took node sent.epoch sent.frame | Some reason ↦ node ]) why;
+      line_is = ap (λ (o : Option TakeFault). elim o [ None ↦ outcome_line (Ok (frame_effect sent.frame)) | Some reason ↦ refusal_line reason ]) why;
+    }
+
+pub refused_node : {T E : Type 0} (result : Result T E) (node now : Destination) (sent : Sent) (fault : TakeFault) → OnOk result (fault ≢ takes.NoMemory) → fault ≡ unwrap_or (take_fault node sent.epoch sent.frame) takes.NoMemory → now ≡ node
+    → OnOk result (now ≡ after node sent)
+refused_node (Err e) node now sent fault some is same = tt
+refused_node (Ok x) node now sent fault some is same = same ∙ sym (is_refused node sent fault some is).node_is
+
+pub refused_line : {T E : Type 0} (result : Result T E) (node : Destination) (sent : Sent) (fault : TakeFault) (old new : List ℕ) → OnOk result (fault ≢ takes.NoMemory) → fault ≡ unwrap_or (take_fault node sent.epoch sent.frame) takes.NoMemory
+    → old ≡ [] → OnOk result (new ≡ old ++ refusal_line fault) → OnOk result (new ≡ answer_line node sent)
+refused_line (Err e) node sent fault old new some is none line = tt
+refused_line (Ok x) node sent fault old new some is none line = line ∙ ap (λ (l : List ℕ). l ++ refusal_line fault) none ∙ sym (is_refused node sent fault some is).line_is

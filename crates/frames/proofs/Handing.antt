@@ -1,0 +1,49 @@
+-- Frames that are handed to a destination in turn.
+use Rattle.std.proofs.Common.{◌≡◌, ℕ, zero, suc, ◌<◌, List, [], ◌∷◌, ◌++◌, length, get_or, take, drop, map, map-id, ap, sym, subst, ◌∙◌, append_assoc, append-nil, arith}
+use Rattle.std.proofs.lemmas.List.{map-append, take-append-drop}
+use Rattle.mig_model.specs.Bounds.{IsFrame}
+use Rattle.mig_model.specs.Destination.{Destination}
+use Rattle.page_stream.specs.declared.frame.Frame.{Frame}
+use Rattle.page_stream.specs.Frames.{frame_of}
+use Rattle.frame_decoder.specs.Streams.{sent_of, sents}
+use Rattle.frames.specs.Answers.{after, answer_line, answer_lines, behind}
+use Rattle.frames.specs.Parts.{AreFrames, TakesSome}
+use Rattle.frames.proofs.Answering.{behind-append, answer_lines-append}
+
+-- these frames were handed over, and their lines gathered
+pub record Handed (start : Destination) (old : List ℕ) (frames : List (ℕ × Frame)) (now : Destination) (new : List ℕ) : Type 0 where
+  pub is_behind : now ≡ behind start (sents frames)
+  pub gathers : new ≡ old ++ answer_lines start (sents frames)
+
+pub handed_one : (start : Destination) (old : List ℕ) (frames : List (ℕ × Frame)) (a b : Destination) (x y : List ℕ) (one : ℕ × Frame) → Handed start old frames a x → b ≡ after a (sent_of one) → y ≡ x ++ answer_line a (sent_of one)
+    → Handed start old (frames ++ one ∷ []) b y
+handed_one start old frames a b x y one so_far node line =
+    let more : sents (frames ++ one ∷ []) ≡ sents frames ++ sent_of one ∷ [] = map-append sent_of frames (one ∷ []) in
+    let last = answer_line (behind start (sents frames)) (sent_of one) in
+    let lines : answer_lines start (sents (frames ++ one ∷ [])) ≡ answer_lines start (sents frames) ++ last =
+    ap (answer_lines start) more ∙ answer_lines-append start (sents frames) (sent_of one ∷ []) ∙ ap (λ (l : List ℕ). answer_lines start (sents frames) ++ l) (append-nil last) in
+    record {
+      is_behind = node ∙ ap (λ (d : Destination). after d (sent_of one)) so_far.is_behind ∙ sym (ap (behind start) more ∙ behind-append start (sents frames) (sent_of one ∷ []));
+      gathers =
+          line ∙ ap (λ (l : List ℕ). l ++ answer_line a (sent_of one)) so_far.gathers ∙ ap (λ (d : Destination). (old ++ answer_lines start (sents frames)) ++ answer_line d (sent_of one)) so_far.is_behind
+          ∙ append_assoc old (answer_lines start (sents frames)) last ∙ ap (λ (l : List ℕ). old ++ l) (sym lines);
+    }
+
+-- the frame at a place
+pub frame_at : (frames : List (ℕ × Frame)) (i : ℕ) (one : ℕ × Frame) → AreFrames (sents frames) → (i < length frames) × (one ≡ get_or frames i one) → IsFrame (frame_of one.1)
+frame_at [] i one each at = absurd (omega (arith, at.0))
+frame_at (x ∷ frames) zero one each at = subst (λ (f : ℕ × Frame). IsFrame (frame_of f.1)) (sym at.1) each.0
+frame_at (x ∷ frames) (suc i) one each at = frame_at frames i one each.1 (omega (arith, at.0), at.1)
+
+-- the first of these frames
+pub handed_some : (start : Destination) (old : List ℕ) (frames taken : List (ℕ × Frame)) (now : Destination) (x y : List ℕ) → map (λ (f : ℕ × Frame). f) taken ≡ take (length taken) frames → Handed start old taken now x → y ≡ x → TakesSome start (sents frames) old y
+handed_some start old frames taken now x y front so_far same =
+    let first : taken ≡ take (length taken) frames = sym (map-id taken) ∙ front in
+    record {
+      taken = sents taken;
+      others = sents (drop (length taken) frames);
+      parts =
+          ap sents (sym (take-append-drop (length taken) frames)) ∙ map-append sent_of (take (length taken) frames) (drop (length taken) frames)
+          ∙ ap (λ (l : List (ℕ × Frame)). sents l ++ sents (drop (length taken) frames)) (sym first);
+      gathers = same ∙ so_far.gathers;
+    }

@@ -1,0 +1,64 @@
+//! Reading a stream of frames from a reader, and writing a line for each frame to a writer.
+
+ghost use Rattle.std.specs.Prelude.{◌≡◌, ◌≤◌, [], OnOk, IfErr, IfSome, None};
+ghost use Rattle.mig_model.specs.Destination.{first_destination};
+ghost use Rattle.frame_decoder.specs.Feeding.{fresh};
+ghost use Rattle.frames.specs.Endings.{IsAnswered, Stops};
+ghost use Rattle.frames.specs.Parts.{IsCounted};
+
+use crate::fault::FramesFault;
+use crate::reader::FrameReader;
+use std::alloc::Global;
+use std::io::{Read, Write};
+
+/// The most bytes that are read at once.
+const PIECE: usize = 16_384;
+
+/// Hands each frame of a stream to a new destination of `cpus` processors, 1 to 16, and writes a line for each: what the destination
+/// took, or `refused` and why it did not. A frame that is refused changes nothing, and reading goes on behind it. What the destination
+/// answers is dropped.
+///
+/// At most 4,294,967,295 reads are made; a stream that needs more ends with a read fault. That is the bound of the loop: no clause
+/// counts reads. The lines of the frames that one read completes are gathered, and are written before the next read and before any
+/// fault is answered. An interrupted read or write is a fault.
+pub fn run_frames<R: Read, W: Write>(
+    alloc: Global,
+    reader: &mut R,
+    writer: &mut W,
+    cpus: u8,
+) -> Result<(), FramesFault>
+    requires low { 1 ≤ cpus }
+    requires high { cpus ≤ 16 }
+    ensures ok { OnOk result (IfSome (R.remaining reader.old) (λ input.
+        IsAnswered (first_destination cpus) input [] None (W.contents writer.old) (W.contents writer.new))) }
+    ensures fault { IfErr result (λ fault. IfSome (R.remaining reader.old) (λ input.
+        Stops (first_destination cpus) input (R.remaining reader.new) fault (W.contents writer.old) (W.contents writer.new))) }
+{
+    let mut frames = FrameReader::new(alloc, cpus)?;
+    read_frames(reader, writer, &mut frames)
+}
+
+/// Reads all frames to the end of the input, hands each to the destination, and writes the lines.
+fn read_frames<R: Read, W: Write>(
+    reader: &mut R,
+    writer: &mut W,
+    frames: &mut FrameReader,
+) -> Result<(), FramesFault>
+    requires start { frames.old.decoder ≡ fresh }
+    requires counted { IsCounted frames.old.decoder frames.old.held }
+    requires clean { frames.old.taker.output.items ≡ [] }
+    ensures ok { OnOk result (IfSome (R.remaining reader.old) (λ input.
+        IsAnswered frames.old.taker.destination input [] None (W.contents writer.old) (W.contents writer.new))) }
+    ensures fault { IfErr result (λ fault. IfSome (R.remaining reader.old) (λ input.
+        Stops frames.old.taker.destination input (R.remaining reader.new) fault (W.contents writer.old) (W.contents writer.new))) }
+{
+    let mut buffer = [0u8; PIECE];
+    for _ in 0..u32::MAX {
+        match reader.read(&mut buffer) {
+            Ok(0) => return frames.finish(writer),
+            Ok(count) => frames.run_piece(writer, &buffer[..count])?,
+            Err(_) => return Err(FramesFault::ReadFault),
+        }
+    }
+    Err(FramesFault::ReadFault)
+}

@@ -1,0 +1,111 @@
+//! The destination to which frames are handed, and the lines of its answers.
+
+ghost use Rattle.std.specs.Prelude.{◌≡◌, ◌≤◌, ◌++◌, [], OnOk, OnErr, IfErr, IfOk, string_bytes};
+ghost use Rattle.std.specs.Io.KnownBytes.{Appends};
+ghost use Rattle.mig_model.specs.Bounds.{IsFrame};
+ghost use Rattle.mig_model.specs.Destination.{first_destination};
+ghost use Rattle.page_stream.specs.Frames.{frame_of};
+ghost use Rattle.frame_decoder.specs.Streams.{sent_of, sents};
+ghost use Rattle.engine.specs.Engine.{Front};
+ghost use Rattle.frames.specs.declared.fault.FramesFault.TheVariants.{WriteFault, NoMemory as OutOfMemory};
+ghost use Rattle.frames.specs.Answers.{after, answer_line, answer_lines, behind};
+ghost use Rattle.frames.specs.Parts.{AreFrames, TakesSome};
+
+use crate::fault::FramesFault;
+use crate::print::{effect_of, print_refusal};
+use engine::line_runner::write_out;
+use fault_handler::Destination;
+use grammar::print_line;
+use mig_base::NoMemory;
+use page_stream::Frame;
+use std::alloc::Global;
+use std::io::Write;
+
+/// Hands a frame to a destination, and puts the line of the answer in place of a text.
+fn answer(
+    destination: &mut Destination,
+    epoch: u32,
+    frame: Frame,
+    line: &mut String,
+) -> Result<(), NoMemory>
+    requires { IsFrame (frame_of frame) }
+    ensures destination { OnOk result (destination.new ≡ after destination.old (sent_of (epoch, frame))) }
+    ensures line { OnOk result (string_bytes line.new ≡ answer_line destination.old (sent_of (epoch, frame))) }
+{
+    line.clear();
+    let effect = effect_of(&frame);
+    match destination.take(epoch, frame) {
+        Ok(_) => print_line(line, &Ok(effect)),
+        Err((fault, _)) => print_refusal(line, fault),
+    }
+}
+
+/// A destination that is handed frames, and gathers the lines of its answers.
+#[derive(Drop)]
+pub(crate) struct FrameTaker {
+    destination: Destination,
+    /// The line that was printed last, kept for its room.
+    line: String,
+    /// The lines that are not written yet.
+    output: Vec<u8>,
+}
+
+impl FrameTaker {
+    /// A new destination of so many processors. There are no lines yet.
+    pub(crate) fn new(alloc: Global, cpus: u8) -> Result<FrameTaker, FramesFault>
+        requires low { 1 ≤ cpus }
+        requires high { cpus ≤ 16 }
+        ensures destination { IfOk result (λ taker. taker.destination ≡ first_destination cpus) }
+        ensures output { IfOk result (λ taker. taker.output.items ≡ []) }
+        ensures err { IfErr result (λ fault. fault ≡ OutOfMemory) }
+    {
+        let Ok(destination) = Destination::new(alloc, cpus) else {
+            return Err(FramesFault::NoMemory);
+        };
+        Ok(FrameTaker {
+            destination,
+            line: String::new(alloc),
+            output: Vec::new(alloc),
+        })
+    }
+
+    /// Hands over a frame, and gathers the line of the answer.
+    fn take(&mut self, epoch: u32, frame: Frame) -> Result<(), NoMemory>
+        requires { IsFrame (frame_of frame) }
+        ensures destination { OnOk result (self.new.destination ≡ after self.old.destination (sent_of (epoch, frame))) }
+        ensures line { OnOk result (self.new.output.items ≡ self.old.output.items ++ answer_line self.old.destination (sent_of (epoch, frame))) }
+        ensures err { OnErr result (self.new.output.items ≡ self.old.output.items) }
+    {
+        answer(&mut self.destination, epoch, frame, &mut self.line)?;
+        self.output.extend_from_slice(self.line.as_bytes())?;
+        Ok(())
+    }
+
+    /// Hands over frames in turn, and gathers the lines of the answers. Out of memory leaves the lines of the frames before.
+    pub(crate) fn take_all(&mut self, frames: Vec<(u32, Frame)>) -> Result<(), NoMemory>
+        requires { AreFrames (sents frames.items) }
+        ensures destination { OnOk result (self.new.destination ≡ behind self.old.destination (sents frames.items)) }
+        ensures lines { OnOk result (self.new.output.items ≡ self.old.output.items ++ answer_lines self.old.destination (sents frames.items)) }
+        ensures err { OnErr result (TakesSome self.old.destination (sents frames.items) self.old.output.items self.new.output.items) }
+    {
+        for (epoch, frame) in frames {
+            self.take(epoch, frame)?;
+        }
+        Ok(())
+    }
+
+    /// Writes the lines that were gathered. At a fault a front of them was written.
+    pub(crate) fn write_output<W: Write>(&mut self, writer: &mut W) -> Result<(), FramesFault>
+        ensures ok { OnOk result (Appends (W.contents writer.old) (W.contents writer.new) self.old.output.items) }
+        ensures clean { OnOk result (self.new.output.items ≡ []) }
+        ensures same { self.new.destination ≡ self.old.destination }
+        ensures fault { IfErr result (λ fault. fault ≡ WriteFault) }
+        ensures front { OnErr result (Front self.old.output.items (W.contents writer.old) (W.contents writer.new)) }
+    {
+        if write_out(writer, &self.output).is_err() {
+            return Err(FramesFault::WriteFault);
+        }
+        self.output.clear();
+        Ok(())
+    }
+}
