@@ -1,7 +1,7 @@
 //! A channel that breaks after each step of a migration, and a second time while both nodes go on.
 //!
-//! A story is played up to each of its rows. Then the channel breaks, both nodes go on, and the migration is completed by a schedule that
-//! never waits for a handler or a processor. In the end the guest loads from each page, and its transcript is checked.
+//! A story is played up to each of its rows. Then the channel breaks, both nodes go on, and the migration is led to its completion by
+//! steps of the nodes alone. In the end the guest loads from each page, and its transcript is checked.
 
 use crate::answers::Answer;
 use crate::answers::Answer::{Broken, Noticed, Refused, Resumed, TookResume};
