@@ -6,8 +6,8 @@ use std::io::{Read, Write};
 pub struct Pieces<'a> {
     pub bytes: &'a [u8],
     pub size: usize,
-    pub fails_at: u32,
-    pub reads: u32,
+    pub fails_at: usize,
+    pub reads: usize,
 }
 
 impl Read for Pieces<'_> {
@@ -24,12 +24,29 @@ impl Read for Pieces<'_> {
     }
 }
 
+/// Gives the same byte without an end, in pieces of this size.
+#[derive(Drop)]
+pub struct Endless {
+    pub byte: u8,
+    pub size: usize,
+    pub reads: usize,
+}
+
+impl Read for Endless {
+    fn read(&mut self, buf: &mut [u8]) -> io::Result<usize> {
+        self.reads = self.reads.wrapping_add(1);
+        let count = self.size.min(buf.len());
+        buf[..count].fill(self.byte);
+        Ok(count)
+    }
+}
+
 /// Takes one byte at a time, fails at this write, and takes no byte once it has this many.
 #[derive(Drop)]
 pub struct OneByte {
     pub bytes: Vec<u8>,
-    pub fails_at: u32,
-    pub writes: u32,
+    pub fails_at: usize,
+    pub writes: usize,
     pub most: usize,
 }
 

@@ -16,6 +16,8 @@ mod commands;
 #[cfg(test)]
 mod counts;
 #[cfg(test)]
+mod everywhere;
+#[cfg(test)]
 mod openings;
 #[cfg(test)]
 mod play;

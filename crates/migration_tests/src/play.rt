@@ -3,6 +3,7 @@
 use crate::answers::Answer;
 use crate::calls::{Call, step_of};
 use crate::counts::play_many;
+use crate::everywhere::{Again, break_and_complete};
 use crate::openings::NOTHING;
 use crate::runs::{play_longest, run_all};
 use crate::same::same;
@@ -51,7 +52,7 @@ impl Picture {
 }
 
 /// Makes a step. One that is refused changes nothing, and where memory is refused it is made again.
-fn make(rt: &impl Abort, world: &mut World, step: Step, i: usize) -> Answer {
+pub fn make(rt: &impl Abort, world: &mut World, step: Step, i: usize) -> Answer {
     let before = Picture::of(world);
     let mut outcome = world.step(step);
     if outcome.is_err() {
@@ -119,6 +120,8 @@ pub enum Behind {
     Longest,
     /// All steps in one call.
     OneCall,
+    /// The channel breaks, and the migration goes on to its completion.
+    Broken(Again),
 }
 
 /// Plays tables on a world, and what comes behind them. Whether memory was found for it.
@@ -139,6 +142,7 @@ fn tell(
         Behind::Many => play_many(rt, world),
         Behind::Longest => play_longest(rt, world),
         Behind::OneCall => return run_all(rt, alloc, world),
+        Behind::Broken(again) => break_and_complete(rt, alloc, world, again),
     }
     true
 }

@@ -22,7 +22,7 @@ use mig_base::schedule::Side;
 use mig_base::{Reply, WorldPhase};
 
 /// A page that is stored to after it was sent is owed. It is asked for, pushed and installed, and only then the End is taken.
-static ASKED_FOR: [Row; 26] = [
+pub static ASKED_FOR: [Row; 26] = [
     (Store(0, 0x10000, 8, 9), Asleep(0)),
     (Load(1, 0x10000, 8), Replied(1, Value(1))),
     (Retry(0), Refused(Refusal::NotWoken)),
@@ -103,7 +103,7 @@ static NOT_ASKED: [Row; 24] = [
 ];
 
 /// A page is unmapped while its copy is in flight, which is given up.
-static UNMAPPED: [Row; 10] = [
+pub static UNMAPPED: [Row; 10] = [
     (Push(0x10), SentPage(0x10000)),
     (Munmap(0, 0x10000, 4096), InCall(0, 1)),
     (Deliver, TookPage(0x10000)),
@@ -122,7 +122,7 @@ const MOVING: CpuState = CpuState::InCall {
 };
 
 /// A page is moved before it is asked for: what is asked for is the page of the source, and its copy goes to the new place.
-static MOVED: [Row; 14] = [
+pub static MOVED: [Row; 14] = [
     (Move(0, 0x10000, 4096, 4096, 0x20000), InCall(0, 1)),
     (Cpu(0), CpuIs(MOVING)),
     (Load(1, 0x20000, 8), Asleep(1)),
@@ -185,7 +185,7 @@ static ALL_IN_FLIGHT: [Row; 32] = [
 ];
 
 /// The End waits for the urgent frames of its epoch.
-static URGENT: [Row; 17] = [
+pub static URGENT: [Row; 17] = [
     (DeliverUrgent, Refused(Refusal::NothingThere)),
     (Push(0x10), SentPage(0x10000)),
     (PushUrgent(0x12), SentPage(0x12000)),
