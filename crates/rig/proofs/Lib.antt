@@ -1,3 +1,4 @@
+pub mod ClaimLemmas
 pub mod RemainingLemmas
 pub mod SeatLemmas
 pub mod SectionLemmas

@@ -1,8 +1,8 @@
 -- What a command that is tried enters.
 use Rattle.std.proofs.lemmas.Bool.Decides.{nat_tests}
-use Rattle.std.proofs.Common.{◌≡◌, ℕ, Bool, true, false, not, Some, List, [], ◌∷◌, ◌++◌, refl, sym, ap, ◌∙◌, arith, append-nil, subst}
+use Rattle.std.proofs.Common.{◌≡◌, ℕ, Some, List, ◌++◌, refl, sym, ap, ◌∙◌, arith, append-nil, subst}
 use Rattle.std.specs.Prelude.{Ok, Err}
-use Rattle.std.proofs.lemmas.Option.{none-some}
+use Rattle.std.proofs.lemmas.Option.{same_Some}
 use Rattle.mig_base.specs.Commands.{is_access}
 use Rattle.mig_base.specs.declared.command.Command.{Command}
 use Rattle.mig_base.specs.declared.command.Entry.{Entry}
@@ -12,7 +12,7 @@ use Rattle.mig_base.specs.declared.schedule.Step.{Step}
 use Rattle.mig_model.specs.Cpus.{Took, entries_of, outstanding, processor_at}
 use Rattle.mig_model.specs.Cpus.Took.{Answer, Sleep, Call}
 use Rattle.mig_model.specs.Guest.{took_by}
-use Rattle.mig_model.specs.Migration.{World, guest_of, has_no_cpu, next, outcome, try_effect}
+use Rattle.mig_model.specs.Migration.{World, guest_of, next, outcome, try_effect}
 use Rattle.mig_model.specs.Views.{cpu_state}
 use Rattle.mig_model.specs.Runs.{Happens, Outcome}
 use Rattle.mig_base.specs.declared.refusal.Refusal.{Refusal}
@@ -25,9 +25,6 @@ entered_by entries cpu command (Answer reply) = refl
 entered_by entries cpu command Sleep = append-nil entries
 entered_by entries cpu command (Call reply left) = (reply, refl)
 
-some_is : {X : Type 0} (x y : X) → Some x ≡ Some y → x ≡ y
-some_is x y same = cc
-
 issue_made : (old : World) (cpu : ℕ) (command : Command) (effect : Effect) → outcome old (Step.Issue cpu command) ≡ Ok effect → IsEntered effect old.transcript (next old (Step.Issue cpu command)).transcript cpu command
 issue_made old cpu command effect is =
     made-effect (λ told new. IsEntered told old.transcript new.transcript cpu command) old (Step.Issue cpu command) effect
@@ -39,7 +36,7 @@ retry_made old cpu command effect waits is =
     made-effect (λ told new. IsEntered told old.transcript new.transcript cpu command) old (Step.Retry cpu) effect
     (λ other also woken may.
     subst (λ c. IsEntered (try_effect cpu (took_by (is_access other) (guest_of old).space other)) old.transcript (old.transcript ++ entries_of cpu other (took_by (is_access other) (guest_of old).space other)) cpu c)
-    (some_is other command (sym also ∙ waits)) (entered_by old.transcript cpu other (took_by (is_access other) (guest_of old).space other))) is
+    (same_Some other command (sym also ∙ waits)) (entered_by old.transcript cpu other (took_by (is_access other) (guest_of old).space other))) is
 
 happens_made : (old new : World) (step : Step) (effect : Effect) → Happens old step (Ok effect) new → (outcome old step ≡ Ok effect) × (new ≡ next old step)
 happens_made old new step effect happens = grind (arith, nat_tests)

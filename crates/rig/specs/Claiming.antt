@@ -1,5 +1,5 @@
 -- The pages that claims are made of, and what is tested of claims at the end.
-use Rattle.std.specs.Prelude.{◌≡◌, ◌≢◌, ◌⊎◌, ◌↔◌, ℕ, ◌<◌, true, List, Option, Some, None, length, slice_index, AllPairs, Contains}
+use Rattle.std.specs.Prelude.{◌≡◌, ◌≢◌, ◌⊎◌, ◌↔◌, ◌++◌, ℕ, ◌<◌, true, List, Option, Some, None, length, slice_index, AllPairs, Contains}
 use Rattle.std.specs.Ordering.{nat_cmp}
 use Rattle.std.specs.FinSet.{FinSet, contains}
 use Rattle.mig_model.specs.Migration.{World}
@@ -17,3 +17,13 @@ AreKept claims seat remaining = (i : ℕ) → i < length claims.pages → (conta
 abbrev pub IsLost : Option (Starting × Held) → World → Type 0
 IsLost None world = ⊥
 IsLost (Some c) world = (c.0.epoch ≡ world.source.epoch) × (AreKept c.0 c.1 world.source.remaining → ⊥)
+
+-- the first list begins with the second
+abbrev pub BeginsWith : List ℕ → List ℕ → Type 0
+BeginsWith xs front = (behind : List ℕ) × (xs ≡ front ++ behind)
+
+-- a seat that went on: it has claimed and seen what it had before, in that order, and then perhaps more; its share is the same
+pub record HasGoneOn (old new : Held) : Type 0 where
+  pub claimed : BeginsWith new.claimed old.claimed
+  pub seen : BeginsWith new.seen old.seen
+  pub share : new.share ≡ old.share

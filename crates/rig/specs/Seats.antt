@@ -51,3 +51,9 @@ pub record IsRight (rig : Handed) (seats : List Seat) (entries : List Entry) (cp
 pub record IsLeastWrong (rig : Handed) (seats : List Seat) (entries : List Entry) (cpus : ℕ) (k : ℕ) : Type 0 where
   pub wrong : IsRight rig seats entries cpus k → ⊥
   pub least : (j : ℕ) → j < k → IsRight rig seats entries cpus j
+
+-- each processor has entered what it had in the opening transcript and then what its seat was answered, and nobody has entered more
+pub record AreAnswered (rig : Handed) (seats : List Seat) (entries : List Entry) (cpus : ℕ) : Type 0 where
+  pub answers : (k : ℕ) → k < cpus → answers_of k entries ≡ answers_of k rig.opening ++ list_of k seats
+  pub once : (k : ℕ) → k < cpus → seats_of k seats ≤ 1
+  pub count : length entries ≡ length rig.opening + calls_of seats

@@ -1,9 +1,11 @@
 -- What a section of the lock makes: at most one step, and what that step enters.
-use Rattle.std.specs.Prelude.{◌≡◌, ℕ, List, [], ◌∷◌, ◌++◌}
+use Rattle.std.specs.Prelude.{◌≡◌, ℕ, Bool, true, false, List, [], ◌∷◌, ◌++◌, Result, Ok}
 use Rattle.mig_base.specs.declared.command.Command.{Command}
 use Rattle.mig_base.specs.declared.command.Entry.{Entry}
 use Rattle.mig_base.specs.declared.command.Reply.{Reply}
+use Rattle.mig_base.specs.declared.cpu_state.CpuState.{CpuState}
 use Rattle.mig_base.specs.declared.effect.Effect.{Effect}
+use Rattle.mig_base.specs.declared.refusal.Refusal.{Refusal}
 use Rattle.mig_base.specs.declared.schedule.Step.{Step}
 use Rattle.mig_model.specs.Migration.{World}
 use Rattle.mig_model.specs.Runs.{Happens, Outcome}
@@ -24,3 +26,8 @@ abbrev pub IsEntered : Effect → List Entry → List Entry → ℕ → Command 
 IsEntered (Effect.Answered k reply) old new cpu command = new ≡ old ++ record { cpu = cpu; command = command; reply = reply } ∷ []
 IsEntered (Effect.InCall k messages) old new cpu command = (reply : Reply) × (new ≡ old ++ record { cpu = cpu; command = command; reply = reply } ∷ [])
 IsEntered _ old new cpu command = new ≡ old
+
+-- whether the processor is in a map call
+abbrev pub is_calling : Result CpuState Refusal → Bool
+is_calling (Ok (CpuState.InCall reply left)) = true
+is_calling _ = false

@@ -6,7 +6,7 @@ ghost use Rattle.mig_base.specs.Flat.{IsFlatRun};
 ghost use Rattle.mig_base.specs.declared.command.Command.{Command};
 ghost use Rattle.pusher.specs.Seats.{IsSeatOf};
 ghost use Rattle.rig.specs.Claiming.{AreKept, IsLost};
-ghost use Rattle.rig.specs.Seats.{answers_of, list_of, seats_of, IsRight, IsLeastWrong, calls_of};
+ghost use Rattle.rig.specs.Seats.{answers_of, list_of, seats_of, AreAnswered, IsRight, IsLeastWrong, calls_of};
 
 mod pushing;
 
@@ -36,7 +36,6 @@ pub enum CloseFault {
 }
 
 /// A world that threads share.
-#[derive(Drop)]
 pub struct Rig {
     alloc: Global,
     world: Mutex<World>,
@@ -44,6 +43,19 @@ pub struct Rig {
     changed: Condvar,
     opening: Vec<Entry>,
     handed: Vec<bool>,
+}
+
+// (written, so that each exit of a function that owns a rig has one call, and not the dropping of all its parts)
+impl Drop for Rig {
+    fn drop(self) {
+        let Rig {
+            alloc: _,
+            world: _world,
+            changed: _changed,
+            opening: _opening,
+            handed: _handed,
+        } = self;
+    }
 }
 
 impl Model for Rig {
@@ -343,9 +355,7 @@ impl Rig {
     /// Returns the world, and tests the seats.
     fn close_seats(self, seats: Vec<CpuSeat>) -> Result<World, (CloseFault, World)>
         ensures flat { IfOk result (λ world. IsFlatRun world.transcript) }
-        ensures answers { IfOk result (λ world. (k : ℕ) → k < length world.source.guest.cpus → answers_of k world.transcript ≡ answers_of k self.opening ++ list_of k seats.items) }
-        ensures once { IfOk result (λ world. (k : ℕ) → k < length world.source.guest.cpus → seats_of k seats.items ≤ 1) }
-        ensures count { IfOk result (λ world. length world.transcript ≡ length self.opening + calls_of seats.items) }
+        ensures answered { IfOk result (λ world. AreAnswered self seats.items world.transcript (length world.source.guest.cpus)) }
         ensures fault { IfErr result (λ r. (k : ℕ) → r.0 ≡ CloseFault.Answers k → IsLeastWrong self seats.items r.1.transcript (length r.1.source.guest.cpus) k) }
         ensures seats { IfErr result (λ r. r.0 ≡ CloseFault.Claims → ⊥) }
         ensures flat_still { IfErr result (λ r. IsFlatRun r.1.transcript) }

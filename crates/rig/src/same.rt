@@ -1,6 +1,7 @@
 //! Equal answers. That `==` says so of commands with fields of their own kinds is proved by cases.
 
 ghost use Rattle.std.specs.Prelude.{◌≡◌, true, false};
+ghost use Rattle.mig_base.specs.Commands.{is_access};
 
 use crate::seat::Answer;
 use mig_base::{Addr, Command, Errno, Place, Prot, Reply};
@@ -30,6 +31,17 @@ fn same_command(one: Command, other: Command) -> bool
             } => addr == a && width == w && value == v,
             _ => false,
         },
+        _ => same_map_call(one, other),
+    }
+}
+
+/// Whether the two commands are one, of which the first is a map call.
+fn same_map_call(one: Command, other: Command) -> bool
+    ensures yes { result ≡ true → one ≡ other }
+    ensures no { result ≡ false → is_access one ≡ false → one ≡ other → ⊥ }
+{
+    match one {
+        Command::Load { .. } | Command::Store { .. } => false,
         Command::Mmap {
             addr_len,
             prot,

@@ -1,12 +1,15 @@
 //! What is done while the lock is held: at most one step of the world.
 
-ghost use Rattle.std.specs.Prelude.{◌≡◌, ◌++◌, ◌⊎◌, List, ℕ, Err, IfOk, IfSome, IfNone, OnErr, true, false};
+ghost use Rattle.std.specs.Prelude.{◌≡◌, ◌++◌, ◌⊎◌, List, ℕ, Ok, Err, IfOk, IfSome, IfNone, OnErr, true, false};
 ghost use Rattle.mig_model.specs.Runs.{Happens};
+ghost use Rattle.mig_model.specs.Views.{cpu_state};
 ghost use Rattle.mig_base.specs.declared.command.Command.{Command};
 ghost use Rattle.mig_base.specs.declared.command.Entry.{Entry};
+ghost use Rattle.mig_base.specs.declared.cpu_state.CpuState.{CpuState};
 ghost use Rattle.mig_base.specs.declared.refusal.Refusal.{Refusal};
 ghost use Rattle.mig_base.specs.declared.schedule.Step.{Step};
-ghost use Rattle.rig.specs.Sections.{IsEntered, IsStep, entries_by};
+ghost use Rattle.rig.specs.declared.section.Tried.{Tried};
+ghost use Rattle.rig.specs.Sections.{IsEntered, IsStep, entries_by, is_calling};
 
 use mig_base::cpu_state::CpuState;
 use mig_base::effect::Effect;
@@ -41,6 +44,8 @@ pub(crate) fn issue_in(world: &mut World, cpu: u8, command: Command) -> Result<T
 /// A processor tries the command that it waits with, if it was woken.
 pub(crate) fn retry_in(world: &mut World, cpu: u8) -> Result<(Command, Tried), Refusal>
     ensures step { (world.new ≡ world.old) ⊎ IsStep world.old (Step.Retry cpu) world.new }
+    ensures woken { (command : Command) → cpu_state world.old cpu ≡ Ok (CpuState.Woken command) → IsStep world.old (Step.Retry cpu) world.new }
+    ensures asleep { (command : Command) → cpu_state world.old cpu ≡ Ok (CpuState.Asleep command) → (world.new ≡ world.old) × (result ≡ Ok (command, Tried.Asleep)) }
     ensures entered { IfOk result (λ r. world.new.transcript ≡ world.old.transcript ++ entries_by cpu r.0 r.1) }
     ensures refused { OnErr result (world.new ≡ world.old) }
 {
@@ -56,13 +61,16 @@ pub(crate) fn retry_in(world: &mut World, cpu: u8) -> Result<(Command, Tried), R
 }
 
 /// Whether a processor is in a map call whose messages are not all read.
-pub(crate) fn is_in_call(world: &World, cpu: u8) -> bool {
+pub(crate) fn is_in_call(world: &World, cpu: u8) -> bool
+    ensures { result ≡ is_calling (cpu_state world.now cpu) }
+{
     matches!(world.cpu_state(cpu), Ok(CpuState::InCall { .. }))
 }
 
 /// Takes the first request of the destination; `StaleEpoch`, and no step, where the epoch is another.
 pub(crate) fn serve_in(world: &mut World, epoch: u32) -> Result<Effect, Refusal>
-    ensures { ((result ≡ Err Refusal.StaleEpoch) × (world.new ≡ world.old)) ⊎ Happens world.old Step.Serve result world.new }
+    ensures stale { (epoch ≡ world.old.source.epoch → ⊥) → (result ≡ Err Refusal.StaleEpoch) × (world.new ≡ world.old) }
+    ensures served { epoch ≡ world.old.source.epoch → Happens world.old Step.Serve result world.new }
 {
     if world.epoch() != epoch {
         return Err(Refusal::StaleEpoch);
@@ -81,6 +89,8 @@ pub(crate) fn send_in(
     ensures urgent { IfSome ticket (λ t. urgent ≡ true → Happens world.old (Step.PushUrgent t) result world.new) }
     ensures push { IfSome ticket (λ t. urgent ≡ false → Happens world.old (Step.Push t) result world.new) }
     ensures none { IfNone ticket (world.new ≡ world.old) }
+    ensures stale { IfNone ticket ((epoch ≡ world.old.source.epoch → ⊥) → result ≡ Err Refusal.StaleEpoch) }
+    ensures nothing { IfNone ticket (epoch ≡ world.old.source.epoch → result ≡ Err Refusal.NothingThere) }
 {
     match ticket {
         Some(ticket) if urgent => world.step(Step::PushUrgent(ticket)),

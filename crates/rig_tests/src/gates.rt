@@ -1,8 +1,9 @@
-//! Gates, and the commands of the tests.
+//! Gates, and the commands and steps of the tests.
 
 use mig_base::schedule::Step;
-use mig_base::{Command, Place, Prot};
-use rig::{Gate, Pass, StepKind, Worker};
+use mig_base::{Addr, Command, Place, Prot};
+use rig::{Gate, Pass, Rig, StepKind, Worker};
+use std::sync::Wait;
 use std::sync::atomic::{AtomicBool, AtomicU64, Ordering};
 use std::thread;
 use std::time::{Clock, Duration};
@@ -38,12 +39,44 @@ pub fn issue(command: Command) -> Step {
     Step::Issue { cpu: 0, command }
 }
 
+/// A store of processor 0.
+pub fn store(addr: Addr, value: u64) -> Step {
+    issue(Command::Store {
+        addr,
+        width: 8,
+        value,
+    })
+}
+
 /// Stops at a turn.
 pub struct StopAt(pub u64);
 
 impl Gate for StopAt {
     fn pass(&self, _who: Worker, _next: StepKind, turn: u64) -> Pass {
         if turn < self.0 { Pass::Go } else { Pass::Stop }
+    }
+}
+
+/// Cuts the channel before turn 1, and stops at turn 4. It counts the turns before that in which a page is pushed.
+#[derive(Drop)]
+pub struct CutAfterFirst<'a, R> {
+    pub rt: &'a R,
+    pub rig: &'a Rig,
+    pub pushes: AtomicU64,
+}
+
+impl<R: Wait> Gate for CutAfterFirst<'_, R> {
+    fn pass(&self, _who: Worker, next: StepKind, turn: u64) -> Pass {
+        if turn == 1 {
+            let _ = self.rig.cut(self.rt);
+        }
+        if turn >= 4 {
+            return Pass::Stop;
+        }
+        if next == StepKind::PushUrgent {
+            self.pushes.fetch_add(1, Ordering::SeqCst);
+        }
+        Pass::Go
     }
 }
 
@@ -55,6 +88,18 @@ pub struct StoreFirst<C> {
     pub gave_up: AtomicBool,
     pub done: AtomicBool,
     pub asked: AtomicU64,
+}
+
+impl<C: Clock> StoreFirst<C> {
+    pub fn new(clock: C) -> StoreFirst<C> {
+        StoreFirst {
+            clock,
+            stored: AtomicBool::new(false),
+            gave_up: AtomicBool::new(false),
+            done: AtomicBool::new(false),
+            asked: AtomicU64::new(0),
+        }
+    }
 }
 
 impl<C: Clock> Gate for StoreFirst<C> {

@@ -1,25 +1,26 @@
-//! Memory that is refused.
+//! A rig that finds no memory.
 
-use mig_base::WorldPhase;
+use crate::gates::{MAP, STORE, issue};
+use crate::rigs::{close, world_after};
 use rig::Rig;
+use std::alloc::Global;
 use std::test::Fail;
 use world::World;
 
+/// A rig of a world of two entries, which came back if there was no memory at first.
+fn made(alloc: Global, world: World) -> Option<Rig> {
+    match Rig::new(alloc, world) {
+        Ok(rig) => Some(rig),
+        Err(back) if back.transcript().len() == 2 => Rig::new(alloc, back).ok(),
+        Err(_) => None,
+    }
+}
+
 #[test]
 fn a_rig_without_memory_hands_the_world_back(rt: HostRuntime) -> Result<(), Fail> {
-    let mut world = World::new(rt.alloc(), 2).ok().ok_or("no world")?;
-    for _ in 0..8 {
-        match Rig::new(rt.alloc(), world) {
-            Ok(rig) => {
-                assert!(rt; rig.close(Vec::new(rt.alloc()), None).is_ok());
-                return Ok(());
-            }
-            Err(back) => {
-                assert_eq!(rt; back.phase(), WorldPhase::Idle);
-                assert_eq!(rt; back.cpus(), 2);
-                world = back;
-            }
-        }
-    }
-    Err(Fail::from("never made"))
+    let world = world_after(rt.alloc(), 2, &[issue(MAP), issue(STORE)]).ok_or("no world")?;
+    let rig = made(rt.alloc(), world).ok_or("not made")?;
+    let closed = close(rig, Vec::new(rt.alloc()), None);
+    assert!(rt; closed.fault.is_none() && closed.entries == 2);
+    Ok(())
 }

@@ -1,17 +1,18 @@
-//! Two processors and a worker in threads of their own.
+//! Two processors and a worker in threads of their own. Where a thread cannot be made, or memory is refused for what comes before, all is
+//! done once more.
 
-use crate::gates::{LOAD, MAP, STORE, StoreFirst, issue};
+use crate::gates::{LOAD, MAP, STORE, STORED, StoreFirst, issue, store};
+use crate::rigs::{Closed, call, close, listed, rig_after, two_seats};
 use mig_base::schedule::{Step, Ticket};
-use mig_base::{Addr, Command, Reply};
+use mig_base::{Command, Reply};
 use rig::{CpuSeat, Rig};
 use std::alloc::Global;
 use std::sync::Wait;
-use std::sync::atomic::{AtomicBool, AtomicU64, Ordering};
+use std::sync::atomic::Ordering;
 use std::test::Fail;
 use std::thread;
 use std::thread::Threads;
 use std::time::Clock;
-use world::World;
 
 /// A processor's one call, and whether it was answered so.
 fn one_call<R: Wait>(
@@ -21,7 +22,7 @@ fn one_call<R: Wait>(
     command: Command,
     reply: Reply,
 ) -> (CpuSeat, bool) {
-    let answer = rig.call(rt, &mut seat, command);
+    let answer = call(rt, rig, &mut seat, command);
     (seat, answer == Ok(reply))
 }
 
@@ -55,62 +56,107 @@ fn loaded_and_stored<R: Threads + Wait + Sync, C: Clock + Sync>(
     })
 }
 
-/// A world whose destination runs the processors and has the page at 0x10000, and to which the other page was pushed. Each page was stored to.
-fn pushed_world(alloc: Global) -> Option<World> {
-    let mut world = World::new(alloc, 2).ok()?;
-    for step in [
+/// A rig whose destination runs the processors and has the page at 0x10000, and to which the other page was pushed. Each page was stored to.
+fn pushed_rig(alloc: Global) -> Option<Rig> {
+    let deliver = Step::Deliver { n: u64::MAX };
+    let steps = [
         issue(MAP),
-        issue(store(0x10000, 5)),
-        issue(store(0x11000, 7)),
+        store(0x10000, 5),
+        store(0x11000, 7),
         Step::Start,
         Step::Round,
         Step::Send,
         Step::Switch,
-        Step::Deliver { n: u64::MAX },
-        Step::Deliver { n: u64::MAX },
-        Step::Deliver { n: u64::MAX },
-        Step::Deliver { n: u64::MAX },
+        deliver,
+        deliver,
+        deliver,
+        deliver,
         Step::Push(Ticket { epoch: 1, page: 17 }),
-    ] {
-        world.step(step).ok()?;
-    }
-    Some(world)
+    ];
+    rig_after(alloc, 2, &steps)
 }
 
-fn store(addr: Addr, value: u64) -> Command {
-    Command::Store {
-        addr,
-        width: 8,
-        value,
-    }
+/// The seats of both processors, after the load and the store.
+fn both_seats<R: Threads + Wait + Sync, C: Clock + Sync>(
+    rt: &R,
+    alloc: Global,
+    gate: &StoreFirst<C>,
+    rig: &mut Rig,
+) -> Option<Vec<CpuSeat>> {
+    let (loads, stores) = two_seats(rig)?;
+    let (loads, stores) = loaded_and_stored(rt, gate, rig, loads, stores)?;
+    listed(alloc, loads, stores)
+}
+
+/// Whether the gate let the store be first, and what the rig was closed with.
+fn load_behind_store<R: Threads + Wait + Sync, C: Clock + Sync + Drop>(
+    rt: &R,
+    alloc: Global,
+    clock: C,
+) -> Option<(bool, Closed)> {
+    let gate = StoreFirst::new(clock);
+    let mut rig = pushed_rig(alloc)?;
+    let seats = both_seats(rt, alloc, &gate, &mut rig)?;
+    let gave_up = gate.gave_up.load(Ordering::SeqCst);
+    Some((!gave_up, close(rig, seats, None)))
 }
 
 #[test]
 fn install_waits_for_another_store(rt: HostRuntime) -> Result<(), Fail> {
-    let world = pushed_world(rt.alloc()).ok_or("no world")?;
-    let mut rig = Rig::new(rt.alloc(), world).ok().ok_or("no rig")?;
-    let loads = rig.seat(0).ok().ok_or("no seat")?;
-    let stores = rig.seat(1).ok().ok_or("no seat")?;
-    let gate = StoreFirst {
-        clock: rt,
-        stored: AtomicBool::new(false),
-        gave_up: AtomicBool::new(false),
-        done: AtomicBool::new(false),
-        asked: AtomicU64::new(0),
+    let told = match load_behind_store(&rt, rt.alloc(), rt) {
+        None => load_behind_store(&rt, rt.alloc(), rt),
+        told => told,
     };
-    let (loads, stores) = loaded_and_stored(&rt, &gate, &rig, loads, stores).ok_or(
-        "not loaded after the store",
-    )?;
-    assert!(rt; !gate.gave_up.load(Ordering::SeqCst));
-    assert_eq!(rt; loads.answers().len(), 1);
-    assert_eq!(rt; stores.answers().len(), 1);
-    let Ok(world) = rig.close(vec![in rt.alloc(); loads, stores]?, None) else {
-        return Err(Fail::from("not closed"));
-    };
-    let cpus = [0, 0, 0, 1, 0];
-    assert_eq!(rt; world.transcript().len(), cpus.len());
-    for (entry, cpu) in world.transcript().iter().zip(cpus.iter()) {
-        assert_eq!(rt; entry.cpu, *cpu);
+    let (was_first, closed) = told.ok_or("not loaded after the store")?;
+    assert!(rt; was_first && closed.fault.is_none());
+    assert!(rt; closed.entries == 5 && closed.last_cpu == Some(0));
+    Ok(())
+}
+
+/// A store in a thread that is joined.
+fn stored_elsewhere<R: Threads + Wait + Sync>(
+    rt: &R,
+    rig: &Rig,
+    seat: CpuSeat,
+) -> Option<(CpuSeat, bool)> {
+    thread::scope(thread::scope_env(), rt, |scope| {
+        let storer = scope
+            .spawn(move || one_call(rt, rig, seat, STORE, Reply::Done))
+            .ok()?;
+        Some(storer.join(rt))
+    })
+}
+
+/// The seats after a store of one, in a thread that is joined, and a load of the other, and whether this read what was stored.
+fn stored_and_loaded<R: Threads + Wait + Sync>(
+    rt: &R,
+    alloc: Global,
+    rig: &mut Rig,
+) -> Option<(Vec<CpuSeat>, bool)> {
+    let (stores, loads) = two_seats(rig)?;
+    let (stores, was_stored) = stored_elsewhere(rt, rig, stores)?;
+    let (loads, was_loaded) = one_call(rt, rig, loads, STORED, Reply::Value(9));
+    match listed(alloc, stores, loads) {
+        Some(seats) => Some((seats, was_stored && was_loaded)),
+        None => None,
     }
+}
+
+/// The same, and what the rig was closed with.
+fn load_behind_join<R: Threads + Wait + Sync>(rt: &R, alloc: Global) -> Option<(bool, Closed)> {
+    let mut rig = rig_after(alloc, 2, &[issue(MAP)])?;
+    let (seats, was_read) = stored_and_loaded(rt, alloc, &mut rig)?;
+    Some((was_read, close(rig, seats, None)))
+}
+
+#[test]
+fn a_store_is_read_after_a_join(rt: HostRuntime) -> Result<(), Fail> {
+    let told = match load_behind_join(&rt, rt.alloc()) {
+        None => load_behind_join(&rt, rt.alloc()),
+        told => told,
+    };
+    let (was_read, closed) = told.ok_or("no thread")?;
+    assert!(rt; was_read && closed.fault.is_none());
+    assert!(rt; closed.entries == 3 && closed.last_cpu == Some(1));
     Ok(())
 }

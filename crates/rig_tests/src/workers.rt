@@ -1,25 +1,36 @@
-//! Workers in the thread of the test.
+//! Calls and a worker in the thread of the test.
 
 use crate::gates::{MAP, STORE, StopAt};
+use crate::rigs::{call, close_one, rig_after};
+use mig_base::refusal::Refusal;
 use mig_base::{Reply, WorldPhase};
-use rig::Rig;
+use rig::{CpuSeat, Rig};
+use std::sync::Wait;
 use std::test::Fail;
-use world::World;
+
+/// Maps and stores. Where a call is refused for memory nothing is entered: the mapping has its place when it is made again.
+fn stored<R: Wait>(rt: &R, rig: &Rig, seat: &mut CpuSeat) -> bool {
+    call(rt, rig, seat, MAP) == Ok(Reply::At(0x10000))
+        && call(rt, rig, seat, STORE) == Ok(Reply::Done)
+}
+
+/// Starts the migration, once more where memory was refused.
+fn started<R: Wait>(rt: &R, rig: &Rig) -> bool {
+    rig.start(rt).is_ok() || rig.start(rt).is_ok()
+}
 
 #[test]
 fn a_gate_stops_a_worker_at_its_turn(rt: HostRuntime) -> Result<(), Fail> {
-    let world = World::new(rt.alloc(), 1).ok().ok_or("no world")?;
-    let mut rig = Rig::new(rt.alloc(), world).ok().ok_or("no rig")?;
+    let mut rig = rig_after(rt.alloc(), 1, &[]).ok_or("no rig")?;
     let mut seat = rig.seat(0).ok().ok_or("no seat")?;
-    assert_eq!(rt; rig.call(&rt, &mut seat, MAP), Ok(Reply::At(0x10000)));
-    assert_eq!(rt; rig.call(&rt, &mut seat, STORE), Ok(Reply::Done));
-    assert!(rt; rig.start(&rt).is_ok());
+    assert!(rt; stored(&rt, &rig, &mut seat));
+    assert_eq!(rt; seat.answers().len(), 2);
+    assert!(rt; rig.resume(&rt) == Err(Refusal::Phase));
+    assert!(rt; started(&rt, &rig));
     rig.source_worker(&rt, &StopAt(2));
     assert_eq!(rt; rig.phase(&rt), WorldPhase::Precopy);
-    let Ok(world) = rig.close(vec![in rt.alloc(); seat]?, None) else {
-        return Err(Fail::from("not closed"));
-    };
-    assert_eq!(rt; world.counts().rounds, 1);
-    assert_eq!(rt; world.counts().sent, 1);
+    let closed = close_one(rt.alloc(), rig, seat).ok_or("no memory")?;
+    assert!(rt; closed.fault.is_none() && closed.entries == 2);
+    assert!(rt; closed.rounds == 1 && closed.sent == 1);
     Ok(())
 }

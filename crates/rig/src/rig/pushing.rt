@@ -2,6 +2,7 @@
 
 ghost use Rattle.std.specs.Prelude.{◌≡◌, ◌≢◌, ◌⊎◌, [], ◌∷◌, AllPairs, IfOk, IfErr};
 ghost use Rattle.pusher.specs.Seats.{IsSeatOf};
+ghost use Rattle.rig.specs.Claiming.{BeginsWith, HasGoneOn};
 
 use super::Rig;
 use crate::gate::{Gate, Pass, StepKind, Worker};
@@ -39,7 +40,7 @@ impl Rig {
 
     /// Sends the pages that the destination asks for, on the urgent wire, each time that the gate lets it: makes a Serve, claims the page, and then
     /// makes a PushUrgent with its ticket. A request for a page that was claimed before, or that is none of the claims', is done. Ends when the gate
-    /// stops it, when the claims' epoch is over, or at the greatest turn. The seat comes back with what it has claimed.
+    /// stops it, when the claims' epoch is over, or at the greatest turn. The seat comes back with what it had, and behind that what it has claimed here.
     ///
     /// A ticket whose push is refused as `NoMemory`, `Broken` or `Phase` is pushed again at the next turn. One that the worker still has when it
     /// ends was not sent.
@@ -53,6 +54,8 @@ impl Rig {
         requires { IsSeatOf claims.now seat }
         ensures seat { IsSeatOf claims.now result }
         ensures share { result.share ≡ seat.share }
+        ensures claimed { BeginsWith result.claimed seat.claimed }
+        ensures seen { BeginsWith result.seen seat.seen }
     {
         let mut ticket = None;
         for turn in 0..u64::MAX {
@@ -73,7 +76,7 @@ impl Rig {
     }
 
     /// Sends the pages in the order of their indexes, each time that the gate lets it: claims the next one that is free, and makes a Push with its
-    /// ticket. Ends when the gate stops it, when the claims' epoch is over, or at the greatest turn. The seat comes back with what it has claimed.
+    /// ticket. Ends when the gate stops it, when the claims' epoch is over, or at the greatest turn. The seat comes back with what it had, and behind that what it has claimed here.
     ///
     /// A ticket whose push is refused as `NoMemory`, `Broken` or `Phase` is pushed again at the next turn. One that the worker still has when it
     /// ends was not sent.
@@ -87,6 +90,8 @@ impl Rig {
         requires { IsSeatOf claims.now seat }
         ensures seat { IsSeatOf claims.now result }
         ensures share { result.share ≡ seat.share }
+        ensures claimed { BeginsWith result.claimed seat.claimed }
+        ensures seen { BeginsWith result.seen seat.seen }
     {
         let mut index = 0;
         let mut ticket = None;
@@ -127,7 +132,7 @@ impl Rig {
     ) -> Turn
         requires { IsSeatOf claims.now seat.old }
         ensures seat { IsSeatOf claims.now seat.new }
-        ensures share { seat.new.share ≡ seat.old.share }
+        ensures gone_on { HasGoneOn seat.old seat.new }
     {
         if ticket.is_some() {
             return self.send(rt, claims.epoch(), ticket, true);
@@ -174,7 +179,7 @@ impl Rig {
 fn claim_next(claims: &Claims, seat: &mut ClaimSeat, index: &mut usize) -> Option<Ticket>
     requires { IsSeatOf claims.now seat.old }
     ensures seat { IsSeatOf claims.now seat.new }
-    ensures share { seat.new.share ≡ seat.old.share }
+    ensures gone_on { HasGoneOn seat.old seat.new }
 {
     while *index < claims.len() {
         let here = *index;
@@ -190,7 +195,7 @@ fn claim_next(claims: &Claims, seat: &mut ClaimSeat, index: &mut usize) -> Optio
 fn claim_at(claims: &Claims, seat: &mut ClaimSeat, addr: Addr) -> Option<Ticket>
     requires { IsSeatOf claims.now seat.old }
     ensures seat { IsSeatOf claims.now seat.new }
-    ensures share { seat.new.share ≡ seat.old.share }
+    ensures gone_on { HasGoneOn seat.old seat.new }
 {
     let page = PageNo::try_from(addr / PAGE_SIZE).ok()?;
     let index = claims.index_of(page)?;

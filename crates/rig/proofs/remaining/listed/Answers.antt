@@ -1,5 +1,4 @@
-use Rattle.std.proofs.Common.{◌≡◌, ◌+◌, ◌<◌, ◌≤◌, ℕ, false, true, arith, subst, sym, ◌++◌, ◌∷◌, []}
-use Rattle.std.specs.FinSet.{contains}
+use Rattle.std.proofs.Common.{◌<◌, arith, subst, sym}
 use Rattle.rig.proofs.RemainingLemmas.{AreBelow, one_more}
 use Rattle.rig.proofs.remaining.listed.Goals as goal
 
