@@ -126,7 +126,8 @@ def tell(name, tried, count, pool, look):
     found = list(zip(tried, pool.map(look, tried)))
     wrong = [it for it in found if it[1] not in (None, PASSED_OVER)]
     over = [number for number, it in found if it == PASSED_OVER]
-    print(f"{name}: {count} growths, {len(tried)} refused in turn, {len(over)} passed over {over or ''}, {len(wrong)} wrong", flush=True)
+    passed_over = f", {len(over)} passed over ({', '.join(map(str, over))})" if over else ""
+    print(f"{name}: {count} growths, {len(tried)} refused in turn{passed_over}, {len(wrong)} wrong", flush=True)
     for number, it in wrong[:5]:
         print(f"  growth {number}: {it}")
     return len(wrong)
