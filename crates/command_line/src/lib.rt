@@ -2,9 +2,11 @@
 //!
 //! `postmig run` reads a script from standard input and writes one line for each step to standard output, or with
 //! `--transcript` one for each command that took effect; `postmig check` reads such a transcript, and says whether it is that of
-//! one flat memory; `postmig frames` reads frames, and writes what a destination answers to each. `docs/SCRIPT.md` says what a
-//! script is, and `docs/FORMATS.md` what a frame is. [`answer`] is what the program's `main` does; the exit statuses are
-//! `specs/Status.antt`. What a run or a check reads and writes is the crate `engine`, and for frames the crate `frames`.
+//! one flat memory; `postmig frames` reads frames, and writes what a destination answers to each; `postmig threads` reads nothing,
+//! runs a migration in threads, and writes a report. `docs/SCRIPT.md` says what a script is, `docs/FORMATS.md` what a frame is, and
+//! `docs/THREADS.md` what a run in threads is. [`answer`] is what the program's `main` does; the exit statuses are
+//! `specs/Status.antt`. What a run or a check reads and writes is the crate `engine`; for frames it is the crate `frames`, and for
+//! threads the crate `threads`.
 #![tactic(auto)]
 
 ghost use Rattle.std.specs.Prelude.{◌≡◌, ◌≤◌, IfOk, IfErr, OnOk};
@@ -17,7 +19,10 @@ use frames::{FramesFault, run_frames};
 use std::alloc::{AllocError, Global};
 use std::env::{Env, FillError};
 use std::process::ExitCode;
+use std::sync::Wait;
+use std::thread::Threads;
 use std::{env, io};
+use threads::run_threads;
 
 /// What `--version` prints behind the program's name.
 const VERSION: &str = "0.1.0";
@@ -52,7 +57,27 @@ fn frames_command<'a>(alloc: Global) -> Result<Command<'a>, AllocError> {
         .arg(cpus_argument(alloc))
 }
 
-/// The command line: `postmig run [--cpus N] [--transcript]`, `postmig check`, `postmig frames [--cpus N]`, or `postmig --version`.
+/// `postmig threads [--cpus N] [--calls C] [--cut]`.
+fn threads_command<'a>(alloc: Global) -> Result<Command<'a>, AllocError> {
+    let calls = Arg::new(alloc, "calls")
+        .long("calls")
+        .value_name("C")
+        .help("How many stores each processor makes, and how many loads")
+        .value_parser(value_parser!(u16).range(1..=1000))
+        .default_value("8");
+    let cut = Arg::new(alloc, "cut")
+        .long("cut")
+        .help("Breaks the channel once, and resumes")
+        .action(ArgAction::SetTrue);
+    Command::new(alloc, "threads")
+        .about("Runs a migration with each processor in a thread of its own")
+        .arg(cpus_argument(alloc))?
+        .arg(calls)?
+        .arg(cut)
+}
+
+/// The command line: `postmig run [--cpus N] [--transcript]`, `postmig check`, `postmig frames [--cpus N]`,
+/// `postmig threads [--cpus N] [--calls C] [--cut]`, or `postmig --version`.
 fn command_line<'a>(alloc: Global) -> Result<Command<'a>, AllocError> {
     let transcript = Arg::new(alloc, "transcript")
         .long("transcript")
@@ -73,7 +98,8 @@ fn command_line<'a>(alloc: Global) -> Result<Command<'a>, AllocError> {
         .subcommand_required(true)
         .subcommand(run)?
         .subcommand(check)?
-        .subcommand(frames_command(alloc)?)
+        .subcommand(frames_command(alloc)?)?
+        .subcommand(threads_command(alloc)?)
 }
 
 /// The exit status of a run or a check: whether all is well, or the fault that ended it.
@@ -141,8 +167,23 @@ fn take_frames(rt: &HostRuntime, cpus: u8) -> u8
     frames_status_of(outcome)
 }
 
+/// Runs a migration in threads.
+fn run_in_threads<T: Threads + Wait + Sync>(
+    rt: &HostRuntime,
+    handle: &T,
+    cpus: u8,
+    calls: u16,
+    cut: bool,
+) -> u8
+    requires low { 1 ≤ cpus }
+    requires high { cpus ≤ 16 }
+{
+    let outcome = run_threads(handle, rt.alloc(), &mut rt.stdout(), cpus, calls, cut);
+    explain(rt, outcome)
+}
+
 /// Does what the command line asks for, and gives the exit status.
-fn do_command(rt: &HostRuntime, matches: &ArgMatches) -> u8 {
+fn do_command<T: Threads + Wait + Sync>(rt: &HostRuntime, handle: &T, matches: &ArgMatches) -> u8 {
     match matches.subcommand() {
         Some(("run", matches)) => {
             let mode = if matches.get_flag("transcript") {
@@ -160,6 +201,16 @@ fn do_command(rt: &HostRuntime, matches: &ArgMatches) -> u8 {
             Some(cpus @ 1..=16) => take_frames(rt, cpus),
             _ => BAD_COMMAND_OR_SCRIPT,
         },
+        Some(("threads", matches)) => {
+            let cut = matches.get_flag("cut");
+            match (
+                matches.get_one::<u8>("cpus"),
+                matches.get_one::<u16>("calls"),
+            ) {
+                (Some(cpus @ 1..=16), Some(calls)) => run_in_threads(rt, handle, cpus, calls, cut),
+                _ => BAD_COMMAND_OR_SCRIPT,
+            }
+        }
         _ => BAD_COMMAND_OR_SCRIPT,
     }
 }
@@ -183,7 +234,7 @@ fn name_bad_argument(rt: &HostRuntime) -> io::Result<()> {
 }
 
 /// Reads the command line, does what it asks for, and gives the exit status.
-fn dispatch(rt: &HostRuntime) -> io::Result<u8> {
+fn dispatch<T: Threads + Wait + Sync>(rt: &HostRuntime, handle: &T) -> io::Result<u8> {
     let words: Vec<String> = match env::args(rt) {
         Ok(words) => words.collect(rt.alloc())?,
         Err(error) if error.kind() == io::ErrorKind::InvalidData => {
@@ -208,12 +259,13 @@ fn dispatch(rt: &HostRuntime) -> io::Result<u8> {
             });
         }
     };
-    Ok(do_command(rt, &matches))
+    Ok(do_command(rt, handle, &matches))
 }
 
 /// Does what the command line asks for, and gives the exit status. An argument that is not UTF-8 is a fault of the command line.
-pub fn answer(rt: &HostRuntime) -> ExitCode {
-    match dispatch(rt) {
+/// `handle` starts the threads of `postmig threads`, and waits for them; a program passes its runtime as both.
+pub fn answer<T: Threads + Wait + Sync>(rt: &HostRuntime, handle: &T) -> ExitCode {
+    match dispatch(rt, handle) {
         Ok(status) => ExitCode::from(status),
         Err(error) if error.kind() == io::ErrorKind::OutOfMemory => {
             let _ = eprintln!(rt; "{}", RunFault::NoMemory);

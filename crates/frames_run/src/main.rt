@@ -4,5 +4,5 @@
 use std::process::ExitCode;
 
 fn main(rt: HostRuntime) -> ExitCode {
-    command_line::answer(&rt)
+    command_line::answer(&rt, &rt)
 }
