@@ -1,0 +1,92 @@
+//! One run, from the new world to the report.
+
+ghost use Rattle.std.specs.Prelude.{◌≤◌};
+
+use crate::course::Course;
+use crate::driver::{Cut, Plan, run_all};
+use crate::processor::calls_with;
+use crate::report::{are_whole, close_and_print, print_seats};
+use engine::RunFault;
+use engine::line_runner::write_out;
+use rig::{CpuSeat, Rig};
+use std::alloc::Global;
+use std::io::Write;
+use std::sync::Wait;
+use std::thread::Threads;
+use world::World;
+
+/// Runs a guest of `cpus` processors, 1 to 16, through a whole migration, each processor and each worker in a thread of its own, and
+/// writes a report when all have ended.
+pub fn run_threads<R: Threads + Wait + Sync, W: Write>(
+    rt: &R,
+    alloc: Global,
+    writer: &mut W,
+    cpus: u8,
+    calls: u16,
+    cut: bool,
+) -> Result<bool, RunFault>
+    requires low { 1 ≤ cpus }
+    requires high { cpus ≤ 16 }
+{
+    let mut text = String::new(alloc);
+    let answer = run(rt, alloc, cpus, calls, cut, &mut text)?;
+    write_out(writer, text.as_bytes())?;
+    Ok(answer)
+}
+
+/// Runs to the end of all threads, and puts the report in the place of a text.
+fn run<R: Threads + Wait + Sync>(
+    rt: &R,
+    alloc: Global,
+    cpus: u8,
+    calls: u16,
+    cut: bool,
+    text: &mut String,
+) -> Result<bool, RunFault>
+    requires low { 1 ≤ cpus }
+    requires high { cpus ≤ 16 }
+{
+    let (rig, seats) = seated(alloc, cpus)?;
+    let plan = Plan { stores: calls, cut: cut_for(cut, cpus) };
+    let course = Course::new();
+    let Some((seats, sent)) = run_all(rt, alloc, &rig, &course, seats, plan) else {
+        return Err(RunFault::NoMemory);
+    };
+    if seats.len() != usize::from(cpus) || !are_whole(&seats, calls_with(calls) as usize) {
+        return Err(RunFault::NoMemory);
+    }
+    print_seats(text, &seats)?;
+    close_and_print(rig, seats, sent, text)
+}
+
+/// When a run with a cut has it: where the number of processors is odd, right after the switch, else once the destination runs.
+fn cut_for(cut: bool, cpus: u8) -> Option<Cut> {
+    if !cut {
+        None
+    } else if cpus % 2 == 1 {
+        Some(Cut::AfterSwitch)
+    } else {
+        Some(Cut::AfterRun)
+    }
+}
+
+/// The rig of a new world, and all of its seats.
+fn seated(alloc: Global, cpus: u8) -> Result<(Rig, Vec<CpuSeat>), RunFault>
+    requires low { 1 ≤ cpus }
+    requires high { cpus ≤ 16 }
+{
+    let Ok(world) = World::new(alloc, cpus) else {
+        return Err(RunFault::NoMemory);
+    };
+    let Ok(mut rig) = Rig::new(alloc, world) else {
+        return Err(RunFault::NoMemory);
+    };
+    let mut seats = Vec::new(alloc);
+    for cpu in 0..cpus {
+        let Ok(seat) = rig.seat(cpu) else {
+            return Err(RunFault::NoMemory);
+        };
+        seats.push(seat)?;
+    }
+    Ok((rig, seats))
+}
