@@ -55,7 +55,9 @@ pub(crate) fn run_all<R: Threads + Wait + Sync>(
         for seat in seats {
             match scope.spawn(move || make_calls(rt, rig, course, seat, plan.stores)) {
                 Ok(thread) => {
-                    if threads.push(thread).is_err() { course.lack(); }
+                    if threads.push(thread).is_err() {
+                        course.lack();
+                    }
                 }
                 Err(_) => {
                     course.lack();
@@ -66,7 +68,9 @@ pub(crate) fn run_all<R: Threads + Wait + Sync>(
         let calls = (cpus as u64).wrapping_mul(u64::from(calls_with(plan.stores)));
         let is_moved = migrate(rt, rig, course, plan.cut, calls);
         for thread in threads {
-            if back.push(thread.join(rt)).is_err() { course.lack(); }
+            if back.push(thread.join(rt)).is_err() {
+                course.lack();
+            }
         }
         if is_moved {
             wait_for_phase(rt, rig, WorldPhase::Complete);

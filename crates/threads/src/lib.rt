@@ -6,14 +6,14 @@
 //!
 //! The modules follow: `course` (how far a run is, which is what the workers' gate asks), `processor` (the calls of a processor),
 //! `sending` (the thread that sends the owed pages of each epoch), `driver` (who starts the threads, switches, cuts and resumes),
-//! `report` (what is written), `run` (all of it in turn).
+//! `summary` (what is written), `run` (all of it in turn).
 #![tactic(auto)]
 
 mod course;
 mod driver;
 mod processor;
-mod report;
 mod run;
 mod sending;
+mod summary;
 
 pub use crate::run::run_threads;

@@ -1,5 +1,7 @@
 //! What a processor does.
 
+ghost use Rattle.std.specs.Prelude.{◌≡◌, ◌+◌, ◌*◌};
+
 use crate::course::Course;
 use mig_base::{Addr, Command, LOW, PAGE_SIZE, Place, Prot};
 use rig::{CpuSeat, Rig};
@@ -30,7 +32,10 @@ pub(crate) fn make_calls<R: Wait>(
     let first = first_address(seat.cpu());
     let count = calls_with(stores);
     for n in 0..count {
-        if rig.call(rt, &mut seat, nth_command(first, n, stores)).is_err() {
+        if rig
+            .call(rt, &mut seat, nth_command(first, n, stores))
+            .is_err()
+        {
             course.count(u64::from(count - n));
             return seat;
         }

@@ -1,11 +1,13 @@
 //! One run, from the new world to the report.
 
-ghost use Rattle.std.specs.Prelude.{◌≤◌};
+ghost use Rattle.std.specs.Prelude.{◌≡◌, ◌≤◌, ◌+◌, ◌*◌, [], length, IfOk, IfErr, string_bytes};
+ghost use Rattle.engine.specs.declared.fault.RunFault.TheVariants.{NoMemory as OutOfMemory};
+ghost use Rattle.threads.specs.Report.{IsReport, Reports, Stops};
 
 use crate::course::Course;
 use crate::driver::{Cut, Plan, run_all};
 use crate::processor::calls_with;
-use crate::report::{are_whole, close_and_print, print_seats};
+use crate::summary::{are_whole, close_and_print, print_seats};
 use engine::RunFault;
 use engine::line_runner::write_out;
 use rig::{CpuSeat, Rig};
@@ -27,6 +29,8 @@ pub fn run_threads<R: Threads + Wait + Sync, W: Write>(
 ) -> Result<bool, RunFault>
     requires low { 1 ≤ cpus }
     requires high { cpus ≤ 16 }
+    ensures ok { IfOk result (λ answer. Reports cpus (1 + 2 * calls) answer (W.contents writer.old) (W.contents writer.new)) }
+    ensures fault { IfErr result (λ fault. Stops cpus (1 + 2 * calls) fault (W.contents writer.old) (W.contents writer.new)) }
 {
     let mut text = String::new(alloc);
     let answer = run(rt, alloc, cpus, calls, cut, &mut text)?;
@@ -45,14 +49,20 @@ fn run<R: Threads + Wait + Sync>(
 ) -> Result<bool, RunFault>
     requires low { 1 ≤ cpus }
     requires high { cpus ≤ 16 }
+    requires empty { string_bytes text.old ≡ [] }
+    ensures ok { IfOk result (λ answer. IsReport cpus (1 + 2 * calls) answer (string_bytes text.new)) }
+    ensures err { IfErr result (λ fault. fault ≡ OutOfMemory) }
 {
     let (rig, seats) = seated(alloc, cpus)?;
-    let plan = Plan { stores: calls, cut: cut_for(cut, cpus) };
+    let plan = Plan {
+        stores: calls,
+        cut: cut_for(cut, cpus),
+    };
     let course = Course::new();
     let Some((seats, sent)) = run_all(rt, alloc, &rig, &course, seats, plan) else {
         return Err(RunFault::NoMemory);
     };
-    if seats.len() != usize::from(cpus) || !are_whole(&seats, calls_with(calls) as usize) {
+    if !are_whole(&seats, cpus, calls_with(calls) as usize) {
         return Err(RunFault::NoMemory);
     }
     print_seats(text, &seats)?;
@@ -74,6 +84,8 @@ fn cut_for(cut: bool, cpus: u8) -> Option<Cut> {
 fn seated(alloc: Global, cpus: u8) -> Result<(Rig, Vec<CpuSeat>), RunFault>
     requires low { 1 ≤ cpus }
     requires high { cpus ≤ 16 }
+    ensures opening { IfOk result (λ r. r.0.opening ≡ []) }
+    ensures err { IfErr result (λ fault. fault ≡ OutOfMemory) }
 {
     let Ok(world) = World::new(alloc, cpus) else {
         return Err(RunFault::NoMemory);

@@ -90,7 +90,10 @@ fn send_shared<R: Threads + Wait + Sync>(
             requires other { IsSeatOf claims.now other }
             ensures { IsSeatOf claims.entry.now result }
         {
-            let served = scope.spawn_with(SeatOf(claims), move || rig.serve_worker(rt, claims, other, course));
+            let served = scope.spawn_with(
+                SeatOf(claims),
+                move || rig.serve_worker(rt, claims, other, course),
+            );
             let mut seat = rig.push_worker(rt, claims, seat, course);
             match served {
                 Ok(served) => claims.join(&mut seat, served.join(rt)),
