@@ -90,6 +90,14 @@ fn print_fault(text: &mut String, entries: usize, fault: CloseFault) -> Result<(
     ensures err { IfErr result (λ fault. fault ≡ OutOfMemory) }
 {
     print_count(text, entries)?;
+    print_fault_line(text, fault)
+}
+
+/// Prints behind a text the fault with which the rig was closed.
+fn print_fault_line(text: &mut String, fault: CloseFault) -> Result<(), RunFault>
+    ensures ok { OnOk result (string_bytes text.new ≡ string_bytes text.old ++ fault_line fault) }
+    ensures err { IfErr result (λ fault. fault ≡ OutOfMemory) }
+{
     let name = name_of(fault);
     write!(text, "close fault {name}\n")?;
     Ok(())
