@@ -1,0 +1,5 @@
+//! Tests of whole runs in threads.
+#![tactic(auto)]
+
+#[cfg(test)]
+mod runs;

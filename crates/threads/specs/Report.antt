@@ -1,0 +1,72 @@
+-- What a run in threads writes.
+use Rattle.std.specs.Prelude.{◌≡◌, ℕ, ◌<◌, suc, ⊤, Bool, true, false, List, [], ◌∷◌, ◌++◌, length, codes, Option}
+use Rattle.std.specs.Fmt.{decimal}
+use Rattle.std.specs.Io.KnownBytes.{Appends}
+use Rattle.mig_base.specs.Flat.{IsFlatRun}
+use Rattle.mig_model.specs.Migration.{World}
+use Rattle.rig.specs.declared.rig.CloseFault.{CloseFault}
+use Rattle.rig.specs.declared.rig.CloseFault.TheVariants as close
+use Rattle.rig.specs.Seats.{Seat, answers_of, list_of, calls_of}
+use Rattle.engine.specs.declared.fault.RunFault.{RunFault}
+use Rattle.engine.specs.declared.fault.RunFault.TheVariants as faults
+use Rattle.engine.specs.Engine.{Front}
+
+-- the number of a processor, and how many of its calls were answered
+abbrev pub seat_line : Seat → List ℕ
+seat_line seat = codes "cpu " ++ decimal seat.cpu ++ codes " calls " ++ decimal (length seat.answers) ++ 10 ∷ []
+
+abbrev pub seat_lines : List Seat → List ℕ
+seat_lines [] = []
+seat_lines (seat ∷ seats) = seat_line seat ++ seat_lines seats
+
+-- how many commands took effect
+abbrev pub count_line : ℕ → List ℕ
+count_line entries = codes "transcript " ++ decimal entries ++ 10 ∷ []
+
+-- the seats agree with them
+abbrev pub ok_line : List ℕ
+ok_line = codes "close ok\n"
+
+abbrev pub fault_name : CloseFault → List ℕ
+fault_name (close.Answers cpu) = codes "Answers"
+fault_name close.Claims = codes "Claims"
+
+-- what does not agree
+abbrev pub fault_line : CloseFault → List ℕ
+fault_line fault = codes "close fault " ++ fault_name fault ++ 10 ∷ []
+
+-- the seats are those of this processor and the next ones, and each has as many answers
+abbrev pub AreFrom : ℕ → ℕ → List Seat → Type 0
+AreFrom cpu calls [] = ⊤
+AreFrom cpu calls (seat ∷ seats) = (seat.cpu ≡ cpu) × (length seat.answers ≡ calls) × AreFrom (suc cpu) calls seats
+
+-- the transcript is that of one flat memory, has the answers of each seat in their order, and no others
+pub record IsHistory (seats : List Seat) (world : World) : Type 0 where
+  pub flat : IsFlatRun world.transcript
+  pub answers : (k : ℕ) → k < length world.source.guest.cpus → answers_of k world.transcript ≡ list_of k seats
+  pub count : length world.transcript ≡ calls_of seats
+
+-- what is written of a rig that was closed with these seats
+abbrev pub IsVerdict : List Seat → Bool → List ℕ → Type 0
+IsVerdict seats true text = (world : World) × IsHistory seats world × (text ≡ count_line (length world.transcript) ++ ok_line)
+IsVerdict seats false text = (world : World) × (fault : CloseFault) × IsFlatRun world.transcript × (text ≡ count_line (length world.transcript) ++ fault_line fault)
+
+-- the report of a run with this many processors, of which each makes this many calls
+pub record IsReport (cpus calls : ℕ) (answer : Bool) (text : List ℕ) : Type 0 where
+  pub seats : List Seat
+  pub verdict : List ℕ
+  pub all : length seats ≡ cpus
+  pub each : AreFrom 0 calls seats
+  pub closes : IsVerdict seats answer verdict
+  pub lines : text ≡ seat_lines seats ++ verdict
+
+-- the report was written
+abbrev pub Reports : ℕ → ℕ → Bool → Option (List ℕ) → Option (List ℕ) → Type 0
+Reports cpus calls answer before after = (text : List ℕ) × IsReport cpus calls answer text × Appends before after text
+
+-- how a run ends without a whole report: nothing was written, or where writing failed the front of a report
+abbrev pub Stops : ℕ → ℕ → RunFault → Option (List ℕ) → Option (List ℕ) → Type 0
+Stops cpus calls (faults.Line n) before after = ⊥
+Stops cpus calls faults.ReadFault before after = ⊥
+Stops cpus calls faults.WriteFault before after = (answer : Bool) × (text : List ℕ) × IsReport cpus calls answer text × Front text before after
+Stops cpus calls faults.NoMemory before after = Appends before after []

@@ -1,0 +1,142 @@
+//! Who starts the threads, and switches, cuts and resumes.
+
+use crate::course::Course;
+use crate::processor::{calls_with, make_calls};
+use crate::sending::{Sent, send_pages};
+use mig_base::WorldPhase;
+use mig_base::refusal::Refusal;
+use rig::{CpuSeat, Rig};
+use std::alloc::Global;
+use std::sync::Wait;
+use std::thread;
+use std::thread::Threads;
+
+/// How a run goes.
+#[derive(Clone, Copy, Debug)]
+pub(crate) struct Plan {
+    /// The stores of each processor, and its loads.
+    pub stores: u16,
+    /// Whether the channel breaks once, and when.
+    pub cut: Option<Cut>,
+}
+
+/// When the channel breaks.
+#[derive(Clone, Copy, Debug, PartialEq, Eq)]
+pub(crate) enum Cut {
+    /// Right after the switch.
+    AfterSwitch,
+    /// Once the destination runs the processors.
+    AfterRun,
+}
+
+/// Runs the processors of the seats through a migration, and returns once all threads have ended: the seats, and the claims of the last
+/// epoch. None where a thread could not be started or memory was refused that no later turn makes good.
+///
+/// The workers are started first, so that no processor waits for one that could not be. The workers end only when all processors have.
+pub(crate) fn run_all<R: Threads + Wait + Sync>(
+    rt: &R,
+    alloc: Global,
+    rig: &Rig,
+    course: &Course,
+    seats: Vec<CpuSeat>,
+    plan: Plan,
+) -> Option<(Vec<CpuSeat>, Option<Sent>)> {
+    thread::scope(thread::scope_env(), rt, move |scope| {
+        let cpus = seats.len();
+        let mut back = Vec::with_capacity(alloc, cpus).ok()?;
+        let mut threads = Vec::with_capacity(alloc, cpus).ok()?;
+        let source = scope.spawn(move || rig.source_worker(rt, course));
+        let dest = scope.spawn(move || rig.dest_worker(rt, course));
+        let sender = scope.spawn(move || send_pages(rt, alloc, rig, course));
+        if source.is_err() || dest.is_err() || sender.is_err() || rig.start(rt).is_err() {
+            course.end();
+            return None;
+        }
+        for seat in seats {
+            match scope.spawn(move || make_calls(rt, rig, course, seat, plan.stores)) {
+                Ok(thread) => {
+                    if threads.push(thread).is_err() {
+                        course.lack();
+                    }
+                }
+                Err(_) => {
+                    course.lack();
+                    course.count(u64::from(calls_with(plan.stores)));
+                }
+            }
+        }
+        let calls = (cpus as u64).wrapping_mul(u64::from(calls_with(plan.stores)));
+        let is_moved = migrate(rt, rig, course, plan.cut, calls);
+        for thread in threads {
+            if back.push(thread.join(rt)).is_err() {
+                course.lack();
+            }
+        }
+        if is_moved {
+            wait_for_phase(rt, rig, WorldPhase::Complete);
+        }
+        course.end();
+        let sent = match sender {
+            Ok(sender) => sender.join(rt),
+            Err(_) => None,
+        };
+        if is_moved && !course.is_lacking() {
+            Some((back, sent))
+        } else {
+            None
+        }
+    })
+}
+
+/// Switches once half of the calls are made, breaks the channel and resumes if the plan says so, and waits for the other calls. False where
+/// the switch was refused for memory, or a processor was not started: the source goes on to run the others then.
+fn migrate<R: Wait>(rt: &R, rig: &Rig, course: &Course, cut: Option<Cut>, calls: u64) -> bool {
+    course.wait_for_calls(rt, calls / 2);
+    let is_moved = !course.is_lacking() && switch(rt, rig);
+    if is_moved {
+        if let Some(cut) = cut {
+            cut_and_resume(rt, rig, cut);
+        }
+        course.let_end();
+    }
+    course.wait_for_calls(rt, calls);
+    is_moved
+}
+
+/// Switches, as soon as no event is unread. False where it is refused for memory.
+fn switch<R: Wait>(rt: &R, rig: &Rig) -> bool {
+    for _ in rt.forever() {
+        match rig.switch(rt) {
+            Ok(_) => return true,
+            Err(Refusal::Changing) => thread::yield_now(),
+            Err(_) => return false,
+        }
+    }
+    unreachable!()
+}
+
+/// Breaks the channel, and resumes when both sides are paused.
+fn cut_and_resume<R: Wait>(rt: &R, rig: &Rig, cut: Cut) {
+    if cut == Cut::AfterRun {
+        wait_for_phase(rt, rig, WorldPhase::Postcopy);
+    }
+    if rig.cut(rt).is_err() {
+        return;
+    }
+    for _ in rt.forever() {
+        if rig.resume(rt).is_ok() {
+            return;
+        }
+        thread::yield_now();
+    }
+}
+
+/// Waits until the migration has come to a phase.
+fn wait_for_phase<R: Wait>(rt: &R, rig: &Rig, phase: WorldPhase) {
+    for _ in rt.forever() {
+        if rig.phase(rt) == phase {
+            return;
+        }
+        thread::yield_now();
+    }
+}

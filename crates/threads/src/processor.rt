@@ -1,0 +1,80 @@
+//! What a processor does.
+
+ghost use Rattle.std.specs.Prelude.{◌≡◌, ◌+◌, ◌*◌};
+
+use crate::course::Course;
+use mig_base::{Addr, Command, LOW, PAGE_SIZE, Place, Prot};
+use rig::{CpuSeat, Rig};
+use std::sync::Wait;
+
+/// The pages of a processor.
+const PAGES: u64 = 8;
+
+/// The bytes of a store or load.
+const WIDTH: u8 = 8;
+
+/// How many calls a processor makes that makes this many stores, and as many loads.
+pub(crate) fn calls_with(stores: u16) -> u32
+    ensures { result ≡ 1 + 2 * stores }
+{
+    1 + 2 * u32::from(stores)
+}
+
+/// Makes the calls of a processor: a map, then stores, then as many loads. It ends early where one is refused, which is for memory. A
+/// command that it leaves asleep then does not hold up the others.
+pub(crate) fn make_calls<R: Wait>(
+    rt: &R,
+    rig: &Rig,
+    course: &Course,
+    mut seat: CpuSeat,
+    stores: u16,
+) -> CpuSeat {
+    let first = first_address(seat.cpu());
+    let count = calls_with(stores);
+    for n in 0..count {
+        if rig
+            .call(rt, &mut seat, nth_command(first, n, stores))
+            .is_err()
+        {
+            course.count(u64::from(count - n));
+            return seat;
+        }
+        course.count(1);
+    }
+    seat
+}
+
+/// Where the pages of a processor begin. The second half of them is the first half of the next processor's.
+fn first_address(cpu: u8) -> Addr {
+    LOW + u64::from(cpu) * (PAGES / 2) * PAGE_SIZE
+}
+
+/// The n-th call of a processor, counted from 0.
+fn nth_command(first: Addr, n: u32, stores: u16) -> Command {
+    let stores = u32::from(stores);
+    if n == 0 {
+        Command::Mmap {
+            addr_len: PAGES * PAGE_SIZE,
+            prot: Prot::ReadWrite,
+            place: Place::Fixed(first),
+        }
+    } else if n <= stores {
+        Command::Store {
+            addr: nth_address(first, n - 1),
+            width: WIDTH,
+            value: u64::from(n),
+        }
+    } else {
+        Command::Load {
+            addr: nth_address(first, n - 1 - stores),
+            width: WIDTH,
+        }
+    }
+}
+
+/// The address of the n-th store or load: they go round the pages, each time to the next place of a page.
+fn nth_address(first: Addr, n: u32) -> Addr {
+    let n = u64::from(n);
+    let place = n / PAGES * u64::from(WIDTH) % PAGE_SIZE;
+    first.wrapping_add(n % PAGES * PAGE_SIZE + place)
+}

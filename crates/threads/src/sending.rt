@@ -1,0 +1,105 @@
+//! The thread that sends the owed pages.
+
+ghost use Rattle.pusher.specs.Seats.{IsSeatOf};
+
+use crate::course::Course;
+use pusher::{ClaimSeat, Claims};
+use rig::Rig;
+use std::alloc::Global;
+use std::sync::Wait;
+use std::thread;
+use std::thread::{Promise, Threads};
+
+/// The claims of an epoch, with a seat that has all that was claimed.
+#[derive(Drop)]
+pub(crate) struct Sent {
+    pub claims: Claims,
+    pub seat: ClaimSeat,
+    ghost fits: { IsSeatOf claims seat },
+}
+
+/// That a thread gives back a seat of these claims.
+#[derive(Clone, Copy)]
+struct SeatOf<'a>(&'a Claims);
+
+impl<'a> Promise<ClaimSeat> for SeatOf<'a> {
+    ghost kept_by = { λ p r. IsSeatOf p.0.now r };
+}
+
+/// Sends the owed pages until the run is over, in each epoch by new claims. The claims of the last one come back. Claims that are
+/// refused for memory are taken again.
+pub(crate) fn send_pages<R: Threads + Wait + Sync>(
+    rt: &R,
+    alloc: Global,
+    rig: &Rig,
+    course: &Course,
+) -> Option<Sent> {
+    let mut last = None;
+    for _ in rt.forever() {
+        if course.is_over() {
+            return last;
+        }
+        match rig.claims(rt) {
+            Ok((claims, seat)) => last = Some(send_epoch(rt, alloc, rig, course, claims, seat)),
+            Err(_) => thread::yield_now(),
+        }
+    }
+    unreachable!()
+}
+
+/// Sends the pages of an epoch: those that are asked for in a thread of its own, the others in this one. Where that thread cannot be
+/// started this one sends them all.
+fn send_epoch<R: Threads + Wait + Sync>(
+    rt: &R,
+    alloc: Global,
+    rig: &Rig,
+    course: &Course,
+    claims: Claims,
+    mut seat: ClaimSeat,
+) -> Sent
+    requires { IsSeatOf claims seat }
+{
+    let seat = match claims.split(alloc, &mut seat) {
+        Ok(other) => send_shared(rt, rig, course, &claims, seat, other),
+        Err(_) => {
+            course.lack();
+            rig.push_worker(rt, &claims, seat, course)
+        }
+    };
+    Sent { claims, seat }
+}
+
+/// Sends with two seats, and joins them.
+fn send_shared<R: Threads + Wait + Sync>(
+    rt: &R,
+    rig: &Rig,
+    course: &Course,
+    claims: &Claims,
+    seat: ClaimSeat,
+    other: ClaimSeat,
+) -> ClaimSeat
+    requires seat { IsSeatOf claims.now seat }
+    requires other { IsSeatOf claims.now other }
+    ensures { IsSeatOf claims.now result }
+{
+    thread::scope(
+        thread::scope_env(),
+        rt,
+        move |scope| -> ClaimSeat
+            requires seat { IsSeatOf claims.now seat }
+            requires other { IsSeatOf claims.now other }
+            ensures { IsSeatOf claims.entry.now result }
+        {
+            let served = scope.spawn_with(
+                SeatOf(claims),
+                move || rig.serve_worker(rt, claims, other, course),
+            );
+            let mut seat = rig.push_worker(rt, claims, seat, course);
+            match served {
+                Ok(served) => claims.join(&mut seat, served.join(rt)),
+                Err(_) => course.lack(),
+            }
+            seat
+        },
+    )
+}

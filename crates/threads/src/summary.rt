@@ -1,0 +1,133 @@
+//! What a run writes.
+
+ghost use Rattle.std.specs.Prelude.{◌≡◌, ◌++◌, [], List, ℕ, true, OnOk, IfOk, IfErr, IfSome, string_bytes, length};
+ghost use Rattle.engine.specs.declared.fault.RunFault.TheVariants.{NoMemory as OutOfMemory};
+ghost use Rattle.pusher.specs.Seats.{IsSeatOf};
+ghost use Rattle.threads.specs.Report.{seat_line, seat_lines, count_line, ok_line, fault_name, fault_line, AreFrom, IsVerdict};
+
+use crate::sending::Sent;
+use engine::RunFault;
+use pusher::{ClaimSeat, Claims};
+use rig::{CloseFault, CpuSeat, Rig};
+
+/// Whether the seats are those of the processors 0, 1 and so on, as many as there are, and each has this many answers.
+pub(crate) fn are_whole(seats: &[CpuSeat], cpus: u8, calls: usize) -> bool
+    ensures all { result ≡ true → length seats.now ≡ cpus }
+    ensures each { result ≡ true → AreFrom 0 calls seats.now }
+{
+    let mut rest = seats;
+    let mut cpu: usize = 0;
+    while let [seat, behind @ ..] = rest {
+        if usize::from(seat.cpu()) != cpu || seat.answers().len() != calls {
+            return false;
+        }
+        rest = behind;
+        cpu += 1;
+    }
+    cpu == usize::from(cpus)
+}
+
+/// Prints a line for each seat behind a text.
+pub(crate) fn print_seats(text: &mut String, seats: &[CpuSeat]) -> Result<(), RunFault>
+    ensures ok { OnOk result (string_bytes text.new ≡ string_bytes text.old ++ seat_lines seats.now) }
+    ensures err { IfErr result (λ fault. fault ≡ OutOfMemory) }
+{
+    let mut rest = seats;
+    while let [seat, behind @ ..] = rest {
+        print_seat(text, seat)?;
+        rest = behind;
+    }
+    Ok(())
+}
+
+/// Prints the line of a seat behind a text.
+fn print_seat(text: &mut String, seat: &CpuSeat) -> Result<(), RunFault>
+    ensures ok { OnOk result (string_bytes text.new ≡ string_bytes text.old ++ seat_line seat.now) }
+    ensures err { IfErr result (λ fault. fault ≡ OutOfMemory) }
+{
+    let cpu = seat.cpu();
+    let calls = seat.answers().len();
+    write!(text, "cpu {cpu} calls {calls}\n")?;
+    Ok(())
+}
+
+/// Closes the rig, and prints behind a text how many entries its world has, and whether it closed.
+pub(crate) fn close_and_print(
+    rig: Rig,
+    seats: Vec<CpuSeat>,
+    sent: Option<Sent>,
+    text: &mut String,
+) -> Result<bool, RunFault>
+    requires { rig.opening ≡ [] }
+    ensures ok { IfOk result (λ answer. (verdict : List ℕ) × IsVerdict seats.items answer verdict × (string_bytes text.new ≡ string_bytes text.old ++ verdict)) }
+    ensures err { IfErr result (λ fault. fault ≡ OutOfMemory) }
+{
+    match rig.close(seats, claims_in(sent)) {
+        Ok(world) => {
+            print_ok(text, world.transcript().len())?;
+            Ok(true)
+        }
+        Err((fault, world)) => {
+            print_fault(text, world.transcript().len(), fault)?;
+            Ok(false)
+        }
+    }
+}
+
+/// Prints behind a text how many entries there are, and that the rig has closed.
+fn print_ok(text: &mut String, entries: usize) -> Result<(), RunFault>
+    ensures ok { OnOk result (string_bytes text.new ≡ string_bytes text.old ++ (count_line entries ++ ok_line)) }
+    ensures err { IfErr result (λ fault. fault ≡ OutOfMemory) }
+{
+    print_count(text, entries)?;
+    write!(text, "close ok\n")?;
+    Ok(())
+}
+
+/// Prints behind a text how many entries there are, and the fault with which the rig was closed.
+fn print_fault(text: &mut String, entries: usize, fault: CloseFault) -> Result<(), RunFault>
+    ensures ok { OnOk result (string_bytes text.new ≡ string_bytes text.old ++ (count_line entries ++ fault_line fault)) }
+    ensures err { IfErr result (λ fault. fault ≡ OutOfMemory) }
+{
+    print_count(text, entries)?;
+    print_fault_line(text, fault)
+}
+
+/// Prints behind a text the fault with which the rig was closed.
+fn print_fault_line(text: &mut String, fault: CloseFault) -> Result<(), RunFault>
+    ensures ok { OnOk result (string_bytes text.new ≡ string_bytes text.old ++ fault_line fault) }
+    ensures err { IfErr result (λ fault. fault ≡ OutOfMemory) }
+{
+    let name = name_of(fault);
+    write!(text, "close fault {name}\n")?;
+    Ok(())
+}
+
+/// Prints behind a text how many entries there are.
+fn print_count(text: &mut String, entries: usize) -> Result<(), RunFault>
+    ensures ok { OnOk result (string_bytes text.new ≡ string_bytes text.old ++ count_line entries) }
+    ensures err { IfErr result (λ fault. fault ≡ OutOfMemory) }
+{
+    write!(text, "transcript {entries}\n")?;
+    Ok(())
+}
+
+/// The claims and the seat that has all that was claimed.
+fn claims_in(sent: Option<Sent>) -> Option<(Claims, ClaimSeat)>
+    ensures { IfSome result (λ c. IsSeatOf c.0 c.1) }
+{
+    match sent {
+        Some(Sent { claims, seat, .. }) => Some((claims, seat)),
+        None => None,
+    }
+}
+
+/// The name of a fault.
+fn name_of(fault: CloseFault) -> &'static str
+    ensures { result.now ≡ fault_name fault }
+{
+    match fault {
+        CloseFault::Answers(_) => "Answers",
+        CloseFault::Claims => "Claims",
+    }
+}
