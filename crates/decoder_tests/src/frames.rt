@@ -87,8 +87,14 @@ fn pages_are_read(rt: HostRuntime) -> Result<(), Fail> {
 }
 
 /// Feeds the bytes with one of them changed: what is answered is written as the bytes that it took up.
-fn changes(rt: &impl Abort, alloc: Global, vector: &[u8], at: usize) -> Result<(), Fail> {
-    let mut bytes = text_again(alloc, 2, vector, 0, 0)?;
+fn changes(
+    rt: &impl Abort,
+    alloc: Global,
+    version: u8,
+    vector: &[u8],
+    at: usize,
+) -> Result<(), Fail> {
+    let mut bytes = text_again(alloc, version, vector, 0, 0)?;
     let mut decoder = Decoder::new(alloc);
     for value in 0..=255 {
         if let Some(byte) = bytes.get_mut(at) {
@@ -103,9 +109,10 @@ fn changes(rt: &impl Abort, alloc: Global, vector: &[u8], at: usize) -> Result<(
 #[test]
 fn changed_texts_are_read_as_they_are_written(rt: HostRuntime) -> Result<(), Fail> {
     for vector in &BOTH {
-        for at in 0..56 {
+        for at in 0..58 {
             if at <= vector.len() {
-                changes(&rt, rt.alloc(), *vector, at)?;
+                changes(&rt, rt.alloc(), 1, *vector, at)?;
+                changes(&rt, rt.alloc(), 2, *vector, at)?;
             }
         }
     }

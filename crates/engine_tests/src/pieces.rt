@@ -6,8 +6,8 @@ use std::io::{Read, Write};
 pub struct Pieces<'a> {
     pub bytes: &'a [u8],
     pub size: usize,
-    pub fails_at: usize,
-    pub reads: usize,
+    pub fails_at: u32,
+    pub reads: u32,
 }
 
 impl Read for Pieces<'_> {
@@ -29,7 +29,7 @@ impl Read for Pieces<'_> {
 pub struct Endless {
     pub byte: u8,
     pub size: usize,
-    pub reads: usize,
+    pub reads: u32,
 }
 
 impl Read for Endless {
@@ -45,8 +45,8 @@ impl Read for Endless {
 #[derive(Drop)]
 pub struct OneByte {
     pub bytes: Vec<u8>,
-    pub fails_at: usize,
-    pub writes: usize,
+    pub fails_at: u32,
+    pub writes: u32,
     pub most: usize,
 }
 

@@ -54,8 +54,8 @@ impl Job {
 struct Case {
     size: usize,
     /// The read that fails, counted from 1, if one does.
-    read_fails_at: usize,
-    write_fails_at: usize,
+    read_fails_at: u32,
+    write_fails_at: u32,
     /// How many bytes are taken.
     most: usize,
     fault: Option<RunFault>,
@@ -87,7 +87,7 @@ fn played(
     alloc: Global,
     job: Job,
     case: &Case,
-) -> Result<(Option<RunFault>, Vec<u8>, usize, usize), AllocError> {
+) -> Result<(Option<RunFault>, Vec<u8>, u32, u32), AllocError> {
     let mut reader = Pieces {
         bytes: job.input(),
         size: case.size,
@@ -170,16 +170,17 @@ fn written_of(read: usize) -> usize {
 /// Each read of a script fails once, whether it gives one byte or more.
 #[test]
 fn each_read_fails(rt: HostRuntime) -> Result<(), Fail> {
-    for (size, reads) in [(1usize, 149), (16, 11), (61, 4)] {
+    for (size, reads) in [(1usize, 149u32), (16, 11), (61, 4)] {
         for before in 0..reads {
-            let written = written_of(size.saturating_mul(before));
+            let read = size.saturating_mul(before as usize);
+            let written = written_of(read);
             assert!(rt; written <= OUTPUT.len());
             let case = Case {
                 read_fails_at: before + 1,
                 fault: Some(RunFault::ReadFault),
                 ..whole(size, &OUTPUT[..written])
             };
-            play(&rt, rt.alloc(), Job::Lines, &case, before)?;
+            play(&rt, rt.alloc(), Job::Lines, &case, read)?;
         }
     }
     Ok(())
@@ -190,7 +191,7 @@ fn each_read_fails(rt: HostRuntime) -> Result<(), Fail> {
 fn each_read_of_a_check_fails(rt: HostRuntime) -> Result<(), Fail> {
     for before in 0..=TRANSCRIPT.len() {
         let case = Case {
-            read_fails_at: before + 1,
+            read_fails_at: before as u32 + 1,
             fault: Some(RunFault::ReadFault),
             ..whole(1, b"")
         };
@@ -204,9 +205,10 @@ fn each_read_of_a_check_fails(rt: HostRuntime) -> Result<(), Fail> {
 fn each_write_fails(rt: HostRuntime) -> Result<(), Fail> {
     for job in [Job::Lines, Job::Transcript, Job::Check] {
         let output = job.output();
+        assert!(rt; output.len() < MOST);
         for before in 0..output.len() {
             let failing = Case {
-                write_fails_at: before + 1,
+                write_fails_at: before as u32 + 1,
                 fault: Some(RunFault::WriteFault),
                 ..whole(40, &output[..before])
             };
@@ -286,7 +288,7 @@ fn endless(
     byte: u8,
     size: usize,
     job: Job,
-) -> Result<(Option<RunFault>, usize), AllocError> {
+) -> Result<(Option<RunFault>, u32), AllocError> {
     let mut reader = Endless {
         byte,
         size,
