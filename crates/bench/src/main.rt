@@ -4,11 +4,13 @@
 //! - `destination [PAGES ..]`: pages come to a destination and are installed, and map calls are made over owed pages.
 //! - `world [PAGES ..]`, `world new-copies [PAGES ..]`: a whole migration, step by step and without a script.
 //! - `frames [pages|feed PIECE BATCH ROUNDS]`: frames of pages are written and read.
+//! - `rig [calls|seats|claims|post-copy NUMBER ..]`: calls, claims and workers in threads, over one lock.
 //!
 //! The module of each part says what it prints. With the word alone it works on a few pages, and says so; with no argument all do.
 //! The exit status is 1, with a message on standard error, where the word or an argument is none of these.
 #![tactic(auto)]
 
+mod claim_work;
 mod codec;
 mod codec_times;
 mod copies;
@@ -18,6 +20,8 @@ mod failure;
 mod migration;
 mod migration_times;
 mod numbers;
+mod rig_times;
+mod rig_work;
 mod source;
 mod source_times;
 
@@ -73,37 +77,42 @@ fn try_all(rt: &HostRuntime) -> io::Result<()> {
     Ok(())
 }
 
-/// Does what the words ask for.
-fn obey(rt: &HostRuntime, words: &[String]) -> io::Result<()> {
-    let Some((word, rest)) = words.split_first() else {
-        return try_all(rt);
-    };
-    match Part::from_word(word.as_str()) {
+/// Does what a word, and those behind it, ask for.
+fn obey(rt: &HostRuntime, word: &str, rest: &[String]) -> io::Result<()> {
+    match Part::from_word(word) {
         Some(part) if rest.is_empty() => part.try_few(rt),
         Some(part) => part.measure(rt, rest),
         None => Err(io::Error::from(io::ErrorKind::InvalidInput)),
     }
 }
 
-/// Reads the command line, and does what it asks for.
-fn dispatch(rt: &HostRuntime) -> io::Result<()> {
-    let words: Vec<String> = env::args(rt)?.skip(1).collect(rt.alloc())?;
-    obey(rt, &words)
+/// The words of the command line.
+fn read_words(rt: &HostRuntime) -> io::Result<Vec<String>> {
+    Ok(env::args(rt)?.skip(1).collect(rt.alloc())?)
 }
 
 /// What is said of an error on standard error.
 fn message(error: &io::Error) -> &'static str {
     match error.kind() {
         io::ErrorKind::InvalidInput => {
-            "bench [source|destination|world|frames [ARGUMENT ..]]: no such word or argument"
+            "bench [source|destination|world|frames|rig [ARGUMENT ..]]: no such word or argument"
         }
         io::ErrorKind::OutOfMemory => "bench: out of memory",
         _ => "bench: cannot read the arguments or the clock, or cannot write",
     }
 }
 
+/// What each word asks for, and all of them with none.
 fn main(rt: HostRuntime) -> ExitCode {
-    match dispatch(&rt) {
+    let outcome = match read_words(&rt) {
+        Ok(words) => match words.as_slice() {
+            [] => try_all(&rt).and_then(|()| rig_times::try_few(&rt, rt.alloc())),
+            [word, rest @ ..] if word.as_str() == "rig" => rig_times::obey(&rt, rt.alloc(), rest),
+            [word, rest @ ..] => obey(&rt, word.as_str(), rest),
+        },
+        Err(error) => Err(error),
+    };
+    match outcome {
         Ok(()) => ExitCode::SUCCESS,
         Err(error) => {
             let _ = eprintln!(&rt; "{}", message(&error));

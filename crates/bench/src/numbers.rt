@@ -11,6 +11,14 @@ pub fn number(word: &str) -> io::Result<u32> {
     }
 }
 
+/// The number of at most 255 that a word says.
+pub fn small(word: &str) -> io::Result<u8> {
+    match u8::try_from(number(word)?) {
+        Ok(number) => Ok(number),
+        Err(_) => Err(io::Error::from(io::ErrorKind::InvalidInput)),
+    }
+}
+
 /// Nanoseconds for each of so many.
 pub fn nanoseconds(time: Duration, count: u32) -> u128 {
     time.as_nanos() / u128::from(count.max(1))

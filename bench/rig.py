@@ -1,0 +1,77 @@
+#!/usr/bin/env python3
+"""Times a world under one lock: calls by seats, claims, and workers in threads, as ratios to what does the same without them.
+
+Run it from anywhere, once `rt run` has built the crate bench: python3 bench/rig.py [--write]. With --write the table goes to
+docs/PERFORMANCE.md. Each row is the run with the middle ratio of some runs, in each of which both parts of the ratio were timed.
+"""
+
+import os
+import re
+import subprocess
+import sys
+
+import page
+
+PROGRAM = page.TOP / "crates" / "bench" / "out" / "bench"
+RUNS = 9
+CALLS = 400_000
+SEATS = min(16, max(2, os.cpu_count() or 2))
+CLAIMED = (1024, 16_384, 262_144)
+OWED = 16_384
+
+
+def run(*words):
+    """The numbers that a run prints behind its colon, by their names."""
+    line = subprocess.run([PROGRAM, "rig", *map(str, words)], check=True, capture_output=True, text=True, env=page.environment()).stdout
+    return {name: int(number) for name, number in re.findall(r"([a-z_][a-z_ ]*?) (\d+)\b", line.split(": ")[1])}
+
+
+def middle(part, beside, *words):
+    """The run with the middle ratio of one number to another."""
+    runs = sorted((run(*words) for _ in range(RUNS)), key=lambda numbers: numbers[part] / max(numbers[beside], 1))
+    return runs[RUNS // 2]
+
+
+def ratios():
+    yield "| what | ns | beside | ns | ratio | goal |"
+    yield "|---|---|---|---|---|---|"
+    numbers = middle("call", "step", "calls", CALLS)
+    yield row("a call of one seat", numbers["call"], "the same command by `World::step`", numbers["step"], "at most 1.5")
+    numbers = middle("of one seat", "of all", "seats", SEATS, CALLS // SEATS)
+    one, all_ = numbers["of one seat"], numbers["of all"]
+    yield f"| calls of {SEATS} seats in threads, each | {all_} | calls of one seat, each | {one} | {one / max(all_, 1):.2f} of the calls a second | at least 0.5 |"
+    for pages in CLAIMED:
+        numbers = middle("claim", "fetch_and", "claims", pages)
+        yield row(f"a claim, {pages:,} pages", numbers["claim"], "one `fetch_and` of a plain loop", numbers["fetch_and"], "at most 10")
+    numbers = middle("by workers", "by step", "post-copy", OWED)
+    yield row(f"an owed page by three workers, {OWED:,} pages", numbers["by workers"], "the same by `World::step`", numbers["by step"], "at most 2 on four processors")
+
+
+def row(what, took, beside, other, goal):
+    return f"| {what} | {took:,} | {beside} | {other:,} | {took / max(other, 1):.2f} | {goal} |"
+
+
+def claims():
+    yield "| pages | claim | `index_of` | new | close |"
+    yield "|---|---|---|---|---|"
+    for pages in CLAIMED:
+        runs = [run("claims", pages) for _ in range(RUNS)]
+        least = [min(numbers[name] for numbers in runs) for name in ("claim", "index_of", "new", "close")]
+        yield f"| {pages:,} | " + " | ".join(map(str, least)) + " |"
+
+
+def main():
+    if not PROGRAM.exists():
+        sys.exit(f"{PROGRAM} is not there")
+    lines = [f"Measured on {page.machine()}: of each row the run with the middle ratio of {RUNS}. `Claims` take these nanoseconds a page, the least of {RUNS} runs, in the second table.", ""]
+    for part in (ratios, claims):
+        for line in part():
+            print(line, flush=True)
+            lines.append(line)
+        lines.append("")
+    if sys.argv[1:] == ["--write"]:
+        page.put("rig", "\n".join(lines))
+
+
+if __name__ == "__main__":
+    main()
