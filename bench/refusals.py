@@ -39,7 +39,7 @@ static unsigned long asked;
 static int is_refused(void)
 {
     const char *which = getenv("REFUSED");
-    if (!which || ++asked != strtoul(which, 0, 10))
+    if (!which || __sync_add_and_fetch(&asked, 1) != strtoul(which, 0, 10))
         return 0;
     int told = open(getenv("REFUSED_TOLD"), O_CREAT | O_WRONLY, 0600);
     if (told >= 0)

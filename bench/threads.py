@@ -8,8 +8,8 @@ cut and 1 to 16 processors in turn, and then once with 16 processors that make 2
 and each counter above 0. The build is one without proof, by `rt try`. With --program it also runs a built postmig (./postmig prove makes
 one) as often, with the same arguments.
 
-With --refusals it refuses each allocation of one run with two processors in turn instead, by `rt try --fail-alloc`: each such run has to
-end, with status 0 and the whole report, or with status 4 and nothing on standard output.
+With --program and --refusals it refuses each growth of a run with two processors in turn instead, by the library of refusals.py: each such
+run has to end, with status 0 and the whole report, or with status 4 and nothing on standard output.
 """
 
 import argparse
@@ -22,6 +22,7 @@ import tempfile
 import time
 
 import page
+from refusals import Refuser
 
 # The slowest run that passes, in seconds.
 SLOWEST = 10
@@ -243,55 +244,37 @@ def run_program(program, runs):
         sys.exit("a run was too slow")
 
 
-REFUSED_MAIN = """//! One run with two processors. Its status is 0 with the whole report, 4 with none, and else 9.
-#![tactic(auto)]
-
-use engine::RunFault;
-use std::process::ExitCode;
-use threads::run_threads;
-
-const REPORT: &[u8] = b"cpu 0 calls 17\\ncpu 1 calls 17\\ntranscript 34\\nclose ok\\n";
-
-fn main(rt: HostRuntime) -> ExitCode {
-    let mut out = Vec::new(rt.alloc());
-    match run_threads(&rt, rt.alloc(), &mut out, 2, 8, true) {
-        Ok(true) if out.as_slice() == REPORT => ExitCode::from(0),
-        Err(RunFault::NoMemory) if out.is_empty() => ExitCode::from(4),
-        Err(RunFault::WriteFault) => ExitCode::from(5),
-        _ => ExitCode::from(9),
-    }
-}
-"""
-
-
-def refuse(folder):
-    """Refuses each allocation of a run in turn."""
-    source = folder / "crates/refused_run/src"
-    source.mkdir(parents=True)
-    (source / "main.rt").write_text(REFUSED_MAIN)
-    with open(folder / "crates.txt", "a") as crates:
-        crates.write("refused_run: engine threads\n")
-    command = ["rt", "try", "--fail-alloc", "1.."]
-    done = subprocess.run(command, cwd=folder / "crates/refused_run", capture_output=True, text=True)
-    print(done.stdout + done.stderr)
+def refuse(program):
+    """Refuses each growth of a run with two processors in turn: the run ends, with the whole report, or with none and status 4."""
+    ended, whole = {0: 0, 4: 0}, "".join(f"{line}\n" for line in report_of(2, 8)).encode()
+    with tempfile.TemporaryDirectory(prefix="threads-") as place:
+        refuser = Refuser(place)
+        # (how many growths a run has differs from one to the next)
+        for number in range(1, 10 ** 6):
+            done, reached = refuser.run(number, [program, "threads", "--cut"])
+            if (done.returncode, done.stdout) not in ((0, whole), (4, b"")):
+                sys.exit(f"growth {number}: status {done.returncode}\n{done.stdout.decode()}{done.stderr.decode()}")
+            if not reached:
+                break
+            ended[done.returncode] += 1
+    print(f"{number - 1} growths of a run with two processors, each refused once: {ended[4]} times no memory, {ended[0]} times the whole report")
 
 
 def asked():
     parser = argparse.ArgumentParser(description="Runs migrations in threads many times, and counts what the threads met.")
     parser.add_argument("--runs", type=int, default=1000, metavar="N", help="how many runs")
     parser.add_argument("--program", metavar="PATH", help="a built postmig, which is run as often")
-    parser.add_argument("--refusals", action="store_true", help="refuses each allocation of a run in turn instead")
+    parser.add_argument("--refusals", action="store_true", help="refuses each growth of a run of the program in turn instead")
     return parser.parse_args()
 
 
 def main():
     arguments = asked()
+    if arguments.refusals:
+        refuse(arguments.program)
+        return
     with tempfile.TemporaryDirectory(prefix="threads-") as place:
-        folder = copied(pathlib.Path(place))
-        if arguments.refusals:
-            refuse(folder)
-            return
-        count_runs(folder, arguments.runs)
+        count_runs(copied(pathlib.Path(place)), arguments.runs)
     if arguments.program:
         run_program(arguments.program, arguments.runs)
 
