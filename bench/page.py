@@ -17,8 +17,8 @@ def machine():
 
 
 def environment():
-    """The environment that the launcher gives the program: huge pages for the allocator, where the kernel has them."""
-    return {"GLIBC_TUNABLES": "glibc.malloc.hugetlb=1", **os.environ}
+    """The environment that the launcher gives the program: huge pages for the allocator, where the kernel has them, and one arena for all threads."""
+    return {"GLIBC_TUNABLES": "glibc.malloc.hugetlb=1:glibc.malloc.arena_max=1", **os.environ}
 
 
 def replaced(page, part, text, file):
