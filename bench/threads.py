@@ -118,6 +118,7 @@ EDITS = (
     ("rig/src/rig.rt", "    changed: Condvar,", "    changed: Condvar,\n    pub seen: Seen,"),
     ("rig/src/rig.rt", "            changed: Condvar::new(),", "            changed: Condvar::new(),\n            seen: Seen::new(),"),
     ("rig/src/rig.rt", "            changed: _,", "            changed: _,\n            seen: _,"),
+    ("rig/src/rig.rt", "            changed: _changed,", "            changed: _changed,\n            seen: _seen,"),
     ("rig/src/rig.rt", "                Ok(tried) => {", "                Ok(tried) => {\n                    self.seen.tried(world.phase(), tried);"),
     (
         "rig/src/rig.rt",
