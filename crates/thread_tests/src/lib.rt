@@ -1,5 +1,9 @@
-//! Tests of whole runs in threads.
+//! Tests of whole runs in threads, and the guest of `docs/THREADS.md`.
 #![tactic(auto)]
 
 #[cfg(test)]
 mod runs;
+#[cfg(test)]
+mod two_processors;
+#[cfg(test)]
+mod writers;
