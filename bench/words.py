@@ -1,10 +1,10 @@
 #!/usr/bin/env python3
 """Lists words and turns of phrase that the pages avoid, with what to write instead.
 
-python3 bench/words.py
+python3 bench/words.py [CRATE ..]
 
-It reads each *.md at the top and in docs/, without code and without the parts that scripts write. The comments of *.rt and *.antt files are
-not read yet: a change there has everything above proved again. The status is 1 where one is found.
+It reads each *.md at the top and in docs/, without code and without the parts that scripts write, and the comments of every *.rt and *.antt
+file of crates/. With crates it reads the comments of these alone. The status is 1 where one is found.
 """
 
 import re
@@ -42,14 +42,32 @@ def prose(text):
             yield number, CODE.sub("``", line)
 
 
+def comments(text, mark):
+    """The comments of a source file with their lines' numbers, without code in them."""
+    for number, line in enumerate(text.splitlines(), 1):
+        if line.lstrip().startswith(mark):
+            yield number, CODE.sub("``", line)
+
+
+def texts(crates):
+    """Each file that is read, with its lines of prose."""
+    if not crates:
+        for file in links.pages():
+            yield file, prose(file.read_text())
+    for folder in [page.TOP / "crates" / crate for crate in crates] or [page.TOP / "crates"]:
+        for suffix, mark in ((".rt", "//"), (".antt", "--")):
+            for file in sorted(folder.rglob("*" + suffix)):
+                yield file, comments(file.read_text(), mark)
+
+
 def instead(found):
     return next(better for word, better in WORDS.items() if re.fullmatch(word, found, re.IGNORECASE))
 
 
 def main():
     faults = 0
-    for file in links.pages():
-        for number, line in prose(file.read_text()):
+    for file, lines in texts(sys.argv[1:]):
+        for number, line in lines:
             for found in FOUND.finditer(line):
                 faults += 1
                 print(f"{file.relative_to(page.TOP)}:{number}: '{found[0]}': {instead(found[0])}")
