@@ -89,7 +89,7 @@ with_guest world guest = with_guest_by world.destination.has_run world guest
 abbrev pub has_no_cpu : World → ℕ → Bool
 has_no_cpu world cpu = not (nat_lt cpu (length (guest_of world).cpus))
 
--- whether a migration has started: false until the first Start
+-- whether a migration has started: the source is no longer Idle
 abbrev pub has_started : World → Bool
 has_started world = not (is_source_idle world.source.phase)
 
@@ -339,7 +339,7 @@ after_deliver world sent rest =
 abbrev pub is_short : Wire → Frame → ℕ → Bool
 is_short wire frame n = nat_lt n (text_len frame - wire.held)
 
--- `n` more bytes of the first frame have come to the destination, and it is not complete
+-- `n` more bytes of the first frame have reached the destination, and it is not complete
 abbrev pub after_move : World → ℕ → World
 after_move world n = record world { forward = wire_moved world.forward n }
 
@@ -360,7 +360,7 @@ deliver world n = unless ((not (has_started world), Refusal.Phase) ∷ (not worl
 abbrev pub after_deliver_back : World → Sent → List Sent → World
 after_deliver_back world sent rest = source_sends (record world { back = wire_behind rest }) (source_took world.source sent.frame) (source_answers world.source sent.frame)
 
--- `n` more bytes of the first frame have come to the source, and it is not complete
+-- `n` more bytes of the first frame have reached the source, and it is not complete
 abbrev pub after_move_back : World → ℕ → World
 after_move_back world n = record world { back = wire_moved world.back n }
 
@@ -381,7 +381,7 @@ deliver_back world n = unless ((not (has_started world), Refusal.Phase) ∷ (not
 abbrev pub after_deliver_urgent : World → Sent → List Sent → World
 after_deliver_urgent world sent rest = record world { destination = urgent_took world.destination sent.frame; urgent = wire_behind rest }
 
--- `n` more bytes of the first urgent frame have come to the destination, and it is not complete
+-- `n` more bytes of the first urgent frame have reached the destination, and it is not complete
 abbrev pub after_move_urgent : World → ℕ → World
 after_move_urgent world n = record world { urgent = wire_moved world.urgent n }
 

@@ -1,4 +1,4 @@
--- The replies of map calls: a call has made its entry, and gives its processor the reply once its last message is read.
+-- The replies of map calls: a call is entered when it is made, and its processor gets the reply when its last message is read.
 use Rattle.std.specs.Prelude.{◌≡◌, ℕ, ◌==◌, if◌then◌else◌, Option, Some, None, Ok, List, [], ◌∷◌}
 use Rattle.mig_base.specs.declared.command.Entry.{Entry}
 use Rattle.mig_base.specs.declared.command.Reply.{Reply}
